@@ -1,0 +1,47 @@
+-- The definitions run on the code of `f(a + 1)`.
+use Rattle.std.proofs.Common.{◌≡◌, refl, ℕ, List, [], ◌∷◌, Some, None, pos, codes}
+use Rattle.py_bytecode.specs.declared.instruction.Instruction.TheVariants as op
+use Rattle.py_bytecode.specs.Objects as obj
+use Rattle.py_bytecode.specs.Objects.{Object, Head, Const}
+use Rattle.py_bytecode.specs.Values.{Constant, Given, Gives, Raised, Event, Operates, Accesses, ByName, Load, Number, operation, ran, It, Returned, RaisedOut, Stopped}
+use Rattle.py_bytecode.specs.Units.{machine}
+
+abbrev sum_called : Object
+sum_called = obj.object_of (record {
+  flags = 1;
+  posonlyarg_count = 0;
+  arg_count = 0;
+  kwonlyarg_count = 0;
+  source_path = codes "m.py";
+  first_line_number = Some 1;
+  obj_name = codes "<module>";
+  max_stackdepth = 3;
+  instructions = record { op = op.LoadNameAny; arg = 0 } ∷ record { op = op.LoadNameAny; arg = 1 } ∷ record { op = op.LoadConst; arg = 0 } ∷ record { op = op.BinaryOperation; arg = 0 } ∷ record { op = op.CallFunctionPositional; arg = 1 } ∷ record { op = op.Pop; arg = 0 } ∷ record { op = op.ReturnConst; arg = 1 } ∷ [];
+  locations = record { row = 1; column = 1 } ∷ record { row = 1; column = 3 } ∷ record { row = 1; column = 7 } ∷ record { row = 1; column = 7 } ∷ record { row = 1; column = 7 } ∷ record { row = 1; column = 7 } ∷ record { row = 1; column = 7 } ∷ [];
+  names = codes "f" ∷ codes "a" ∷ [];
+  varnames = [];
+  cellvars = [];
+  freevars = [];
+  cell2arg = None;
+}) (obj.consts_of (obj.integer (pos 1) ∷ obj.none ∷ []))
+
+abbrev loads : List ℕ → Event Object
+loads n = Accesses ByName Load n 0 []
+
+abbrev adds : Event Object
+adds = Operates (operation op.BinaryOperation (Number 0)) (Given 1 0 ∷ Constant (obj.integer (pos 1)) ∷ [])
+
+abbrev calls : Event Object
+calls = Operates (operation op.CallFunctionPositional (Number 1)) (Given 0 0 ∷ Given 2 0 ∷ [])
+
+-- each operation gives a value
+given_all : machine sum_called (Gives 1 ∷ Gives 1 ∷ Gives 1 ∷ Gives 1 ∷ []) ≡ ran (loads (codes "f") ∷ loads (codes "a") ∷ adds ∷ calls ∷ []) (Returned (It (Constant obj.none)))
+given_all = refl
+
+-- the second load raises
+load_raises : machine sum_called (Gives 1 ∷ Raised ∷ []) ≡ ran (loads (codes "f") ∷ loads (codes "a") ∷ []) (RaisedOut (Given 1 0))
+load_raises = refl
+
+-- no answer
+no_answer : machine sum_called [] ≡ ran (loads (codes "f") ∷ []) Stopped
+no_answer = refl

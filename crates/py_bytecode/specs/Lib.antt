@@ -1,0 +1,14 @@
+pub mod Table
+pub mod Operands
+pub mod Objects
+pub mod View
+pub mod Equality
+pub mod Values
+pub mod Machine
+pub mod Decode
+pub mod Effects
+pub mod Units
+pub mod Blocks
+pub mod Quote
+pub mod Listing
+pub mod Laws

@@ -1,0 +1,15 @@
+pub mod Form
+pub mod Fit
+pub mod Code
+pub mod View
+pub mod Agree
+pub mod Blocks
+pub mod Laws
+pub mod Places
+pub mod Walks
+pub mod Agreement
+pub mod Messages
+pub mod Table
+pub mod Meaning
+pub mod Emission
+pub mod Faults

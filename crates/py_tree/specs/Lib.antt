@@ -1,0 +1,9 @@
+pub mod Limits
+pub mod Literal
+pub mod Mangle
+pub mod Nesting
+pub mod Size
+pub mod Tree
+pub mod View
+pub mod formers
+pub mod Shapes

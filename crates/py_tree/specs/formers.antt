@@ -1,0 +1,2 @@
+-- Files for containers that recursive types lead through.
+pub mod list
