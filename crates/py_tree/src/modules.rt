@@ -1,0 +1,35 @@
+use crate::Stmts;
+
+/// A whole program.
+#[derive(Drop)]
+pub enum Mod {
+    Module(ModModule),
+}
+
+/// The statements of a file.
+#[derive(Drop)]
+pub struct ModModule {
+    pub body: Stmts,
+}
+
+/// What a program is compiled for.
+#[derive(Clone, Copy, PartialEq, Eq, Debug)]
+pub enum Mode {
+    /// A file that is run.
+    Exec,
+    /// One expression, whose value is given.
+    Eval,
+    /// What is entered at a prompt: each value is printed.
+    Single,
+    /// A file whose last value is given.
+    BlockExpr,
+}
+
+/// What a tree has too much of.
+#[derive(Clone, Copy, PartialEq, Eq, Debug)]
+pub enum TreeLimit {
+    /// Its size.
+    Nodes,
+    /// Its nesting.
+    Depth,
+}
