@@ -1,0 +1,5 @@
+use Rattle.py_bytecode.proofs.ConstantLaws.{constants_keep_places}
+use Rattle.py_bytecode.proofs.laws.constants_keep_places.Goals as goal
+
+pub returns : goal.returns
+returns c = constants_keep_places
