@@ -1,0 +1,52 @@
+//! Forms, what they mean and what their code is, and the laws that tie the three together. The bodies of laws do nothing.
+#![tactic(auto)]
+
+pub mod errors;
+
+ghost use Rattle.py_meaning.specs.Agree.{CompiledAgrees};
+ghost use Rattle.py_meaning.specs.Agreement.{ChildlessAgrees, FullIsMore, ObjectsAgree};
+ghost use Rattle.py_meaning.specs.Laws.{AlwaysEnds, CodesWalk};
+ghost use Rattle.py_meaning.specs.Blocks.{BlocksRun, BlocksSimulate};
+
+pub use errors::{CodegenError, CodegenErrorType};
+
+/// The code of every scope, to any depth of nesting, agrees with it in the full view and in the plain one.
+pub fn compiled_agrees()
+    ensures { CompiledAgrees }
+{}
+
+/// Agreement in the full view gives agreement in the plain one, for any code object and any scope.
+pub fn full_is_more()
+    ensures { FullIsMore }
+{}
+
+/// A code object without children agrees with a scope without children, in the full view and in the plain one, where
+/// the machine on it runs the scope's code.
+pub fn childless_agrees()
+    ensures { ChildlessAgrees }
+{}
+
+/// What is made from a scope, children included, agrees with it in the full view and in the plain one.
+pub fn objects_agree()
+    ensures { ObjectsAgree }
+{}
+
+/// No run of a scope's code is wrong, leaked or going.
+pub fn always_ends()
+    ensures { AlwaysEnds }
+{}
+
+/// A form's code in blocks, run from any fit state, comes to the state that the form's run says, within its steps.
+pub fn block_simulation()
+    ensures { BlocksSimulate }
+{}
+
+/// Blocks in which the whole code of a scope lies run like the code.
+pub fn blocks_run()
+    ensures { BlocksRun }
+{}
+
+/// The code of every scope walks from an empty stack, and never falls out at its end.
+pub fn codes_walk()
+    ensures { CodesWalk }
+{}
