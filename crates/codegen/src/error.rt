@@ -1,0 +1,3 @@
+//! Why a tree is refused.
+
+pub use py_meaning::{CodegenError, CodegenErrorType};
