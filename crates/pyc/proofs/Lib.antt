@@ -1,0 +1,12 @@
+pub mod Arities
+pub mod Dues
+pub mod Ends
+pub mod Feeds
+pub mod FewRows
+pub mod Jsons
+pub mod Numerals
+pub mod Pieces
+pub mod Sofar
+pub mod Statements
+pub mod Takes
+pub mod Verdicts

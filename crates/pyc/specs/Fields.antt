@@ -1,0 +1,81 @@
+-- The fields of rows.
+use Rattle.std.specs.Prelude.{ℕ, ◌^◌, ◌&&◌, nat_lt, List, [], ◌∷◌, Option, Some, None, option_and_then, Result, Ok, Err, if◌then◌else◌, codes}
+use Rattle.std.specs.Str.{bytes_eq}
+use Rattle.serde_json.specs.Data.{Data, Items, no_items, item}
+use Rattle.serde_json.specs.Find.{as_array, as_number, as_str, as_u64}
+use Rattle.py_tree.specs.declared.location.SourceLocation.{SourceLocation}
+use Rattle.py_tree.specs.declared.operators.Operator.{Operator}
+use Rattle.py_tree.specs.declared.operators.Operator.TheVariants as operator
+use Rattle.pyc.specs.declared.rows.error.RowsError.{RowsError}
+use Rattle.pyc.specs.declared.rows.error.RowsError.TheVariants.{WrongRow}
+use Rattle.pyc.specs.Gives.{or_fault, ◌>>=◌}
+
+-- ---- how many fields there are
+
+abbrev pub one : ℕ → Items → Result Data RowsError
+one n (item a no_items) = Ok a
+one n fields = Err (WrongRow n)
+
+abbrev pub three : ℕ → Items → Result (Data × Data × Data) RowsError
+three n (item a (item b (item c no_items))) = Ok (a, b, c)
+three n fields = Err (WrongRow n)
+
+abbrev pub five : ℕ → Items → Result (Data × Data × Data × Data × Data) RowsError
+five n (item a (item b (item c (item d (item e no_items))))) = Ok (a, b, c, d, e)
+five n fields = Err (WrongRow n)
+
+-- ---- one field
+
+-- a whole number, in digits alone and below 2^64
+abbrev pub whole : Data → Option ℕ
+whole d = option_and_then as_u64 (as_number d)
+
+abbrev in_range : ℕ → Option ℕ
+in_range n = if nat_lt 0 n && nat_lt n (2 ^ 32) then Some n else None
+
+-- a row or a column, from 1 to 2^32 - 1
+abbrev pub one_indexed : Data → Option ℕ
+one_indexed d = option_and_then in_range (whole d)
+
+abbrev both : Option ℕ → Option ℕ → Option SourceLocation
+both (Some line) (Some column) = Some (record { row = line; column = column })
+both (Some line) None = None
+both None column = None
+
+-- the location that row n gives
+abbrev pub place_at : ℕ → Data → Data → Result SourceLocation RowsError
+place_at n line column = or_fault (WrongRow n) (both (one_indexed line) (one_indexed column))
+
+-- the number of a row, named by row n
+abbrev pub number_at : ℕ → Data → Result ℕ RowsError
+number_at n d = or_fault (WrongRow n) (whole d)
+
+abbrev pub numbers_in : ℕ → Items → Result (List ℕ) RowsError
+numbers_in n no_items = Ok []
+numbers_in n (item d ds) = number_at n d >>= λ k. numbers_in n ds >>= λ ks. Ok (k ∷ ks)
+
+-- the numbers of some rows
+abbrev pub numbers_at : ℕ → Data → Result (List ℕ) RowsError
+numbers_at n d = or_fault (WrongRow n) (as_array d) >>= numbers_in n
+
+abbrev pub text_at : ℕ → Data → Result (List ℕ) RowsError
+text_at n d = or_fault (WrongRow n) (as_str d)
+
+abbrev pub operator_of : List ℕ → Option Operator
+operator_of word =
+    if bytes_eq word (codes "Add") then Some operator.Add else
+    (if bytes_eq word (codes "Sub") then Some operator.Sub else
+    (if bytes_eq word (codes "Mult") then Some operator.Mult else
+    (if bytes_eq word (codes "MatMult") then Some operator.MatMult else
+    (if bytes_eq word (codes "Div") then Some operator.Div else
+    (if bytes_eq word (codes "FloorDiv") then Some operator.FloorDiv else
+    (if bytes_eq word (codes "Mod") then Some operator.Mod else
+    (if bytes_eq word (codes "Pow") then Some operator.Pow else
+    (if bytes_eq word (codes "LShift") then Some operator.LShift else
+    (if bytes_eq word (codes "RShift") then Some operator.RShift else
+    (if bytes_eq word (codes "BitOr") then Some operator.BitOr else
+    (if bytes_eq word (codes "BitXor") then Some operator.BitXor else
+    (if bytes_eq word (codes "BitAnd") then Some operator.BitAnd else None))))))))))))
+
+abbrev pub operator_at : ℕ → Data → Result Operator RowsError
+operator_at n d = or_fault (WrongRow n) (option_and_then operator_of (as_str d))

@@ -1,0 +1,15 @@
+pub mod Devices
+pub mod Fields
+pub mod Forms
+pub mod Gives
+pub mod Integers
+pub mod JsonRows
+pub mod Kinds
+pub mod Memory
+pub mod Nodes
+pub mod Prepared
+pub mod Rows
+pub mod Runs
+pub mod Slots
+pub mod Statuses
+pub mod Words

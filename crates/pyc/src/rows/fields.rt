@@ -1,0 +1,134 @@
+ghost use Rattle.std.specs.Prelude.{◌≡◌};
+ghost use Rattle.serde_json.specs.View.{view, items_view};
+ghost use Rattle.pyc.specs.Gives.{Gives};
+ghost use Rattle.pyc.specs.Fields.{one, three, five, one_indexed, number_at, numbers_at, text_at, place_at, operator_of, operator_at};
+
+use crate::rows::error::RowsError;
+use py_tree::{List, OneIndexed, Operator, SourceLocation, Text};
+use serde_json::Value;
+use std::alloc::Global;
+
+/// A row or a column of the source.
+pub fn one_indexed(value: &Value) -> Option<OneIndexed>
+    ensures { result ≡ one_indexed (view value.now) }
+{
+    OneIndexed::new(u32::try_from(value.as_u64()?).ok()?)
+}
+
+/// The only field.
+pub fn one(fields: &[Value], row: u32) -> Result<&Value, RowsError>
+    ensures { Gives (λ v. view v.now) result (one row (items_view fields.now)) }
+{
+    if fields.len() != 1 {
+        return Err(RowsError::WrongRow { row });
+    }
+    Ok(&fields[0])
+}
+
+/// Three fields.
+pub fn three(fields: &[Value], row: u32) -> Result<(&Value, &Value, &Value), RowsError>
+    ensures { Gives (λ t. (view t.0.now, view t.1.now, view t.2.now)) result (three row (items_view fields.now)) }
+{
+    if fields.len() != 3 {
+        return Err(RowsError::WrongRow { row });
+    }
+    Ok((&fields[0], &fields[1], &fields[2]))
+}
+
+/// Five fields.
+pub fn five(
+    fields: &[Value],
+    row: u32,
+) -> Result<(&Value, &Value, &Value, &Value, &Value), RowsError>
+    ensures { Gives (λ t. (view t.0.now, view t.1.now, view t.2.now, view t.3.now, view t.4.now)) result (five row (items_view fields.now)) }
+{
+    if fields.len() != 5 {
+        return Err(RowsError::WrongRow { row });
+    }
+    Ok((&fields[0], &fields[1], &fields[2], &fields[3], &fields[4]))
+}
+
+/// The location that a row gives.
+pub fn place(line: &Value, column: &Value, row: u32) -> Result<SourceLocation, RowsError>
+    ensures { Gives (λ x. x) result (place_at row (view line.now) (view column.now)) }
+{
+    match (one_indexed(line), one_indexed(column)) {
+        (Some(line), Some(column)) => Ok(SourceLocation { row: line, column }),
+        _ => Err(RowsError::WrongRow { row }),
+    }
+}
+
+/// The number of a row that a field names.
+pub fn number(value: &Value, row: u32) -> Result<u64, RowsError>
+    ensures { Gives (λ x. x) result (number_at row (view value.now)) }
+{
+    match value.as_u64() {
+        Some(number) => Ok(number),
+        None => Err(RowsError::WrongRow { row }),
+    }
+}
+
+/// The numbers of the rows that a field names.
+pub fn numbers(alloc: Global, value: &Value, row: u32) -> Result<List<u64>, RowsError>
+    ensures { Gives (λ x. x) result (numbers_at row (view value.now)) }
+{
+    let Some(entries) = value.as_array() else {
+        return Err(RowsError::WrongRow { row });
+    };
+    let mut found = Vec::new(alloc);
+    for entry in entries {
+        found.push(number(entry, row)?)?;
+    }
+    Ok(List::from_vec(found))
+}
+
+/// A text.
+pub fn word(value: &Value, row: u32) -> Result<&str, RowsError>
+    ensures { Gives (λ s. s.now) result (text_at row (view value.now)) }
+{
+    match value.as_str() {
+        Some(text) => Ok(text),
+        None => Err(RowsError::WrongRow { row }),
+    }
+}
+
+/// A name.
+pub fn text(alloc: Global, value: &Value, row: u32) -> Result<Text, RowsError>
+    ensures { Gives (λ x. x) result (text_at row (view value.now)) }
+{
+    match value.as_str() {
+        Some(text) => Ok(Text::from_string(String::from_str(alloc, text)?)),
+        None => Err(RowsError::WrongRow { row }),
+    }
+}
+
+/// The operator of a `BinOp`.
+pub fn operator(value: &Value, row: u32) -> Result<Operator, RowsError>
+    ensures { Gives (λ x. x) result (operator_at row (view value.now)) }
+{
+    match value.as_str().and_then(operator_of) {
+        Some(operator) => Ok(operator),
+        None => Err(RowsError::WrongRow { row }),
+    }
+}
+
+fn operator_of(word: &str) -> Option<Operator>
+    ensures { result ≡ operator_of word.now }
+{
+    match word {
+        "Add" => Some(Operator::Add),
+        "Sub" => Some(Operator::Sub),
+        "Mult" => Some(Operator::Mult),
+        "MatMult" => Some(Operator::MatMult),
+        "Div" => Some(Operator::Div),
+        "FloorDiv" => Some(Operator::FloorDiv),
+        "Mod" => Some(Operator::Mod),
+        "Pow" => Some(Operator::Pow),
+        "LShift" => Some(Operator::LShift),
+        "RShift" => Some(Operator::RShift),
+        "BitOr" => Some(Operator::BitOr),
+        "BitXor" => Some(Operator::BitXor),
+        "BitAnd" => Some(Operator::BitAnd),
+        _ => None,
+    }
+}
