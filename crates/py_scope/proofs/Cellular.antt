@@ -1,0 +1,224 @@
+-- The cells of the scopes of a builder without a fault.
+use Rattle.std.proofs.Common.{◌≡◌, refl, sym, ap, ◌∙◌, subst, ℕ, zero, suc, ◌<◌, Bool, true, false, ◌||◌, ◌&&◌, List, [], ◌∷◌, length, nat_eq, if◌then◌else◌, slice_get, Option, Some, None, option_map, ◌⊎◌, inl, inr, ◌↔◌, arith}
+use Rattle.std.specs.List.{list_any}
+use Rattle.py_scope.specs.declared.table_type.SymbolTableType.{SymbolTableType}
+use Rattle.py_scope.specs.declared.table_type.SymbolTableType.TheVariants.{Module, Class, Function, Comprehension, TypeParams}
+use Rattle.py_scope.specs.declared.rows.Row.{Row}
+use Rattle.py_scope.specs.declared.rows.Entry.{Entry}
+use Rattle.py_scope.specs.declared.rows.Holds.{Holds}
+use Rattle.py_scope.specs.declared.rows.Holds.TheVariants.{Plain, DeclaredGlobal, DeclaredNonlocal, LiftedFree, LiftedGlobal, LiftedModule, Passed}
+use Rattle.py_scope.specs.declared.outward.Meets.{Meets}
+use Rattle.py_scope.specs.declared.outward.Meets.TheVariants.{Past, Binding, Explicit}
+use Rattle.py_scope.specs.declared.outward.Found.{Found}
+use Rattle.py_scope.specs.declared.outward.Found.TheVariants.{Nowhere, Globally, FreeOf}
+use Rattle.py_scope.specs.declared.kinds.SymbolScope.TheVariants.{GlobalExplicit, Cell}
+use Rattle.py_scope.specs.Names.{Name, same_name, lookup}
+use Rattle.py_scope.specs.Bits.{is_bound}
+use Rattle.py_scope.specs.Outward.{Touch, Leaves, Passes, Captures, counts, stop_of, stop_of_entry, look, found_at, enclosing, parents, meetings, meets_of}
+use Rattle.py_scope.specs.Marks.{after, passing, capturing, or_new, looks, settled}
+use Rattle.py_scope.specs.Flags.{captured_opt}
+use Rattle.py_scope.specs.Needs.{entry_at, entry_of, look_from, asks_for, ChildNeeds}
+use Rattle.py_scope.specs.Lifts.{lifts, stages, stage_of, outward_from, lifted_all, kind_of}
+use Rattle.py_scope.specs.Kinds.{kind_as, kind_of_entry}
+use Rattle.py_scope.specs.Capture.{hands_on, hands_on_as}
+use Rattle.py_scope.specs.Scanned.{Scanned, order_of, IsScanned}
+use Rattle.py_scope.specs.Tables.{is_plain, global_within, is_shared, kind_in}
+use Rattle.py_scope.specs.Resolved.{first_fault}
+use Rattle.py_scope.specs.Laws.{after_lifts, after_looks, CellsAreNeeded}
+use Rattle.py_scope.proofs.Chains.{equal_numbers}
+use Rattle.py_scope.proofs.NameLemmas.{equal_names}
+use Rattle.py_scope.proofs.LiftKeeps as lifting
+use Rattle.py_scope.proofs.Settling as settling
+use Rattle.py_scope.proofs.Settling.{lookup_put}
+use Rattle.py_scope.proofs.LiftsCapture.{hits_holder, captured_lifted, both}
+use Rattle.py_scope.proofs.LiftsSound.{holder_kind, witness, is_held}
+use Rattle.py_scope.proofs.Celling.{cells_where_needed}
+use Rattle.py_scope.proofs.Lawful.{is_lifted, is_settled, numbered, once, captures, lifts_captured}
+
+-- what a scope holds of a name, and whether it binds it, is what it was before the looks
+abbrev pub held_opt : Option Entry → Holds
+held_opt None = Passed
+held_opt (Some e) = e.holds
+
+abbrev pub bound_of : Option Entry → Bool
+bound_of None = false
+bound_of (Some e) = is_bound e
+
+module _ {A : Type 0} (f : Option Entry → A) (passes : (k : SymbolTableType) (o : Option Entry) → f (Some (passing k (or_new o))) ≡ f o) (captures : (o : Option Entry) → f (Some (capturing (or_new o))) ≡ f o) where
+  after_keeps : (n : Name) (x : Touch) (k : Name) (u : Row) → f (lookup n (after x k u).entries) ≡ f (lookup n u.entries)
+  after_keeps n Leaves k u = refl
+  after_keeps n Passes k u = ap f (lookup_put u.entries k n _) ∙ by (same_name n k) refl
+    where
+      by : (b : Bool) → same_name n k ≡ b → f (if b then Some (passing u.kind (or_new (lookup k u.entries))) else lookup n u.entries) ≡ f (lookup n u.entries)
+      by true e = passes u.kind (lookup k u.entries) ∙ ap (λ z. f (lookup z u.entries)) (sym (equal_names n k e))
+      by false e = refl
+  after_keeps n Captures k u = ap f (lookup_put u.entries k n _) ∙ by (same_name n k) refl
+    where
+      by : (b : Bool) → same_name n k ≡ b → f (if b then Some (capturing (or_new (lookup k u.entries))) else lookup n u.entries) ≡ f (lookup n u.entries)
+      by true e = captures (lookup k u.entries) ∙ ap (λ z. f (lookup z u.entries)) (sym (equal_names n k e))
+      by false e = refl
+
+pub same_held : (o : Option Entry) (k : SymbolTableType) → held_opt (Some (passing k (or_new o))) ≡ held_opt o
+same_held None k = refl
+same_held (Some e) k = refl
+
+pub same_held_end : (o : Option Entry) → held_opt (Some (capturing (or_new o))) ≡ held_opt o
+same_held_end None = refl
+same_held_end (Some e) = refl
+
+pub same_bound : (o : Option Entry) (k : SymbolTableType) → bound_of (Some (passing k (or_new o))) ≡ bound_of o
+same_bound None k = refl
+same_bound (Some e) k = refl
+
+pub same_bound_end : (o : Option Entry) → bound_of (Some (capturing (or_new o))) ≡ bound_of o
+same_bound_end None = refl
+same_bound_end (Some e) = refl
+
+-- a cell's name is bound here, not declared, and captured
+pub cell_captured : (k : SymbolTableType) (f : Found) (h : Holds) (b c : Bool) → kind_as k f h b c ≡ Cell → c ≡ true
+cell_captured k f Plain true true q = refl
+cell_captured k f Plain true false q = cc
+cell_captured Module Nowhere Plain false c q = cc
+cell_captured Class Nowhere Plain false c q = cc
+cell_captured Function Nowhere Plain false c q = cc
+cell_captured Comprehension Nowhere Plain false c q = cc
+cell_captured TypeParams Nowhere Plain false c q = cc
+cell_captured k Globally Plain false c q = cc
+cell_captured k (FreeOf d) Plain false c q = cc
+cell_captured k f DeclaredGlobal b c q = cc
+cell_captured k f DeclaredNonlocal b c q = cc
+cell_captured k f LiftedFree b c q = cc
+cell_captured k f LiftedGlobal b c q = cc
+cell_captured k f LiftedModule b c q = cc
+cell_captured k f Passed b c q = cc
+
+-- the scope where a look ends binds the name
+ends_bound : (m : ℕ → Meets) (es : List ℕ) (t : ℕ) → look m es ≡ FreeOf t → m t ≡ Binding
+ends_bound m [] t h = cc
+ends_bound m (e ∷ es) t h = by (m e) refl h (ends_bound m es t)
+  where
+    same : FreeOf e ≡ FreeOf t → e ≡ t
+    same q = cc
+
+    by : (x : Meets) → m e ≡ x → found_at e x (look m es) ≡ FreeOf t → (look m es ≡ FreeOf t → m t ≡ Binding) → m t ≡ Binding
+    by Past q g ih = ih g
+    by Binding q g ih = ap m (sym (same g)) ∙ q
+    by Explicit q g ih = cc
+
+-- a scope that binds a name for looks is one where they stop
+bound_counts : (n : Name) (o : Option Row) → meets_of n o ≡ Binding → counts (kind_of o) n ≡ true
+bound_counts n None h = cc
+bound_counts n (Some r) h = by (counts r.kind n) h
+  where
+    by : (b : Bool) → (if b then stop_of_entry (lookup n r.entries) else Past) ≡ Binding → b ≡ true
+    by true q = refl
+    by false q = cc
+
+never_both : (b : Bool) → b ≡ true → b ≡ false → ⊥
+never_both b h g = cc
+
+module _ (s : Scanned) (old : IsScanned s) (fine : first_fault s ≡ None) where
+  abbrev base : List Row
+  base = after_lifts s
+
+  abbrev new : List Row
+  new = after_looks s
+
+  same_kind : (k : ℕ) → kind_of (slice_get base k) ≡ kind_of (slice_get s.rows k)
+  same_kind k = lifting.same_kind_of s.rows base (lifts s.rows (order_of s)) (is_lifted s old fine) k
+
+  pub there : (k : ℕ) (n : Name) (e : Entry) → entry_at new k n ≡ Some e → k < length base
+  there k n e h = by (slice_get new k) refl h
+    where
+      none_within : (xs : List Row) (i : ℕ) (r : Row) → slice_get xs i ≡ Some r → i < length xs
+      none_within [] i r g = cc
+      none_within (x ∷ xs) zero r g = omega arith
+      none_within (x ∷ xs) (suc i) r g = let l = none_within xs i r g in omega (arith, l)
+
+      by : (o : Option Row) → slice_get new k ≡ o → entry_of n o ≡ Some e → k < length base
+      by None g q = cc
+      by (Some r) g q = subst (λ v. k < v) (settling.same_length base new (looks base (order_of s)) (is_settled s old fine)) (none_within new k r g)
+
+  pub kept : {A : Type 0} (f : Option Entry → A) → ((k : SymbolTableType) (o : Option Entry) → f (Some (passing k (or_new o))) ≡ f o) → ((o : Option Entry) → f (Some (capturing (or_new o))) ≡ f o) → (k : ℕ) (n : Name) → f (entry_at new k n) ≡ f (entry_at base k n)
+  kept f p c k n = ap (λ o. f (entry_of n o)) (is_settled s old fine k) ∙ by (slice_get base k)
+    where
+      by : (o : Option Row) → f (entry_of n (option_map (settled base (looks base (order_of s)) k) o)) ≡ f (entry_of n o)
+      by None = refl
+      by (Some u) = settling.settled_keeps (λ v. f (lookup n v.entries)) (λ x m v. after_keeps f p c n x m v) base (looks base (order_of s)) k u
+
+  -- a name that is captured stands in the holder of a walrus, or where a look ends
+  pub captured_where : (k : ℕ) (n : Name) → k < length base → captured_opt (entry_at new k n) ≡ true → (kind_of (slice_get base k) ≡ Function) ⊎ (meetings base n k ≡ Binding)
+  captured_where k n within h = by ((captures s old fine).only k n within h)
+    where
+      read : (o : Option Row) (m : Name) → (stage_of m o).kind ≡ Function → kind_of o ≡ Function
+      read None m h = h
+      read (Some r) m h = h
+
+      by_lift : (o : Option Row) → slice_get s.rows k ≡ o → captured_opt (entry_at base k n) ≡ true → kind_of (slice_get base k) ≡ Function
+      by_lift None e c = let q : false ≡ true = sym (ap (λ o. captured_opt (entry_of n o)) (is_lifted s old fine k ∙ ap (option_map (lifted_all s.rows (lifts s.rows (order_of s)) k)) e)) ∙ c in cc
+      by_lift (Some u) e c =
+          let all : list_any (hits_holder s.rows k n) (lifts s.rows (order_of s)) ≡ true = sym (captured_lifted s.rows (lifts s.rows (order_of s)) k n u ∙ ap (λ b. b || list_any (hits_holder s.rows k n) (lifts s.rows (order_of s))) (ap (λ o. captured_opt (entry_of n o)) (sym e) ∙ (old.fresh k).uncaptured n)) ∙ ap (λ o. captured_opt (entry_of n o)) (sym (is_lifted s old fine k ∙ ap (option_map (lifted_all s.rows (lifts s.rows (order_of s)) k)) e)) ∙ c in
+          let w = witness (hits_holder s.rows k n) (lifts s.rows (order_of s)) all in
+          let z = both (same_name n w.it.1) _ w.passes in
+          let f : (stages s.rows w.it.1 k).kind ≡ Function = holder_kind (stages s.rows w.it.1) (parents s.rows) k (outward_from s.rows w.it.0) (is_held _ z.1) in
+          same_kind k ∙ read (slice_get s.rows k) w.it.1 f
+
+      by : (captured_opt (entry_at base k n) ≡ true) ⊎ ((r : ℕ) × (asks_for base r n ≡ true) × (look_from base r n ≡ FreeOf k)) → (kind_of (slice_get base k) ≡ Function) ⊎ (meetings base n k ≡ Binding)
+      by (inl c) = inl (by_lift (slice_get s.rows k) refl c)
+      by (inr g) = inr (ends_bound (meetings base n) (enclosing (parents base) g.0) k g.2)
+
+  captured_counts : (k : ℕ) (n : Name) → k < length base → captured_opt (entry_at new k n) ≡ true → counts (kind_of (slice_get base k)) n ≡ true
+  captured_counts k n within h = by (captured_where k n within h)
+    where
+      by : (kind_of (slice_get base k) ≡ Function) ⊎ (meetings base n k ≡ Binding) → counts (kind_of (slice_get base k)) n ≡ true
+      by (inl g) = ap (λ x. counts x n) g
+      by (inr g) = bound_counts n (slice_get base k) g
+
+  pub not_shared : (k : ℕ) (n : Name) (e : Entry) → kind_in new k n e ≡ Cell → kind_of_entry (kind_of (slice_get new k)) (look_from new k n) e ≡ Cell
+  not_shared k n e h = by (is_shared new k n e) h
+    where
+      by : (b : Bool) → (if b then GlobalExplicit else kind_of_entry (kind_of (slice_get new k)) (look_from new k n) e) ≡ Cell → kind_of_entry (kind_of (slice_get new k)) (look_from new k n) e ≡ Cell
+      by true q = cc
+      by false q = q
+
+  never : (k : ℕ) (n : Name) (e : Entry) → entry_at new k n ≡ Some e → counts (kind_of (slice_get s.rows k)) n ≡ false → kind_in new k n e ≡ Cell → ⊥
+  never k n e h c q =
+      let caught : e.captured ≡ true = cell_captured _ _ e.holds (is_bound e) e.captured (not_shared k n e q) in
+      never_both (counts (kind_of (slice_get base k)) n) (captured_counts k n (there k n e h) (ap captured_opt h ∙ caught)) (ap (λ x. counts x n) (same_kind k) ∙ c)
+
+  exactly : (k : ℕ) (n : Name) (e : Entry) → entry_at new k n ≡ Some e → e.holds ≡ Plain → is_bound e ≡ true → counts (kind_of (slice_get s.rows k)) n ≡ true → (kind_in new k n e ≡ Cell) ↔ ChildNeeds base k n
+  exactly k n e h p b c = (λ q. where_needed.0 (ap captured_opt h ∙ cell_captured _ _ e.holds (is_bound e) e.captured (not_shared k n e q)), λ q. is_cell (ap captured_opt (sym h) ∙ where_needed.1 q))
+    where
+      held_before : held_opt (entry_at base k n) ≡ Plain
+      held_before = sym (kept held_opt (λ x o. same_held o x) same_held_end k n) ∙ ap held_opt h ∙ p
+
+      bound_before : bound_of (entry_at base k n) ≡ true
+      bound_before = sym (kept bound_of (λ x o. same_bound o x) same_bound_end k n) ∙ ap bound_of h ∙ b
+
+      binds : (o : Option Row) → kind_of o ≡ kind_of (slice_get s.rows k) → held_opt (entry_of n o) ≡ Plain → bound_of (entry_of n o) ≡ true → meets_of n o ≡ Binding
+      binds None q x y = cc
+      binds (Some r) q x y = ap (λ z. if z then stop_of_entry (lookup n r.entries) else Past) (ap (λ z. counts z n) q ∙ c) ∙ stops (lookup n r.entries) x y
+        where
+          stops : (o : Option Entry) → held_opt o ≡ Plain → bound_of o ≡ true → stop_of_entry o ≡ Binding
+          stops None x y = cc
+          stops (Some v) x y = λ j. stop_of (x j) (y j)
+
+      own : (o : Option Entry) → held_opt o ≡ Plain → hands_on o ≡ false
+      own None x = refl
+      own (Some v) x = ap hands_on_as x
+
+      where_needed : (captured_opt (entry_at new k n) ≡ true) ↔ ChildNeeds base k n
+      where_needed = cells_where_needed base new (numbered s old fine) (once s old fine) (lifts_captured s old fine) (captures s old fine) k n (there k n e h) (binds (slice_get base k) (same_kind k) held_before bound_before) (own (entry_at base k n) held_before)
+
+      not_module : nat_eq k 0 ≡ false
+      not_module = by (nat_eq k 0) refl
+        where
+          by : (z : Bool) → nat_eq k 0 ≡ z → z ≡ false
+          by true q = let m : false ≡ true = ap (λ x. counts x n) (sym (ap (λ x. kind_of (slice_get s.rows x)) (equal_numbers k 0 q) ∙ old.first)) ∙ c in cc
+          by false q = refl
+
+      is_cell : e.captured ≡ true → kind_in new k n e ≡ Cell
+      is_cell q = ap (λ z. if z && ((is_plain e.holds && is_bound e) && global_within new n) then GlobalExplicit else kind_of_entry (kind_of (slice_get new k)) (look_from new k n) e) not_module ∙ (λ j. kind_as (kind_of (slice_get new k)) (look_from new k n) (p j) (b j) (q j))
+
+  pub cells_are_needed : CellsAreNeeded s
+  cells_are_needed = record { exactly = exactly; never = never }

@@ -1,0 +1,130 @@
+-- What holds of the scopes of a builder without a fault.
+use Rattle.std.proofs.Common.{◌≡◌, refl, sym, ap, ◌∙◌, subst, ℕ, zero, suc, ◌<◌, Bool, true, false, ◌||◌, List, [], ◌∷◌, length, take_all, nat_eq, if◌then◌else◌, slice_get, Option, Some, None, option_map, zero-add, arith}
+use Rattle.std.specs.List.{list_any}
+use Rattle.py_scope.specs.declared.rows.Row.{Row}
+use Rattle.py_scope.specs.declared.rows.Entry.{Entry}
+use Rattle.py_scope.specs.declared.rows.Holds.TheVariants.{DeclaredNonlocal}
+use Rattle.py_scope.specs.declared.outward.Found.{Found}
+use Rattle.py_scope.specs.declared.outward.Found.TheVariants.{Nowhere, Globally, FreeOf}
+use Rattle.py_scope.specs.declared.refusal.Refusal.{Refusal}
+use Rattle.py_scope.specs.Names.{Name, same_name, lookup}
+use Rattle.py_scope.specs.Outward.{IsNumbered}
+use Rattle.py_scope.specs.Marks.{looks, settled, IsSettled}
+use Rattle.py_scope.specs.Needs.{entry_at, entry_of, look_from, CapturesAll}
+use Rattle.py_scope.specs.Lifts.{lifts, lifted_all, first_of_two, holds_opt, IsLifted}
+use Rattle.py_scope.specs.Cells.{IsOnce, LiftsCaptured}
+use Rattle.py_scope.specs.Capture.{HandsOn, ClosuresLead}
+use Rattle.py_scope.specs.Registered.{IsRegistered, NonlocalsFound}
+use Rattle.py_scope.specs.Checks.{first_by, wrong_in, wrong_entry, wrong_nonlocal, wrong_class_name, entries_of}
+use Rattle.py_scope.specs.Scanned.{Scanned, order_of, IsScanned}
+use Rattle.py_scope.specs.Resolved.{first_fault}
+use Rattle.py_scope.specs.Laws.{after_lifts, after_looks}
+use Rattle.py_scope.proofs.Chains.{equal_numbers}
+use Rattle.py_scope.proofs.NameLemmas.{equal_names}
+use Rattle.py_scope.proofs.LiftKeeps as lifting
+use Rattle.py_scope.proofs.LiftsSound.{lifted_tables}
+use Rattle.py_scope.proofs.LiftsHand.{hands_on_found}
+use Rattle.py_scope.proofs.Leading.{closures_lead}
+use Rattle.py_scope.proofs.Ending.{captures_all}
+use Rattle.py_scope.proofs.Resolving.{get_each, once_lifted}
+
+none_first : (a b : Option Refusal) → first_of_two a b ≡ None → a ≡ None
+none_first None b h = refl
+none_first (Some r) b h = cc
+
+none_second : (a b : Option Refusal) → first_of_two a b ≡ None → b ≡ None
+none_second None b h = h
+none_second (Some r) b h = cc
+
+-- where a list has no refusal, none of its scopes has one
+none_among : (f : ℕ → Option Refusal) (xs : List ℕ) (k : ℕ) → first_by f xs ≡ None → list_any (nat_eq k) xs ≡ true → f k ≡ None
+none_among f [] k h a = cc
+none_among f (x ∷ xs) k h a = by (nat_eq k x) refl a (none_among f xs k (none_second (f x) _ h))
+  where
+    by : (b : Bool) → nat_eq k x ≡ b → b || list_any (nat_eq k) xs ≡ true → (list_any (nat_eq k) xs ≡ true → f k ≡ None) → f k ≡ None
+    by true e g ih = ap f (equal_numbers k x e) ∙ none_first (f x) _ h
+    by false e g ih = ih g
+
+none_named : (f : Name × Entry → Option Refusal) (es : List (Name × Entry)) (n : Name) (e : Entry) → first_by f es ≡ None → lookup n es ≡ Some e → f (n, e) ≡ None
+none_named f [] n e h g = cc
+none_named f (x ∷ xs) n e h g = by (same_name n x.0) refl g (none_named f xs n e (none_second (f x) _ h))
+  where
+    by : (b : Bool) → same_name n x.0 ≡ b → (if b then Some x.1 else lookup n xs) ≡ Some e → (lookup n xs ≡ Some e → f (n, e) ≡ None) → f (n, e) ≡ None
+    by true q z ih = let v : x.1 ≡ e = unwrapped z in (λ j. f (equal_names n x.0 q j, sym v j)) ∙ none_first (f x) _ h
+      where
+        unwrapped : {A : Type 0} {a b : A} → Some a ≡ Some b → a ≡ b
+        unwrapped h = cc
+    by false q z ih = ih z
+
+is_declared : (o : Option Entry) → holds_opt o ≡ DeclaredNonlocal → (e : Entry) × (o ≡ Some e) × (e.holds ≡ DeclaredNonlocal)
+is_declared None h = cc
+is_declared (Some e) h = (e, refl, h)
+
+found_free : (k : ℕ) (n : Name) (f : Found) → wrong_nonlocal k n f DeclaredNonlocal ≡ None → (b : ℕ) × (f ≡ FreeOf b)
+found_free zero n Nowhere h = cc
+found_free (suc k) n Nowhere h = cc
+found_free zero n Globally h = cc
+found_free (suc k) n Globally h = cc
+found_free k n (FreeOf b) h = (b, refl)
+
+module _ (s : Scanned) (old : IsScanned s) (fine : first_fault s ≡ None) where
+  abbrev order : List ℕ
+  order = order_of s
+
+  pub is_lifted : IsLifted s.rows (lifts s.rows order) (after_lifts s)
+  is_lifted t = get_each (lifted_all s.rows (lifts s.rows order)) 0 s.rows t ∙ ap (λ z. option_map (lifted_all s.rows (lifts s.rows order) z) (slice_get s.rows t)) (zero-add t)
+
+  pub is_settled : IsSettled (after_lifts s) (looks (after_lifts s) order) (after_looks s)
+  is_settled t = get_each (settled (after_lifts s) (looks (after_lifts s) order)) 0 (after_lifts s) t ∙ ap (λ z. option_map (settled (after_lifts s) (looks (after_lifts s) order) z) (slice_get (after_lifts s) t)) (zero-add t)
+
+  pub registered : IsRegistered s.rows
+  registered = record {
+    first = old.first;
+    fresh = λ k n. (old.fresh k).fresh n;
+    uncaptured = λ k n. (old.fresh k).uncaptured n;
+    walruses = λ k h. (old.fresh k).walruses h;
+  }
+
+  pub numbered : IsNumbered (after_lifts s)
+  numbered = lifting.still_numbered s.rows (after_lifts s) (lifts s.rows order) is_lifted old.numbered
+
+  pub same_count : length (after_lifts s) ≡ length s.rows
+  same_count = lifting.same_length s.rows (after_lifts s) (lifts s.rows order) is_lifted
+
+  pub once : IsOnce (after_lifts s)
+  once = once_lifted s.rows (after_lifts s) (lifts s.rows order) (λ k. (old.fresh k).once) is_lifted
+
+  complete : (r : ℕ) → r < length (after_lifts s) → list_any (nat_eq r) order ≡ true
+  complete r l = old.complete r (subst (λ v. r < v) same_count l)
+
+  pub captures : CapturesAll (after_lifts s) (after_looks s)
+  captures = captures_all (after_lifts s) (after_looks s) order (length order) (subst (λ o. IsSettled (after_lifts s) (looks (after_lifts s) o) (after_looks s)) (sym (take_all (length order) order (omega arith))) is_settled) (omega arith) complete
+
+  pub lifts_captured : LiftsCaptured (after_lifts s)
+  lifts_captured = lifted_tables s.rows (after_lifts s) order old.numbered registered is_lifted
+
+  pub nonlocals : NonlocalsFound (after_lifts s)
+  nonlocals k n h = by (slice_get (after_lifts s) k) refl (is_declared (entry_at (after_lifts s) k n) h)
+    where
+      none_within : (xs : List Row) (i : ℕ) (r : Row) → slice_get xs i ≡ Some r → i < length xs
+      none_within [] i r g = cc
+      none_within (x ∷ xs) zero r g = omega arith
+      none_within (x ∷ xs) (suc i) r g = let l = none_within xs i r g in omega (arith, l)
+
+      by : (o : Option Row) → slice_get (after_lifts s) k ≡ o → (e : Entry) × (entry_at (after_lifts s) k n ≡ Some e) × (e.holds ≡ DeclaredNonlocal) → (b : ℕ) × (look_from (after_lifts s) k n ≡ FreeOf b)
+      by None g d = absurd (none_some (sym (ap (entry_of n) g) ∙ d.1))
+        where
+          none_some : {A : Type 0} {a : A} → None ≡ Some a → ⊥
+          none_some h = cc
+      by (Some r) g d =
+          let all : wrong_in (after_lifts s) k ≡ None = none_among (wrong_in (after_lifts s)) order k (none_second _ _ fine) (complete k (none_within (after_lifts s) k r g)) in
+          let here : first_by (wrong_entry (after_lifts s) k) r.entries ≡ None = ap (λ o. first_by (wrong_entry (after_lifts s) k) (entries_of o)) (sym g) ∙ all in
+          let one : wrong_entry (after_lifts s) k (n, d.0) ≡ None = none_named (wrong_entry (after_lifts s) k) r.entries n d.0 here (sym (ap (entry_of n) g) ∙ d.1) in
+          let two : wrong_nonlocal k n (look_from (after_lifts s) k n) d.0.holds ≡ None = none_second (wrong_class_name (after_lifts s) k n d.0) _ one in
+          found_free k n (look_from (after_lifts s) k n) (ap (wrong_nonlocal k n (look_from (after_lifts s) k n)) (sym d.2) ∙ two)
+
+  pub handed : HandsOn (after_lifts s)
+  handed = hands_on_found s.rows (after_lifts s) order old.numbered registered is_lifted nonlocals
+
+  pub names_lead : ClosuresLead (after_lifts s)
+  names_lead = closures_lead (after_lifts s) numbered handed

@@ -1,0 +1,4 @@
+use Rattle.py_scope.proofs.kinds.+look_at.Given as goal
+
+abbrev pub decreases-look_at : goal.decreases-look_at
+decreases-look_at l = l.at

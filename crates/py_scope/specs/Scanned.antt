@@ -1,0 +1,127 @@
+-- The scopes of a program as they are collected.
+use Rattle.std.specs.Prelude.{◌≡◌, ℕ, zero, suc, ◌<◌, Bool, true, false, ◌||◌, List, [], ◌∷◌, ◌++◌, Option, Some, None, length, slice_get, nat_eq, All, codes}
+use Rattle.std.specs.List.{list_any}
+use Rattle.py_scope.specs.declared.table_type.SymbolTableType.{SymbolTableType}
+use Rattle.py_scope.specs.declared.table_type.SymbolTableType.TheVariants.{Module, Class, Function, Comprehension, TypeParams}
+use Rattle.py_scope.specs.declared.roles.Role.{Role}
+use Rattle.py_scope.specs.declared.roles.Role.TheVariants.{Used, Assigned, Imported, Parameter, AnnotatedParameter, AnnotationAssigned, Walrus, Iterated, Global, Nonlocal}
+use Rattle.py_scope.specs.declared.rows.Row.{Row}
+use Rattle.py_scope.specs.declared.rows.Entry.{Entry}
+use Rattle.py_scope.specs.Names.{Name, lookup}
+use Rattle.py_scope.specs.Outward.{enclosing, parents, IsNumbered}
+use Rattle.py_scope.specs.Marks.{with_entries}
+use Rattle.py_scope.specs.Roles.{register}
+use Rattle.py_scope.specs.Lifts.{holds_opt, kind_of, is_comprehension, walruses_of}
+use Rattle.py_scope.specs.Needs.{entry_of}
+use Rattle.py_scope.specs.declared.refusal.Refusal.{Refusal}
+use Rattle.py_scope.specs.Declarations.{refused_use}
+use Rattle.py_scope.specs.Flags.{captured_opt}
+use Rattle.py_scope.specs.Registered.{is_fresh}
+use Rattle.py_scope.specs.Cells.{names_of, AreDistinct}
+
+-- the scopes in the order in which they were entered, the one that is open now, and those that were left, in this order
+pub record Scanned : Type 0 where
+  pub rows : List Row
+  pub current : ℕ
+  pub left : List ℕ
+
+-- the scopes with the children of each before it, in the order in which they are left; those that are open are left from the inside outward
+abbrev pub order_of : Scanned → List ℕ
+order_of s = s.left ++ s.current ∷ enclosing (parents s.rows) s.current
+
+abbrev pub module_row : Row
+module_row = record { kind = Module; parent = 0; head = record { name = codes "top"; line_number = 0; is_nested = false }; entries = [] }
+
+abbrev pub begun : Scanned
+begun = record { rows = module_row ∷ []; current = 0; left = [] }
+
+abbrev pub is_function : SymbolTableType → Bool
+is_function Module = false
+is_function Class = false
+is_function Function = true
+is_function Comprehension = false
+is_function TypeParams = false
+
+-- a scope stands in a function where the scope around it does or is one
+abbrev pub nests : Option Row → Bool
+nests None = false
+nests (Some r) = r.head.is_nested || is_function r.kind
+
+abbrev pub entered_row : List Row → ℕ → SymbolTableType → Name → ℕ → Row
+entered_row rows around typ name line = record { kind = typ; parent = around; head = record { name = name; line_number = line; is_nested = nests (slice_get rows around) }; entries = [] }
+
+abbrev pub entered : Scanned → SymbolTableType → Name → ℕ → Scanned
+entered s typ name line = record { rows = s.rows ++ entered_row s.rows s.current typ name line ∷ []; current = length s.rows; left = s.left }
+
+-- a walrus outside comprehensions assigns
+abbrev pub walrus_in : SymbolTableType → Role
+walrus_in Module = Assigned
+walrus_in Class = Assigned
+walrus_in Function = Assigned
+walrus_in Comprehension = Walrus
+walrus_in TypeParams = Assigned
+
+abbrev pub role_in : SymbolTableType → Role → Role
+role_in kind Used = Used
+role_in kind Assigned = Assigned
+role_in kind Imported = Imported
+role_in kind Parameter = Parameter
+role_in kind AnnotatedParameter = AnnotatedParameter
+role_in kind AnnotationAssigned = AnnotationAssigned
+role_in kind Walrus = walrus_in kind
+role_in kind Iterated = Iterated
+role_in kind Global = Global
+role_in kind Nonlocal = Nonlocal
+
+abbrev pub used_in : Name → Role → Row → Row
+used_in n r row = with_entries row (register row.entries n (role_in row.kind r))
+
+-- the list with one element changed
+abbrev pub changed : {A : Type 0} → (A → A) → ℕ → List A → List A
+changed f i [] = []
+changed f zero (x ∷ xs) = f x ∷ xs
+changed f (suc i) (x ∷ xs) = x ∷ changed f i xs
+
+abbrev pub with_use : Scanned → Name → Role → Scanned
+with_use s n r = record { rows = changed (used_in n r) s.current s.rows; current = s.current; left = s.left }
+
+abbrev pub gone_out : Scanned → Scanned
+gone_out s = record { rows = s.rows; current = parents s.rows s.current; left = s.left ++ s.current ∷ [] }
+
+abbrev pub assigned_opt : Option Entry → Bool
+assigned_opt None = false
+assigned_opt (Some s) = s.assigned_within
+
+abbrev pub free_class_opt : Option Entry → Bool
+free_class_opt None = false
+free_class_opt (Some s) = s.free_class
+
+-- a scope whose names come from uses alone
+pub record IsFresh (o : Option Row) : Type 0 where
+  pub fresh : (n : Name) → is_fresh (holds_opt (entry_of n o)) ≡ true
+  pub uncaptured : (n : Name) → captured_opt (entry_of n o) ≡ false
+  pub unassigned : (n : Name) → assigned_opt (entry_of n o) ≡ false
+  pub unpassed : (n : Name) → free_class_opt (entry_of n o) ≡ false
+  pub walruses : is_comprehension (kind_of o) ≡ false → walruses_of o ≡ []
+  pub once : AreDistinct (names_of o)
+
+-- the calls came in order
+pub record IsScanned (s : Scanned) : Type 0 where
+  pub numbered : IsNumbered s.rows
+  pub first : kind_of (slice_get s.rows 0) ≡ Module
+  pub inside : s.current < length s.rows
+  pub below : All (λ k. k < length s.rows) s.left
+  pub complete : (k : ℕ) → k < length s.rows → list_any (nat_eq k) (order_of s) ≡ true
+  pub fresh : (k : ℕ) → IsFresh (slice_get s.rows k)
+
+-- why a use in a scope is refused
+abbrev pub refused_in : Row → Name → Role → Option Refusal
+refused_in row n r = refused_use row.kind (lookup n row.entries) n (role_in row.kind r)
+
+abbrev pub refused_in_row : Option Row → Name → Role → Option Refusal
+refused_in_row None n r = None
+refused_in_row (Some row) n r = refused_in row n r
+
+-- and in the open one
+abbrev pub refused_here : Scanned → Name → Role → Option Refusal
+refused_here s n r = refused_in_row (slice_get s.rows s.current) n r

@@ -1,0 +1,255 @@
+//! The scopes of a program as a scan meets them, and the tables that follow from them.
+ghost use Rattle.std.specs.Prelude.{◌≡◌, ◌<◌, IfOk, OnOk, OnErr, IfErr, Some, None, IsTrue, ◌↔◌, length, slice_get};
+ghost use Rattle.py_scope.specs.Scanned.{begun, entered, with_use, gone_out, order_of, role_in, used_in, nests, refused_in, refused_here};
+ghost use Rattle.py_scope.specs.Resolved.{first_fault, resolved};
+ghost use Rattle.py_scope.specs.Resolve.{KindsResolve};
+ghost use Rattle.py_scope.specs.Laws.{NamesLead, CellsAreApart, CellsAreNeeded};
+ghost use Rattle.py_scope.specs.Faults.{Tells, TellsRefusal, TellsNone};
+
+use crate::declarations::refused_use;
+use crate::error::SymbolTableError;
+use crate::refusal::{Fault, Refusal};
+use crate::resolution::{close, resolve_rows};
+use crate::roles::{Role, register};
+use crate::rows::{Entries, Head, Row};
+use crate::table::SymbolTable;
+use crate::table_type::SymbolTableType;
+use py_tree::{SourceLocation, Text};
+use std::alloc::{AllocError, Global};
+use std::marker::Model;
+
+/// The scopes of a program while they are collected. A scan enters a scope, registers the uses of names in it, and leaves it.
+#[derive(Drop)]
+pub struct ScopeBuilder {
+    alloc: Global,
+    rows: Vec<Row>,
+    current: usize,
+    left: Vec<usize>,
+}
+
+impl Model for ScopeBuilder {
+    ghost use Rattle.py_scope.specs.Scanned.{Scanned, IsScanned};
+
+    ghost Value = { Scanned };
+
+    ghost view = { λ a. record { rows = a.rows.items; current = a.current; left = a.left.items } };
+
+    ghost invariant = { λ a. IsScanned (record { rows = a.rows.items; current = a.current; left = a.left.items }) };
+}
+
+fn nests(row: &Row) -> bool
+    ensures { result ≡ nests (Some row.now) }
+{
+    row.head.is_nested || matches!(row.kind, SymbolTableType::Function)
+}
+
+/// A walrus outside comprehensions assigns.
+fn role_in(kind: SymbolTableType, role: Role) -> Role
+    ensures { result ≡ role_in kind role }
+{
+    match (role, kind) {
+        (Role::Walrus, SymbolTableType::Comprehension) => Role::Walrus,
+        (Role::Walrus, _) => Role::Assigned,
+        (role, _) => role,
+    }
+}
+
+/// Whether this scope may use the name so.
+fn allow(
+    alloc: Global,
+    row: &Row,
+    name: &Text,
+    role: Role,
+    location: SourceLocation,
+) -> Result<(), SymbolTableError>
+    ensures allowed { OnOk result (refused_in row.now name.now role ≡ None) }
+    ensures refused { IfErr result (λ e. Tells e (refused_in row.now name.now role) (Some location)) }
+{
+    let role = role_in(row.kind, role);
+    match refused_use(alloc, row.kind, row.entries.get(name), name, role) {
+        Ok(None) => Ok(()),
+        Ok(Some(refusal)) => Err(refuse(alloc, refusal, Some(location))),
+        Err(_) => Err(SymbolTableError::out_of_memory()),
+    }
+}
+
+/// The error of a refusal.
+fn refuse(alloc: Global, refusal: Refusal, location: Option<SourceLocation>) -> SymbolTableError
+    ensures { TellsRefusal result refusal location }
+{
+    SymbolTableError::refused(alloc, &refusal, location)
+}
+
+/// Notes a use of the name in this scope.
+fn use_in(alloc: Global, row: &mut Row, name: &Text, role: Role) -> Result<(), SymbolTableError>
+    ensures ok { OnOk result (row.new ≡ used_in name.now role row.old) }
+    ensures err { OnErr result (row.new ≡ row.old) }
+    ensures memory { IfErr result (λ e. TellsNone e) }
+{
+    match register(alloc, &mut row.entries, name, role_in(row.kind, role)) {
+        Ok(()) => Ok(()),
+        Err(_) => Err(SymbolTableError::out_of_memory()),
+    }
+}
+
+impl ScopeBuilder {
+    /// The module, called `top`, with no names yet.
+    ///
+    /// # Errors
+    /// There is no memory for it.
+    pub fn new(alloc: Global) -> Result<ScopeBuilder, AllocError>
+        ensures { IfOk result (λ builder. builder ≡ begun) }
+    {
+        let head = Head {
+            name: Text::from_string(String::from_str(alloc, "top")?),
+            line_number: 0,
+            is_nested: false,
+        };
+        let module = Row {
+            kind: SymbolTableType::Module,
+            parent: 0,
+            head,
+            entries: Entries::new(alloc),
+        };
+        let mut rows = Vec::new(alloc);
+        rows.push(module)?;
+        Ok(ScopeBuilder {
+            alloc,
+            rows,
+            current: 0,
+            left: Vec::new(alloc),
+        })
+    }
+
+    /// Enters a scope that stands in the open one.
+    ///
+    /// # Errors
+    /// There is no memory for it. Nothing has changed then.
+    pub fn enter(
+        &mut self,
+        typ: SymbolTableType,
+        name: Text,
+        line_number: u32,
+    ) -> Result<(), AllocError>
+        ensures ok { OnOk result (self.new ≡ entered self.old typ name line_number) }
+        ensures err { OnErr result (self.new ≡ self.old) }
+    {
+        let is_nested = nests(&self.rows[self.current]);
+        let row = Row {
+            kind: typ,
+            parent: self.current,
+            head: Head {
+                name,
+                line_number,
+                is_nested,
+            },
+            entries: Entries::new(self.alloc),
+        };
+        let number = self.rows.len();
+        self.rows.push(row)?;
+        self.current = number;
+        Ok(())
+    }
+
+    /// Notes a use of the name in the open scope.
+    ///
+    /// # Errors
+    /// The use is refused, or there is no memory. Nothing has changed then.
+    pub fn register(
+        &mut self,
+        name: &Text,
+        role: Role,
+        location: SourceLocation,
+    ) -> Result<(), SymbolTableError>
+        ensures ok { OnOk result (self.new ≡ with_use self.old name.now role) }
+        ensures allowed { OnOk result (refused_here self.old name.now role ≡ None) }
+        ensures err { OnErr result (self.new ≡ self.old) }
+        ensures refused { IfErr result (λ e. Tells e (refused_here self.old name.now role) (Some location)) }
+    {
+        allow(self.alloc, &self.rows[self.current], name, role, location)?;
+        use_in(self.alloc, &mut self.rows[self.current], name, role)?;
+        Ok(())
+    }
+
+    /// Whether the module itself is the open scope, which is not left.
+    pub fn is_in_module(&self) -> bool
+        ensures { IsTrue result ↔ (self.now.current ≡ 0) }
+    {
+        self.current == 0
+    }
+
+    /// Leaves the open scope, which is not the module.
+    ///
+    /// # Errors
+    /// There is no memory for it. Nothing has changed then.
+    pub fn leave(&mut self) -> Result<(), AllocError>
+        requires { 0 < self.old.current }
+        ensures ok { OnOk result (self.new ≡ gone_out self.old) }
+        ensures err { OnErr result (self.new ≡ self.old) }
+    {
+        let parent = self.rows[self.current].parent;
+        self.left.push(self.current)?;
+        self.current = parent;
+        Ok(())
+    }
+
+    /// The table of the program, once its scopes and the uses in them are registered. Scopes that are still open count
+    /// as left.
+    ///
+    /// # Errors
+    /// The first fault: walruses in comprehensions come first, then names declared nonlocal and class names in type
+    /// parameters, the scopes inside before those around them. None of these has a location. Or there is no memory.
+    pub fn finish(self) -> Result<SymbolTable, SymbolTableError>
+        ensures table { IfOk result (λ table. resolved self ≡ Some table) }
+        ensures allowed { OnOk result (first_fault self ≡ None) }
+        ensures refused { IfErr result (λ e. Tells e (first_fault self) None) }
+    {
+        let ScopeBuilder {
+            alloc,
+            rows,
+            current,
+            mut left,
+        } = self;
+        match close(&rows, current, &mut left) {
+            Ok(()) => {}
+            Err(_) => return Err(SymbolTableError::out_of_memory()),
+        }
+        match resolve_rows(alloc, rows, &left) {
+            Ok(table) => Ok(table),
+            Err(Fault::Refused(refusal)) => Err(refuse(alloc, refusal, None)),
+            Err(Fault::OutOfMemory) => Err(SymbolTableError::out_of_memory()),
+        }
+    }
+
+    /// Where there is no fault, each name that a scope needs from outside leads to the cell of its binder.
+    pub fn names_lead(&self)
+        requires { first_fault self.now ≡ None }
+        ensures { NamesLead self.now }
+    {
+        let _ = &self.current;
+    }
+
+    /// Where there is no fault, a name that a scope binds is a cell exactly where a scope directly inside needs it.
+    pub fn cells_are_needed(&self)
+        requires { first_fault self.now ≡ None }
+        ensures { CellsAreNeeded self.now }
+    {
+        let _ = &self.current;
+    }
+
+    /// Where there is no fault, no name of a scope is both a cell and handed on by a class.
+    pub fn cells_are_apart(&self)
+        requires { first_fault self.now ≡ None }
+        ensures { CellsAreApart self.now }
+    {
+        let _ = &self.current;
+    }
+
+    /// Where there is no fault, the kind of each name is that to which it resolves.
+    pub fn kinds_resolve(&self)
+        requires { first_fault self.now ≡ None }
+        ensures { KindsResolve self.now }
+    {
+        let _ = &self.current;
+    }
+}

@@ -1,0 +1,162 @@
+//! The scopes while they are collected and resolved: one list in preorder, each with the number of the scope around it.
+ghost use Rattle.std.specs.Prelude.{◌≡◌, List, length, slice_get, [], is_some, OnOk, OnErr};
+ghost use Rattle.std.specs.Option.{option_map};
+ghost use Rattle.std.specs.Map.Iter.{deref_pair};
+ghost use Rattle.std.specs.Bool.{OnTrue, OnFalse};
+ghost use Rattle.std.specs.Map.{set_value};
+ghost use Rattle.py_scope.specs.Names.{same_name, lookup, put};
+ghost use Rattle.py_scope.specs.Bits.{is_bound, is_stored_by_walrus, is_iterated};
+
+use crate::flags::SymbolFlags;
+use crate::table_type::SymbolTableType;
+use bitflags::Flags;
+use indexmap::IndexMap;
+use py_tree::Text;
+use std::alloc::{AllocError, Global};
+use std::marker::Model;
+
+/// What a scope says of a name before resolution.
+#[derive(Clone, Copy, Debug, PartialEq, Eq)]
+pub enum Holds {
+    /// Not declared: bound here or asked outward.
+    Plain,
+    /// Declared global.
+    DeclaredGlobal,
+    /// Declared nonlocal.
+    DeclaredNonlocal,
+    /// Lifted through this comprehension to a function that binds it.
+    LiftedFree,
+    /// Lifted through this comprehension to a function that declares it global.
+    LiftedGlobal,
+    /// Lifted through this comprehension to the module.
+    LiftedModule,
+    /// Not used here: a look outward of a scope inside passed.
+    Passed,
+}
+
+/// What a scope holds of a name.
+#[derive(Clone, Copy, Debug, PartialEq, Eq)]
+pub struct Entry {
+    pub holds: Holds,
+    /// The flags of the roles in which the scope uses the name.
+    pub roles: SymbolFlags,
+    /// A walrus in a comprehension within binds the name here.
+    pub assigned_within: bool,
+    /// A class that a look outward passed.
+    pub free_class: bool,
+    /// A look outward ended here.
+    pub captured: bool,
+}
+
+impl Entry {
+    /// Whether the scope binds the name.
+    pub fn is_bound(self) -> bool
+        ensures { result ≡ is_bound self }
+    {
+        self.assigned_within || self.roles.intersects(SymbolFlags::BOUND)
+    }
+
+    /// Whether a walrus in this comprehension stores the name.
+    pub fn is_stored_by_walrus(self) -> bool
+        ensures { result ≡ is_stored_by_walrus self }
+    {
+        self.roles
+            .intersects(SymbolFlags::ASSIGNED_IN_COMPREHENSION)
+    }
+
+    /// Whether the name is a target of this comprehension.
+    pub fn is_iterated(self) -> bool
+        ensures { result ≡ is_iterated self }
+    {
+        self.roles.intersects(SymbolFlags::ITER)
+    }
+}
+
+/// An ordered map from names to entries, which contracts see as a list of pairs.
+#[derive(Drop)]
+pub struct Entries {
+    map: IndexMap<Text, Entry>,
+}
+
+impl Model for Entries {
+    ghost use Rattle.std.specs.Prelude.{List, ℕ};
+    ghost use Rattle.py_scope.specs.declared.rows.Entry.{Entry as Fact};
+
+    ghost Value = { List (List ℕ × Fact) };
+
+    ghost view = { λ a. a.map.entries };
+}
+
+/// Gives a name that is there this entry. The answer is whether it is there.
+fn write(map: &mut IndexMap<Text, Entry>, name: &Text, entry: Entry) -> bool
+    ensures found { result ≡ is_some (lookup name.now map.old.entries) }
+    ensures here { OnTrue result (map.new.entries ≡ set_value (same_name name.now) map.old.entries entry) }
+    ensures absent { OnFalse result (map.new.entries ≡ map.old.entries) }
+{
+    match map.get_mut(name) {
+        Some(place) => {
+            *place = entry;
+            true
+        }
+        None => false,
+    }
+}
+
+impl Entries {
+    pub fn new(alloc: Global) -> Entries
+        ensures { result ≡ [] }
+    {
+        Entries {
+            map: IndexMap::new(alloc),
+        }
+    }
+
+    pub fn len(&self) -> usize
+        ensures { result ≡ length self.now }
+    {
+        self.map.len()
+    }
+
+    pub fn get(&self, name: &Text) -> Option<Entry>
+        ensures { result ≡ lookup name.now self.now }
+    {
+        self.map.get(name).copied()
+    }
+
+    pub fn at(&self, i: usize) -> Option<(&Text, &Entry)>
+        ensures { option_map deref_pair result ≡ slice_get self.now i }
+    {
+        self.map.get_index(i)
+    }
+
+    /// Gives the name this entry, in the place that it has or at the end.
+    pub fn put(&mut self, alloc: Global, name: &Text, entry: Entry) -> Result<(), AllocError>
+        ensures ok { OnOk result (self.new ≡ put self.old name.now entry) }
+        ensures err { OnErr result (self.new ≡ self.old) }
+    {
+        if write(&mut self.map, name, entry) {
+            return Ok(());
+        }
+        let name = name.try_clone(alloc)?;
+        self.map.insert(name, entry)?;
+        Ok(())
+    }
+}
+
+/// How a scope is called, and where it stands.
+#[derive(Drop)]
+pub struct Head {
+    pub name: Text,
+    pub line_number: u32,
+    /// Whether a function stands around it.
+    pub is_nested: bool,
+}
+
+/// A scope: what it is, the number of the scope around it, its head, and its names.
+#[derive(Drop)]
+pub struct Row {
+    pub kind: SymbolTableType,
+    pub parent: usize,
+    pub head: Head,
+    pub entries: Entries,
+}

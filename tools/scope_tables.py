@@ -1,0 +1,157 @@
+"""Writes the table of scope trees that crates/py_scope/src/tests.rt compares with.
+
+usage: scope_tables.py MODEL_FOLDER
+
+MODEL_FOLDER holds a Python model of the scan (`scopes.py`) and a reader of Python sources (`py2rows.py`).
+Each source below gives one line: the calls of a scan, ` => `, and the tables of the model, or its refusal.
+A call is `+` with a letter for the kind, and the name, of a scope that is entered, `-` for one that is left,
+or a letter for a role and the name that is used.
+"""
+import sys
+sys.path.insert(0, sys.argv[1])
+import scopes
+from py2rows import tree_of
+
+KINDS = {"Module": "M", "Class": "C", "Function": "F", "Comprehension": "G", "TypeParams": "T"}
+ROLES = {"Used": "u", "Assigned": "a", "Imported": "i", "Parameter": "p", "AnnotatedParameter": "n",
+         "AnnotationAssigned": "t", "Walrus": "w", "Iter": "r", "Global": "g", "Nonlocal": "l"}
+SOURCES = [
+    "def f(x): return lambda: x",
+    "def f(y):\n class A:\n  y = 1\n  def g(self):\n   super()\n   return y",
+    "def f(): return [y := v for v in z]",
+    "[(lambda: y) for v in z if (y := v)]",
+    "def f(x): global x",
+    "def f(): nonlocal x",
+    "global x\nnonlocal x",
+    "nonlocal x",
+    "x = 1\nprint(x)",
+    "def f(a, b=1, *c, d, **e): return a",
+    "def f():\n x = 1\n def g():\n  nonlocal x\n  x = 2",
+    "def f():\n x = 1\n def g():\n  def h(): return x\n  return h",
+    "def f():\n global x\n x = 1\n def g(): return x",
+    "x = 1\ndef f():\n global x\n x = 2",
+    "x = 1\ndef f():\n def g():\n  global x\n  x = 2",
+    "x = 1\nclass A:\n global x\n x = 2",
+    "class A:\n x = 1\n def f(self): return x",
+    "class A:\n def f(self): return __class__",
+    "class A:\n def f(self): return super().f()",
+    "class A:\n class B:\n  def f(self): return super().f()",
+    "class A:\n __x = 1\n def f(self): return self.__x, __x",
+    "class _A:\n class __B:\n  __y = 1",
+    "def f(a):\n class A:\n  def g(self):\n   class B:\n    def h(self):\n     super()\n     return a",
+    "def f(x):\n class A:\n  x = x",
+    "def f():\n class A:\n  nonlocal x\n x = 1",
+    "[v for v in z]",
+    "def f(a): return [v + a for v in a]",
+    "def f(): return {v: w for v in z for w in v if v}",
+    "def f(): return [[y := v for v in w] for w in z]",
+    "def f():\n global y\n return [y := v for v in z]",
+    "def f():\n y = 0\n def g():\n  nonlocal y\n  return [y := v for v in z]",
+    "def f():\n def g():\n  nonlocal y\n  return [y := v for v in z]",
+    "class A:\n x = [y := v for v in z]",
+    "[v := 1 for v in z]",
+    "[[v := 1 for w in v] for v in z]",
+    "[[y := v for v in w] for y in z]",
+    "def f(): return [(lambda: y) for v in z if (y := v)]",
+    "def f(): return [lambda: v for v in z]",
+    "(y := 1)",
+    "def f(): return (y := 1)",
+    "[(a, [b := 1 for c in d]) for e in g]\ndef h(): return b",
+    "import os.path as p, sys\nfrom a import b",
+    "try:\n pass\nexcept E as e:\n print(e)",
+    "def f():\n x: int = 1\n return x",
+    "def f(a: int, b): return a",
+    "del x",
+    "def f():\n del x\n def g(): return x",
+    "def f():\n print(x)\n global x",
+    "def f():\n x = 1\n global x",
+    "def f():\n x: int = 1\n global x",
+    "def f():\n x: int\n nonlocal x",
+    "def f(x): nonlocal x",
+    "def f():\n x\n nonlocal x",
+    "def f():\n x = 1\n nonlocal x",
+    "def f():\n global x\n global x",
+    "def f():\n global x\n nonlocal x",
+    "class A(B, metaclass=C):\n def f(self): pass",
+    "@d\ndef f(x=y): return x\nlambda x, y=z: x + y",
+    "def f():\n def g():\n  def h(): return x\n  nonlocal x",
+    "def f(x):\n def g():\n  global x\n  def h(): return x",
+    "class A:\n __class__ = 1\n def f(self): return __class__",
+    "def f(__class__):\n class A:\n  def g(self): return __class__",
+    "for i in range(3):\n with open(i) as g: print(g)\nwhile i: pass",
+]
+# the calls of programs with type parameters: `def f[T](x: T): return T`, `class A[T]: x = T`, methods of a class whose
+# type parameters use its names, and a function whose type parameters stand between a name and its binder
+CALLS = [
+    "+T <f>|a T|+F f|n x|u T|-|u T|-|a f",
+    "+T <A>|a T|+C A|a __module__|a __qualname__|a __doc__|a __class__|a x|u T|-|-|a A",
+    "+C A|a __module__|a __qualname__|a __doc__|a __class__|a y|+T <m>|a T|+F m|p self|n z|-|u y|-|a m|-|a A",
+    "+C A|a __module__|a __qualname__|a __doc__|a __class__|a y|+T <m>|u int|a T|+F m|p self|n z|u y|-|u T|-|a m|-|a A",
+    "+F f|p a|+T <g>|a T|+F g|n b|u a|-|u a|-|a g|u g|-|a f",
+    "+F f|p a|+C A|a a|+T <g>|a T|+F g|u a|-|-|a g|-|-|a f",
+]
+
+
+class Recorder(scopes.Scanner):
+    """A scan that writes down its calls."""
+
+    def __init__(self, typed):
+        super().__init__(typed)
+        self.calls = []
+
+    def enter(self, typ, name, node, line):
+        self.calls.append("+" + KINDS[typ] + " " + name)
+        return super().enter(typ, name, node, line)
+
+    def leave(self):
+        self.calls.append("-")
+        return super().leave()
+
+    def register(self, name, role, loc):
+        self.calls.append(ROLES[role] + " " + scopes.mangle(self.class_name, name))
+        return super().register(name, role, loc)
+
+
+def dump(scope):
+    symbols = ",".join(f"{s.name}:{s.scope}:{s.flags}" for s in scope.symbols.values())
+    return KINDS[scope.typ] + scope.name + "{" + symbols + "}[" + "".join(dump(c) for c in scope.children) + "]"
+
+
+def row(source):
+    recorder, fault = Recorder(False), None
+    try:
+        recorder.body(tree_of(source).f["body"])
+    except scopes.Fault as f:
+        fault = f
+    try:
+        answer = dump(scopes.build(scopes.Scan(recorder.root, recorder.uses, fault)))
+    except scopes.Fault as f:
+        answer = "refused: " + f.text
+    return "|".join(recorder.calls) + " => " + answer
+
+
+def replay(calls):
+    scanner, fault = scopes.Scanner(True), None
+    kinds = {v: k for k, v in KINDS.items()}
+    roles = {v: k for k, v in ROLES.items()}
+    try:
+        for call in calls.split("|"):
+            if call == "-":
+                scanner.leave()
+            elif call[0] == "+":
+                scanner.enter(kinds[call[1]], call[3:], None, 0)
+            else:
+                scanner.register(call[2:], roles[call[0]], None)
+    except scopes.Fault as f:
+        fault = f
+    try:
+        answer = dump(scopes.build(scopes.Scan(scanner.root, scanner.uses, fault)))
+    except scopes.Fault as f:
+        answer = "refused: " + f.text
+    return calls + " => " + answer
+
+
+for source in SOURCES:
+    print(row(source))
+for calls in CALLS:
+    print(replay(calls))
