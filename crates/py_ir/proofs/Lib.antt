@@ -1,0 +1,12 @@
+pub mod Pieces
+pub mod Following
+pub mod Flattening
+pub mod SameBlocks
+pub mod Fitting
+pub mod Unique
+pub mod Clear
+pub mod Walked
+pub mod Joining
+pub mod Finishing
+pub mod Cells
+pub mod Ending

@@ -1,0 +1,215 @@
+ghost use Rattle.std.specs.Prelude.{ℕ, ◌≡◌, ◌+◌, ◌<◌, ◌≤◌, ◌^◌, All, IfErr, IfOk, length, map, slice_index, slice_index_or, false, true};
+ghost use Rattle.std.specs.List.{Contains};
+ghost use Rattle.py_bytecode.specs.Decode.{Tables};
+ghost use Rattle.py_walks.specs.Flat.{IsCode, look_at};
+ghost use Rattle.py_walks.specs.Walks.{IsDepth, Sound};
+ghost use Rattle.py_walks.specs.Shown.{RefusalAt};
+ghost use Rattle.py_layout.specs.Widths as widths;
+ghost use Rattle.py_layout.specs.Written.{InRange, IsAssembled, needs_of};
+ghost use Rattle.py_ir.specs.Chain.{IsChain, plain};
+ghost use Rattle.py_ir.specs.Checks.{lens_of};
+ghost use Rattle.py_ir.specs.Refusals.{Refused, NoneBefore, TooLong, capped};
+ghost use Rattle.py_ir.specs.Located.{IsLocated, ListRefused, NamesCheck, NamesWalk};
+ghost use Rattle.py_ir.specs.Finished.{IsLaid};
+
+use crate::chain::{ChainError, chain_of, flatten};
+use crate::checks::{Check, ItemFault, TableLens, check_items};
+use crate::{Block, FinalizeError, InstructionInfo};
+use py_bytecode::CodeUnit;
+use py_layout::{LayoutError, assemble};
+use py_tree::SourceLocation;
+use py_walks::{Fault, Refused as Walked, depth};
+use std::alloc::{AllocError, Global};
+
+/// A place of a list of instructions, as a block and an index in it.
+#[derive(Clone, Copy)]
+pub struct Position {
+    pub block: u32,
+    pub index: usize,
+}
+
+// Which blocks are in the chain.
+fn inside_of(alloc: Global, count: usize, chain: &[u32]) -> Result<Vec<bool>, AllocError>
+    requires { All (λ c. c < count) chain.now }
+    ensures long { IfOk result (λ inside. length inside.items ≡ count) }
+    ensures inside { IfOk result (λ inside. (c : ℕ) → slice_index_or inside.items c false ≡ true → Contains chain.now c) }
+    ensures marked { IfOk result (λ inside. (k : ℕ) → k < length chain.now → slice_index_or inside.items (slice_index chain.now k) false ≡ true) }
+{
+    let mut inside: Vec<bool> = vec![in alloc; false; count]?;
+    for block in chain {
+        inside[*block as usize] = true;
+    }
+    Ok(inside)
+}
+
+// The last block of the chain that starts at a place or before it, and the index of the place from there.
+fn locate(chain: &[u32], starts: &[usize], place: usize) -> Position
+    requires inside { All (λ c. c < length starts.now) chain.now }
+    requires some { 0 < length chain.now }
+    requires first { slice_index starts.now (slice_index chain.now 0) ≡ 0 }
+    ensures { IsLocated chain.now starts.now place result.block result.index }
+{
+    let mut found = 0;
+    for (k, block) in chain.iter().enumerate() {
+        if starts[*block as usize] <= place {
+            found = k;
+        }
+    }
+    let block = chain[found];
+    Position {
+        block,
+        index: place - starts[block as usize],
+    }
+}
+
+// The place that an error carries.
+fn carried(index: usize) -> u32
+    ensures { result ≡ capped index }
+{
+    if index < 0xffff_ffff {
+        index as u32
+    } else {
+        0xffff_ffff
+    }
+}
+
+// The error of a check that failed.
+fn check_fault(chain: &[u32], starts: &[usize], fault: ItemFault) -> FinalizeError
+    requires inside { All (λ c. c < length starts.now) chain.now }
+    requires some { 0 < length chain.now }
+    requires first { slice_index starts.now (slice_index chain.now 0) ≡ 0 }
+    ensures { NamesCheck chain.now starts.now fault.check fault.place result }
+{
+    let at = locate(chain, starts, fault.place);
+    let block = at.block;
+    let place = carried(at.index);
+    match fault.check {
+        Check::TargetOutside => FinalizeError::TargetOutside { block, place },
+        Check::JumpWithoutTarget => FinalizeError::JumpWithoutTarget { block, place },
+        Check::TargetOnOther => FinalizeError::TargetOnOther { block, place },
+        Check::PrefixGiven => FinalizeError::PrefixGiven { block, place },
+        Check::OperandOutside => FinalizeError::OperandOutside { block, place },
+    }
+}
+
+// The error of a walk that was refused.
+fn walk_fault(chain: &[u32], starts: &[usize], fault: Fault) -> FinalizeError
+    requires inside { All (λ c. c < length starts.now) chain.now }
+    requires some { 0 < length chain.now }
+    requires first { slice_index starts.now (slice_index chain.now 0) ≡ 0 }
+    ensures { NamesWalk chain.now starts.now fault.refused fault.place result }
+{
+    let at = locate(chain, starts, fault.place);
+    let block = at.block;
+    let place = carried(at.index);
+    let last = chain[chain.len() - 1];
+    match fault.refused {
+        Walked::NoEnd => FinalizeError::NoEnd { block: last },
+        Walked::UnevenHeights => FinalizeError::UnevenHeights { block, place },
+        Walked::HeightOutOfRange => FinalizeError::HeightOutOfRange { block, place },
+        Walked::BlockMismatch => FinalizeError::BlockMismatch { block, place },
+        Walked::OutOfMemory => FinalizeError::OutOfMemory,
+    }
+}
+
+// Whether a table has 2^31 entries or more.
+fn is_too_long(lens: TableLens) -> bool
+    ensures yes { result ≡ true → TooLong lens }
+    ensures no { result ≡ false → ¬ TooLong lens }
+{
+    let most = 1 << 31;
+    lens.constants >= most || lens.names >= most || lens.varnames >= most || lens.cells >= most
+}
+
+/// Units, the location of each, and the greatest height of the stack.
+#[derive(Drop)]
+pub struct Laid {
+    pub units: Vec<CodeUnit>,
+    pub locations: Vec<SourceLocation>,
+    pub depth: u32,
+}
+
+// The code of a checked list of instructions.
+fn lay_list(
+    alloc: Global,
+    chain: &[u32],
+    starts: &[usize],
+    items: &[InstructionInfo],
+) -> Result<Laid, FinalizeError>
+    requires code { IsCode starts.now items.now }
+    requires range { InRange items.now }
+    requires inside { All (λ c. c < length starts.now) chain.now }
+    requires some { 0 < length chain.now }
+    requires first { slice_index starts.now (slice_index chain.now 0) ≡ 0 }
+    ensures assembled { IfOk result (λ l. IsAssembled starts.now items.now l.units.items l.locations.items) }
+    ensures few { IfOk result (λ l. ¬ widths.TooManyUnits (needs_of starts.now items.now)) }
+    ensures sound { IfOk result (λ l. Sound (look_at starts.now items.now) 0 (l.depth + 1)) }
+    ensures depth { IfOk result (λ l. IsDepth (look_at starts.now items.now) 0 l.depth) }
+    ensures low { IfOk result (λ l. l.depth < 2 ^ 32) }
+    ensures refused { IfErr result (λ e. ListRefused chain.now starts.now items.now e) }
+{
+    let depth = match depth(alloc, starts, items) {
+        Ok(depth) => depth,
+        Err(fault) => return Err(walk_fault(chain, starts, fault)),
+    };
+    match assemble(alloc, starts, items) {
+        Ok(code) => Ok(Laid {
+            units: code.units,
+            locations: code.locations,
+            depth,
+        }),
+        Err(LayoutError::TooManyUnits) => Err(FinalizeError::TooManyUnits),
+        Err(LayoutError::OutOfMemory) => Err(FinalizeError::OutOfMemory),
+    }
+}
+
+// The code of the blocks of a chain.
+fn finish(
+    alloc: Global,
+    blocks: &[Block],
+    chain: &[u32],
+    lens: TableLens,
+    level: u8,
+) -> Result<Laid, FinalizeError>
+    requires chain { IsChain (map plain blocks.now) chain.now }
+    requires short { length chain.now ≤ length blocks.now }
+    ensures laid { IfOk result (λ l. (t : Tables) → lens_of t ≡ lens → IsLaid t level (map plain blocks.now) l.units.items l.locations.items l.depth) }
+    ensures clear { IfOk result (λ _. (t : Tables) → lens_of t ≡ lens → NoneBefore 10 t level (map plain blocks.now)) }
+    ensures refused { IfErr result (λ e. (t : Tables) → lens_of t ≡ lens → Refused t level (map plain blocks.now) e) }
+{
+    let flat = match flatten(alloc, blocks, chain, level) {
+        Ok(flat) => flat,
+        Err(_) => return Err(FinalizeError::OutOfMemory),
+    };
+    let inside = match inside_of(alloc, blocks.len(), chain) {
+        Ok(inside) => inside,
+        Err(_) => return Err(FinalizeError::OutOfMemory),
+    };
+    match check_items(&inside, lens, &flat.items) {
+        Ok(()) => (),
+        Err(fault) => return Err(check_fault(chain, &flat.starts, fault)),
+    }
+    if is_too_long(lens) {
+        return Err(FinalizeError::TooManyNames);
+    }
+    lay_list(alloc, chain, &flat.starts, &flat.items)
+}
+
+/// The code of a list of blocks, whose operands name tables of these lengths.
+pub fn lay_out_blocks(
+    alloc: Global,
+    blocks: &[Block],
+    lens: TableLens,
+    level: u8,
+) -> Result<Laid, FinalizeError>
+    ensures laid { IfOk result (λ l. (t : Tables) → lens_of t ≡ lens → IsLaid t level (map plain blocks.now) l.units.items l.locations.items l.depth) }
+    ensures clear { IfOk result (λ _. (t : Tables) → lens_of t ≡ lens → NoneBefore 10 t level (map plain blocks.now)) }
+    ensures refused { IfErr result (λ e. (t : Tables) → lens_of t ≡ lens → Refused t level (map plain blocks.now) e) }
+{
+    match chain_of(alloc, blocks) {
+        Ok(chain) => finish(alloc, blocks, &chain, lens, level),
+        Err(ChainError::NoBlocks) => Err(FinalizeError::NoBlocks),
+        Err(ChainError::BrokenChain(block)) => Err(FinalizeError::BrokenChain { block }),
+        Err(ChainError::OutOfMemory) => Err(FinalizeError::OutOfMemory),
+    }
+}

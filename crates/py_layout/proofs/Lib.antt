@@ -1,0 +1,6 @@
+pub mod Offsets
+pub mod Growing
+pub mod Ending
+pub mod Reading
+pub mod Writing
+pub mod SameUnits

@@ -1,0 +1,5 @@
+use Rattle.py_layout.proofs.Growing.{Growing}
+use Rattle.py_layout.proofs.widths.grow.Given as goal
+
+abbrev pub invariant-loop-k : goal.invariant-loop-k
+invariant-loop-k l = Growing l.needs l.initial.widths l.widths l.k l.grown

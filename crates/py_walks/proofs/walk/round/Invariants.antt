@@ -1,0 +1,11 @@
+use Rattle.std.proofs.Common.{◌≡◌, ◌<◌, ℕ, length}
+use Rattle.py_walks.specs.declared.known.Change.TheVariants as Change
+use Rattle.py_walks.specs.Shown.{Steps, Settled}
+use Rattle.py_walks.specs.Flat.{look_at}
+use Rattle.py_walks.proofs.walk.round.Given as goal
+
+abbrev pub invariant-loop-k : goal.invariant-loop-k
+invariant-loop-k l = record {
+  steps : Steps (look_at l.starts l.items) (length l.items) l.initial.states l.states l.change;
+  settled : l.change ≡ Change.Nothing → (j : ℕ) → j < l.k → Settled (look_at l.starts l.items) l.states j;
+}

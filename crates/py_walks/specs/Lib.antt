@@ -1,0 +1,6 @@
+pub mod Flow
+pub mod Walks
+pub mod Flat
+pub mod Known
+pub mod Shown
+pub mod Sound

@@ -1,0 +1,20 @@
+use py_bytecode::{Instruction, OpArg};
+use py_tree::SourceLocation;
+
+/// The number of a block.
+#[derive(Clone, Copy, PartialEq, Eq, Debug)]
+pub struct BlockIdx(pub u32);
+
+impl BlockIdx {
+    /// No block.
+    pub const NULL: BlockIdx = BlockIdx(0xffff_ffff);
+}
+
+/// An instruction with its operand, the block that it jumps to, and its place in the source.
+#[derive(Clone, Copy, Debug)]
+pub struct InstructionInfo {
+    pub instr: Instruction,
+    pub arg: OpArg,
+    pub target: BlockIdx,
+    pub location: SourceLocation,
+}
