@@ -117,17 +117,21 @@ def dump(scope):
     return KINDS[scope.typ] + scope.name + "{" + symbols + "}[" + "".join(dump(c) for c in scope.children) + "]"
 
 
+def line(calls, scan, fault):
+    try:
+        answer = dump(scopes.build(scopes.Scan(scan.root, scan.uses, fault)))
+    except scopes.Fault as f:
+        answer = "refused: " + f.text
+    return calls + " => " + answer
+
+
 def row(source):
     recorder, fault = Recorder(False), None
     try:
         recorder.body(tree_of(source).f["body"])
     except scopes.Fault as f:
         fault = f
-    try:
-        answer = dump(scopes.build(scopes.Scan(recorder.root, recorder.uses, fault)))
-    except scopes.Fault as f:
-        answer = "refused: " + f.text
-    return "|".join(recorder.calls) + " => " + answer
+    return line("|".join(recorder.calls), recorder, fault)
 
 
 def replay(calls):
@@ -144,11 +148,7 @@ def replay(calls):
                 scanner.register(call[2:], roles[call[0]], None)
     except scopes.Fault as f:
         fault = f
-    try:
-        answer = dump(scopes.build(scopes.Scan(scanner.root, scanner.uses, fault)))
-    except scopes.Fault as f:
-        answer = "refused: " + f.text
-    return calls + " => " + answer
+    return line(calls, scanner, fault)
 
 
 for source in SOURCES:
