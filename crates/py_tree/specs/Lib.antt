@@ -4,6 +4,7 @@ pub mod Mangle
 pub mod Nesting
 pub mod Size
 pub mod Tree
+pub mod Valid
 pub mod View
 pub mod formers
 pub mod Shapes

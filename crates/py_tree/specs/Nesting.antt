@@ -8,7 +8,11 @@ literal_nesting value = 1
 
 abbrev mutual
   pub expr_nesting : tree.Expr → ℕ
+  expr_nesting (tree.BoolOp at op values) = exprs_nesting values + 1
   expr_nesting (tree.BinOp at left op right) = max (expr_nesting left) (expr_nesting right) + 1
+  expr_nesting (tree.UnaryOp at op operand) = expr_nesting operand + 1
+  expr_nesting (tree.IfExp at test body orelse) = max (expr_nesting test) (max (expr_nesting body) (expr_nesting orelse)) + 1
+  expr_nesting (tree.Compare at left ops comparators) = max (expr_nesting left) (exprs_nesting comparators) + 1
   expr_nesting (tree.Call at func args) = max (expr_nesting func) (exprs_nesting args) + 1
   expr_nesting (tree.Constant at value) = literal_nesting value + 1
   expr_nesting (tree.Name at id) = 1
@@ -20,7 +24,12 @@ abbrev mutual
 
 abbrev mutual
   pub stmt_nesting : tree.Stmt → ℕ
+  stmt_nesting (tree.While at test body orelse) = max (expr_nesting test) (max (stmts_nesting body) (stmts_nesting orelse)) + 1
+  stmt_nesting (tree.If at test body orelse) = max (expr_nesting test) (max (stmts_nesting body) (stmts_nesting orelse)) + 1
   stmt_nesting (tree.StmtExpr at value) = expr_nesting value + 1
+  stmt_nesting (tree.Pass at) = 1
+  stmt_nesting (tree.Break at) = 1
+  stmt_nesting (tree.Continue at) = 1
 
   -- that of the deepest statement, and 0 for none
   pub stmts_nesting : tree.Stmts → ℕ
@@ -29,3 +38,4 @@ abbrev mutual
 
 abbrev pub nesting : tree.Mod → ℕ
 nesting (tree.Module body) = stmts_nesting body + 1
+nesting (tree.Expression body) = expr_nesting body + 1

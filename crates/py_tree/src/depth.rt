@@ -1,4 +1,4 @@
-ghost use Rattle.std.specs.Prelude.{◌+◌};
+ghost use Rattle.std.specs.Prelude.{◌+◌, max};
 ghost use Rattle.py_tree.specs.Limits.{IsAtMost, IsBelow};
 ghost use Rattle.py_tree.specs.Nesting.{exprs_nesting, expr_nesting, literal_nesting, nesting, stmts_nesting, stmt_nesting};
 ghost use Rattle.py_tree.specs.Tree as tree;
@@ -13,6 +13,7 @@ pub fn depth_of_tree(tree: &Mod, limit: u32) -> Option<u32>
 {
     match tree {
         Mod::Module(m) => depth_of_body(&m.body, limit),
+        Mod::Expression(m) => depth_of_expr(&m.body, limit),
     }
 }
 
@@ -37,6 +38,7 @@ pub fn depth_of_expr(expr: &Expr, limit: u32) -> Option<u32>
 }
 
 /// The nesting of the deepest statement, 0 where there is none. None where it is above `most`, as below.
+#[cycle(body)]
 #[tactic(auto, using(crate::proofs::View::trees))]
 fn stmts_depth(body: &[Stmt], most: u32) -> Option<u32>
     ensures { IsAtMost result most (stmts_nesting (stmts stmt_tree body.now)) }
@@ -48,14 +50,29 @@ fn stmts_depth(body: &[Stmt], most: u32) -> Option<u32>
     Some(deepest)
 }
 
+#[cycle(body)]
 #[tactic(auto, using(crate::proofs::View::trees))]
 fn stmt_depth(stmt: &Stmt, most: u32) -> Option<u32>
     ensures { IsAtMost result most (stmt_nesting (stmt_tree stmt.now)) }
 {
     let below = most.checked_sub(1)?;
     match stmt {
+        Stmt::While(s) => Some(branches_depth(&s.test, &s.body, &s.orelse, below)? + 1),
+        Stmt::If(s) => Some(branches_depth(&s.test, &s.body, &s.orelse, below)? + 1),
         Stmt::Expr(s) => Some(expr_depth(&s.value, below)? + 1),
+        Stmt::Pass(_) | Stmt::Break(_) | Stmt::Continue(_) => Some(1),
     }
+}
+
+/// The nesting of the deepest of a test and the two bodies that hang on it.
+#[cycle(body)]
+fn branches_depth(test: &Expr, body: &Stmts, orelse: &Stmts, most: u32) -> Option<u32>
+    ensures { IsAtMost result most (max (expr_nesting (expr_tree test.now)) (max (stmts_nesting (stmts stmt_tree body.now)) (stmts_nesting (stmts stmt_tree orelse.now)))) }
+{
+    let test = expr_depth(test, most)?;
+    let body = stmts_depth(body.as_slice(), most)?;
+    let orelse = stmts_depth(orelse.as_slice(), most)?;
+    Some(test.max(body.max(orelse)))
 }
 
 #[cycle(depth)]
@@ -65,10 +82,23 @@ fn expr_depth(expr: &Expr, most: u32) -> Option<u32>
 {
     let below = most.checked_sub(1)?;
     match expr {
+        Expr::BoolOp(e) => Some(exprs_depth(e.values.as_slice(), below)? + 1),
         Expr::BinOp(e) => {
             let left = expr_depth(&e.left, below)?;
             let right = expr_depth(&e.right, below)?;
             Some(left.max(right) + 1)
+        }
+        Expr::UnaryOp(e) => Some(expr_depth(&e.operand, below)? + 1),
+        Expr::IfExp(e) => {
+            let test = expr_depth(&e.test, below)?;
+            let body = expr_depth(&e.body, below)?;
+            let orelse = expr_depth(&e.orelse, below)?;
+            Some(test.max(body.max(orelse)) + 1)
+        }
+        Expr::Compare(e) => {
+            let left = expr_depth(&e.left, below)?;
+            let comparators = exprs_depth(e.comparators.as_slice(), below)?;
+            Some(left.max(comparators) + 1)
         }
         Expr::Call(e) => {
             let func = expr_depth(&e.func, below)?;

@@ -2,7 +2,7 @@ ghost use Rattle.std.specs.Prelude.{◌≡◌};
 ghost use Rattle.py_tree.specs.Tree.{expr_location};
 ghost use Rattle.py_tree.specs.View.{expr_tree};
 
-use crate::{List, Operator, SourceLocation, Text};
+use crate::{BoolOp, CmpOp, List, Operator, SourceLocation, Text, UnaryOp};
 
 /// The value of a `Constant` expression.
 #[derive(Drop)]
@@ -16,7 +16,11 @@ pub enum Constant {
 /// An expression.
 #[derive(Drop)]
 pub enum Expr {
+    BoolOp(ExprBoolOpOf<Expr>),
     BinOp(ExprBinOpOf<Expr>),
+    UnaryOp(ExprUnaryOpOf<Expr>),
+    IfExp(ExprIfExpOf<Expr>),
+    Compare(ExprCompareOf<Expr>),
     Call(ExprCallOf<Expr>),
     Constant(ExprConstant),
     Name(ExprName),
@@ -24,6 +28,16 @@ pub enum Expr {
 
 /// Expressions in order.
 pub type Exprs = List<Expr>;
+
+/// `values` joined by `and` or by `or`.
+#[derive(Drop)]
+pub struct ExprBoolOpOf<E> {
+    pub location: SourceLocation,
+    pub op: BoolOp,
+    pub values: List<E>,
+}
+
+pub type ExprBoolOp = ExprBoolOpOf<Expr>;
 
 /// `left op right`.
 #[derive(Drop)]
@@ -35,6 +49,38 @@ pub struct ExprBinOpOf<E> {
 }
 
 pub type ExprBinOp = ExprBinOpOf<Expr>;
+
+/// `op operand`.
+#[derive(Drop)]
+pub struct ExprUnaryOpOf<E> {
+    pub location: SourceLocation,
+    pub op: UnaryOp,
+    pub operand: Box<E>,
+}
+
+pub type ExprUnaryOp = ExprUnaryOpOf<Expr>;
+
+/// `body if test else orelse`.
+#[derive(Drop)]
+pub struct ExprIfExpOf<E> {
+    pub location: SourceLocation,
+    pub test: Box<E>,
+    pub body: Box<E>,
+    pub orelse: Box<E>,
+}
+
+pub type ExprIfExp = ExprIfExpOf<Expr>;
+
+/// `left`, and behind each of the operators the comparator that belongs to it.
+#[derive(Drop)]
+pub struct ExprCompareOf<E> {
+    pub location: SourceLocation,
+    pub left: Box<E>,
+    pub ops: List<CmpOp>,
+    pub comparators: List<E>,
+}
+
+pub type ExprCompare = ExprCompareOf<Expr>;
 
 /// `func(args)`.
 #[derive(Drop)]
@@ -67,7 +113,11 @@ impl Expr {
         ensures { result ≡ expr_location (expr_tree self.now) }
     {
         match self {
+            Expr::BoolOp(e) => e.location,
             Expr::BinOp(e) => e.location,
+            Expr::UnaryOp(e) => e.location,
+            Expr::IfExp(e) => e.location,
+            Expr::Compare(e) => e.location,
             Expr::Call(e) => e.location,
             Expr::Constant(e) => e.location,
             Expr::Name(e) => e.location,

@@ -13,19 +13,26 @@ pub mod statements;
 #[cfg(test)]
 mod tests;
 pub mod text;
+pub mod validity;
 
 pub use depth::{depth_of_body, depth_of_expr, depth_of_tree};
 pub use expressions::{
-    Constant, Expr, ExprBinOp, ExprBinOpOf, ExprCall, ExprCallOf, ExprConstant, ExprName, Exprs,
+    Constant, Expr, ExprBinOp, ExprBinOpOf, ExprBoolOp, ExprBoolOpOf, ExprCall, ExprCallOf,
+    ExprCompare, ExprCompareOf, ExprConstant, ExprIfExp, ExprIfExpOf, ExprName, ExprUnaryOp,
+    ExprUnaryOpOf, Exprs,
 };
 pub use list::List;
 pub use location::{LocatedError, OneIndexed, SourceLocation};
-pub use modules::{Mod, ModModule, Mode, TreeLimit};
-pub use operators::Operator;
+pub use modules::{Mod, ModExpression, ModModule, Mode, TreeLimit};
+pub use operators::{BoolOp, CmpOp, Operator, UnaryOp};
 pub use shapes::Malformed;
 pub use size::{size_of_body, size_of_expr, size_of_tree};
-pub use statements::{Stmt, StmtExpr, StmtExprOf, Stmts};
+pub use statements::{
+    Stmt, StmtBreak, StmtContinue, StmtExpr, StmtExprOf, StmtIf, StmtIfOf, StmtPass, StmtWhile,
+    StmtWhileOf, Stmts,
+};
 pub use text::Text;
+pub use validity::{valid, valid_body, valid_expr};
 
 /// Names in order.
 pub type Names = List<Text>;

@@ -1,15 +1,22 @@
-use crate::Stmts;
+use crate::{Expr, Stmts};
 
 /// A whole program.
 #[derive(Drop)]
 pub enum Mod {
     Module(ModModule),
+    Expression(ModExpression),
 }
 
 /// The statements of a file.
 #[derive(Drop)]
 pub struct ModModule {
     pub body: Stmts,
+}
+
+/// One expression, whose value is given.
+#[derive(Drop)]
+pub struct ModExpression {
+    pub body: Box<Expr>,
 }
 
 /// What a program is compiled for.

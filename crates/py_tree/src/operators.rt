@@ -1,3 +1,10 @@
+/// The operator of a `BoolOp`.
+#[derive(Clone, Copy, PartialEq, Eq, Debug)]
+pub enum BoolOp {
+    And,
+    Or,
+}
+
 /// The operator of a `BinOp`.
 #[derive(Clone, Copy, PartialEq, Eq, Debug)]
 pub enum Operator {
@@ -14,4 +21,28 @@ pub enum Operator {
     BitOr,
     BitXor,
     BitAnd,
+}
+
+/// The operator of a `UnaryOp`.
+#[derive(Clone, Copy, PartialEq, Eq, Debug)]
+pub enum UnaryOp {
+    Invert,
+    Not,
+    UAdd,
+    USub,
+}
+
+/// An operator of a `Compare`.
+#[derive(Clone, Copy, PartialEq, Eq, Debug)]
+pub enum CmpOp {
+    Eq,
+    NotEq,
+    Lt,
+    LtE,
+    Gt,
+    GtE,
+    Is,
+    IsNot,
+    In,
+    NotIn,
 }

@@ -7,11 +7,38 @@ use crate::{Expr, List, SourceLocation};
 /// A statement.
 #[derive(Drop)]
 pub enum Stmt {
+    While(StmtWhileOf<Stmt>),
+    If(StmtIfOf<Stmt>),
     Expr(StmtExprOf<Expr>),
+    Pass(StmtPass),
+    Break(StmtBreak),
+    Continue(StmtContinue),
 }
 
 /// Statements in order.
 pub type Stmts = List<Stmt>;
+
+/// `while test: body`, with an else part.
+#[derive(Drop)]
+pub struct StmtWhileOf<S> {
+    pub location: SourceLocation,
+    pub test: Box<Expr>,
+    pub body: List<S>,
+    pub orelse: List<S>,
+}
+
+pub type StmtWhile = StmtWhileOf<Stmt>;
+
+/// `if test: body`, with an else part.
+#[derive(Drop)]
+pub struct StmtIfOf<S> {
+    pub location: SourceLocation,
+    pub test: Box<Expr>,
+    pub body: List<S>,
+    pub orelse: List<S>,
+}
+
+pub type StmtIf = StmtIfOf<Stmt>;
 
 /// An expression as a statement.
 #[derive(Drop)]
@@ -22,6 +49,24 @@ pub struct StmtExprOf<E> {
 
 pub type StmtExpr = StmtExprOf<Expr>;
 
+/// A statement that does nothing.
+#[derive(Drop)]
+pub struct StmtPass {
+    pub location: SourceLocation,
+}
+
+/// The end of a loop.
+#[derive(Drop)]
+pub struct StmtBreak {
+    pub location: SourceLocation,
+}
+
+/// The next turn of a loop.
+#[derive(Drop)]
+pub struct StmtContinue {
+    pub location: SourceLocation,
+}
+
 impl Stmt {
     /// Where the statement starts in the source.
     #[tactic(auto, using(crate::proofs::View::trees))]
@@ -29,7 +74,12 @@ impl Stmt {
         ensures { result ≡ stmt_location (stmt_tree self.now) }
     {
         match self {
+            Stmt::While(s) => s.location,
+            Stmt::If(s) => s.location,
             Stmt::Expr(s) => s.location,
+            Stmt::Pass(s) => s.location,
+            Stmt::Break(s) => s.location,
+            Stmt::Continue(s) => s.location,
         }
     }
 }

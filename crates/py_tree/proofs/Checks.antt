@@ -1,0 +1,27 @@
+-- What is checked part by part is checked as a whole.
+use Rattle.std.proofs.Common.{◌≡◌, ◌++◌, List, [], ◌∷◌, length, refl, arith, Result, Ok, Err}
+use Rattle.std.specs.Result.{result_err}
+use Rattle.py_tree.specs.Valid.{checked, count, first}
+use Rattle.py_tree.specs.View.{exprs, expr_tree}
+use Rattle.py_tree.specs.declared.expressions.Expr.{Expr}
+use Rattle.py_tree.specs.declared.shapes.Malformed.{Malformed}
+use Rattle.py_tree.proofs.View.{trees}
+
+-- the second, where nothing was wrong in the first
+abbrev pub followed : Result (Unit {0}) Malformed → Result (Unit {0}) Malformed → Result (Unit {0}) Malformed
+followed (Ok _) next = next
+followed (Err shape) next = Err shape
+
+pub checked_append : (a b : List Malformed) → checked (a ++ b) ≡ followed (checked a) (checked b)
+checked_append [] b = refl
+checked_append (shape ∷ a) b = refl
+
+pub count_exprs : (xs : List Expr) → count (exprs expr_tree xs) ≡ length xs
+count_exprs [] = refl
+count_exprs (x ∷ xs) = omega (arith, count_exprs xs)
+
+pub err_checked : (shapes : List Malformed) → result_err (checked shapes) ≡ first shapes
+err_checked [] = refl
+err_checked (shape ∷ shapes) = refl
+
+pub ruleset checks = (checked_append, count_exprs, trees)
