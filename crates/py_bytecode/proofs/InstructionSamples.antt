@@ -188,3 +188,23 @@ spins = coded 0 (unit op.Jump 0 ∷ []) [] [] [] [] (obj.none ∷ [])
 
 spinning_goes_on : machine spins [] ≡ ran [] Going
 spinning_goes_on = refl
+
+-- `try: break finally: a` and `try: continue finally: a` with no loop around: the last part is not entered
+abbrev break_alone : Object
+break_alone = coded 1 (unit op.SetupFinally 4 ∷ unit op.Break 7 ∷ unit op.PopBlock 0 ∷ unit op.EnterFinally 0 ∷ unit op.LoadNameAny 0 ∷ unit op.Pop 0 ∷ unit op.EndFinally 0 ∷ unit op.ReturnConst 0 ∷ []) (codes "a" ∷ []) [] [] [] (obj.none ∷ [])
+
+break_alone_is_wrong : machine break_alone (Gives 1 ∷ []) ≡ ran [] Wrong
+break_alone_is_wrong = refl
+
+abbrev continue_alone : Object
+continue_alone = coded 1 (unit op.SetupFinally 4 ∷ unit op.Continue 0 ∷ unit op.PopBlock 0 ∷ unit op.EnterFinally 0 ∷ unit op.LoadNameAny 0 ∷ unit op.Pop 0 ∷ unit op.EndFinally 0 ∷ unit op.ReturnConst 0 ∷ []) (codes "a" ∷ []) [] [] [] (obj.none ∷ [])
+
+continue_alone_is_wrong : machine continue_alone (Gives 1 ∷ []) ≡ ran [] Wrong
+continue_alone_is_wrong = refl
+
+-- in a loop the same break goes by the last part
+abbrev break_in_loop : Object
+break_in_loop = coded 1 (unit op.SetupLoop 0 ∷ unit op.SetupFinally 5 ∷ unit op.Break 9 ∷ unit op.PopBlock 0 ∷ unit op.EnterFinally 0 ∷ unit op.LoadNameAny 0 ∷ unit op.Pop 0 ∷ unit op.EndFinally 0 ∷ unit op.PopBlock 0 ∷ unit op.ReturnConst 0 ∷ []) (codes "a" ∷ []) [] [] [] (obj.none ∷ [])
+
+break_in_loop_leaves : machine break_in_loop (Gives 1 ∷ []) ≡ ran (Accesses ByName Load (codes "a") 0 [] ∷ []) (Returned (It (Constant obj.none)))
+break_in_loop_leaves = refl

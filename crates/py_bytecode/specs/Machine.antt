@@ -98,6 +98,15 @@ pub data Block (K P : Type 0) : Type 0 where
   ExceptHandler : ℕ → Option (Value K) → Block K P
   FinallyHandler : ℕ → Option (Reason K P) → Option (Value K) → Block K P
 
+-- a loop among the blocks
+abbrev pub has_loop : {K P : Type 0} → List (Block K P) → Bool
+has_loop [] = false
+has_loop (Loop h ∷ bs) = true
+has_loop (Except h q ∷ bs) = has_loop bs
+has_loop (Finally h q ∷ bs) = has_loop bs
+has_loop (ExceptHandler h old ∷ bs) = has_loop bs
+has_loop (FinallyHandler h k old ∷ bs) = has_loop bs
+
 -- the place, the stack, the blocks, the slot of the handled exception, and the world
 pub data Config (K P : Type 0) : Type 0 where
   At : P → List (Entry K) → List (Block K P) → Option (Value K) → World K → Config K P
@@ -319,8 +328,8 @@ act (JumpIfOrPop c p) next s bs slot w = on_top s w (λ v rest. on_got (truth_of
 act (Jump p) next s bs slot w = At p s bs slot w
 act SetupLoop next s bs slot w = At next s (Loop (length s) ∷ bs) slot w
 act PopBlock next s bs slot w = pop_block next s bs slot w
-act (Break p) next s bs slot w = unwind (BreakTo p) s bs slot w
-act (Continue p) next s bs slot w = unwind (ContinueTo p) s bs slot w
+act (Break p) next s bs slot w = choose (has_loop bs) (unwind (BreakTo p) s bs slot w) (wrong w)
+act (Continue p) next s bs slot w = choose (has_loop bs) (unwind (ContinueTo p) s bs slot w) (wrong w)
 act ReturnValue next s bs slot w = on_entry s w (λ v rest. unwind (ReturnOf v) rest bs slot w)
 act (ReturnConst v) next s bs slot w = unwind (ReturnOf (It v)) s bs slot w
 act (SetupExcept p) next s bs slot w = At next s (Except (length s) p ∷ bs) slot w

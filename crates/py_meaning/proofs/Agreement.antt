@@ -1,14 +1,12 @@
 -- Views of runs, and agreement at every depth of nesting.
 use Rattle.py_bytecode.specs.Objects as const
 use Rattle.py_bytecode.specs.Machine.{start}
-use Rattle.std.proofs.Common.{◌≡◌, ℕ, zero, suc, List, [], ◌∷◌, ◌++◌, Bool, true, false, None, refl, sym, ap, ◌∙◌, subst, append-nil, inl, inr, ◌≤◌}
+use Rattle.std.proofs.Common.{◌≡◌, ℕ, List, [], ◌∷◌, ◌++◌, true, None, refl, sym, ap, ◌∙◌, append-nil, inl, inr}
 use Rattle.py_bytecode.specs.Values.{Value, Constant, Given, Child, Cell, Entry, It, Cells, Usage, Kind, Event, Operates, Makes, Accesses, StoresCells, AsksTruth, AsksNext, Answer, World, listed, Leave, Breaks, Continues, Returns, Throws, Ended, Normal, Leaves, Halts, Outcome, Returned, RaisedOut, Stopped, Wrong, Leaked, Going, Ran, choose}
 use Rattle.py_meaning.specs.Form.{Scope, Interp, run, ended_so, class_end}
-use Rattle.py_meaning.specs.Places.{exact}
 use Rattle.py_meaning.specs.View.{View, without_places, whole, plain, value_to, values_to, event_to, events_to, entry_to, world_to, ended_to, outcome_to, ran_to}
-use Rattle.py_meaning.specs.Agree.{runs_code, head_of, form_of, cells_of, exactly, fully, plainly, meaning_by, compile, SameValue, SameValues, SameEvent, SameEvents, SameEntry, SameOutcome, SameRan, OneOf, AllOf, children, kids, ItemsAgree}
+use Rattle.py_meaning.specs.Agree.{head_of, form_of, cells_of, exactly, fully, plainly, meaning_by, SameValue, SameValues, SameEvent, SameEvents, SameEntry, SameOutcome, SameRan, OneOf, AllOf}
 use Rattle.py_meaning.proofs.Carry.{Carries, events-append, form_carries}
-use Rattle.py_meaning.proofs.Assembly.{occurs, simulated}
 
 -- the end of a run, seen
 pub ended_so_to : {K L : Type 0} (c : K → L) (v : View) (e : Ended K) → ended_so (ended_to c v e) ≡ ran_to c v (ended_so e)
@@ -42,15 +40,6 @@ without_is place [] = refl
 without_is place (n ∷ ns) = ap (λ cs. record { name = n; place = 0 } ∷ cs) (without_is place ns)
 
 -- between the interpretations of a scope
-pub code_carries : {K : Type 0} (child : Scope → K) (s : Scope) → Carries child exact (exactly (λ t. t) s) (exactly child s)
-code_carries child s = record {
-  child = λ t. refl;
-  kind = λ u x n. refl;
-  place = λ u x n. refl;
-  closure = λ t. refl;
-  ends = λ w. shown_ends child exact refl _ _ refl refl (λ x xs. (x, xs, refl)) w;
-}
-
 pub full_carries : (s : Scope) → Carries (λ t. t) whole (exactly (λ t. t) s) (fully s)
 full_carries s = record {
   child = λ t. refl;
@@ -66,107 +55,16 @@ plain_carries s = record { child = λ t. refl; kind = λ u x n. refl; place = λ
 pub plainer_carries : (s : Scope) → Carries (λ t. t) plain (fully s) (plainly s)
 plainer_carries s = record { child = λ t. refl; kind = λ u x n. refl; place = λ u x n. refl; closure = λ t. refl; ends = λ w. hidden_ends (λ t. t) _ w }
 
--- a run with its children replaced is the same but for them
-module _ {K : Type 0} (R : K → Scope → Type 0) (c : Scope → K) (h : (t : Scope) → R (c t) t) (v : View) where
-  abbrev id_k : K → K
-  id_k k = k
-
-  abbrev id_s : Scope → Scope
-  id_s t = t
-
-  same_value : (x : Value Scope) → SameValue R (value_to id_k v (value_to c exact x)) (value_to id_s v x)
-  same_value (Constant n) = refl
-  same_value (Given n k) = (refl, refl)
-  same_value (Child t) = h t
-
-  same_values : (xs : List (Value Scope)) → SameValues R (values_to id_k v (values_to c exact xs)) (values_to id_s v xs)
-  same_values [] = tt
-  same_values (x ∷ xs) = (same_value x, same_values xs)
-
-  same_stores : (b : Bool) (cs : List Cell) → SameEvents R (choose b (StoresCells cs ∷ []) []) (choose b (StoresCells cs ∷ []) [])
-  same_stores true cs = (refl, tt)
-  same_stores false cs = tt
-
-  same_join : (a b : List (Event K)) (d e : List (Event Scope)) → SameEvents R a d → SameEvents R b e → SameEvents R (a ++ b) (d ++ e)
-  same_join [] b [] e p q = q
-  same_join [] b (y ∷ d) e p q = absurd p
-  same_join (x ∷ a) b [] e p q = absurd p
-  same_join (x ∷ a) b (y ∷ d) e p q = (p.0, same_join a b d e p.1 q)
-
-  same_events : (es : List (Event Scope)) → SameEvents R (events_to id_k v (events_to c exact es)) (events_to id_s v es)
-  same_events [] = tt
-  same_events (Operates o vs ∷ es) = ((refl, same_values vs), same_events es)
-  same_events (Makes f vs cs ∷ es) = ((refl, same_values vs, refl), same_events es)
-  same_events (Accesses k u n p vs ∷ es) = ((refl, refl, refl, refl, same_values vs), same_events es)
-  same_events (StoresCells cs ∷ es) = same_join (choose v.shows (StoresCells (v.cells cs) ∷ []) []) _ (choose v.shows (StoresCells (v.cells cs) ∷ []) []) _ (same_stores v.shows (v.cells cs)) (same_events es)
-  same_events (AsksTruth x ∷ es) = (same_value x, same_events es)
-  same_events (AsksNext x ∷ es) = (same_value x, same_events es)
-
-  same_cells : (b : Bool) (cs : List Cell) → SameEntry R (choose b (Cells cs) (It (Constant const.none))) (choose b (Cells cs) (It (Constant const.none)))
-  same_cells true cs = refl
-  same_cells false cs = refl
-
-  same_outcome : (o : Outcome Scope) → SameOutcome R (outcome_to id_k v (outcome_to c exact o)) (outcome_to id_s v o)
-  same_outcome (Returned (It x)) = same_value x
-  same_outcome (Returned (Cells cs)) = same_cells v.shows (v.cells cs)
-  same_outcome (RaisedOut x) = same_value x
-  same_outcome Stopped = tt
-  same_outcome Wrong = tt
-  same_outcome Leaked = tt
-  same_outcome Going = tt
-
-  pub same_ran : (r : Ran Scope) → SameRan R (ran_to id_k v (ran_to c exact r)) (ran_to id_s v r)
-  same_ran r = record { events = same_events r.events; outcome = same_outcome r.outcome }
-
 -- the meaning under a view is the exact meaning, seen
 pub meaning_is : (v : View) (view : Scope → Interp Scope) (from : Scope → Interp Scope) → ((s : Scope) → Carries (λ t. t) v (from s) (view s)) → (s : Scope) (answers : List Answer) → meaning_by view s answers ≡ ran_to (λ t. t) v (meaning_by from s answers)
 meaning_is v view from h s answers =
     ap ended_so (form_carries (λ t. t) v (from s) (view s) (h s) (form_of s) None (start answers))
     ∙ ended_so_to (λ t. t) v (run (from s) (form_of s) None (start answers))
 
--- a compiled code's run is the exact meaning over codes
-compiled_is : (n : ℕ) (s : Scope) → ((k : ℕ) → occurs k (compile (suc n) s) ≤ 1) → (answers : List Answer) → runs_code (compile (suc n) s) answers ≡ ran_to (compile n) exact (meaning_by (exactly (λ t. t)) s answers)
-compiled_is n s once answers =
-    simulated (exactly (compile n) s) (form_of s) once answers
-    ∙ ap ended_so (form_carries (compile n) exact (exactly (λ t. t) s) (exactly (compile n) s) (code_carries (compile n) s) (form_of s) None (start answers))
-    ∙ ended_so_to (compile n) exact (run (exactly (λ t. t) s) (form_of s) None (start answers))
-
 -- lists of children
 abbrev pub each_to : {A B : Type 0} → (A → B) → List A → List B
 each_to f [] = []
 each_to f (x ∷ xs) = f x ∷ each_to f xs
-
-module _ {K : Type 0} (R : K → Scope → Type 0) (c : Scope → K) (h : (t : Scope) → R (c t) t) where
-  all_more : {A B : Type 0} (S : A → B → Type 0) (y : B) (ys : List B) (xs : List A) → AllOf (λ x. OneOf S x ys) xs → AllOf (λ x. OneOf S x (y ∷ ys)) xs
-  all_more S y ys [] p = tt
-  all_more S y ys (x ∷ xs) p = (inr p.0, all_more S y ys xs p.1)
-
-  pub codes_have : (ts : List Scope) → AllOf (λ k. OneOf R k ts) (each_to c ts)
-  codes_have [] = tt
-  codes_have (t ∷ ts) = (inl (h t), all_more R t ts (each_to c ts) (codes_have ts))
-
-  pub scopes_have : (ts : List Scope) → AllOf (λ t. OneOf (λ x k. R k x) t (each_to c ts)) ts
-  scopes_have [] = tt
-  scopes_have (t ∷ ts) = (inl (h t), all_more (λ x k. R k x) (c t) (each_to c ts) ts (scopes_have ts))
-
--- what is known of a compiled code: its labels, and its children
-pub record WellMade : Type 0 where
-  pub once : (n : ℕ) (s : Scope) (k : ℕ) → occurs k (compile (suc n) s) ≤ 1
-  pub children : (n : ℕ) (s : Scope) → children (compile (suc n) s) ≡ each_to (compile n) (kids (form_of s))
-
-pub compiled_agrees : WellMade → (v : View) (view : Scope → Interp Scope) → ((s : Scope) → Carries (λ t. t) v (exactly (λ t. t) s) (view s)) → (n : ℕ) (s : Scope) → ItemsAgree v view n (compile n s) s
-compiled_agrees made v view h zero s = tt
-compiled_agrees made v view h (suc n) s =
-    let ih = compiled_agrees made v view h n in (
-      λ answers. subst (λ x. SameRan (ItemsAgree v view n) (ran_to (λ k. k) v (runs_code (compile (suc n) s) answers)) x) (sym (meaning_is v view (exactly (λ t. t)) h s answers))
-          (subst (λ x. SameRan (ItemsAgree v view n) (ran_to (λ k. k) v x) (ran_to (λ t. t) v (meaning_by (exactly (λ t. t)) s answers))) (sym (compiled_is n s (made.once n s) answers))
-          (same_ran (ItemsAgree v view n) (compile n) ih v (meaning_by (exactly (λ t. t)) s answers))),
-      subst (λ x. AllOf (λ k. OneOf (ItemsAgree v view n) k (kids (form_of s))) x) (sym (made.children n s)) (codes_have (ItemsAgree v view n) (compile n) ih (kids (form_of s))),
-      subst (λ x. AllOf (λ t. OneOf (λ y k. ItemsAgree v view n k y) t x) (kids (form_of s))) (sym (made.children n s)) (scopes_have (ItemsAgree v view n) (compile n) ih (kids (form_of s))),
-    )
-
-pub both_agree : WellMade → (n : ℕ) (s : Scope) → ItemsAgree whole fully n (compile n s) s × ItemsAgree plain plainly n (compile n s) s
-both_agree made n s = (compiled_agrees made whole fully full_carries n s, compiled_agrees made plain plainly plain_carries n s)
 
 -- what is the same in the full view is the same in the plain one
 module _ {K : Type 0} (R S : K → Scope → Type 0) (h : (k : K) (t : Scope) → R k t → S k t) where

@@ -4,14 +4,17 @@ use Rattle.std.proofs.Common.{◌≡◌, ℕ, zero, suc, ◌+◌, ◌-◌, ◌*�
 use Rattle.std.specs.Prelude.{nat_eq, if◌then◌else◌, slice_get}
 use Rattle.std.proofs.Math.Seq.{get_or-append_seam}
 use Rattle.std.proofs.lemmas.Option.{slice_get-get_or}
-use Rattle.py_bytecode.specs.Values.{Value, Constant, Cell, It, Answer, Event, Operates, World, Got, Fine, Raises, Stops, for_one, Leave, Breaks, Continues, Returns, Throws, Ended, Normal, Leaves, Halts, on_ended, then_do, use_it, Outcome, Returned}
+use Rattle.py_bytecode.specs.Values.{Value, Constant, Cell, It, Answer, Event, Operates, World, for_one, Leave, Breaks, Continues, Returns, Throws, Ended, Normal, Leaves, Halts, on_ended, Outcome, Returned}
 use Rattle.py_meaning.specs.Form.{Interp, SForm, SThen, SReturn, SClassEnd, SGather, SAt, run_value, run_clauses, append_run, class_end, returns, run, ended_so}
 use Rattle.py_bytecode.specs.Machine.{start, fuel, Instr, ReturnConst, at_places, Fetched, Found, Config, At, Over, stopped, steps, result, machine}
+use Rattle.py_meaning.specs.Looped.{Looped}
 use Rattle.py_meaning.specs.Fit.{Loops, leave}
 use Rattle.py_meaning.specs.Code.{Item, Do, Label, size, code, closes, closing, body_code}
 use Rattle.py_meaning.specs.Agree.{instrs, place_of, found, fetch_at, runs_code}
+use Rattle.py_meaning.specs.Live.{live}
 use Rattle.py_meaning.proofs.Reach.{Ground, Reaches, steps_add, more}
-use Rattle.py_meaning.proofs.Moves.{size-append, Stands, split, does, do_land}
+use Rattle.py_meaning.proofs.Falls.{falls, live-append, live_size, Never, never_do, never_use}
+use Rattle.py_meaning.proofs.Moves.{size-append, Stands, split, does, lively, do_land}
 use Rattle.py_meaning.proofs.Program.{form_follows}
 
 abbrev pub is_label : ℕ → ℕ → ℕ
@@ -28,9 +31,9 @@ occurs-append k [] b = sym (zero-add _)
 occurs-append k (Do i ∷ a) b = occurs-append k a b
 occurs-append k (Label l ∷ a) b = ap (λ n. is_label k l + n) (occurs-append k a b) ∙ sym (add_assoc (is_label k l) (occurs k a) (occurs k b))
 
--- a code as a ground, where an answer pays for two passes
+-- a code as a ground, where an answer pays for a pass over what can be come to
 abbrev pub ground_of : {K : Type 0} → List (Item K) → Ground K ℕ
-ground_of is = record { fetch = fetch_at is; spot = λ l. place_of is l 0; weight = 2 * size is + 2 }
+ground_of is = record { fetch = fetch_at is; spot = λ l. place_of is l 0; weight = live true is }
 
 place_if : (b : Bool) (n m : ℕ) → ◌≡◌ {A = ℕ} (if b then 1 else 0) 0 → (if b then n else m) ≡ m
 place_if true n m e = absurd (omega arith)
@@ -82,22 +85,6 @@ module _ {K : Type 0} where
       (placed pre k is 0 none ∙ zero-add _, subst (λ n. Stands (ground_of (pre ++ Label k ∷ is)) is n (size (pre ++ Label k ∷ is))) e rest1)
 
 module _ {K : Type 0} where
-  -- a run that does not go on to what follows
-  abbrev Never : Ended K → Type 0
-  Never (Normal w) = ⊥
-  Never (Leaves why w) = Unit {0}
-  Never (Halts events) = Unit {0}
-
-  never_do : (r : Ended K) (k : World K → Ended K) → ((w : World K) → Never (k w)) → Never (then_do r k)
-  never_do (Normal w) k h = h w
-  never_do (Leaves why w) k h = tt
-  never_do (Halts events) k h = tt
-
-  never_use : {A : Type 0} (r : Got K A) (k : A → World K → Ended K) → ((a : A) (w : World K) → Never (k a w)) → Never (use_it r k)
-  never_use (Fine a w) k h = h a w
-  never_use (Raises e w) k h = tt
-  never_use (Stops events) k h = tt
-
   never_class : (cs : List Cell) (w : World K) → Never (class_end cs w)
   never_class [] w = tt
   never_class (c ∷ cs) w = tt
@@ -141,29 +128,39 @@ module _ {K P : Type 0} where
   never_land (Leaves why w) land land1 leaves h = refl
   never_land (Halts events) land land1 leaves h = refl
 
-  -- where a scope's code ends
-  closing_lands : (g : Ground K P) (b : Bool) (r : Ended K) (m : ℕ) (c : Config K P) (q end : P) (l : Loops) → (b ≡ true → Never r) → Stands g (closing b) q end → Reaches g m c (on_ended r (λ w. At q [] [] None w) (leave g.spot l [] [] None) stopped) → Reaches g (m + size {K = K} (closing b)) c (at_end g.spot l r)
-  closing_lands g true r m c q end l h st body =
+  -- where a scope's code ends; b says whether its form's code may come to the closing
+  closing_lands : (g : Ground K P) (closed b : Bool) (r : Ended K) (m : ℕ) (c : Config K P) (q end : P) (l : Loops) → (closed ≡ true → Never r) → (b ≡ false → Never r) → Stands g (closing closed) q end → Reaches g m c (on_ended r (λ w. At q [] [] None w) (leave g.spot l [] [] None) stopped) → Reaches g (m + live {K = K} b (closing closed)) c (at_end g.spot l r)
+  closing_lands g true b r m c q end l h never st body =
       more g m (m + 0) c _ (omega arith) (subst (Reaches g m c) (never_land r (λ w. At q [] [] None w) (λ w. Over w.events (Returned (It (Constant const.none)))) (leave g.spot l [] [] None) (h refl)) body)
-  closing_lands g false r m c q end l h st body =
-      do_land g r m 1 c (λ w. At q [] [] None w) (λ w. Over w.events (Returned (It (Constant const.none)))) (leave g.spot l [] [] None) body (λ w. does g (ReturnConst (Constant const.none)) q st.0 [] [] None w st.1)
+  closing_lands g false b r m c q end l h never st body =
+      do_land g b r m (live {K = K} b (closing false)) c (λ w. At q [] [] None w) (λ w. Over w.events (Returned (It (Constant const.none)))) (leave g.spot l [] [] None) never body (λ e w. lively g b (closing false) _ _ e (does g (ReturnConst (Constant const.none)) q st.0 [] [] None w st.1))
 
   -- the machine where a scope's code stands does what its form does
-  pub simulated_at : (g : Ground K P) (i : Interp K) (f : SForm) (p q : P) → Stands g (body_code i f) p q → size (body_code i f) ≤ g.weight → (answers : List Answer) (n : ℕ) → g.weight * length answers + size (body_code i f) ≤ n → machine g.fetch n p (start answers) ≡ ended_so (run i f None (start answers))
-  simulated_at g i f p q st heavy answers n le =
-      let l : Loops = record { on_break = 0; on_continue = 0 } in
+  pub simulated_at : (g : Ground K P) (i : Interp K) (f : SForm) (p q : P) → Stands g (body_code i f) p q → Looped false f → live true (body_code i f) ≤ g.weight → (answers : List Answer) (n : ℕ) → g.weight * length answers + live true (body_code i f) ≤ n → machine g.fetch n p (start answers) ≡ ended_so (run i f None (start answers))
+  simulated_at g i f p q st ok heavy answers n le =
+      let l : Loops = record { inside = false; on_break = 0; on_continue = 0 } in
       let a : List (Item K) = code i f l 1 in
-      let sizes : size (body_code i f) ≡ size a + size {K = K} (closing (closes f)) = size-append a (closing (closes f)) in
+      let z : ℕ = live {K = K} (falls true a) (closing (closes f)) in
+      let sizes : live true (body_code i f) ≡ live true a + z = live-append true a (closing (closes f)) in
       let r = split g a (closing (closes f)) p q st in
-      let body = (form_follows i g f l 1).by (omega (arith, sizes, heavy)) p r.0 r.1 [] [] None tt (start answers) in
-      let all = closing_lands g (closes f) (run i f None (start answers)) (size a) _ r.0 q l (λ e. closed_never i f e None (start answers)) r.2 body in
-      simulated_by g p (run i f None (start answers)) l answers (size a + size {K = K} (closing (closes f))) n all (omega (arith, sizes, le))
+      let follows = form_follows i g f l 1 ok in
+      let body = follows.by (omega (arith, sizes, heavy)) p r.0 r.1 [] [] None tt (λ e. absurd (let z : false ≡ true = e in cc)) (start answers) in
+      let all = closing_lands g (closes f) (falls true a) (run i f None (start answers)) (live true a) _ r.0 q l (λ e. closed_never i f e None (start answers)) (λ e. follows.never e None (start answers)) r.2 body in
+      simulated_by g p (run i f None (start answers)) l answers (live true a + z) n all (omega (arith, sizes, le))
 
--- the machine on a form's code does what the form does
-pub simulated : {K : Type 0} (i : Interp K) (f : SForm) → ((k : ℕ) → occurs k (body_code i f) ≤ 1) → (answers : List Answer) → runs_code (body_code i f) answers ≡ ended_so (run i f None (start answers))
-simulated {K} i f once answers =
-    let is : List (Item K) = body_code i f in
-    simulated_at (ground_of is) i f 0 (size is) (stands_from is [] once) (omega arith) answers (fuel (size is) answers) (fuel_covers (size is) (length answers))
-  where
-    fuel_covers : (n a : ℕ) → (2 * n + 2) * a + n ≤ (a + 1) * (2 * n + 2)
-    fuel_covers n a = omega arith
+-- steps for a pass over what can be come to are within its fuel, and more fuel pays for more
+pub fuel_covers : (m n : ℕ) (answers : List Answer) → fuel m answers ≤ n → m * length answers + m ≤ n
+fuel_covers m n answers h = grind arith
+
+pub fuel_up : (m n : ℕ) (answers : List Answer) → m ≤ n → fuel m answers ≤ fuel n answers
+fuel_up m n answers h = grind arith
+
+module _ {K : Type 0} (i : Interp K) (f : SForm) (ok : Looped false f) (once : (k : ℕ) → occurs k (body_code i f) ≤ 1) (answers : List Answer) where
+  -- the machine on a form's code does what the form does, within the steps that what can be come to pays for
+  pub simulated_within : (n : ℕ) → fuel (live true (body_code i f)) answers ≤ n → machine (fetch_at (body_code i f)) n 0 (start answers) ≡ ended_so (run i f None (start answers))
+  simulated_within n enough =
+      let is : List (Item K) = body_code i f in
+      simulated_at (ground_of is) i f 0 (size is) (stands_from is [] once) ok (omega arith) answers n (fuel_covers (live true is) n answers enough)
+
+  pub simulated : runs_code (body_code i f) answers ≡ ended_so (run i f None (start answers))
+  simulated = simulated_within (fuel (size (body_code i f)) answers) (fuel_up (live true (body_code i f)) (size (body_code i f)) answers (live_size true (body_code i f)))

@@ -1,5 +1,5 @@
 -- A form's code that lies in blocks stands in the machine on blocks.
-use Rattle.std.proofs.Common.{◌≡◌, ℕ, zero, suc, ◌+◌, ◌-◌, ◌*◌, ◌≤◌, ◌<◌, List, [], ◌∷◌, length, Bool, true, false, Option, Some, None, refl, sym, ap, ◌∙◌, subst, arith, suc-add, lt-ltb, le_refl}
+use Rattle.std.proofs.Common.{◌≡◌, ℕ, zero, suc, ◌+◌, ◌-◌, ◌≤◌, ◌<◌, List, [], ◌∷◌, length, Bool, true, false, Option, Some, None, refl, sym, ap, ◌∙◌, subst, arith, suc-add, lt-ltb, le_refl}
 use Rattle.std.specs.Prelude.{nat_lt, if◌then◌else◌, slice_get}
 use Rattle.std.proofs.lemmas.Bool.Decides.{nat_tests}
 use Rattle.std.proofs.lemmas.Option.{slice_get_within}
@@ -8,13 +8,15 @@ use Rattle.py_bytecode.specs.Machine.{Instr, Found, at_places}
 use Rattle.py_bytecode.specs.Decode.{Tables, instr_of}
 use Rattle.py_bytecode.specs.Units.{found}
 use Rattle.py_bytecode.specs.Blocks as blocks
-use Rattle.py_bytecode.specs.Blocks.{Place, Of, block_at, hop, settle, settled, arrives, at_index, fetch_block, block_machine}
+use Rattle.py_bytecode.specs.Blocks.{Place, Of, block_at, hop, settle, settled, arrives, at_index, fetch_block}
 use Rattle.py_meaning.specs.Code.{Item, Do, Label, size, code, body_code}
 use Rattle.py_meaning.specs.Blocks.{Inside, IsItem, Stable, Lies, BlocksSimulate, BlocksRun}
+use Rattle.py_meaning.specs.Live.{live, LiveRuns}
 use Rattle.py_meaning.specs.Form.{Interp}
 use Rattle.py_meaning.specs.Agree.{exactly, form_of}
 use Rattle.py_meaning.proofs.Program.{form_follows}
-use Rattle.py_meaning.proofs.Assembly.{simulated, simulated_at}
+use Rattle.py_meaning.proofs.Falls.{live_size}
+use Rattle.py_meaning.proofs.Assembly.{simulated, simulated_at, simulated_within, fuel_covers}
 use Rattle.py_meaning.proofs.Labels.{once}
 use Rattle.py_meaning.proofs.Reach.{Ground}
 use Rattle.py_meaning.proofs.Moves.{Stands}
@@ -91,18 +93,21 @@ stands_in_blocks t bs weight (suc n) (Label l ∷ is) (Of b i) q h le =
     (all ∙ sym from, subst (λ x. Stands (block_ground t bs weight) is x (settled bs q)) (all ∙ sym from) (stands_in_blocks t bs weight n is (Of l 0) q h.2 (omega arith)))
 
 pub blocks_simulate : BlocksSimulate
-blocks_simulate i t bs hops f l n p q lies le s entered slot w fit =
+blocks_simulate i t bs hops f l n p q lies le s entered slot w fit within ok =
     let g : Ground Object Place = block_ground t bs (size (code i f l n)) in
-    let r = (form_follows i g f l n).by (le_refl _) (settled bs p) (settled bs q) (stands_in_blocks t bs (size (code i f l n)) hops (code i f l n) p q lies le) s entered slot fit w in
-    (r.cost, r.bound, r.runs)
+    let least = live_size true (code i f l n) in
+    let r = (form_follows i g f l n ok).by least (settled bs p) (settled bs q) (stands_in_blocks t bs (size (code i f l n)) hops (code i f l n) p q lies le) s entered slot fit within w in
+    (r.cost, omega (arith, r.bound, least), r.runs)
 
 pub blocks_run : BlocksRun
-blocks_run child s t bs hops q lies le answers n enough =
+blocks_run child s t bs hops q lies le ok answers n enough =
     let i : Interp Object = exactly child s in
     let is : List (Item Object) = body_code i (form_of s) in
-    let g : Ground Object Place = block_ground t bs (2 * size is + 2) in
-    simulated_at g i (form_of s) (settled bs (Of 0 0)) (settled bs q) (stands_in_blocks t bs (2 * size is + 2) hops is (Of 0 0) q lies le) (omega arith) answers n (fuel_covers (size is) (length answers) n enough)
-    ∙ sym (simulated i (form_of s) (once i (form_of s)) answers)
-  where
-    fuel_covers : (m a n : ℕ) → (a + 1) * (2 * m + 2) ≤ n → (2 * m + 2) * a + m ≤ n
-    fuel_covers m a n h = omega (arith, h)
+    let g : Ground Object Place = block_ground t bs (live true is) in
+    simulated_at g i (form_of s) (settled bs (Of 0 0)) (settled bs q) (stands_in_blocks t bs (live true is) hops is (Of 0 0) q lies le) ok (le_refl _) answers n (fuel_covers (live true is) n answers enough)
+    ∙ sym (simulated i (form_of s) ok (once i (form_of s)) answers)
+
+pub live_runs : LiveRuns
+live_runs child s ok answers n enough =
+    let i : Interp Object = exactly child s in
+    simulated_within i (form_of s) ok (once i (form_of s)) answers n enough ∙ sym (simulated i (form_of s) ok (once i (form_of s)) answers)

@@ -5,8 +5,11 @@ use Rattle.py_meaning.specs.Form.{clause_turn, circles, each_run, returns}
 use Rattle.py_bytecode.specs.Machine.{Operate, Append, Pop, Jump, ForIter, ReturnValue, Found, Block, Config, At, wrong, leaked, below, pop, push, stopped, raise}
 use Rattle.py_meaning.specs.Fit.{IsFit, Loops, left}
 use Rattle.py_meaning.specs.Code.{Item, Do, Label, size, each_code}
+use Rattle.py_meaning.specs.Live.{live}
 use Rattle.py_meaning.proofs.Reach.{light, heavy, pay, reaches_left, Ground, Reaches, stay, same, more, follow}
-use Rattle.py_meaning.proofs.Moves.{raise_drop, fit_more, size-append, OnFine, Stands, split, does, Moves, bare, one_on, none_on, FollowsValue, FollowsValues, FollowsTarget, Follows, get_then, use_then, moves_on, moves_then, moves_one}
+use Rattle.py_meaning.proofs.Falls.{going, never_use}
+use Rattle.py_meaning.proofs.Wholes.{Whole, live_whole}
+use Rattle.py_meaning.proofs.Moves.{raise_drop, fit_more, size-append, OnFine, Stands, split, does, Moves, bare, one_on, none_on, FollowsValue, FollowsValues, FollowsTarget, Follows, get_then, use_then, moves_then, moves_one}
 use Rattle.py_meaning.proofs.Ops.{pop_all, next_takes}
 use Rattle.py_meaning.proofs.Tests.{FollowsFilter}
 use Rattle.py_meaning.proofs.Values.{one_moves}
@@ -129,21 +132,23 @@ module _ {K P : Type 0} (g : Ground K P) where
   }
 
   -- the collection is made, the clauses run, and the collection returned
-  pub gather_follows : (o : Operation) (clauses : List (Item K)) (l : Loops) (m : Value K → World K → Got K (Unit {0})) → ((c : Value K) → FollowsClause clauses (LiesBelow P c 0) (m c)) → Follows g (Do (Operate o 0 (Some 1)) ∷ (clauses ++ Do ReturnValue ∷ [])) l (λ slot w. use_it (for_one (Operates o []) w) (λ c w1. use_it (m c w1) (λ d w2. returns c w2)))
-  gather_follows o clauses l m f = record {
-    by = λ room p q st s bs slot fit w.
-        let sizes : size (Do (Operate o 0 (Some 1)) ∷ (clauses ++ Do ReturnValue ∷ [])) ≡ 1 + (size clauses + 1) = omega (arith, size-append clauses (Do ReturnValue ∷ [])) in
+  pub gather_follows : (o : Operation) (clauses : List (Item K)) (l : Loops) (m : Value K → World K → Got K (Unit {0})) → Whole clauses → ((c : Value K) → FollowsClause clauses (LiesBelow P c 0) (m c)) → Follows g (Do (Operate o 0 (Some 1)) ∷ (clauses ++ Do ReturnValue ∷ [])) l (λ slot w. use_it (for_one (Operates o []) w) (λ c w1. use_it (m c w1) (λ d w2. returns c w2)))
+  gather_follows o clauses l m x f = record {
+    by = λ room p q st s bs slot fit within w.
+        let sizes : live true (Do (Operate o 0 (Some 1)) ∷ (clauses ++ Do ReturnValue ∷ [])) ≡ 1 + (size clauses + 1) = omega (arith, live_whole clauses (Do ReturnValue ∷ []) x) in
         let r = split g clauses _ st.0 q st.2 in
         let made = (one_moves g o 0 [] refl).by p st.0 (st.0, st.1, refl) s bs slot fit w in
         let ran = λ (c : Value K) (w1 : World K). subst (λ R. Reaches g (size clauses) (At st.0 (It c ∷ s) bs slot w1) (on_got (m c w1) (λ d w2. At r.0 (It c ∷ s) bs slot w2) R stopped)) (raise_drop (It c) s bs slot fit) ((f c).by (omega (arith, room, sizes)) st.0 r.0 r.1 (It c ∷ s) bs slot (fit_more (It c) s bs fit) (λ w2 k. refl) w1) in
         more g (1 + (size clauses + 1)) _ _ _ (omega (arith, sizes))
         (use_then g (for_one (Operates o []) w) _ 1 (size clauses + 1) _ (λ c w1. At st.0 (It c ∷ s) bs slot w1) (λ w1. At q s bs slot w1) l s bs slot made
         (λ c w1. use_then g (m c w1) _ (size clauses) 1 _ (λ d w2. At r.0 (It c ∷ s) bs slot w2) _ l s bs slot (ran c w1) (λ d w2. does g ReturnValue r.0 r.2.0 (It c ∷ s) bs slot w2 r.2.1)));
+    never = λ e slot w. never_use (for_one (Operates o []) w) _ (λ c w1. never_use (m c w1) _ (λ d w2. tt));
   }
 
-  pub clause_effect : (a : List (Item K)) (l : Loops) (m : World K → Got K (Unit {0})) → FollowsClause a (λ s. Unit {0}) m → Follows g a l (λ slot w. effect (m w))
-  clause_effect a l m f = record {
-    by = λ room p q st s bs slot fit w.
-        more g (size a + 0) _ _ _ (omega arith)
-        (use_then g (m w) _ (size a) 0 _ (λ d w1. At q s bs slot w1) (λ w1. At q s bs slot w1) l s bs slot (f.by room p q st s bs slot fit tt w) (λ d w1. same g _ _ refl));
+  pub clause_effect : (a : List (Item K)) (l : Loops) (m : World K → Got K (Unit {0})) → Whole a → FollowsClause a (λ s. Unit {0}) m → Follows g a l (λ slot w. effect (m w))
+  clause_effect a l m x f = record {
+    by = λ room p q st s bs slot fit within w.
+        more g (size a + 0) _ _ _ (omega (arith, x.lives))
+        (use_then g (m w) _ (size a) 0 _ (λ d w1. At q s bs slot w1) (λ w1. At q s bs slot w1) l s bs slot (f.by (omega (arith, room, x.lives)) p q st s bs slot fit tt w) (λ d w1. same g _ _ refl));
+    never = λ e slot w. going a x.goes e;
   }

@@ -1,10 +1,11 @@
 -- Agreement of code objects: of what is made from a scope, without children, and from the full view to the plain one.
-use Rattle.std.proofs.Common.{inl, inr, ◌≡◌, ℕ, zero, suc, List, [], ◌∷◌, refl, sym, ap, ◌∙◌, subst}
+use Rattle.std.proofs.Common.{inl, inr, ◌≡◌, ℕ, zero, suc, List, [], ◌∷◌, false, refl, sym, ap, ◌∙◌, subst}
 use Rattle.py_bytecode.specs.Objects.{Object, codes_in}
 use Rattle.py_bytecode.specs.Objects as obj
 use Rattle.py_bytecode.specs.Values.{Answer}
 use Rattle.py_bytecode.specs.Units.{machine}
 use Rattle.py_meaning.specs.Form.{Scope, Interp}
+use Rattle.py_meaning.specs.Looped.{Looped}
 use Rattle.py_meaning.specs.Code.{Item, body_code}
 use Rattle.py_meaning.specs.View.{View, whole, plain, ran_to}
 use Rattle.py_meaning.specs.Agree.{runs_code, form_of, exactly, fully, plainly, meaning_by, SameRan, OneOf, AllOf, children, kids}
@@ -14,22 +15,22 @@ use Rattle.py_meaning.proofs.Agreement.{each_to, meaning_is, full_carries, plain
 use Rattle.py_meaning.proofs.Kids.{children_are}
 use Rattle.py_meaning.proofs.CodeOver.{code_over}
 use Rattle.py_meaning.proofs.OtherChildren.{children_over}
-use Rattle.py_meaning.proofs.Spans.{items_agree}
+use Rattle.py_meaning.proofs.Spans.{all_as, items_agree}
 
-childless : (v : View) (view : Scope → Interp Scope) → ((s : Scope) → Carries (λ t. t) v (exactly (λ t. t) s) (view s)) → (o : Object) (s : Scope) (c : Scope → Object) → ((answers : List Answer) → machine o answers ≡ runs_code (body_code (exactly c s) (form_of s)) answers) → codes_in (obj.constants o) ≡ [] → kids (form_of s) ≡ [] → (n : ℕ) → Agrees v view n o s
-childless v view h o s c runs codes none zero = tt
-childless v view h o s c runs codes none (suc n) =
+childless : (v : View) (view : Scope → Interp Scope) → ((s : Scope) → Carries (λ t. t) v (exactly (λ t. t) s) (view s)) → (o : Object) (s : Scope) (c : Scope → Object) → ((answers : List Answer) → machine o answers ≡ runs_code (body_code (exactly c s) (form_of s)) answers) → codes_in (obj.constants o) ≡ [] → kids (form_of s) ≡ [] → Looped false (form_of s) → (n : ℕ) → Agrees v view n o s
+childless v view h o s c runs codes none ok zero = tt
+childless v view h o s c runs codes none ok (suc n) =
     let R : Object → Scope → Type 0 = Agrees v view n in
     let ps : List (Item Scope) = body_code (exactly (λ t. t) s) (form_of s) in
     let empty : children ps ≡ [] = children_are (exactly (λ t. t) s) (form_of s) ∙ ap (each_to (λ t. t)) none in (
       λ answers. subst (λ x. SameRan R (ran_to (λ k. k) v x) (meaning_by view s answers)) (sym (runs answers ∙ ap (λ l. runs_code l answers) (sym (code_over c (exactly (λ t. t) s) (form_of s)))))
-          (items_agree v view h R c (λ t. t) ps s (code_over (λ t. t) (exactly (λ t. t) s) (form_of s)) (subst (AllOf (λ t. R (c t) t)) (sym empty) tt) answers),
+          (items_agree v view h R c (λ t. t) ps s (code_over (λ t. t) (exactly (λ t. t) s) (form_of s)) ok (subst (AllOf (λ t. R (c t) t)) (sym empty) tt) answers),
       subst (AllOf (λ k. OneOf R k (kids (form_of s)))) (sym codes) tt,
       subst (AllOf (λ t. OneOf (λ x k. R k x) t (codes_in (obj.constants o)))) (sym none) tt,
     )
 
 pub childless_agrees : ChildlessAgrees
-childless_agrees o s c runs codes none n = (childless whole fully full_carries o s c runs codes none n, childless plain plainly plain_carries o s c runs codes none n)
+childless_agrees o s c runs codes none ok n = (childless whole fully full_carries o s c runs codes none ok n, childless plain plainly plain_carries o s c runs codes none ok n)
 
 -- agreement in the full view gives agreement in the plain one
 less_agrees : (n : ℕ) (o : Object) (s : Scope) → Agrees whole fully n o s → Agrees plain plainly n o s
@@ -48,16 +49,11 @@ less_agrees (suc n) o s p =
 pub full_is_more : FullIsMore
 full_is_more o s p = λ n. less_agrees n o s (p n)
 
--- what is known of all is known as another thing of all
-all_as : {A : Type 0} (S T : A → Type 0) → ((x : A) → S x → T x) → (xs : List A) → AllOf S xs → AllOf T xs
-all_as S T h [] p = tt
-all_as S T h (x ∷ xs) p = (h x p.0, all_as S T h xs p.1)
-
 -- the scopes of pairs
 abbrev scopes : List (Object × Scope) → List Scope
 scopes ps = each_to (λ p. p.1) ps
 
-each_itself : (xs : List Scope) → each_to (λ t. t) xs ≡ xs
+pub each_itself : (xs : List Scope) → each_to (λ t. t) xs ≡ xs
 each_itself [] = refl
 each_itself (x ∷ xs) = ap (λ l. x ∷ l) (each_itself xs)
 
@@ -86,11 +82,11 @@ made v view h zero o s m = tt
 made v view h (suc n) o s m =
     let R : Object → Scope → Type 0 = Agrees v view n in
     let ih = made v view h n in
-    let related : AllOf (λ p. R p.0 p.1) (children m.0) = all_as (λ p. IsMade n p.0 p.1) (λ p. R p.0 p.1) (λ p q. ih p.0 p.1 q) (children m.0) m.4 in
-    let same : scopes (children m.0) ≡ kids (form_of s) = sym (children_over (λ p. p.1) m.0) ∙ ap children m.2 ∙ children_are (exactly (λ t. t) s) (form_of s) ∙ each_itself (kids (form_of s)) in (
-      λ answers. subst (λ x. SameRan R (ran_to (λ k. k) v x) (meaning_by view s answers)) (sym (m.1 answers)) (items_agree v view h R (λ p. p.0) (λ p. p.1) m.0 s m.2 related answers),
-      subst (λ ts. AllOf (λ k. OneOf R k ts) (codes_in (obj.constants o))) same (codes_beside R (codes_in (obj.constants o)) (children m.0) m.3.0 related),
-      subst (AllOf (λ t. OneOf (λ x k. R k x) t (codes_in (obj.constants o)))) same (scopes_beside R (codes_in (obj.constants o)) (children m.0) m.3.1 related),
+    let related : AllOf (λ p. R p.0 p.1) (children m.1) = all_as (λ p. IsMade n p.0 p.1) (λ p. R p.0 p.1) (λ p q. ih p.0 p.1 q) (children m.1) m.5 in
+    let same : scopes (children m.1) ≡ kids (form_of s) = sym (children_over (λ p. p.1) m.1) ∙ ap children m.3 ∙ children_are (exactly (λ t. t) s) (form_of s) ∙ each_itself (kids (form_of s)) in (
+      λ answers. subst (λ x. SameRan R (ran_to (λ k. k) v x) (meaning_by view s answers)) (sym (m.2 answers)) (items_agree v view h R (λ p. p.0) (λ p. p.1) m.1 s m.3 m.0 related answers),
+      subst (λ ts. AllOf (λ k. OneOf R k ts) (codes_in (obj.constants o))) same (codes_beside R (codes_in (obj.constants o)) (children m.1) m.4.0 related),
+      subst (AllOf (λ t. OneOf (λ x k. R k x) t (codes_in (obj.constants o)))) same (scopes_beside R (codes_in (obj.constants o)) (children m.1) m.4.1 related),
     )
 
 pub objects_agree : ObjectsAgree

@@ -145,9 +145,9 @@ module _ {K L : Type 0} (c : K → L) where
       over_s (SIfElse t a b) l n =
           both (over_t t false n (2 + n)) (both (over_s a l (2 + n + labels_t t false)) (doing refl (mark (ended _ _ (over_s b l (2 + n + labels_t t false + labels a)) refl))))
       over_s (SWhile t a b) l n =
-          doing refl (mark (both (over_t t false (1 + n) (3 + n)) (both (over_s a (record { on_break = 2 + n; on_continue = n }) (3 + n + labels_t t false)) (doing refl (mark (doing refl (ended _ _ (over_s b l (3 + n + labels_t t false + labels a)) refl)))))))
+          doing refl (mark (both (over_t t false (1 + n) (3 + n)) (both (over_s a (record { inside = true; on_break = 2 + n; on_continue = n }) (3 + n + labels_t t false)) (doing refl (mark (doing refl (ended _ _ (over_s b l (3 + n + labels_t t false + labels a)) refl)))))))
       over_s (SFor f t a b) l n =
-          doing refl (both (over_v f (3 + n)) (mark (doing refl (both (both (over_g t (3 + n + labels_v f)) (over_s a (record { on_break = 2 + n; on_continue = n }) (3 + n + labels_v f + labels_g t))) (doing refl (mark (doing refl (ended _ _ (over_s b l (3 + n + labels_v f + labels_g t + labels a)) refl))))))))
+          doing refl (both (over_v f (3 + n)) (mark (doing refl (both (both (over_g t (3 + n + labels_v f)) (over_s a (record { inside = true; on_break = 2 + n; on_continue = n }) (3 + n + labels_v f + labels_g t))) (doing refl (mark (doing refl (ended _ _ (over_s b l (3 + n + labels_v f + labels_g t + labels a)) refl))))))))
       over_s SBreak l n = record { same = refl }
       over_s SContinue l n = record { same = refl }
       over_s (SReturn f) l n = over_return f n
@@ -174,4 +174,4 @@ module _ {K L : Type 0} (c : K → L) where
           doing refl (both (over_v f (1 + n)) (doing refl (doing refl (both (both (over_g t (1 + n + labels_v f)) (over_s b l (1 + n + labels_v f + labels_g t))) (doing refl (both (tail_over final) (doing refl (mark (over_h hs final l end (1 + n + labels_v f + labels_g t + labels b))))))))))
 
     pub code_over : (f : SForm) → items_over c (body_code i f) ≡ body_code j f
-    code_over f = let r : Over (body_code i f) (body_code j f) = ended _ _ (over_s f (record { on_break = 0; on_continue = 0 }) 1) (closing_over (closes f)) in r.same
+    code_over f = let r : Over (body_code i f) (body_code j f) = ended _ _ (over_s f (record { inside = false; on_break = 0; on_continue = 0 }) 1) (closing_over (closes f)) in r.same

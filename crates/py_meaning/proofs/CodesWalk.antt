@@ -11,7 +11,8 @@ use Rattle.py_meaning.specs.Fit.{Loops}
 use Rattle.py_meaning.specs.Code.{Item, Do, Label, labels, class_code, code_v, code_c, append_code, return_code, code, closes, closing, body_code}
 use Rattle.py_meaning.specs.Walks.{Shape, shape, Then, Falls, Never, fall, after, Walks}
 use Rattle.py_meaning.specs.Agree.{exactly, form_of}
-use Rattle.py_meaning.specs.Laws.{Looped, CodesWalk}
+use Rattle.py_meaning.specs.Laws.{CodesWalk}
+use Rattle.py_meaning.specs.Looped.{Looped}
 use Rattle.py_meaning.proofs.Walking.{WalksOn, walk_none, walk_then, walk_do}
 use Rattle.py_meaning.proofs.Soundness.{form_walks}
 use Rattle.py_meaning.proofs.LabelShapes.{shapes}
@@ -119,7 +120,7 @@ closing_walk K at false = walk_do K at {i = ReturnConst (Constant const.none)} (
 pub body_walks : {K : Type 0} (i : Interp K) (f : SForm) → Looped false f → Walks (shape_at (shapes f 0 [])) (body_code i f) (Falls (shape 0 [])) Never
 body_walks {K} i f g =
     let at : ℕ → Option Shape = shape_at (shapes f 0 []) in
-    let l : Loops = record { on_break = 0; on_continue = 0 } in
+    let l : Loops = record { inside = false; on_break = 0; on_continue = 0 } in
     let w = walk_then K at (form_walks K at i f l 1 0 [] (omega arith) (fits at false f g l 1 0 [] tt (shapes_known (shapes f 0 [])))) (closing_walk K at (closes f)) in
     let r = w.by (Falls (shape 0 [])) refl in
     subst (Walks at (body_code i f) (Falls (shape 0 []))) (sym (walks_end at (body_code i f) (Falls (shape 0 [])) r.0 r.2) ∙ body_end at i f (closes f) refl l 1 (Falls (shape 0 []))) r.2

@@ -77,9 +77,9 @@ module _ (at : ℕ → Option Shape) where
     Fits (SIfElse t a b) l n h ms =
         (at n ≡ Some (shape h ms)) × (at (1 + n) ≡ Some (shape h ms)) × FitsT t false n (2 + n) h ms × Fits a l (2 + n + labels_t t false) h ms × Fits b l (2 + n + labels_t t false + labels a) h ms
     Fits (SWhile t a b) l n h ms =
-        (at n ≡ Some (shape h (mark LoopSort h ∷ ms))) × (at (1 + n) ≡ Some (shape h (mark LoopSort h ∷ ms))) × (at (2 + n) ≡ Some (shape h ms)) × FitsT t false (1 + n) (3 + n) h (mark LoopSort h ∷ ms) × Fits a (record { on_break = 2 + n; on_continue = n }) (3 + n + labels_t t false) h (mark LoopSort h ∷ ms) × Fits b l (3 + n + labels_t t false + labels a) h ms
+        (at n ≡ Some (shape h (mark LoopSort h ∷ ms))) × (at (1 + n) ≡ Some (shape h (mark LoopSort h ∷ ms))) × (at (2 + n) ≡ Some (shape h ms)) × FitsT t false (1 + n) (3 + n) h (mark LoopSort h ∷ ms) × Fits a (record { inside = true; on_break = 2 + n; on_continue = n }) (3 + n + labels_t t false) h (mark LoopSort h ∷ ms) × Fits b l (3 + n + labels_t t false + labels a) h ms
     Fits (SFor f t a b) l n h ms =
-        (at n ≡ Some (shape (1 + h) (mark LoopSort h ∷ ms))) × (at (1 + n) ≡ Some (shape h (mark LoopSort h ∷ ms))) × (at (2 + n) ≡ Some (shape h ms)) × FitsV f (3 + n) h (mark LoopSort h ∷ ms) × FitsG t (3 + n + labels_v f) (1 + h) (mark LoopSort h ∷ ms) × Fits a (record { on_break = 2 + n; on_continue = n }) (3 + n + labels_v f + labels_g t) (1 + h) (mark LoopSort h ∷ ms) × Fits b l (3 + n + labels_v f + labels_g t + labels a) h ms
+        (at n ≡ Some (shape (1 + h) (mark LoopSort h ∷ ms))) × (at (1 + n) ≡ Some (shape h (mark LoopSort h ∷ ms))) × (at (2 + n) ≡ Some (shape h ms)) × FitsV f (3 + n) h (mark LoopSort h ∷ ms) × FitsG t (3 + n + labels_v f) (1 + h) (mark LoopSort h ∷ ms) × Fits a (record { inside = true; on_break = 2 + n; on_continue = n }) (3 + n + labels_v f + labels_g t) (1 + h) (mark LoopSort h ∷ ms) × Fits b l (3 + n + labels_v f + labels_g t + labels a) h ms
     Fits SBreak l n h ms = BreaksTo (loop_at ms) (at l.on_break)
     Fits SContinue l n h ms = ContinuesTo (loop_at ms) (cut_height ms h) (at l.on_continue)
     Fits (SReturn f) l n h ms = FitsV f n h ms

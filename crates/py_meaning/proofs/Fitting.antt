@@ -4,7 +4,7 @@ use Rattle.py_bytecode.specs.Values.{flip}
 use Rattle.py_meaning.specs.Form.{VForm, VConst, VLoad, VOp, VMake, VShort, VChain, VChoice, VKeep, VAt, VForms, VNone, VMore, VMethod, Shorts, OneShort, MoreShort, Links, LastLink, MoreLink, TForm, TTruth, TNot, TAll, Tests, OneTest, MoreTest, Target, GStore, GPut, GUnder, GUnpack, GDrop, Targets, NoTarget, MoreTarget, SForm, SSkip, SThen, SDo, SInto, SRemove, SIf, SIfElse, SWhile, SFor, SBreak, SContinue, SReturn, SClassEnd, SReraise, SAugment, SAugmentTwo, STry, STryFinal, SFinally, SWith, SGather, SGenerate, SAt, Handlers, HNone, HAny, HTyped, Clauses, CLast, CEach, Filters, NoFilter, MoreFilter, targets}
 use Rattle.py_meaning.specs.Code.{count, labels_v, labels_vs, labels_t, labels_g, labels_bs, labels, labels_h}
 use Rattle.py_meaning.specs.Fit.{Loops}
-use Rattle.py_meaning.specs.Laws.{Looped, LoopedAll}
+use Rattle.py_meaning.specs.Looped.{Looped, LoopedAll}
 use Rattle.py_meaning.specs.Walks.{LoopSort, ExceptSort, FinallySort, ExitSort, HandlerSort, LastSort, Mark, mark, Shape, shape, loop_at, cut_height, BreaksTo, ContinuesTo}
 use Rattle.py_meaning.proofs.Fits.{FitsV, FitsVs, FitsSs, FitsLs, FitsT, FitsTs, FitsG, FitsGs, FitsBs, FitsC, Fits, FitsH}
 use Rattle.py_meaning.proofs.LabelShapes.{shapes_v, shapes_vs, shapes_ss, shapes_ls, shapes_t, shapes_ts, shapes_g, shapes_gs, shapes_bs, shapes_c, shapes, shapes_h, len_v, len_vs, len_t, len_g, len_bs, len, len_h}
@@ -165,7 +165,7 @@ module _ (at : ℕ → Option Shape) where
           k.each.1.0,
           third k,
           fits_t t false (1 + n) (3 + n) h ns k.each.1.0 (first _ r),
-          fits true x g.0 (record { on_break = 2 + n; on_continue = n }) (3 + n + labels_t t false) h ns (third k, k.each.0) (first _ r2),
+          fits true x g.0 (record { inside = true; on_break = 2 + n; on_continue = n }) (3 + n + labels_t t false) h ns (third k, k.each.0) (first _ r2),
           fits b y g.1 l (3 + n + labels_t t false + labels x) h ms i (second _ _ _ (len x h ns) (omega arith) r2),
         )
     fits b (SFor f t x y) g l n h ms i k =
@@ -178,7 +178,7 @@ module _ (at : ℕ → Option Shape) where
           third k,
           fits_v f (3 + n) h ns (first _ r),
           fits_g t (3 + n + labels_v f) (1 + h) ns (first _ r2),
-          fits true x g.0 (record { on_break = 2 + n; on_continue = n }) (3 + n + labels_v f + labels_g t) (1 + h) ns (third k, k.each.0) (first _ r3),
+          fits true x g.0 (record { inside = true; on_break = 2 + n; on_continue = n }) (3 + n + labels_v f + labels_g t) (1 + h) ns (third k, k.each.0) (first _ r3),
           fits b y g.1 l (3 + n + labels_v f + labels_g t + labels x) h ms i (second _ _ _ (len x (1 + h) ns) (omega arith) r3),
         )
     fits true SBreak g l n h ms i k = i.0

@@ -173,7 +173,7 @@ module _ {K : Type 0} (i : Interp K) where
         let top : ℕ = h + rises (code i (SIfElse t a b) l n) in ((low, omega arith), ((low, omega arith), parts _ top _ _ _ (high_t t false n (2 + n) h ms low) (simp rises-append (omega arith)) (parts _ _ _ _ _ (high a l (2 + n + labels_t t false) h ms low) (simp rises-append (omega arith)) (high b l (2 + n + labels_t t false + labels a) h ms low) (simp rises-append (omega arith))) (omega arith)))
     high (SWhile t a b) l n h ms low =
         let top : ℕ = h + rises (code i (SWhile t a b) l n) in
-        let ns : List Mark = mark LoopSort h ∷ ms in ((omega arith, omega arith), ((omega arith, omega arith), ((low, omega arith), parts _ top _ _ _ (high_t t false (1 + n) (3 + n) h ns (omega arith)) (simp rises-append (omega arith)) (parts _ _ _ _ _ (high a (record { on_break = 2 + n; on_continue = n }) (3 + n + labels_t t false) h ns (omega arith)) (simp rises-append (omega arith)) (high b l (3 + n + labels_t t false + labels a) h ms low) (simp rises-append (omega arith))) (omega arith))))
+        let ns : List Mark = mark LoopSort h ∷ ms in ((omega arith, omega arith), ((omega arith, omega arith), ((low, omega arith), parts _ top _ _ _ (high_t t false (1 + n) (3 + n) h ns (omega arith)) (simp rises-append (omega arith)) (parts _ _ _ _ _ (high a (record { inside = true; on_break = 2 + n; on_continue = n }) (3 + n + labels_t t false) h ns (omega arith)) (simp rises-append (omega arith)) (high b l (3 + n + labels_t t false + labels a) h ms low) (simp rises-append (omega arith))) (omega arith))))
     high (SFor f t a b) l n h ms low =
         let r = value_rise f (3 + n) in
         let top : ℕ = h + rises (code i (SFor f t a b) l n) in
@@ -185,7 +185,7 @@ module _ {K : Type 0} (i : Interp K) where
               (low, omega arith),
               parts _ top _ _ _ (high_v f (3 + n) h ns (omega arith)) (simp rises-append (omega arith))
                   (parts _ top _ _ _ (high_g t (3 + n + labels_v f) (1 + h) ns (omega arith)) (simp rises-append (omega (arith, r)))
-                  (parts _ _ _ _ _ (high a (record { on_break = 2 + n; on_continue = n }) (3 + n + labels_v f + labels_g t) (1 + h) ns (omega arith)) (simp rises-append (omega (arith, r))) (high b l (3 + n + labels_v f + labels_g t + labels a) h ms low) (simp rises-append (omega arith))) (omega arith)) (omega arith),
+                  (parts _ _ _ _ _ (high a (record { inside = true; on_break = 2 + n; on_continue = n }) (3 + n + labels_v f + labels_g t) (1 + h) ns (omega arith)) (simp rises-append (omega (arith, r))) (high b l (3 + n + labels_v f + labels_g t + labels a) h ms low) (simp rises-append (omega arith))) (omega arith)) (omega arith),
             ),
           ),
         )
@@ -245,4 +245,4 @@ module _ {K : Type 0} (i : Interp K) where
 
   -- the labels of a body are no higher than what its instructions give
   pub body_high : (f : SForm) → AllBounded (rises (body_code i f)) (shapes f 0 [])
-  body_high f = widened _ _ (simp rises-append (omega arith)) _ (high f (record { on_break = 0; on_continue = 0 }) 1 0 [] (omega arith))
+  body_high f = widened _ _ (simp rises-append (omega arith)) _ (high f (record { inside = false; on_break = 0; on_continue = 0 }) 1 0 [] (omega arith))

@@ -160,9 +160,9 @@ module _ {K : Type 0} (i : Interp K) where
     in_s (SIfElse t a b) l n =
         both (in_t t false n (2 + n)) (both (in_s a l (2 + n + labels_t t false)) (skip refl (mark (ended _ (in_s b l (2 + n + labels_t t false + labels a)) refl))))
     in_s (SWhile t a b) l n =
-        skip refl (mark (both (in_t t false (1 + n) (3 + n)) (both (in_s a (record { on_break = 2 + n; on_continue = n }) (3 + n + labels_t t false)) (skip refl (mark (skip refl (ended _ (in_s b l (3 + n + labels_t t false + labels a)) refl)))))))
+        skip refl (mark (both (in_t t false (1 + n) (3 + n)) (both (in_s a (record { inside = true; on_break = 2 + n; on_continue = n }) (3 + n + labels_t t false)) (skip refl (mark (skip refl (ended _ (in_s b l (3 + n + labels_t t false + labels a)) refl)))))))
     in_s (SFor f t a b) l n =
-        skip refl (both (in_v f (3 + n)) (mark (skip refl (turn (in_g t (3 + n + labels_v f)) (in_s a (record { on_break = 2 + n; on_continue = n }) (3 + n + labels_v f + labels_g t)) (skip refl (mark (skip refl (ended _ (in_s b l (3 + n + labels_v f + labels_g t + labels a)) refl))))))))
+        skip refl (both (in_v f (3 + n)) (mark (skip refl (turn (in_g t (3 + n + labels_v f)) (in_s a (record { inside = true; on_break = 2 + n; on_continue = n }) (3 + n + labels_v f + labels_g t)) (skip refl (mark (skip refl (ended _ (in_s b l (3 + n + labels_v f + labels_g t + labels a)) refl))))))))
     in_s SBreak l n = none refl
     in_s SContinue l n = none refl
     in_s (SReturn f) l n = in_return f n
@@ -189,4 +189,4 @@ module _ {K : Type 0} (i : Interp K) where
         skip refl (both (in_v f (1 + n)) (skip refl (skip refl (turn (in_g t (1 + n + labels_v f)) (in_s b l (1 + n + labels_v f + labels_g t)) (skip refl (begun _ (no_tail final) (skip refl (mark (in_h hs final l end (1 + n + labels_v f + labels_g t + labels b))))))))))
 
   pub children_are : (f : SForm) → children (body_code i f) ≡ each_to i.child (kids f)
-  children_are f = let r : Has (body_code i f) (kids f) = ended _ (in_s f (record { on_break = 0; on_continue = 0 }) 1) (no_closing (closes f)) in r.same
+  children_are f = let r : Has (body_code i f) (kids f) = ended _ (in_s f (record { inside = false; on_break = 0; on_continue = 0 }) 1) (no_closing (closes f)) in r.same

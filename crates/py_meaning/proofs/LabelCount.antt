@@ -134,13 +134,13 @@ module _ (i : Interp Object) where
         simp count-append (omega (arith, a, b, c))
     count (SWhile t x y) l n =
         let a = count_t t false (1 + n) (3 + n) in
-        let b = count x (record { on_break = 2 + n; on_continue = n }) (3 + n + labels_t t false) in
+        let b = count x (record { inside = true; on_break = 2 + n; on_continue = n }) (3 + n + labels_t t false) in
         let c = count y l (3 + n + labels_t t false + labels x) in
         simp count-append (omega (arith, a, b, c))
     count (SFor f t x y) l n =
         let a = count_v f (3 + n) in
         let b = count_g t (3 + n + labels_v f) in
-        let c = count x (record { on_break = 2 + n; on_continue = n }) (3 + n + labels_v f + labels_g t) in
+        let c = count x (record { inside = true; on_break = 2 + n; on_continue = n }) (3 + n + labels_v f + labels_g t) in
         let e = count y l (3 + n + labels_v f + labels_g t + labels x) in
         simp count-append (omega (arith, a, b, c, e))
     count SBreak l n = refl
@@ -196,6 +196,6 @@ module _ (i : Interp Object) where
   -- a body places its form's labels
   pub labels_counted : (f : SForm) → placed_labels (body_code i f) ≡ labels f
   labels_counted f =
-      let a = count f (record { on_break = 0; on_continue = 0 }) 1 in
+      let a = count f (record { inside = false; on_break = 0; on_continue = 0 }) 1 in
       let z = no_closing (closes f) in
       simp count-append (omega (arith, a, z))

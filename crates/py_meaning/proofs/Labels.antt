@@ -181,9 +181,9 @@ module _ {K : Type 0} (i : Interp K) where
     in_s (SIfElse t a b) l n =
         ends_at _ (omega arith) (reorder _ _ (mark_two (both (in_t t false n (2 + n)) (both (in_s a l (2 + n + labels_t t false)) (in_s b l (2 + n + labels_t t false + labels a))))) (λ k. simp occurs-append (omega arith)))
     in_s (SWhile t a b) l n =
-        ends_at _ (omega arith) (reorder _ _ (mark_three (both (in_t t false (1 + n) (3 + n)) (both (in_s a (record { on_break = 2 + n; on_continue = n }) (3 + n + labels_t t false)) (in_s b l (3 + n + labels_t t false + labels a))))) (λ k. simp occurs-append (omega arith)))
+        ends_at _ (omega arith) (reorder _ _ (mark_three (both (in_t t false (1 + n) (3 + n)) (both (in_s a (record { inside = true; on_break = 2 + n; on_continue = n }) (3 + n + labels_t t false)) (in_s b l (3 + n + labels_t t false + labels a))))) (λ k. simp occurs-append (omega arith)))
     in_s (SFor f t a b) l n =
-        ends_at _ (omega arith) (reorder _ _ (mark_three (both (in_v f (3 + n)) (both (in_g t (3 + n + labels_v f)) (both (in_s a (record { on_break = 2 + n; on_continue = n }) (3 + n + labels_v f + labels_g t)) (in_s b l (3 + n + labels_v f + labels_g t + labels a)))))) (λ k. simp occurs-append (omega arith)))
+        ends_at _ (omega arith) (reorder _ _ (mark_three (both (in_v f (3 + n)) (both (in_g t (3 + n + labels_v f)) (both (in_s a (record { inside = true; on_break = 2 + n; on_continue = n }) (3 + n + labels_v f + labels_g t)) (in_s b l (3 + n + labels_v f + labels_g t + labels a)))))) (λ k. simp occurs-append (omega arith)))
     in_s SBreak l n = ends_at _ (omega arith) (none n (λ k. refl))
     in_s SContinue l n = ends_at _ (omega arith) (none n (λ k. refl))
     in_s (SReturn f) l n = in_return f n
@@ -213,13 +213,13 @@ module _ {K : Type 0} (i : Interp K) where
 
   pub once : (f : SForm) (k : ℕ) → occurs k (body_code i f) ≤ 1
   once f k =
-      let a : List (Item K) = code i f (record { on_break = 0; on_continue = 0 }) 1 in
-      let o = (in_s f (record { on_break = 0; on_continue = 0 }) 1).owns k in
+      let a : List (Item K) = code i f (record { inside = false; on_break = 0; on_continue = 0 }) 1 in
+      let o = (in_s f (record { inside = false; on_break = 0; on_continue = 0 }) 1).owns k in
       omega (arith, o.once, occurs-append k a (closing (closes f)), no_closing K k (closes f))
 
   -- the labels of a body are placed
   pub placed_once : (f : SForm) (k : ℕ) → 1 ≤ k → k < 1 + labels f → occurs k (body_code i f) ≡ 1
   placed_once f k lo hi =
-      let a : List (Item K) = code i f (record { on_break = 0; on_continue = 0 }) 1 in
-      let o = (in_s f (record { on_break = 0; on_continue = 0 }) 1).owns k in
+      let a : List (Item K) = code i f (record { inside = false; on_break = 0; on_continue = 0 }) 1 in
+      let o = (in_s f (record { inside = false; on_break = 0; on_continue = 0 }) 1).owns k in
       omega (arith, o.within lo hi, occurs-append k a (closing (closes f)), no_closing K k (closes f))

@@ -6,7 +6,8 @@ use Rattle.py_bytecode.specs.Values.{Answer, raise_again, match_exception, enter
 use Rattle.py_meaning.specs.Form.{Scope, SForm, SSkip, SThen, SDo, SInto, SRemove, SIf, SIfElse, SWhile, SFor, SBreak, SContinue, SReturn, SClassEnd, SReraise, SAugment, SAugmentTwo, STry, STryFinal, SFinally, SWith, SGather, SGenerate, SAt, Handlers, HNone, HAny, HTyped, Interp, after_turn, turns, assigned, rounds, in_hand, handle, try_run, finally_run, exit_run, exit_leave, class_end, reraised, returns, append_run, run_value, run_test, run_target, run_clauses, run, run_handlers, ended_so}
 use Rattle.py_meaning.specs.Code.{body_code}
 use Rattle.py_meaning.specs.Agree.{exactly, form_of, runs_code}
-use Rattle.py_meaning.specs.Laws.{Looped, LoopedAll, IsEnd, AlwaysEnds}
+use Rattle.py_meaning.specs.Laws.{IsEnd, AlwaysEnds}
+use Rattle.py_meaning.specs.Looped.{Looped, LoopedAll}
 use Rattle.py_meaning.proofs.Assembly.{simulated}
 use Rattle.py_meaning.proofs.Labels.{once}
 
@@ -147,7 +148,7 @@ module _ {K : Type 0} where
 pub scope_ends : {K : Type 0} (c : Scope → K) (s : Scope) → Looped false (form_of s) → (answers : List Answer) → IsEnd (runs_code (body_code (exactly c s) (form_of s)) answers).outcome
 scope_ends c s h answers =
     let i : Interp _ = exactly c s in
-    subst (λ r. IsEnd r.outcome) (sym (simulated i (form_of s) (once i (form_of s)) answers)) (end_is (run i (form_of s) None (start answers)) (looped_ends i false (form_of s) h None (start answers)))
+    subst (λ r. IsEnd r.outcome) (sym (simulated i (form_of s) h (once i (form_of s)) answers)) (end_is (run i (form_of s) None (start answers)) (looped_ends i false (form_of s) h None (start answers)))
 
 pub always_ends : AlwaysEnds
 always_ends child s h answers = scope_ends child s h answers

@@ -1,5 +1,7 @@
 pub mod Reach
+pub mod Falls
 pub mod Moves
+pub mod Wholes
 pub mod Ops
 pub mod Values
 pub mod Tests
@@ -16,6 +18,7 @@ pub mod Kids
 pub mod Labels
 pub mod Theorem
 pub mod DecodeAt
+pub mod Stays
 pub mod BlockMachine
 pub mod Laws
 pub mod SameRuns

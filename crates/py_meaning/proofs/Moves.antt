@@ -1,12 +1,14 @@
 -- What it is for code to follow a run, and the laws that every form uses.
-use Rattle.std.proofs.Common.{◌≡◌, ℕ, suc, ◌+◌, ◌-◌, ◌≤◌, List, [], ◌∷◌, ◌++◌, length, drop, Bool, true, Option, Some, refl, sym, ap, ◌∙◌, subst, arith, suc-add, zero-add, le-leb, le_refl}
+use Rattle.std.proofs.Common.{◌≡◌, ℕ, suc, ◌+◌, ◌-◌, ◌≤◌, List, [], ◌∷◌, ◌++◌, length, drop, Bool, true, false, Option, Some, refl, sym, ap, ◌∙◌, subst, arith, suc-add, zero-add, le-leb, le_refl}
 use Rattle.std.specs.Prelude.{nat_le}
 use mathlib.Core.Path.{fun_ext}
 use Rattle.py_bytecode.specs.Values.{Value, Entry, It, World, Got, Fine, Raises, Stops, on_got, then_get, choose, meets, Leave, Ended, Normal, Leaves, Halts, on_ended, then_do, use_it}
 use Rattle.py_bytecode.specs.Machine.{Instr, at_places, Found, RaiseOf, Block, Loop, Except, Finally, ExceptHandler, FinallyHandler, Config, At, wrong, cut, push, stack_of, stopped, raise, act, act_at}
-use Rattle.py_meaning.specs.Fit.{IsFit, Loops, leave}
+use Rattle.py_meaning.specs.Fit.{IsFit, IsWithin, Loops, leave}
 use Rattle.py_meaning.specs.Code.{Item, Do, Label, size}
+use Rattle.py_meaning.specs.Live.{live}
 use Rattle.py_meaning.proofs.Reach.{Ground, Reaches, same, more, follow, one}
+use Rattle.py_meaning.proofs.Falls.{falls, surely, live_if, Never}
 
 pub fit_more : {K P : Type 0} (v : Entry K) (s : List (Entry K)) (bs : List (Block K P)) → IsFit s bs → IsFit (v ∷ s) bs
 fit_more v s [] h = tt
@@ -100,9 +102,10 @@ module _ {K P : Type 0} (g : Ground K P) where
     pub by : (p q : P) → Stands is p q → (s : List (Entry K)) (bs : List (Block K P)) (slot : Option (Value K)) → IsFit s bs → (w : World K) → Reaches g (size is) (At p s bs slot w) (on_got (m w) (λ t w1. At (meets c t (g.spot to) q) s bs slot w1) (raise s bs slot) stopped)
     pub takes : (p q : P) → Stands is p q → (w : World K) → OnFine (m w) (λ t w1. suc (length w1.answers) ≤ length w.answers)
 
-  -- code of a statement
+  -- code of a statement; where what follows cannot be come to from it, its run never goes on
   pub record Follows (is : List (Item K)) (l : Loops) (m : Option (Value K) → World K → Ended K) : Type 0 where
-    pub by : size is ≤ g.weight → (p q : P) → Stands is p q → (s : List (Entry K)) (bs : List (Block K P)) (slot : Option (Value K)) → IsFit s bs → (w : World K) → Reaches g (size is) (At p s bs slot w) (on_ended (m slot w) (λ w1. At q s bs slot w1) (leave g.spot l s bs slot) stopped)
+    pub by : live true is ≤ g.weight → (p q : P) → Stands is p q → (s : List (Entry K)) (bs : List (Block K P)) (slot : Option (Value K)) → IsFit s bs → IsWithin l bs → (w : World K) → Reaches g (live true is) (At p s bs slot w) (on_ended (m slot w) (λ w1. At q s bs slot w1) (leave g.spot l s bs slot) stopped)
+    pub never : falls true is ≡ false → (slot : Option (Value K)) (w : World K) → Never (m slot w)
 
   -- two ends at which a run goes on alike
   pub get_then : {A B : Type 0} (r : Got K A) (k : A → World K → Got K B) (m n : ℕ) (c : Config K P) (land1 : A → World K → Config K P) (land2 : B → World K → Config K P) (raises : Value K → World K → Config K P) → Reaches g m c (on_got r land1 raises stopped) → ((a : A) (w : World K) → Reaches g n (land1 a w) (on_got (k a w) land2 raises stopped)) → Reaches g (m + n) c (on_got (then_get r k) land2 raises stopped)
@@ -128,21 +131,26 @@ module _ {K P : Type 0} (g : Ground K P) where
   use_then (Raises e w) k m n c land1 land2 l s bs slot h hk = more g m (m + n) c _ (omega arith) h
   use_then (Stops events) k m n c land1 land2 l s bs slot h hk = more g m (m + n) c _ (omega arith) h
 
-  pub do_then : (r : Ended K) (k : World K → Ended K) (m n : ℕ) (c : Config K P) (land1 land2 : World K → Config K P) (leaves : Leave K → World K → Config K P) → Reaches g m c (on_ended r land1 leaves stopped) → ((w : World K) → Reaches g n (land1 w) (on_ended (k w) land2 leaves stopped)) → Reaches g (m + n) c (on_ended (then_do r k) land2 leaves stopped)
-  do_then (Normal w) k m n c land1 land2 leaves h hk = follow g m n c _ _ h (hk w)
-  do_then (Leaves r w) k m n c land1 land2 leaves h hk = more g m (m + n) c _ (omega arith) h
-  do_then (Halts events) k m n c land1 land2 leaves h hk = more g m (m + n) c _ (omega arith) h
+  -- b says whether the run may go on to what follows
+  pub do_then : (b : Bool) (r : Ended K) (k : World K → Ended K) (m n : ℕ) (c : Config K P) (land1 land2 : World K → Config K P) (leaves : Leave K → World K → Config K P) → (b ≡ false → Never r) → Reaches g m c (on_ended r land1 leaves stopped) → (b ≡ true → (w : World K) → Reaches g n (land1 w) (on_ended (k w) land2 leaves stopped)) → Reaches g (m + n) c (on_ended (then_do r k) land2 leaves stopped)
+  do_then b (Normal w) k m n c land1 land2 leaves never h hk = follow g m n c _ _ h (hk (surely b never) w)
+  do_then b (Leaves r w) k m n c land1 land2 leaves never h hk = more g m (m + n) c _ (omega arith) h
+  do_then b (Halts events) k m n c land1 land2 leaves never h hk = more g m (m + n) c _ (omega arith) h
 
-  pub do_land : (r : Ended K) (m n : ℕ) (c : Config K P) (land1 land2 : World K → Config K P) (leaves : Leave K → World K → Config K P) → Reaches g m c (on_ended r land1 leaves stopped) → ((w : World K) → Reaches g n (land1 w) (land2 w)) → Reaches g (m + n) c (on_ended r land2 leaves stopped)
-  do_land (Normal w) m n c land1 land2 leaves h hk = follow g m n c _ _ h (hk w)
-  do_land (Leaves r w) m n c land1 land2 leaves h hk = more g m (m + n) c _ (omega arith) h
-  do_land (Halts events) m n c land1 land2 leaves h hk = more g m (m + n) c _ (omega arith) h
+  pub do_land : (b : Bool) (r : Ended K) (m n : ℕ) (c : Config K P) (land1 land2 : World K → Config K P) (leaves : Leave K → World K → Config K P) → (b ≡ false → Never r) → Reaches g m c (on_ended r land1 leaves stopped) → (b ≡ true → (w : World K) → Reaches g n (land1 w) (land2 w)) → Reaches g (m + n) c (on_ended r land2 leaves stopped)
+  do_land b (Normal w) m n c land1 land2 leaves never h hk = follow g m n c _ _ h (hk (surely b never) w)
+  do_land b (Leaves r w) m n c land1 land2 leaves never h hk = more g m (m + n) c _ (omega arith) h
+  do_land b (Halts events) m n c land1 land2 leaves never h hk = more g m (m + n) c _ (omega arith) h
 
   -- the ends of a part, each followed by some steps
-  pub end_cases : (r : Ended K) (F : Ended K → Config K P) (m n : ℕ) (c : Config K P) (land : World K → Config K P) (leaves : Leave K → World K → Config K P) → Reaches g m c (on_ended r land leaves stopped) → ((w : World K) → Reaches g n (land w) (F (Normal w))) → ((why : Leave K) (w : World K) → Reaches g n (leaves why w) (F (Leaves why w))) → ((events : _) → Reaches g n (stopped events) (F (Halts events))) → Reaches g (m + n) c (F r)
-  end_cases (Normal w) F m n c land leaves h hn hl hh = follow g m n c _ _ h (hn w)
-  end_cases (Leaves why w) F m n c land leaves h hn hl hh = follow g m n c _ _ h (hl why w)
-  end_cases (Halts events) F m n c land leaves h hn hl hh = follow g m n c _ _ h (hh events)
+  pub end_cases : (b : Bool) (r : Ended K) (F : Ended K → Config K P) (m n : ℕ) (c : Config K P) (land : World K → Config K P) (leaves : Leave K → World K → Config K P) → (b ≡ false → Never r) → Reaches g m c (on_ended r land leaves stopped) → (b ≡ true → (w : World K) → Reaches g n (land w) (F (Normal w))) → ((why : Leave K) (w : World K) → Reaches g n (leaves why w) (F (Leaves why w))) → ((events : _) → Reaches g n (stopped events) (F (Halts events))) → Reaches g (m + n) c (F r)
+  end_cases b (Normal w) F m n c land leaves never h hn hl hh = follow g m n c _ _ h (hn (surely b never) w)
+  end_cases b (Leaves why w) F m n c land leaves never h hn hl hh = follow g m n c _ _ h (hl why w)
+  end_cases b (Halts events) F m n c land leaves never h hn hl hh = follow g m n c _ _ h (hh events)
+
+  -- so many steps as a part has instructions that can be come to
+  pub lively : (b : Bool) (is : List (Item K)) (a c : Config K P) → b ≡ true → Reaches g (live true is) a c → Reaches g (live b is) a c
+  lively b is a c e r = subst (λ n. Reaches g n a c) (sym (live_if b is e)) r
 
   -- THE LAWS OF MOVES: one after another, one instruction, under an entry
   pub moves_on : {A B : Type 0} (a b : List (Item K)) (pre : List (Entry K) → List (Entry K)) (mid : A → List (Entry K) → List (Entry K)) (post : B → List (Entry K) → List (Entry K)) (m : World K → Got K A) (k : A → World K → Got K B) (known : A → Type 0) → ((w : World K) → OnFine (m w) (λ x w1. known x)) → Moves a pre m mid → ((x : A) → known x → Moves b (mid x) (k x) post) → Moves (a ++ b) pre (λ w. then_get (m w) k) post

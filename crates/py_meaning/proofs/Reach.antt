@@ -3,7 +3,7 @@ use Rattle.std.proofs.Common.{◌≡◌, ℕ, zero, suc, ◌+◌, ◌*◌, ◌�
 use Rattle.std.specs.Prelude.{nat_le, nat_eq, if◌then◌else◌}
 use Rattle.py_bytecode.specs.Values.{Value, Cell, Entry, It, Cells, Answer, Gives, Truth, End, Raised, Usage, Load, Store, Delete, Kind, Event, World, Got, Fine, Raises, Stops, on_got, then_get, ask_of, fits, fits_truth, ask_for, for_one, for_none, one_of, none_of, gives_of, truth_of, fits_next, next_of, on_some, choose, meets}
 use Rattle.py_meaning.specs.Fit.{left}
-use Rattle.py_bytecode.specs.Machine.{is_tuple, Instr, Push, Access, Operate, MakeFunction, Import, Append, Unpack, Nop, Pop, Rotate2, Rotate3, Duplicate, Duplicate2, JumpIf, JumpIfOrPop, Jump, SetupLoop, PopBlock, Break, Continue, ReturnValue, ReturnConst, SetupExcept, SetupFinally, PopException, EnterFinally, EndFinally, Reraise, ForIter, SetupWith, WithCleanupStart, WithCleanupFinish, Fetched, Found, Nothing, Reason, BreakTo, ContinueTo, ReturnOf, RaiseOf, Block, Loop, Except, Finally, ExceptHandler, FinallyHandler, Config, At, Over, cut, unwind_out, slot_for, unwind, pop, pop_cells, stopped, raise, on_entry, on_top, below, pop_block, pop_exception, on_last, go_on, reraise, after_exit, joins, access, is_silent, rotate2, rotate3, duplicate2, pop_closure, act, act_at, step, steps}
+use Rattle.py_bytecode.specs.Machine.{is_tuple, Instr, Push, Access, Operate, MakeFunction, Import, Append, Unpack, Nop, Pop, Rotate2, Rotate3, Duplicate, Duplicate2, JumpIf, JumpIfOrPop, Jump, SetupLoop, PopBlock, Break, Continue, ReturnValue, ReturnConst, SetupExcept, SetupFinally, PopException, EnterFinally, EndFinally, Reraise, ForIter, SetupWith, WithCleanupStart, WithCleanupFinish, Fetched, Found, Nothing, Reason, BreakTo, ContinueTo, ReturnOf, RaiseOf, Block, Loop, Except, Finally, ExceptHandler, FinallyHandler, has_loop, Config, At, Over, cut, unwind_out, slot_for, unwind, pop, pop_cells, stopped, raise, on_entry, on_top, below, pop_block, pop_exception, on_last, go_on, reraise, after_exit, joins, access, is_silent, rotate2, rotate3, duplicate2, pop_closure, act, act_at, step, steps}
 
 -- no step gives an answer back
 module _ {K P : Type 0} where
@@ -236,8 +236,8 @@ module _ {K P : Type 0} where
   left_act (Jump p) next s bs slot w = le_refl _
   left_act SetupLoop next s bs slot w = le_refl _
   left_act PopBlock next s bs slot w = left_pop_block next s bs slot w
-  left_act (Break p) next s bs slot w = left_unwind (BreakTo p) s bs slot w
-  left_act (Continue p) next s bs slot w = left_unwind (ContinueTo p) s bs slot w
+  left_act (Break p) next s bs slot w = left_choose (has_loop bs) _ _ _ (left_unwind (BreakTo p) s bs slot w) (omega arith)
+  left_act (Continue p) next s bs slot w = left_choose (has_loop bs) _ _ _ (left_unwind (ContinueTo p) s bs slot w) (omega arith)
   left_act ReturnValue next s bs slot w = left_entry s w _ _ (λ v rest. left_unwind (ReturnOf v) rest bs slot w)
   left_act (ReturnConst v) next s bs slot w = left_unwind (ReturnOf (It v)) s bs slot w
   left_act (SetupExcept p) next s bs slot w = le_refl _

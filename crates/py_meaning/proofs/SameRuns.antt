@@ -2,7 +2,7 @@
 use Rattle.std.proofs.Common.{◌≡◌, ℕ, zero, suc, ◌-◌, List, [], ◌∷◌, ◌++◌, length, drop, Bool, true, false, Option, Some, None, refl, sym, ap, ◌∙◌}
 use Rattle.std.specs.Prelude.{nat_le}
 use Rattle.py_bytecode.specs.Values.{raise_again, enter_with, exit_with, Value, Cell, Entry, It, Cells, Usage, Load, Store, Delete, Kind, Operates, Makes, Accesses, StoresCells, World, listed, Got, Fine, Raises, Stops, on_got, ask_for, for_one, for_none, truth_of, next_of, on_some, choose, meets}
-use Rattle.py_bytecode.specs.Machine.{is_tuple, Instr, Push, Access, Operate, MakeFunction, Import, Append, Unpack, Nop, Pop, Rotate2, Rotate3, Duplicate, Duplicate2, JumpIf, JumpIfOrPop, Jump, SetupLoop, PopBlock, Break, Continue, ReturnValue, ReturnConst, SetupExcept, SetupFinally, PopException, EnterFinally, EndFinally, Reraise, ForIter, SetupWith, WithCleanupStart, WithCleanupFinish, Fetched, Found, Nothing, Reason, BreakTo, ContinueTo, ReturnOf, RaiseOf, Block, Loop, Except, Finally, ExceptHandler, FinallyHandler, Config, At, Over, wrong, leaked, cut, unwind_out, slot_for, unwind, pop, pop_cells, push, stack_of, stopped, raise, on_entry, on_top, below, pop_block, pop_exception, go_on, on_last, reraise, exception, after_exit, joins, access, is_silent, rotate2, rotate3, duplicate2, pop_closure, act, act_at, step, steps, result, machine}
+use Rattle.py_bytecode.specs.Machine.{is_tuple, Instr, Push, Access, Operate, MakeFunction, Import, Append, Unpack, Nop, Pop, Rotate2, Rotate3, Duplicate, Duplicate2, JumpIf, JumpIfOrPop, Jump, SetupLoop, PopBlock, Break, Continue, ReturnValue, ReturnConst, SetupExcept, SetupFinally, PopException, EnterFinally, EndFinally, Reraise, ForIter, SetupWith, WithCleanupStart, WithCleanupFinish, Fetched, Found, Nothing, Reason, BreakTo, ContinueTo, ReturnOf, RaiseOf, Block, Loop, Except, Finally, ExceptHandler, FinallyHandler, has_loop, Config, At, Over, wrong, leaked, cut, unwind_out, slot_for, unwind, pop, pop_cells, push, stack_of, stopped, raise, on_entry, on_top, below, pop_block, pop_exception, go_on, on_last, reraise, exception, after_exit, joins, access, is_silent, rotate2, rotate3, duplicate2, pop_closure, act, act_at, step, steps, result, machine}
 use Rattle.py_meaning.specs.View.{value_to, values_to, slot_to, entry_to, world_to, got_to, ran_to}
 use Rattle.py_meaning.specs.Places.{exact, instr_over, fetched_over, reason_over, kept_over, blocks_over, stack_over, config_over}
 use Rattle.py_meaning.proofs.Carry.{events-append, values-append, ask_for_to, for_one_to, for_none_to, truth_to, next_to}
@@ -38,6 +38,17 @@ module _ {K L P Q : Type 0} (c : K → L) (f : P → Q) where
       choose_at (nat_le h (length s)) _ _
       ∙ ap (λ x. choose (nat_le h (length s)) x (wrong (world_to c exact w))) (e (drop (length s - h) s) ∙ ap k1 (sym (drop_at (length s - h) s)))
       ∙ ap (λ n. choose (nat_le h n) (k1 (drop (n - h) (stack_over c f s))) (wrong (world_to c exact w))) (sym (length_at s))
+
+  has_loop_at : (bs : List (Block K P)) → has_loop (blocks_over c f bs) ≡ has_loop bs
+  has_loop_at [] = refl
+  has_loop_at (Loop h ∷ bs) = refl
+  has_loop_at (Except h q ∷ bs) = has_loop_at bs
+  has_loop_at (Finally h q ∷ bs) = has_loop_at bs
+  has_loop_at (ExceptHandler h old ∷ bs) = has_loop_at bs
+  has_loop_at (FinallyHandler h k old ∷ bs) = has_loop_at bs
+
+  in_loop_at : (bs : List (Block K P)) (w : World K) (x : Config K P) (y : Config L Q) → config_over c f x ≡ y → config_over c f (choose (has_loop bs) x (wrong w)) ≡ choose (has_loop (blocks_over c f bs)) y (wrong (world_to c exact w))
+  in_loop_at bs w x y e = choose_at (has_loop bs) _ _ ∙ ap (λ z. choose (has_loop bs) z (wrong (world_to c exact w))) e ∙ ap (λ b. choose b y (wrong (world_to c exact w))) (sym (has_loop_at bs))
 
   slot_for_at : (r : Reason K P) (slot : Option (Value K)) → slot_for (reason_over c f r) (slot_to c exact slot) ≡ slot_to c exact (slot_for r slot)
   slot_for_at (BreakTo p) slot = refl
@@ -247,8 +258,8 @@ module _ {K L P Q : Type 0} (c : K → L) (f : P → Q) where
   act_same (Jump p) n s bs slot w = refl
   act_same SetupLoop n s bs slot w = ap (λ h. At (f n) (S s) (Loop h ∷ B bs) (Z slot) (W w)) (sym (length_at s))
   act_same PopBlock n s bs slot w = pop_block_at n s bs slot w
-  act_same (Break p) n s bs slot w = unwind_at (BreakTo p) s bs slot w
-  act_same (Continue p) n s bs slot w = unwind_at (ContinueTo p) s bs slot w
+  act_same (Break p) n s bs slot w = in_loop_at bs w _ _ (unwind_at (BreakTo p) s bs slot w)
+  act_same (Continue p) n s bs slot w = in_loop_at bs w _ _ (unwind_at (ContinueTo p) s bs slot w)
   act_same ReturnValue n s bs slot w = entry_at s w (λ v rest. unwind (ReturnOf v) rest bs slot w) (λ v rest. unwind (ReturnOf v) rest (B bs) (Z slot) (W w)) (λ v rest. unwind_at (ReturnOf v) rest bs slot w)
   act_same (ReturnConst v) n s bs slot w = unwind_at (ReturnOf (It v)) s bs slot w
   act_same (SetupExcept p) n s bs slot w = ap (λ h. At (f n) (S s) (Except h (f p) ∷ B bs) (Z slot) (W w)) (sym (length_at s))

@@ -1,10 +1,13 @@
 -- Worked codes: a loop left by break with an else part, a break through a finally, and a with whose exit swallows an exception.
-use Rattle.std.proofs.Common.{refl, [], ◌∷◌, true, false, codes}
+use Rattle.std.proofs.Common.{◌≡◌, refl, [], ◌∷◌, true, false, codes}
 use Rattle.py_bytecode.specs.declared.instruction.Instruction.TheVariants as op
 use Rattle.py_bytecode.specs.Objects as obj
 use Rattle.py_bytecode.specs.Objects.{Object}
 use Rattle.py_bytecode.specs.Values.{operation, Bare, Number, Constant, Given, It, Operates, Accesses, AsksTruth, Gives, Truth, Raised, Load, Store, ByName, Returned, RaisedOut, Ran, ran}
 use Rattle.py_meaning.specs.Form.{Scope, MkScope, Resolved, VConst, VLoad, VOp, VAt, VNone, VMore, TTruth, GStore, GDrop, SSkip, SThen, SDo, SInto, SWhile, SBreak, SReturn, STryFinal, SWith, SAt, HNone}
+use Rattle.py_meaning.specs.Code.{size, body_code}
+use Rattle.py_meaning.specs.Live.{live}
+use Rattle.py_meaning.specs.Agree.{exactly, form_of}
 use Rattle.py_meaning.proofs.SampleTools.{unit, coded, at, program_head, Does}
 
 -- `while c: break`, `else: raise x`, then `f(a, b)`
@@ -13,6 +16,10 @@ loop_code = coded (codes "<module>") 1 3 (unit op.SetupLoop 0 ∷ unit op.LoadNa
 
 abbrev loop : Scope
 loop = MkScope program_head (SThen (SThen (SAt (at 1 1) (SWhile (TTruth (VAt (at 1 7) (VLoad Resolved (codes "c")))) (SAt (at 1 10) SBreak) (SAt (at 2 7) (SDo (operation op.Raise (Number 0)) true (VMore (VAt (at 2 13) (VLoad Resolved (codes "x"))) VNone))))) (SAt (at 3 1) (SInto (VAt (at 3 1) (VOp (operation op.CallFunctionPositional (Number 2)) (VMore (VAt (at 3 1) (VLoad Resolved (codes "f"))) (VMore (VAt (at 3 3) (VLoad Resolved (codes "a"))) (VMore (VAt (at 3 6) (VLoad Resolved (codes "b"))) VNone))))) GDrop))) (SReturn (VConst obj.none)))
+
+-- of its instructions only the jump after the break cannot be come to
+loop_lives : (size (body_code (exactly (λ t. t) loop) (form_of loop)) ≡ 14) × (live true (body_code (exactly (λ t. t) loop) (form_of loop)) ≡ 13)
+loop_lives = (refl, refl)
 
 -- the test is true, so the loop is left and the call is made
 abbrev loop_broken_run : {K : Type 0} → Ran K
@@ -34,6 +41,10 @@ break_finally_code = coded (codes "<module>") 1 1 (unit op.SetupLoop 0 ∷ unit 
 
 abbrev break_finally : Scope
 break_finally = MkScope program_head (SThen (SAt (at 1 1) (SWhile (TTruth (VAt (at 1 7) (VLoad Resolved (codes "a")))) (SAt (at 2 5) (STryFinal (SAt (at 2 10) SBreak) HNone SSkip (SAt (at 3 14) (SInto (VAt (at 3 14) (VLoad Resolved (codes "b"))) GDrop)))) SSkip)) (SReturn (VConst obj.none)))
+
+-- of its instructions the two after the break cannot be come to
+break_finally_lives : (size (body_code (exactly (λ t. t) break_finally) (form_of break_finally)) ≡ 17) × (live true (body_code (exactly (λ t. t) break_finally) (form_of break_finally)) ≡ 15)
+break_finally_lives = (refl, refl)
 
 -- the last part runs, and then the loop is left
 abbrev break_finally_left_run : {K : Type 0} → Ran K

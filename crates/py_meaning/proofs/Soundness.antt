@@ -133,9 +133,9 @@ module _ (K : Type 0) (at : ℕ → Option Shape) where
       form_walks (SIfElse t a b) l n h ms low e =
           choice_walks K at h ms low _ _ _ n (1 + n) (shape h ms) e.0 e.1 (test_walk t false n (2 + n) h ms low e.2) (form_walks a l (2 + n + labels_t t false) h ms low e.3) (form_walks b l (2 + n + labels_t t false + labels a) h ms low e.4)
       form_walks (SWhile t a b) l n h ms low e =
-          while_walks K at h ms low n (1 + n) (2 + n) _ _ _ e.0 e.1 e.2 (test_walk t false (1 + n) (3 + n) h (mark LoopSort h ∷ ms) (omega arith) e.3) (form_walks a (record { on_break = 2 + n; on_continue = n }) (3 + n + labels_t t false) h (mark LoopSort h ∷ ms) (omega arith) e.4) (form_walks b l (3 + n + labels_t t false + labels a) h ms low e.5)
+          while_walks K at h ms low n (1 + n) (2 + n) _ _ _ e.0 e.1 e.2 (test_walk t false (1 + n) (3 + n) h (mark LoopSort h ∷ ms) (omega arith) e.3) (form_walks a (record { inside = true; on_break = 2 + n; on_continue = n }) (3 + n + labels_t t false) h (mark LoopSort h ∷ ms) (omega arith) e.4) (form_walks b l (3 + n + labels_t t false + labels a) h ms low e.5)
       form_walks (SFor f t a b) l n h ms low e =
-          for_walks K at h ms low n (1 + n) (2 + n) _ _ _ e.0 e.1 e.2 (value_walks f (3 + n) h (mark LoopSort h ∷ ms) (omega arith) e.3) (walk_then K at (move (1 + (1 + h)) (1 + h) (2 + h) (1 + h) (mark LoopSort h ∷ ms) (omega arith) refl (target_walks t (3 + n + labels_v f) (1 + h) (mark LoopSort h ∷ ms) (omega arith) e.4)) (form_walks a (record { on_break = 2 + n; on_continue = n }) (3 + n + labels_v f + labels_g t) (1 + h) (mark LoopSort h ∷ ms) (omega arith) e.5)) (form_walks b l (3 + n + labels_v f + labels_g t + labels a) h ms low e.6)
+          for_walks K at h ms low n (1 + n) (2 + n) _ _ _ e.0 e.1 e.2 (value_walks f (3 + n) h (mark LoopSort h ∷ ms) (omega arith) e.3) (walk_then K at (move (1 + (1 + h)) (1 + h) (2 + h) (1 + h) (mark LoopSort h ∷ ms) (omega arith) refl (target_walks t (3 + n + labels_v f) (1 + h) (mark LoopSort h ∷ ms) (omega arith) e.4)) (form_walks a (record { inside = true; on_break = 2 + n; on_continue = n }) (3 + n + labels_v f + labels_g t) (1 + h) (mark LoopSort h ∷ ms) (omega arith) e.5)) (form_walks b l (3 + n + labels_v f + labels_g t + labels a) h ms low e.6)
       form_walks SBreak l n h ms low e = walk_do K at (shape h ms) e tt (walk_none K at _)
       form_walks SContinue l n h ms low e = walk_do K at (shape h ms) e tt (walk_none K at _)
       form_walks (SReturn f) l n h ms low e = return_walk f n h ms low e

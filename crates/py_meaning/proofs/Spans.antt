@@ -4,6 +4,7 @@ use Rattle.py_bytecode.specs.Objects as const
 use Rattle.py_bytecode.specs.Values.{Value, Constant, Given, Child, Cell, Entry, It, Cells, Event, Operates, Makes, Accesses, StoresCells, AsksTruth, AsksNext, Answer, Outcome, Returned, RaisedOut, Stopped, Wrong, Leaked, Going, Ran, choose}
 use Rattle.py_bytecode.specs.Machine.{Instr, Push, Access, Operate, MakeFunction, Import, Append, Unpack, Nop, Pop, Rotate2, Rotate3, Duplicate, Duplicate2, JumpIf, JumpIfOrPop, Jump, SetupLoop, PopBlock, Break, Continue, ReturnValue, ReturnConst, SetupExcept, SetupFinally, PopException, EnterFinally, EndFinally, Reraise, ForIter, SetupWith, WithCleanupStart, WithCleanupFinish}
 use Rattle.py_meaning.specs.Form.{Scope, Interp}
+use Rattle.py_meaning.specs.Looped.{Looped}
 use Rattle.py_meaning.specs.Code.{Item, Do, Label, body_code}
 use Rattle.py_meaning.specs.View.{View, value_to, values_to, events_to, outcome_to, ran_to}
 use Rattle.py_meaning.specs.Places.{exact, instr_over, items_over}
@@ -22,6 +23,11 @@ all_first S (x ∷ a) b h = (h.0, all_first S a b h.1)
 pub all_second : {A : Type 0} (S : A → Type 0) (a b : List A) → AllOf S (a ++ b) → AllOf S b
 all_second S [] b h = h
 all_second S (x ∷ a) b h = all_second S a b h.1
+
+-- what is known of all is known as another thing of all
+pub all_as : {A : Type 0} (S T : A → Type 0) → ((x : A) → S x → T x) → (xs : List A) → AllOf S xs → AllOf T xs
+all_as S T h [] p = tt
+all_as S T h (x ∷ xs) p = (h x p.0, all_as S T h xs p.1)
 
 -- items whose children come with what is known of them
 module _ {P : Type 0} (S : P → Type 0) where
@@ -144,16 +150,16 @@ module _ {P K L : Type 0} (R : K → L → Type 0) (c : P → K) (d : P → L) (
   both_ran r = record { events = both_events r.events; outcome = both_outcome r.outcome }
 
 -- the run of a scope's code over scopes is its exact meaning
-pub scope_runs : (s : Scope) (answers : List Answer) → runs_code (body_code (exactly (λ t. t) s) (form_of s)) answers ≡ meaning_by (exactly (λ t. t)) s answers
-scope_runs s answers = simulated (exactly (λ t. t) s) (form_of s) (once (exactly (λ t. t) s) (form_of s)) answers
+pub scope_runs : (s : Scope) → Looped false (form_of s) → (answers : List Answer) → runs_code (body_code (exactly (λ t. t) s) (form_of s)) answers ≡ meaning_by (exactly (λ t. t)) s answers
+scope_runs s ok answers = simulated (exactly (λ t. t) s) (form_of s) ok (once (exactly (λ t. t) s) (form_of s)) answers
 
 -- what runs the items does what the scope means, where the items are the scope's code and children are related
-pub items_agree : {K P : Type 0} (v : View) (view : Scope → Interp Scope) → ((s : Scope) → Carries (λ t. t) v (exactly (λ t. t) s) (view s)) → (R : K → Scope → Type 0) (c : P → K) (d : P → Scope) (ps : List (Item P)) (s : Scope) → items_over d ps ≡ body_code (exactly (λ t. t) s) (form_of s) → AllOf (λ p. R (c p) (d p)) (children ps) → (answers : List Answer) → SameRan R (ran_to (λ k. k) v (runs_code (items_over c ps) answers)) (meaning_by view s answers)
-items_agree {K} {P} v view h R c d ps s code related answers =
+pub items_agree : {K P : Type 0} (v : View) (view : Scope → Interp Scope) → ((s : Scope) → Carries (λ t. t) v (exactly (λ t. t) s) (view s)) → (R : K → Scope → Type 0) (c : P → K) (d : P → Scope) (ps : List (Item P)) (s : Scope) → items_over d ps ≡ body_code (exactly (λ t. t) s) (form_of s) → Looped false (form_of s) → AllOf (λ p. R (c p) (d p)) (children ps) → (answers : List Answer) → SameRan R (ran_to (λ k. k) v (runs_code (items_over c ps) answers)) (meaning_by view s answers)
+items_agree {K} {P} v view h R c d ps s code ok related answers =
     let S : P → Type 0 = λ p. R (c p) (d p) in
     let qs : List (Item (Known S)) = with_items S ps related in
     let left : runs_code (items_over c ps) answers ≡ ran_to (λ x. c x.0) exact (runs_code qs answers) = ap (λ l. runs_code l answers) (sym (same_items S c ps related)) ∙ runs_over (λ x. c x.0) qs answers in
-    let right : meaning_by (exactly (λ t. t)) s answers ≡ ran_to (λ x. d x.0) exact (runs_code qs answers) = sym (scope_runs s answers) ∙ ap (λ l. runs_code l answers) (sym code ∙ sym (same_items S d ps related)) ∙ runs_over (λ x. d x.0) qs answers in
+    let right : meaning_by (exactly (λ t. t)) s answers ≡ ran_to (λ x. d x.0) exact (runs_code qs answers) = sym (scope_runs s ok answers) ∙ ap (λ l. runs_code l answers) (sym code ∙ sym (same_items S d ps related)) ∙ runs_over (λ x. d x.0) qs answers in
     subst (λ x. SameRan R (ran_to (λ k. k) v x) (meaning_by view s answers)) (sym left)
     (subst (λ x. SameRan R (ran_to (λ k. k) v (ran_to (λ x. c x.0) exact (runs_code qs answers))) x) (sym (meaning_is v view (exactly (λ t. t)) h s answers ∙ ap (ran_to (λ t. t) v) right))
     (both_ran R (λ x. c x.0) (λ x. d x.0) (λ x. x.1) v (runs_code qs answers)))

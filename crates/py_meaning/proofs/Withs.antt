@@ -6,8 +6,11 @@ use Rattle.py_meaning.specs.Form.{exit_run, exit_leave, with_run}
 use Rattle.py_bytecode.specs.Machine.{PopBlock, EnterFinally, SetupWith, WithCleanupStart, WithCleanupFinish, Found, Reason, BreakTo, ContinueTo, ReturnOf, RaiseOf, Block, Finally, FinallyHandler, Config, At, slot_for, unwind, push, stopped, raise, exception, after_exit}
 use Rattle.py_meaning.specs.Fit.{IsFit, Loops, reason, leave}
 use Rattle.py_meaning.specs.Code.{Item, Do, Label, size, with_code}
+use Rattle.py_meaning.specs.Live.{live}
 use Rattle.py_meaning.proofs.Reach.{Ground, Reaches, stay, more, follow}
-use Rattle.py_meaning.proofs.Moves.{raise_drop, cut_exact, size-append, Stands, split, does, FollowsValue, Follows, use_then, end_cases}
+use Rattle.py_meaning.proofs.Falls.{falls, live-append, opens_at, opens_do, opens_over, opened}
+use Rattle.py_meaning.proofs.Wholes.{Whole, live_whole}
+use Rattle.py_meaning.proofs.Moves.{raise_drop, cut_exact, Stands, split, does, lively, FollowsValue, Follows, use_then, end_cases}
 use Rattle.py_meaning.proofs.Ops.{two_is}
 use Rattle.py_meaning.proofs.Loops.{FollowsTurn}
 
@@ -101,18 +104,21 @@ module _ {K P : Type 0} (g : Ground K P) where
         go (Returns v) = through (Returns v) _ (exit_part (Some (ReturnOf v)) (Constant const.none) refl (λ t w1. Leaves (Returns v) w1) slot slot (λ t w1. refl) w)
         go (Throws e) = through (Throws e) _ (exit_part (Some (RaiseOf e)) e refl (λ t w1. choose t (Normal w1) (Leaves (Throws e) w1)) slot (Some e) (λ t w1. dropped e t w1) w)
 
-  pub with_follows : (handler : ℕ) (item body : List (Item K)) (l : Loops) (mi : World K → Got K (Value K)) (mb : Option (Value K) → Value K → World K → Ended K) → FollowsValue g item mi → FollowsTurn g body l mb → Follows g (with_code handler item body) l (λ slot w. with_run mi (mb slot) w)
-  with_follows handler item body l mi mb fi fb = record {
-    by = λ room p q st s bs slot fit w.
-        let n : ℕ = size body + 4 in
-        let sizes : size (with_code handler item body) ≡ size item + (1 + n) = omega (arith, size-append item (Do (SetupWith handler) ∷ (body ++ (Do PopBlock ∷ Do EnterFinally ∷ Label handler ∷ Do WithCleanupStart ∷ Do WithCleanupFinish ∷ []))), size-append body (Do PopBlock ∷ Do EnterFinally ∷ Label handler ∷ Do WithCleanupStart ∷ Do WithCleanupFinish ∷ [])) in
+  pub with_follows : (handler : ℕ) (item body : List (Item K)) (l : Loops) (mi : World K → Got K (Value K)) (mb : Option (Value K) → Value K → World K → Ended K) → Whole item → FollowsValue g item mi → FollowsTurn g body l mb → Follows g (with_code handler item body) l (λ slot w. with_run mi (mb slot) w)
+  with_follows handler item body l mi mb y fi fb = record {
+    by = λ room p q st s bs slot fit within w.
+        let z : ℕ = live {K = K} (falls true body) (Do PopBlock ∷ Do EnterFinally ∷ []) in
+        let n : ℕ = live true body + (z + 2) in
+        let sizes : live true (with_code handler item body) ≡ size item + (1 + n) =
+        omega (arith, live_whole item (Do (SetupWith handler) ∷ (body ++ (Do PopBlock ∷ Do EnterFinally ∷ Label handler ∷ Do WithCleanupStart ∷ Do WithCleanupFinish ∷ []))) y, live-append true body (Do PopBlock ∷ Do EnterFinally ∷ Label handler ∷ Do WithCleanupStart ∷ Do WithCleanupFinish ∷ []), live-append {K = K} (falls true body) (Do PopBlock ∷ Do EnterFinally ∷ []) (Label handler ∷ Do WithCleanupStart ∷ Do WithCleanupFinish ∷ [])) in
         let wa = with_at handler item body p q st in
         let F : Value K → List (Block K P) = λ x. Finally (length (It x ∷ s)) (g.spot handler) ∷ bs in
         let out : Ended K → Config K P = λ r. on_ended r (λ w1. At q s bs slot w1) (leave g.spot l s bs slot) stopped in
         let entered = λ (v : Value K) (w1 : World K). subst (λ c. Reaches g 1 (At wa.at_setup (It v ∷ s) bs slot w1) c) (two_is (Operates enter_with (v ∷ [])) w1 (λ gs w2. At wa.at_body (push gs s) (Finally (length (It v ∷ s)) (g.spot handler) ∷ bs) slot w2) (raise s bs slot) stopped (λ xu w2. At wa.at_body (It xu.1 ∷ It xu.0 ∷ s) (F xu.0) slot w2) (λ x y w2. refl)) (does g (SetupWith handler) wa.at_setup wa.at_body (It v ∷ s) bs slot w1 wa.setup) in
-        let normal = λ (x : Value K) (w3 : World K). follow g 2 2 _ _ _ (follow g 1 1 _ _ _ (does g PopBlock wa.at_pop wa.at_enter (It x ∷ s) (F x) slot w3 wa.pops) (does g EnterFinally wa.at_enter (g.spot handler) (It x ∷ s) bs slot w3 wa.enters)) (exit_part handler item body p q wa l x s bs fit None (Constant const.none) refl (λ t w4. Normal w4) slot slot (λ t w4. refl) w3) in
-        let whole = λ (x u : Value K) (w2 : World K). end_cases g (mb slot u w2) (λ r. out (on_ended r (λ w3. exit_run x (Constant const.none) (λ t w4. Normal w4) w3) (λ why w3. exit_leave x why w3) Halts)) (size body) 4 _ (λ w3. At wa.at_pop (It x ∷ s) (F x) slot w3) (leave g.spot l (It x ∷ s) (F x) slot) (fb.by (omega (arith, room, sizes)) wa.at_body wa.at_pop wa.runs (It x ∷ s) (F x) slot (le_refl _) u w2) (normal x) (λ why w3. more g 2 4 _ _ (omega arith) (exit_leaves handler item body p q wa l x s bs fit slot why w3)) (λ events. more g 0 4 _ _ (omega arith) (stay g _)) in
+        let normal = λ (x : Value K) (c : falls true body ≡ true) (w3 : World K). follow g z 2 _ _ _ (lively g (falls true body) (Do PopBlock ∷ Do EnterFinally ∷ []) _ _ c (follow g 1 1 _ _ _ (does g PopBlock wa.at_pop wa.at_enter (It x ∷ s) (F x) slot w3 wa.pops) (does g EnterFinally wa.at_enter (g.spot handler) (It x ∷ s) bs slot w3 wa.enters))) (exit_part handler item body p q wa l x s bs fit None (Constant const.none) refl (λ t w4. Normal w4) slot slot (λ t w4. refl) w3) in
+        let whole = λ (x u : Value K) (w2 : World K). end_cases g (falls true body) (mb slot u w2) (λ r. out (on_ended r (λ w3. exit_run x (Constant const.none) (λ t w4. Normal w4) w3) (λ why w3. exit_leave x why w3) Halts)) (live true body) (z + 2) _ (λ w3. At wa.at_pop (It x ∷ s) (F x) slot w3) (leave g.spot l (It x ∷ s) (F x) slot) (λ c. fb.never c slot u w2) (fb.by (omega (arith, room, sizes)) wa.at_body wa.at_pop wa.runs (It x ∷ s) (F x) slot (le_refl _) within u w2) (normal x) (λ why w3. more g 2 (z + 2) _ _ (omega arith) (exit_leaves handler item body p q wa l x s bs fit slot why w3)) (λ events. more g 0 (z + 2) _ _ (omega arith) (stay g _)) in
         more g (size item + (1 + n)) _ _ _ (omega (arith, sizes))
         (use_then g (mi w) _ (size item) (1 + n) _ (λ v w1. At wa.at_setup (It v ∷ s) bs slot w1) _ l s bs slot (fi.by p wa.at_setup wa.items s bs slot fit w)
         (λ v w1. use_then g (for_two (Operates enter_with (v ∷ [])) w1) _ 1 n _ (λ xu w2. At wa.at_body (It xu.1 ∷ It xu.0 ∷ s) (F xu.0) slot w2) _ l s bs slot (entered v w1) (λ xu w2. whole xu.0 xu.1 w2)));
+    never = λ e slot w. opened (with_code handler item body) (opens_over item (opens_do (opens_over body (opens_do (opens_do (opens_at refl)))))) e;
   }

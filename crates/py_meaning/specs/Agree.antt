@@ -1,7 +1,8 @@
 -- Runs of items, what a scope means, and what it is for items with their children to agree with a scope.
-use Rattle.std.specs.Prelude.{◌≡◌, ◌⊎◌, ℕ, zero, suc, List, [], ◌∷◌, ◌++◌, Option, Some, None, nat_eq, if◌then◌else◌, slice_get}
+use Rattle.std.specs.Prelude.{◌≡◌, ◌⊎◌, ℕ, zero, suc, List, [], ◌∷◌, ◌++◌, false, Option, Some, None, nat_eq, if◌then◌else◌, slice_get}
 use Rattle.py_bytecode.specs.Values.{Value, Constant, Given, Child, Cell, Entry, It, Cells, Unsaid, Event, Operates, Makes, Accesses, StoresCells, AsksTruth, AsksNext, Answer, Outcome, Returned, RaisedOut, Stopped, Wrong, Leaked, Going, Ran}
 use Rattle.py_meaning.specs.Form.{VForm, VConst, VLoad, VOp, VMake, VShort, VChain, VChoice, VKeep, VAt, VForms, VNone, VMore, VMethod, Shorts, OneShort, MoreShort, Links, LastLink, MoreLink, TForm, TTruth, TNot, TAll, Tests, OneTest, MoreTest, Target, GStore, GPut, GUnder, GUnpack, GDrop, Targets, NoTarget, MoreTarget, SForm, SSkip, SThen, SDo, SInto, SRemove, SIf, SIfElse, SWhile, SFor, SBreak, SContinue, SReturn, SClassEnd, SReraise, SAugment, SAugmentTwo, STry, STryFinal, SFinally, SWith, SGather, SGenerate, SAt, Handlers, HNone, HAny, HTyped, Clauses, CLast, CEach, Filters, NoFilter, MoreFilter, Head, Scope, MkScope, Interp, run, ended_so}
+use Rattle.py_meaning.specs.Looped.{Looped}
 use Rattle.py_bytecode.specs.Machine.{Instr, Push, ReturnConst, at_places, Fetched, Found, Nothing, machine, start, fuel}
 use Rattle.py_meaning.specs.Code.{Item, Do, Label, size, body_code}
 use Rattle.py_meaning.specs.View.{View, whole, plain, ran_to}
@@ -253,6 +254,11 @@ ItemsAgree v view (suc n) c s =
     × AllOf (λ k. OneOf (ItemsAgree v view n) k (kids (form_of s))) (children c)
     × AllOf (λ t. OneOf (λ x k. ItemsAgree v view n k x) t (children c)) (kids (form_of s))
 
--- the code of every scope agrees with it in both views, to any depth of nesting
+-- breaks and continues stand in loops, in a scope and in those within it, down to n levels
+abbrev pub AllLooped : ℕ → Scope → Type 0
+AllLooped zero s = Unit {0}
+AllLooped (suc n) s = Looped false (form_of s) × AllOf (AllLooped n) (kids (form_of s))
+
+-- the code of every such scope agrees with it in both views, to any depth of nesting
 abbrev pub CompiledAgrees : Type 0
-CompiledAgrees = (n : ℕ) (s : Scope) → ItemsAgree whole fully n (compile n s) s × ItemsAgree plain plainly n (compile n s) s
+CompiledAgrees = (n : ℕ) (s : Scope) → AllLooped n s → ItemsAgree whole fully n (compile n s) s × ItemsAgree plain plainly n (compile n s) s

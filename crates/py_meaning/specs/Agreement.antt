@@ -1,9 +1,10 @@
 -- What it is for a code object to agree with a scope.
-use Rattle.std.specs.Prelude.{◌≡◌, ℕ, zero, suc, List, [], ◌∷◌}
+use Rattle.std.specs.Prelude.{◌≡◌, ℕ, zero, suc, List, [], ◌∷◌, false}
 use Rattle.py_bytecode.specs.Objects.{Object, constants, codes_in}
 use Rattle.py_bytecode.specs.Values.{Answer}
 use Rattle.py_bytecode.specs.Units.{machine}
 use Rattle.py_meaning.specs.Form.{Scope, Interp}
+use Rattle.py_meaning.specs.Looped.{Looped}
 use Rattle.py_meaning.specs.View.{View, whole, plain, ran_to}
 use Rattle.py_meaning.specs.Code.{Item, body_code}
 use Rattle.py_meaning.specs.Places.{items_over}
@@ -37,19 +38,20 @@ abbrev pub objects : List (Object × Scope) → List Object
 objects [] = []
 objects (p ∷ ps) = p.0 ∷ objects ps
 
--- A code object is made from a scope, down to n levels. There are items whose children are pairs of a code object and a scope: the
--- machine on the code object runs the items with the code objects, the items with the scopes are the scope's code, the code
--- objects are those among the constants, and each is made from the scope beside it.
+-- A code object is made from a scope whose breaks and continues stand in loops, down to n levels. There are items whose children are
+-- pairs of a code object and a scope: the machine on the code object runs the items with the code objects, the items with the scopes
+-- are the scope's code, the code objects are those among the constants, and each is made from the scope beside it.
 abbrev pub IsMade : (n : ℕ) → Object → Scope → Type 0
 IsMade zero o s = Unit {0}
 IsMade (suc n) o s =
-    (items : List (Item (Object × Scope))) × ((answers : List Answer) → machine o answers ≡ runs_code (items_over (λ p. p.0) items) answers) × (items_over (λ p. p.1) items ≡ body_code (exactly (λ t. t) s) (form_of s)) × SameMembers (codes_in (constants o)) (objects (children items)) × AllOf (λ p. IsMade n p.0 p.1) (children items)
+    Looped false (form_of s) × (items : List (Item (Object × Scope))) × ((answers : List Answer) → machine o answers ≡ runs_code (items_over (λ p. p.0) items) answers) × (items_over (λ p. p.1) items ≡ body_code (exactly (λ t. t) s) (form_of s)) × SameMembers (codes_in (constants o)) (objects (children items)) × AllOf (λ p. IsMade n p.0 p.1) (children items)
 
 -- what is made from a scope agrees with it
 abbrev pub ObjectsAgree : Type 0
 ObjectsAgree = (n : ℕ) (o : Object) (s : Scope) → IsMade n o s → Agrees whole fully n o s × Agrees plain plainly n o s
 
--- a code object without children whose machine runs the code of a scope without children agrees with it
+-- a code object without children whose machine runs the code of a scope without children agrees with it, where breaks and continues
+-- stand in loops
 abbrev pub ChildlessAgrees : Type 0
 ChildlessAgrees =
-    (o : Object) (s : Scope) (c : Scope → Object) → ((answers : List Answer) → machine o answers ≡ runs_code (body_code (exactly c s) (form_of s)) answers) → codes_in (constants o) ≡ [] → kids (form_of s) ≡ [] → (n : ℕ) → Agrees whole fully n o s × Agrees plain plainly n o s
+    (o : Object) (s : Scope) (c : Scope → Object) → ((answers : List Answer) → machine o answers ≡ runs_code (body_code (exactly c s) (form_of s)) answers) → codes_in (constants o) ≡ [] → kids (form_of s) ≡ [] → Looped false (form_of s) → (n : ℕ) → Agrees whole fully n o s × Agrees plain plainly n o s

@@ -1,5 +1,5 @@
 -- The code of a form that lies in blocks, and what the machine on blocks does with it.
-use Rattle.std.specs.Prelude.{◌≡◌, ℕ, zero, suc, ◌+◌, ◌*◌, ◌≤◌, ◌<◌, List, [], ◌∷◌, length, Option, Some, None, slice_get}
+use Rattle.std.specs.Prelude.{◌≡◌, ℕ, zero, suc, ◌+◌, ◌*◌, ◌≤◌, ◌<◌, List, [], ◌∷◌, length, true, false, Option, Some, None, slice_get}
 use Rattle.py_bytecode.specs.Objects.{Object}
 use Rattle.py_bytecode.specs.Values.{Value, Entry, World, Answer, Ended, on_ended}
 use Rattle.py_bytecode.specs.Machine.{Instr, Block, Config, At, stopped, steps, fuel}
@@ -7,9 +7,11 @@ use Rattle.py_bytecode.specs.Decode.{Tables, instr_of}
 use Rattle.py_bytecode.specs.Blocks as blocks
 use Rattle.py_bytecode.specs.Blocks.{Place, Of, block_at, settle, settled, fetch_block, block_machine}
 use Rattle.py_meaning.specs.Form.{SForm, Scope, Interp, run}
+use Rattle.py_meaning.specs.Looped.{Looped}
 use Rattle.py_meaning.specs.Agree.{exactly, form_of, runs_code}
-use Rattle.py_meaning.specs.Fit.{IsFit, Loops, leave, left}
+use Rattle.py_meaning.specs.Fit.{IsFit, IsWithin, Loops, leave, left}
 use Rattle.py_meaning.specs.Code.{Item, Do, Label, size, code, body_code}
+use Rattle.py_meaning.specs.Live.{live}
 
 -- there is a block of that number
 abbrev pub Inside : List blocks.Block → Option ℕ → Type 0
@@ -73,12 +75,14 @@ ended_at bs l q s entered slot r = on_ended r (λ w. At q s entered slot w) (lea
 abbrev pub Comes : Tables → List blocks.Block → (pay n : ℕ) → Config Object Place → Config Object Place → Type 0
 Comes t bs pay n a b = (cost : ℕ) × (cost + pay * left b ≤ pay * left a + n) × (steps (fetch_block t bs) cost a ≡ b)
 
--- A form's code that lies in blocks, run from any fit state, comes to the state that the form's run says.
+-- A form's code that lies in blocks, run from any fit state, comes to the state that the form's run says. Breaks and continues of
+-- the form stand in loops, of the form or around it.
 abbrev pub BlocksSimulate : Type 0
 BlocksSimulate =
-    (i : Interp Object) (t : Tables) (bs : List blocks.Block) (hops : ℕ) (f : SForm) (l : Loops) (n : ℕ) (p q : Place) → Lies t bs hops (code i f l n) p q → hops ≤ length bs → (s : List (Entry Object)) (entered : List (Block Object Place)) (slot : Option (Value Object)) (w : World Object) → IsFit s entered → Comes t bs (size (code i f l n)) (size (code i f l n)) (At (settled bs p) s entered slot w) (ended_at bs l (settled bs q) s entered slot (run i f slot w))
+    (i : Interp Object) (t : Tables) (bs : List blocks.Block) (hops : ℕ) (f : SForm) (l : Loops) (n : ℕ) (p q : Place) → Lies t bs hops (code i f l n) p q → hops ≤ length bs → (s : List (Entry Object)) (entered : List (Block Object Place)) (slot : Option (Value Object)) (w : World Object) → IsFit s entered → IsWithin l entered → Looped l.inside f → Comes t bs (size (code i f l n)) (size (code i f l n)) (At (settled bs p) s entered slot w) (ended_at bs l (settled bs q) s entered slot (run i f slot w))
 
--- blocks in which the whole code of a scope lies run like the code
+-- blocks in which the whole code of a scope lies run like the code, within the steps that what can be come to pays for, where breaks and
+-- continues stand in loops
 abbrev pub BlocksRun : Type 0
 BlocksRun =
-    (child : Scope → Object) (s : Scope) (t : Tables) (bs : List blocks.Block) (hops : ℕ) (q : Place) → Lies t bs hops (body_code (exactly child s) (form_of s)) (Of 0 0) q → hops ≤ length bs → (answers : List Answer) (n : ℕ) → fuel (size (body_code (exactly child s) (form_of s))) answers ≤ n → block_machine t bs n answers ≡ runs_code (body_code (exactly child s) (form_of s)) answers
+    (child : Scope → Object) (s : Scope) (t : Tables) (bs : List blocks.Block) (hops : ℕ) (q : Place) → Lies t bs hops (body_code (exactly child s) (form_of s)) (Of 0 0) q → hops ≤ length bs → Looped false (form_of s) → (answers : List Answer) (n : ℕ) → fuel (live true (body_code (exactly child s) (form_of s))) answers ≤ n → block_machine t bs n answers ≡ runs_code (body_code (exactly child s) (form_of s)) answers

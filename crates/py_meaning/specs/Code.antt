@@ -291,9 +291,9 @@ module _ {K : Type 0} (i : Interp K) where
     code (SIfElse t a b) l n =
         choice_code n (1 + n) (code_t t false n (2 + n)) (code a l (2 + n + labels_t t false)) (code b l (2 + n + labels_t t false + labels a))
     code (SWhile t a b) l n =
-        while_code n (1 + n) (2 + n) (code_t t false (1 + n) (3 + n)) (code a (record { on_break = 2 + n; on_continue = n }) (3 + n + labels_t t false)) (code b l (3 + n + labels_t t false + labels a))
+        while_code n (1 + n) (2 + n) (code_t t false (1 + n) (3 + n)) (code a (record { inside = true; on_break = 2 + n; on_continue = n }) (3 + n + labels_t t false)) (code b l (3 + n + labels_t t false + labels a))
     code (SFor f t a b) l n =
-        for_code n (1 + n) (2 + n) (code_v f (3 + n)) (code_g t (3 + n + labels_v f) ++ code a (record { on_break = 2 + n; on_continue = n }) (3 + n + labels_v f + labels_g t)) (code b l (3 + n + labels_v f + labels_g t + labels a))
+        for_code n (1 + n) (2 + n) (code_v f (3 + n)) (code_g t (3 + n + labels_v f) ++ code a (record { inside = true; on_break = 2 + n; on_continue = n }) (3 + n + labels_v f + labels_g t)) (code b l (3 + n + labels_v f + labels_g t + labels a))
     code SBreak l n = Do (Break l.on_break) ∷ []
     code SContinue l n = Do (Continue l.on_continue) ∷ []
     code (SReturn f) l n = return_code f n
@@ -337,4 +337,4 @@ closing false = Do (ReturnConst (Constant const.none)) ∷ []
 
 -- a scope's code: its form's, and a return of None where the form does not close with a return
 abbrev pub body_code : {K : Type 0} → Interp K → SForm → List (Item K)
-body_code i f = code i f (record { on_break = 0; on_continue = 0 }) 1 ++ closing (closes f)
+body_code i f = code i f (record { inside = false; on_break = 0; on_continue = 0 }) 1 ++ closing (closes f)

@@ -1,8 +1,10 @@
 pub mod Form
+pub mod Looped
 pub mod Fit
 pub mod Code
 pub mod View
 pub mod Agree
+pub mod Live
 pub mod Blocks
 pub mod Laws
 pub mod Places

@@ -5,7 +5,7 @@ use Rattle.py_walks.specs.Walks.{Seen}
 use Rattle.py_meaning.specs.Form.{Interp, SForm}
 use Rattle.py_meaning.specs.Code.{body_code}
 use Rattle.py_meaning.specs.Walks.{Shape, rises}
-use Rattle.py_meaning.specs.Laws.{Looped}
+use Rattle.py_meaning.specs.Looped.{Looped}
 use Rattle.py_meaning.specs.Agree.{exactly, form_of, AllOf}
 use Rattle.py_meaning.proofs.Labels.{placed_once}
 use Rattle.py_meaning.proofs.LabelShapes.{shapes, len}

@@ -1,5 +1,5 @@
 -- Code that lies in one list stands in its machine, and is seen there.
-use Rattle.std.proofs.Common.{◌≡◌, ◌≤◌, ℕ, suc, ◌+◌, ◌*◌, List, [], ◌∷◌, length, Some, sym, ap, ◌∙◌, arith}
+use Rattle.std.proofs.Common.{◌≡◌, ℕ, suc, List, [], ◌∷◌, true, Some, sym, ap, ◌∙◌, le_refl}
 use Rattle.std.specs.Prelude.{slice_index}
 use Rattle.std.specs.Option.{option_map}
 use Rattle.py_bytecode.specs.Objects.{Object}
@@ -10,11 +10,12 @@ use Rattle.py_walks.specs.declared.info.InstructionInfo.{InstructionInfo}
 use Rattle.py_walks.specs.Flow.{flow_of}
 use Rattle.py_walks.specs.Flat.{look_at, fetch_at, sees, decoded}
 use Rattle.py_walks.proofs.Rows.{RowIs, row_is}
-use Rattle.py_meaning.specs.Code.{Item, Do, Label, size, body_code}
+use Rattle.py_meaning.specs.Code.{Item, Do, Label, body_code}
+use Rattle.py_meaning.specs.Live.{live}
 use Rattle.py_meaning.specs.Agree.{exactly, form_of}
 use Rattle.py_meaning.proofs.Moves.{Stands}
 use Rattle.py_meaning.proofs.Reach.{Ground}
-use Rattle.py_meaning.proofs.Assembly.{simulated, simulated_at}
+use Rattle.py_meaning.proofs.Assembly.{simulated, simulated_at, fuel_covers}
 use Rattle.py_meaning.proofs.Labels.{once}
 use Rattle.py_meaning.proofs.DecodeAt.{option_at, decode_at}
 use Rattle.py_sound.proofs.Standing.{flow_at_places}
@@ -48,14 +49,11 @@ module _ (t : Tables) (starts : List ℕ) (list : List InstructionInfo) where
   flat_sees (Label l ∷ is) p q h = (h.0, flat_sees is p q h.1)
 
 pub flat_runs : FlatRuns
-flat_runs child s t starts list p q lies answers n enough =
+flat_runs child s t starts list p q lies ok answers n enough =
     let i = exactly child s in
-    let is : List (Item Object) = body_code (exactly child s) (form_of s) in
-    simulated_at (flat_ground t starts list (2 * size is + 2)) (exactly child s) (form_of s) p q (flat_stands t starts list (2 * size is + 2) is p q lies) (omega arith) answers n (fuel_covers (size is) (length answers) n enough)
-    ∙ sym (simulated (exactly child s) (form_of s) (once (exactly child s) (form_of s)) answers)
-  where
-    fuel_covers : (m a n : ℕ) → (a + 1) * (2 * m + 2) ≤ n → (2 * m + 2) * a + m ≤ n
-    fuel_covers m a n h = omega (arith, h)
+    let is : List (Item Object) = body_code i (form_of s) in
+    simulated_at (flat_ground t starts list (live true is)) i (form_of s) p q (flat_stands t starts list (live true is) is p q lies) ok (le_refl _) answers n (fuel_covers (live true is) n answers enough)
+    ∙ sym (simulated i (form_of s) ok (once i (form_of s)) answers)
 
 pub flat_is_sound : FlatIsSound
 flat_is_sound child s t starts list p q lies none g limit lt =

@@ -8,7 +8,7 @@ use Rattle.py_meaning.specs.Form.{Scope}
 use Rattle.py_meaning.specs.Code.{labels, body_code}
 use Rattle.py_meaning.specs.Blocks.{Lies, Laid, Ends}
 use Rattle.py_meaning.specs.Walks.{rises}
-use Rattle.py_meaning.specs.Laws.{Looped}
+use Rattle.py_meaning.specs.Looped.{Looped}
 use Rattle.py_meaning.specs.Agree.{exactly, form_of}
 
 -- no walk over blocks in which the whole code of a scope lies is refused, where the limit is above what its instructions give

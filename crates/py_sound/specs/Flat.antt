@@ -1,5 +1,5 @@
 -- The code of a form in one list of instructions with the place where each block starts.
-use Rattle.std.specs.Prelude.{◌≡◌, ◌≤◌, ◌<◌, ◌*◌, false, ℕ, suc, List, [], ◌∷◌, Some, None, slice_get, slice_index}
+use Rattle.std.specs.Prelude.{◌≡◌, ◌≤◌, ◌<◌, ◌*◌, true, false, ℕ, suc, List, [], ◌∷◌, Some, None, slice_get, slice_index}
 use Rattle.py_bytecode.specs.Objects.{Object}
 use Rattle.py_bytecode.specs.Values.{Answer}
 use Rattle.py_bytecode.specs.Machine.{machine, start, fuel}
@@ -8,9 +8,10 @@ use Rattle.py_walks.specs.declared.info.InstructionInfo.{InstructionInfo}
 use Rattle.py_walks.specs.Walks.{Sound}
 use Rattle.py_walks.specs.Flat.{look_at, fetch_at}
 use Rattle.py_meaning.specs.Form.{Scope}
-use Rattle.py_meaning.specs.Code.{Item, Do, Label, size, body_code}
+use Rattle.py_meaning.specs.Code.{Item, Do, Label, body_code}
+use Rattle.py_meaning.specs.Live.{live}
 use Rattle.py_meaning.specs.Walks.{rises}
-use Rattle.py_meaning.specs.Laws.{Looped}
+use Rattle.py_meaning.specs.Looped.{Looped}
 use Rattle.py_meaning.specs.Agree.{exactly, form_of, runs_code}
 
 -- The items lie in the list from one place to another: the instructions decode from its entries one after another, where a jump names a
@@ -20,10 +21,11 @@ Lies t starts list [] p q = p ≡ q
 Lies t starts list (Do i ∷ is) p q = (x : InstructionInfo) × (slice_get list p ≡ Some x) × (instr_of t (Some x.target.0) x.instr x.arg.0 ≡ Some i) × Lies t starts list is (suc p) q
 Lies t starts list (Label l ∷ is) p q = (slice_index starts l ≡ p) × Lies t starts list is p q
 
--- a list in which the whole code of a scope lies runs like the code
+-- a list in which the whole code of a scope lies runs like the code, within the steps that what can be come to pays for, where breaks and
+-- continues stand in loops
 abbrev pub FlatRuns : Type 0
 FlatRuns =
-    (child : Scope → Object) (s : Scope) (t : Tables) (starts : List ℕ) (list : List InstructionInfo) (p q : ℕ) → Lies t starts list (body_code (exactly child s) (form_of s)) p q → (answers : List Answer) (n : ℕ) → fuel (size (body_code (exactly child s) (form_of s))) answers ≤ n → machine (fetch_at t starts list) n p (start answers) ≡ runs_code (body_code (exactly child s) (form_of s)) answers
+    (child : Scope → Object) (s : Scope) (t : Tables) (starts : List ℕ) (list : List InstructionInfo) (p q : ℕ) → Lies t starts list (body_code (exactly child s) (form_of s)) p q → Looped false (form_of s) → (answers : List Answer) (n : ℕ) → fuel (live true (body_code (exactly child s) (form_of s))) answers ≤ n → machine (fetch_at t starts list) n p (start answers) ≡ runs_code (body_code (exactly child s) (form_of s)) answers
 
 -- no walk over it is refused, where the list ends with it
 abbrev pub FlatIsSound : Type 0

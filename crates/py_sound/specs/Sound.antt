@@ -7,7 +7,7 @@ use Rattle.py_walks.specs.Walks.{Seen, Sound}
 use Rattle.py_meaning.specs.Form.{Scope}
 use Rattle.py_meaning.specs.Code.{Item, Do, Label, body_code}
 use Rattle.py_meaning.specs.Walks.{rises}
-use Rattle.py_meaning.specs.Laws.{Looped}
+use Rattle.py_meaning.specs.Looped.{Looped}
 use Rattle.py_meaning.specs.Agree.{exactly, form_of}
 
 -- what is seen of an instruction before this place, where labels are at places

@@ -15,7 +15,8 @@ pub fn flat_is_sound()
     ensures { FlatIsSound }
 {}
 
-/// A list of instructions in which the code of a scope lies runs like the code.
+/// A list of instructions in which the code of a scope lies runs like the code, within the steps that what can be come to
+/// pays for, where breaks and continues stand in loops.
 pub fn flat_runs()
     ensures { FlatRuns }
 {}
