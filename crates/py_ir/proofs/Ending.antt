@@ -1,8 +1,7 @@
 -- The whole code object: the tables that its operands name are the given ones.
-use Rattle.std.proofs.Common.{◌≡◌, ◌≢◌, ℕ, suc, ◌+◌, ◌<◌, ◌≤◌, ◌^◌, inl, inr, arith, length-append, List, [], ◌∷◌, ◌++◌, length, map, refl, sym, ap, ◌∙◌, subst}
+use Rattle.std.proofs.Common.{◌≡◌, ℕ, ◌<◌, ◌^◌, inl, inr, arith, List, [], ◌∷◌, ◌++◌, length, map, refl, sym, ap, ◌∙◌, subst}
 use Rattle.py_bytecode.specs.declared.code.CodeObject.{CodeObject}
-use Rattle.py_bytecode.specs.Objects as obj
-use Rattle.py_bytecode.specs.Objects.{Const, Object, head, listed, consts_of, object_of}
+use Rattle.py_bytecode.specs.Objects.{Const, Object, listed, consts_of, object_of}
 use Rattle.py_bytecode.specs.Values.{Answer}
 use Rattle.py_bytecode.specs.Machine.{fuel, limited_machine, start}
 use Rattle.py_bytecode.specs.Decode.{Tables, tables}
@@ -14,13 +13,10 @@ use Rattle.py_ir.specs.declared.info.CodeInfo.{CodeInfo}
 use Rattle.py_ir.specs.Chain.{plain}
 use Rattle.py_ir.specs.Finished.{IsLaid}
 use Rattle.py_ir.specs.Final.{IsGiven, IsFilled, IsFinal, tables_of, runs_of}
-use Rattle.py_ir.specs.declared.checks.TableLens.{TableLens}
 use Rattle.py_ir.specs.declared.error.FinalizeError.{FinalizeError}
-use Rattle.py_ir.specs.Checks.{lens_of}
-use Rattle.py_ir.specs.Refusals.{NoneBefore, TooLong}
+use Rattle.py_ir.specs.Refusals.{NoneBefore}
 use Rattle.py_tree.specs.declared.location.SourceLocation.{SourceLocation}
 use Rattle.py_bytecode.specs.declared.operand.CodeUnit.{CodeUnit}
-use Rattle.std.proofs.lemmas.List.{length-map}
 use Rattle.std.proofs.lemmas.Bool.{cases_lt}
 
 listed_is : (cs : List Const) → listed (consts_of cs) ≡ cs

@@ -2,7 +2,7 @@
 use Rattle.std.proofs.lemmas.List.{length-replicate}
 use Rattle.std.specs.Prelude.{Result, Ok, Err, IfOk}
 use Rattle.py_bytecode.specs.Objects.{none}
-use Rattle.std.proofs.Common.{◌≡◌, ℕ, [], replicate, ◌+◌, ◌^◌, ◌<◌, ◌≤◌, List, length, get_or, All, Bool, true, false, Option, refl, sym, ap, ◌∙◌, subst, arith}
+use Rattle.std.proofs.Common.{◌≡◌, ℕ, [], replicate, ◌+◌, ◌^◌, ◌<◌, ◌≤◌, List, length, get_or, All, Bool, true, false, sym, ap, ◌∙◌, subst}
 use Rattle.std.specs.List.{Contains}
 use Rattle.py_tree.specs.declared.location.SourceLocation.{SourceLocation}
 use Rattle.py_bytecode.specs.declared.operand.CodeUnit.{CodeUnit}
@@ -37,6 +37,9 @@ some_tables l =
 pub if_ok_five : {T E : Type 0} (r : Result T E) (P1 P2 P3 P4 P5 Q : T → Type 0) → IfOk r P1 → IfOk r P2 → IfOk r P3 → IfOk r P4 → IfOk r P5 → ((x : T) → P1 x → P2 x → P3 x → P4 x → P5 x → Q x) → IfOk r Q
 if_ok_five (Ok x) P1 P2 P3 P4 P5 Q a b c d e f = f x a b c d e
 if_ok_five (Err x) P1 P2 P3 P4 P5 Q a b c d e f = tt
+
+pub list_within : (starts : List ℕ) (xs : List InstructionInfo) {ys : List InstructionInfo} → xs ≡ ys → All (λ s. s ≤ length xs) starts → All (λ s. s ≤ length ys) starts
+list_within starts xs e h = subst (λ (zs : List InstructionInfo). All (λ s. s ≤ length zs) starts) e h
 
 module _ (lens1 : TableLens) (level : ℕ) (bs : List Blk) (cs starts : List ℕ) (chain : IsChain bs cs) (short : length cs ≤ length bs) (at : StartsAt level bs cs starts) (inside inside1 : List Bool) (ei : inside1 ≡ inside) (ins : (c : ℕ) → get_or inside c false ≡ true → Contains cs c) (mk : (k : ℕ) → k < length cs → get_or inside (get_or cs k 0) false ≡ true) (long : length inside ≡ length bs) (list : List InstructionInfo) (ex : list ≡ flat level bs cs) where
   abbrev items : List InstructionInfo

@@ -1,16 +1,13 @@
 -- An operand in its kind's range decodes.
-use Rattle.std.proofs.Common.{◌≡◌, ◌≢◌, ℕ, zero, suc, ◌<◌, ◌≤◌, ◌^◌, ◌+◌, ◌-◌, ◌*◌, ◌%◌, ◌/◌, List, [], ◌∷◌, length, Bool, true, false, Option, Some, None, refl, sym, inl, inr, ap, ◌∙◌, arith}
-use Rattle.std.specs.Prelude.{◌==◌, nat_lt, nat_eq, slice_get, if◌then◌else◌}
-use Rattle.std.proofs.lemmas.Bool.{cases_lt}
+use Rattle.std.proofs.Common.{◌≡◌, ◌≢◌, ℕ, zero, suc, ◌<◌, ◌^◌, ◌+◌, ◌-◌, ◌*◌, ◌%◌, ◌/◌, List, [], ◌∷◌, length, Bool, true, false, Option, Some, None, refl, arith}
+use Rattle.std.specs.Prelude.{◌==◌, nat_lt, slice_get, if◌then◌else◌}
 use Rattle.std.proofs.lemmas.Bool.Decides.{nat_tests}
-use Rattle.std.proofs.lemmas.Option.{slice_get-get_or}
-use Rattle.std.proofs.Common.{get_or}
 use Rattle.py_bytecode.specs.declared.instruction.Instruction.{Instruction}
 use Rattle.py_bytecode.specs.declared.instruction.Instruction.TheVariants as op
 use Rattle.py_bytecode.specs.Table.{row_of, bits_of}
-use Rattle.py_bytecode.specs.Objects.{Const, Object}
-use Rattle.py_bytecode.specs.Values.{Bare, Number, Named, operation, Value, It, Cells, Load, Store, Delete, Fast, ByName, Global, Deref, ClassDeref}
-use Rattle.py_bytecode.specs.Machine.{Instr, Push, Access, Operate, MakeFunction, Import, Append, Unpack, Nop, Pop, Rotate2, Rotate3, Duplicate, Duplicate2, JumpIf, JumpIfOrPop, Jump, SetupLoop, PopBlock, Break, Continue, ReturnValue, ReturnConst, SetupExcept, SetupFinally, PopException, EnterFinally, EndFinally, Reraise, ForIter, SetupWith, WithCleanupStart, WithCleanupFinish}
+use Rattle.py_bytecode.specs.Objects.{Object}
+use Rattle.py_bytecode.specs.Values.{Bare, Number, Named, operation, It, Cells, Load, Store, Delete, Fast, ByName, Global, Deref, ClassDeref}
+use Rattle.py_bytecode.specs.Machine.{Instr, Push, Access, Operate, MakeFunction, Import, Append, Unpack, Nop, Pop, Rotate2, Rotate3, Duplicate, Duplicate2, SetupLoop, PopBlock, ReturnValue, ReturnConst, PopException, EnterFinally, EndFinally, WithCleanupStart, WithCleanupFinish}
 use Rattle.py_bytecode.specs.Decode.{Tables, value_of, for_some, raising, instr_of}
 use Rattle.py_bytecode.specs.Units.{is_prefix}
 use Rattle.py_ir.specs.Checks.{lens_of, in_kind}

@@ -1,22 +1,19 @@
 -- The parts together: what the functions over the list say of the blocks.
-use Rattle.std.proofs.Common.{◌≡◌, ◌≢◌, ℕ, zero, suc, ◌+◌, ◌-◌, ◌^◌, ◌<◌, ◌≤◌, ◌⊎◌, List, [], ◌∷◌, length, get_or, map, All, Bool, true, false, Option, Some, None, refl, sym, inl, inr, ap, ◌∙◌, subst, arith}
-use Rattle.std.specs.Prelude.{slice_get, nat_eq, if◌then◌else◌, Result, Ok, Err, IfOk, IfErr}
+use Rattle.std.proofs.Common.{◌≡◌, ◌≢◌, ℕ, suc, ◌+◌, ◌-◌, ◌^◌, ◌<◌, ◌≤◌, ◌⊎◌, List, [], ◌∷◌, length, get_or, map, All, Bool, true, false, Some, refl, sym, inl, inr, ap, ◌∙◌, subst, arith}
+use Rattle.std.specs.Prelude.{slice_get, if◌then◌else◌, Result, Ok, Err, IfOk, IfErr}
 use Rattle.std.specs.List.{Contains}
 use Rattle.std.proofs.lemmas.Bool.{cases_lt}
 use Rattle.std.proofs.lemmas.List.{get_or_past, get_or_default}
 use Rattle.std.proofs.lemmas.Option.{slice_get_within, get_or_from_slice_get}
 use Rattle.py_tree.specs.declared.location.SourceLocation.{SourceLocation}
 use Rattle.py_bytecode.specs.declared.operand.CodeUnit.{CodeUnit}
-use Rattle.py_bytecode.specs.Objects.{Object}
-use Rattle.py_bytecode.specs.Values.{World}
-use Rattle.py_bytecode.specs.Machine.{machine, limited_machine}
-use Rattle.py_bytecode.specs.Decode.{Tables, instr_of}
+use Rattle.py_bytecode.specs.Machine.{machine}
+use Rattle.py_bytecode.specs.Decode.{Tables}
 use Rattle.py_bytecode.specs.Units.{is_prefix, fetch_unit}
-use Rattle.py_bytecode.specs.Blocks.{fetch_block}
 use Rattle.py_walks.specs.declared.info.InstructionInfo.{InstructionInfo}
 use Rattle.py_walks.specs.declared.known.Refused.{Refused as Walked}
 use Rattle.py_walks.specs.Walks.{seen, UnevenHeights, HeightOutOfRange, BlockMismatch, Sound, IsDepth}
-use Rattle.py_walks.specs.Flat.{is_jump, named_place, look_at, fetch_at, IsCode, IsLinked}
+use Rattle.py_walks.specs.Flat.{is_jump, named_place, look_at, IsCode, IsLinked}
 use Rattle.py_walks.proofs.Looking.{Decodes}
 use Rattle.py_walks.proofs.NeverWrong.{unlimited}
 use Rattle.py_walks.proofs.Codes.{unit_proper}
@@ -28,10 +25,10 @@ use Rattle.py_layout.proofs.SameUnits.{units_sound, units_depth, units_run}
 use Rattle.py_ir.specs.declared.checks.TableLens.{TableLens}
 use Rattle.py_ir.specs.declared.checks.Check.{Check}
 use Rattle.py_ir.specs.declared.error.FinalizeError.{FinalizeError}
-use Rattle.py_ir.specs.Chain.{Blk, blk, body, coded_blocks, IsChain, BrokenChain, StartsAt, flat}
-use Rattle.py_ir.specs.Checks.{lens_of, operand_fits, Fails, NowhereFails, FailsAt, rank}
+use Rattle.py_ir.specs.Chain.{Blk, IsChain, BrokenChain, StartsAt, flat}
+use Rattle.py_ir.specs.Checks.{lens_of, operand_fits, NowhereFails, FailsAt, rank}
 use Rattle.py_ir.specs.Refusals.{block_look, block_start, capped, ItemAt, WalkAt, LeavesLast, TooWide, TooLong, Holds, order, NoneBefore, Refused}
-use Rattle.py_ir.specs.Located.{IsLocated, check_error, walk_error, NamesCheck, NamesWalk, WalkFault, UnitsFault, ListRefused}
+use Rattle.py_ir.specs.Located.{check_error, walk_error, NamesCheck, ListRefused}
 use Rattle.py_ir.specs.Finished.{RunsAsBlocks, IsLaid}
 use Rattle.py_ir.proofs.Fitting.{in_range}
 use Rattle.py_ir.proofs.Unique.{no_blocks, not_broken, one_chain}

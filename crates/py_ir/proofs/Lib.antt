@@ -10,3 +10,13 @@ pub mod Joining
 pub mod Finishing
 pub mod Cells
 pub mod Ending
+pub mod Kept
+pub mod Spanning
+pub mod Growing
+pub mod Placing
+pub mod Short
+pub mod Taken
+pub mod Chained
+pub mod Listed
+pub mod TakenCode
+pub mod Outside

@@ -7,8 +7,7 @@ use Rattle.std.proofs.lemmas.Bool.Decides.{nat_tests}
 use Rattle.std.proofs.lemmas.List.{take_all, length-map}
 use Rattle.std.proofs.lemmas.Option.{same_Some, slice_get-map, slice_get-get_or, slice_get_past, slice_get_within, get_or_from_slice_get}
 use Rattle.py_bytecode.specs.Objects.{Object}
-use Rattle.py_bytecode.specs.Values.{World}
-use Rattle.py_bytecode.specs.Machine.{Instr, Fetched, Found, Nothing, machine}
+use Rattle.py_bytecode.specs.Machine.{Instr, Nothing}
 use Rattle.py_bytecode.specs.Table.{row_of, is_label}
 use Rattle.py_bytecode.specs.Decode.{Tables, instr_of}
 use Rattle.py_bytecode.specs.Units.{found}
@@ -19,10 +18,10 @@ use Rattle.py_walks.specs.declared.flow.Flow.{Flow}
 use Rattle.py_walks.specs.Flow.{flow_of, target_of}
 use Rattle.py_walks.specs.Walks.{Seen, seen}
 use Rattle.py_walks.specs.Flat.{is_jump, named_place, decoded, fetch_at}
-use Rattle.py_walks.proofs.Rows.{Proper, RowIs, row_is, falls_leaves}
+use Rattle.py_walks.proofs.Rows.{RowIs, row_is, falls_leaves}
 use Rattle.py_walks.proofs.SameRuns.{fetched_at}
 use Rattle.py_walks.proofs.Elsewhere.{instr_at, found_at}
-use Rattle.py_walks.proofs.Images.{Imaged, seen_at}
+use Rattle.py_walks.proofs.Images.{Imaged}
 use Rattle.py_walks.proofs.Looking.{seen_same}
 use Rattle.py_ir.specs.Chain.{Blk, blk, blk_of, block_number, coded_item, coded_block, coded_blocks, body, IsChain, flat, StartsAt}
 use Rattle.py_ir.proofs.Pieces.{get_right, get_left, body_get, length-body, body_empty, body_goes_on, flat_more, flat_parts}

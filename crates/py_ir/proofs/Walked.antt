@@ -1,9 +1,9 @@
 -- What walks over the list say of the blocks.
-use Rattle.std.proofs.Common.{◌≡◌, ◌≢◌, ℕ, zero, suc, ◌+◌, ◌-◌, ◌^◌, ◌<◌, ◌≤◌, ◌⊎◌, List, [], ◌∷◌, length, get_or, Bool, true, false, Option, Some, None, refl, sym, inl, inr, ap, ◌∙◌, subst, arith}
+use Rattle.std.proofs.Common.{◌≡◌, ◌≢◌, ℕ, suc, ◌+◌, ◌-◌, ◌^◌, ◌<◌, ◌≤◌, ◌⊎◌, List, [], ◌∷◌, length, get_or, true, Option, Some, None, refl, sym, inl, inr, ap, ◌∙◌, subst, arith}
 use Rattle.std.specs.Prelude.{slice_get}
 use Rattle.std.specs.Option.{option_map}
 use Rattle.std.proofs.lemmas.Bool.{cases_lt}
-use Rattle.std.proofs.lemmas.Option.{slice_get-get_or, slice_get_within}
+use Rattle.std.proofs.lemmas.Option.{slice_get-get_or}
 use Rattle.py_bytecode.specs.Objects.{Object}
 use Rattle.py_bytecode.specs.Values.{World}
 use Rattle.py_bytecode.specs.Machine.{Instr, Found, machine}
@@ -12,7 +12,7 @@ use Rattle.py_bytecode.specs.Blocks.{Place, Of, block_at, at_index, fetch_block,
 use Rattle.py_bytecode.specs.Blocks as coded
 use Rattle.py_walks.specs.declared.info.InstructionInfo.{InstructionInfo}
 use Rattle.py_walks.specs.declared.known.Refused.{Refused as Walked}
-use Rattle.py_walks.specs.Walks.{State, Seen, seen, Reached, LeavesEnd, UnevenHeights, TooHigh, OutOfRange, HeightOutOfRange, LacksBlock, ShapesDiffer, BlockMismatch, Sound, IsDepth}
+use Rattle.py_walks.specs.Walks.{State, Seen, seen, Reached, LeavesEnd, UnevenHeights, OutOfRange, HeightOutOfRange, BlockMismatch, Sound, IsDepth}
 use Rattle.py_walks.specs.Shown.{RefusalAt}
 use Rattle.py_walks.specs.Flat.{is_jump, sees, look_at, fetch_at}
 use Rattle.py_walks.proofs.Rows.{Proper}
@@ -20,7 +20,6 @@ use Rattle.py_walks.proofs.Codes.{decoded_proper}
 use Rattle.py_walks.proofs.NeverWrong.{machine_same}
 use Rattle.py_walks.proofs.Looking.{Decodes, looks_same}
 use Rattle.py_walks.proofs.Images.{Imaged, reached_back, ends_back, uneven_back, range_back, mismatch_back, sound_here, depth_here, reached_there}
-use Rattle.py_ir.specs.declared.error.FinalizeError.{FinalizeError}
 use Rattle.py_ir.specs.Chain.{Blk, blk, coded_blocks, IsChain, StartsAt, flat}
 use Rattle.py_ir.specs.Refusals.{block_look, block_start, capped, WalkAt, LeavesLast, Holds}
 use Rattle.py_ir.specs.Located.{IsLocated, walk_error}

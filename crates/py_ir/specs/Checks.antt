@@ -1,6 +1,5 @@
 -- What is refused of an instruction by itself.
 use Rattle.std.specs.Prelude.{◌≡◌, ◌≢◌, ℕ, ◌<◌, List, length, Bool, true, false, Option, Some, None, nat_lt, slice_index_or}
-use Rattle.py_bytecode.specs.declared.instruction.Instruction.{Instruction}
 use Rattle.py_bytecode.specs.declared.instruction.OperandKind.{OperandKind}
 use Rattle.py_bytecode.specs.declared.instruction.OperandKind.TheVariants as kind
 use Rattle.py_bytecode.specs.Table.{row_of, range_of}

@@ -1,5 +1,5 @@
 -- What a code object is made of a list of blocks.
-use Rattle.std.specs.Prelude.{◌≡◌, ◌≢◌, ℕ, suc, ◌+◌, ◌<◌, ℤ, pos, negsuc, List, ◌++◌, length, map, All, Bool, true, Option, Some, None, nat_eq, nat_lt, ◌==◌, position, if◌then◌else◌}
+use Rattle.std.specs.Prelude.{◌≡◌, ◌≢◌, ℕ, suc, ◌+◌, ℤ, pos, negsuc, List, map, All, Option, Some, None, nat_eq, nat_lt, ◌==◌, position, if◌then◌else◌}
 use Rattle.std.specs.Int.RustNames.{bit_and}
 use Rattle.std.specs.Cmp.Lexicographic.{pointwise}
 use Rattle.std.specs.List.{Contains}
@@ -11,7 +11,7 @@ use Rattle.py_bytecode.specs.Machine.{machine, limited_machine}
 use Rattle.py_bytecode.specs.Decode.{Tables}
 use Rattle.py_bytecode.specs.Units.{fetch_unit}
 use Rattle.py_bytecode.specs.Blocks.{fetch_block}
-use Rattle.py_walks.specs.Walks.{Seen, seen, Sound, IsDepth}
+use Rattle.py_walks.specs.Walks.{seen, Sound, IsDepth}
 use Rattle.py_layout.specs.Written.{IsAssembled}
 use Rattle.py_ir.specs.Chain.{Blk, IsChain, StartsAt, flat, coded_blocks}
 use Rattle.py_ir.specs.Refusals.{block_look, block_start}

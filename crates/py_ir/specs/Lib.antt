@@ -4,3 +4,7 @@ pub mod Refusals
 pub mod Located
 pub mod Finished
 pub mod Final
+pub mod BlockList
+pub mod Spans
+pub mod Flattened
+pub mod FlatCode

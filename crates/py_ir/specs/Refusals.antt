@@ -1,5 +1,5 @@
 -- Why a list of blocks has no code, by the tables that operands name.
-use Rattle.std.specs.Prelude.{◌≡◌, ◌≢◌, ℕ, ◌-◌, ◌<◌, ◌≤◌, ◌^◌, ◌⊎◌, List, length, Bool, true, false, Option, Some, nat_lt, slice_get, slice_index, if◌then◌else◌}
+use Rattle.std.specs.Prelude.{◌≡◌, ◌≢◌, ℕ, ◌-◌, ◌<◌, ◌≤◌, ◌^◌, ◌⊎◌, List, length, true, false, Option, Some, nat_lt, slice_get, slice_index, if◌then◌else◌}
 use Rattle.std.specs.List.{Contains}
 use Rattle.py_bytecode.specs.Decode.{Tables}
 use Rattle.py_bytecode.specs.Units.{is_prefix}

@@ -1,4 +1,7 @@
-ghost use Rattle.std.specs.Prelude.{◌≡◌, ◌<◌, ◌++◌, ◌∷◌, [], length, slice_set, OnOk, OnErr, IfErr};
+ghost use Rattle.std.specs.Prelude.{◌≡◌, ◌<◌, ◌++◌, ◌∷◌, [], Some, length, slice_get, slice_set, OnOk, OnErr, IfErr};
+ghost use Rattle.std.specs.Borrow.{Lends, sem};
+ghost use Rattle.py_ir.specs.contracts.blocks.Block.{the_row as block_row};
+ghost use Rattle.py_ir.specs.contracts.blocks.Blocks.{the_row};
 
 use crate::{BlockIdx, InstructionInfo};
 use py_tree::List;
@@ -67,13 +70,16 @@ impl Blocks {
     /// A block by its number.
     pub fn block(&self, i: BlockIdx) -> &Block
         requires { i.0 < length self.now }
+        ensures { slice_get self.now i.0 ≡ Some result.now }
     {
         &self.blocks[i.0 as usize]
     }
 
-    /// A block by its number, to be changed.
+    /// A block by its number, to be changed. The other blocks stay.
     pub fn block_mut(&mut self, i: BlockIdx) -> &mut Block
         requires { i.0 < length self.old }
+        ensures* writes_back { sem 𝓛 (Lends the_row block_row self.entry result (λ block. slice_set self.old i.0 block)) }
+        ensures value { slice_get self.old i.0 ≡ Some result.now }
     {
         &mut self.blocks[i.0 as usize]
     }

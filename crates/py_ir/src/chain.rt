@@ -1,7 +1,8 @@
-ghost use Rattle.std.specs.Prelude.{◌≡◌, ◌≤◌, ◌++◌, All, IfErr, IfOk, OnOk, length, map, take};
-ghost use Rattle.py_ir.specs.Chain.{ChainFails, IsChain, StartsAt, body, flat, plain};
+ghost use Rattle.std.specs.Prelude.{◌≡◌, ◌≤◌, ◌++◌, IfErr, IfOk, OnOk, length, map, take};
+ghost use Rattle.py_ir.specs.Chain.{ChainFails, IsChain, body, plain};
+ghost use Rattle.py_ir.specs.Flattened.{IsFlattened};
 
-use crate::{Block, BlockIdx, InstructionInfo};
+use crate::{Block, BlockIdx, FlatBlocks, InstructionInfo};
 use std::alloc::{AllocError, Global};
 
 /// Why blocks have no chain.
@@ -26,7 +27,6 @@ fn next_block(block: &Block) -> Option<u32>
 /// The blocks of the chain, in order.
 pub fn chain_of(alloc: Global, blocks: &[Block]) -> Result<Vec<u32>, ChainError>
     ensures chain { IfOk result (λ cs. IsChain (map plain blocks.now) cs.items) }
-    ensures short { IfOk result (λ cs. length cs.items ≤ length blocks.now) }
     ensures refused { IfErr result (λ e. ChainFails (map plain blocks.now) e) }
 {
     if blocks.is_empty() {
@@ -83,30 +83,27 @@ fn body_len(items: &[InstructionInfo], level: u8) -> usize
 }
 
 // One block more.
-fn push_body(items: &mut Vec<InstructionInfo>, block: &Block, level: u8) -> Result<(), AllocError>
-    ensures { OnOk result (items.new.items ≡ items.old.items ++ body level block.now.instructions) }
+fn push_body(
+    items: &mut Vec<InstructionInfo>,
+    block: &[InstructionInfo],
+    level: u8,
+) -> Result<(), AllocError>
+    ensures { OnOk result (items.new.items ≡ items.old.items ++ body level block.now) }
 {
-    let count = body_len(block.instructions.as_slice(), level);
-    items.extend_from_slice(&block.instructions.as_slice()[..count])
+    let count = body_len(block, level);
+    items.extend_from_slice(&block[..count])
 }
 
-/// The instructions of the chain.
-pub fn flatten(
-    alloc: Global,
-    blocks: &[Block],
-    chain: &[u32],
-    level: u8,
-) -> Result<Flat, AllocError>
-    requires { IsChain (map plain blocks.now) chain.now }
-    ensures items { IfOk result (λ f. f.items.items ≡ flat level (map plain blocks.now) chain.now) }
-    ensures starts { IfOk result (λ f. StartsAt level (map plain blocks.now) chain.now f.starts.items) }
-    ensures within { IfOk result (λ f. All (λ s. s ≤ length f.items.items) f.starts.items) }
+/// The instructions of the chain that stay at an optimization level.
+pub fn cut(alloc: Global, blocks: &FlatBlocks, chain: &[u32], level: u8) -> Result<Flat, AllocError>
+    requires { IsChain (map plain blocks.now.blocks) chain.now }
+    ensures { IfOk result (λ f. IsFlattened level (map plain blocks.now.blocks) chain.now f.starts.items f.items.items) }
 {
     let mut items: Vec<InstructionInfo> = Vec::with_capacity(alloc, chain.len())?;
     let mut starts: Vec<usize> = vec![in alloc; 0; blocks.len()]?;
     for block in chain {
         starts[*block as usize] = items.len();
-        push_body(&mut items, &blocks[*block as usize], level)?;
+        push_body(&mut items, blocks.instructions(*block), level)?;
     }
     Ok(Flat { items, starts })
 }

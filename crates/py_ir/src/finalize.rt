@@ -1,4 +1,4 @@
-ghost use Rattle.std.specs.Prelude.{ℕ, ◌≡◌, ◌+◌, ◌<◌, ◌≤◌, ◌^◌, All, IfErr, IfOk, length, map, slice_index, slice_index_or, false, true};
+ghost use Rattle.std.specs.Prelude.{ℕ, ◌≡◌, ◌+◌, ◌<◌, ◌≤◌, ◌^◌, All, IfErr, IfOk, List, length, map, slice_index, slice_index_or, false, true};
 ghost use Rattle.std.specs.List.{Contains};
 ghost use Rattle.py_bytecode.specs.Decode.{Tables};
 ghost use Rattle.py_walks.specs.Flat.{IsCode, look_at};
@@ -6,15 +6,17 @@ ghost use Rattle.py_walks.specs.Walks.{IsDepth, Sound};
 ghost use Rattle.py_walks.specs.Shown.{RefusalAt};
 ghost use Rattle.py_layout.specs.Widths as widths;
 ghost use Rattle.py_layout.specs.Written.{InRange, IsAssembled, needs_of};
-ghost use Rattle.py_ir.specs.Chain.{IsChain, plain};
+ghost use Rattle.py_ir.specs.BlockList.{IsWhole};
+ghost use Rattle.py_ir.specs.Chain.{Blk, IsChain, plain};
+ghost use Rattle.py_ir.specs.Flattened.{Flattened, IsFlattened, SameChain};
 ghost use Rattle.py_ir.specs.Checks.{lens_of};
 ghost use Rattle.py_ir.specs.Refusals.{Refused, NoneBefore, TooLong, capped};
 ghost use Rattle.py_ir.specs.Located.{IsLocated, ListRefused, NamesCheck, NamesWalk};
 ghost use Rattle.py_ir.specs.Finished.{IsLaid};
 
-use crate::chain::{ChainError, chain_of, flatten};
+use crate::chain::cut;
 use crate::checks::{Check, ItemFault, TableLens, check_items};
-use crate::{Block, FinalizeError, InstructionInfo};
+use crate::{FinalizeError, FlatBlocks, InstructionInfo};
 use py_bytecode::CodeUnit;
 use py_layout::{LayoutError, assemble};
 use py_tree::SourceLocation;
@@ -163,53 +165,90 @@ fn lay_list(
     }
 }
 
-// The code of the blocks of a chain.
+// The code of the list of a chain.
 fn finish(
     alloc: Global,
-    blocks: &[Block],
     chain: &[u32],
+    starts: &[usize],
+    items: &[InstructionInfo],
     lens: TableLens,
-    level: u8,
 ) -> Result<Laid, FinalizeError>
-    requires chain { IsChain (map plain blocks.now) chain.now }
-    requires short { length chain.now ≤ length blocks.now }
-    ensures laid { IfOk result (λ l. (t : Tables) → lens_of t ≡ lens → IsLaid t level (map plain blocks.now) l.units.items l.locations.items l.depth) }
-    ensures clear { IfOk result (λ _. (t : Tables) → lens_of t ≡ lens → NoneBefore 10 t level (map plain blocks.now)) }
-    ensures refused { IfErr result (λ e. (t : Tables) → lens_of t ≡ lens → Refused t level (map plain blocks.now) e) }
+    requires { Flattened chain.now starts.now items.now }
+    ensures laid { IfOk result (λ l. (t : Tables) (level : ℕ) (bs : List Blk) → lens_of t ≡ lens → IsFlattened level bs chain.now starts.now items.now → IsLaid t level bs l.units.items l.locations.items l.depth) }
+    ensures clear { IfOk result (λ _. (t : Tables) (level : ℕ) (bs : List Blk) → lens_of t ≡ lens → IsFlattened level bs chain.now starts.now items.now → NoneBefore 10 t level bs) }
+    ensures refused { IfErr result (λ e. (t : Tables) (level : ℕ) (bs : List Blk) → lens_of t ≡ lens → IsFlattened level bs chain.now starts.now items.now → Refused t level bs e) }
 {
-    let flat = match flatten(alloc, blocks, chain, level) {
-        Ok(flat) => flat,
-        Err(_) => return Err(FinalizeError::OutOfMemory),
-    };
-    let inside = match inside_of(alloc, blocks.len(), chain) {
+    let inside = match inside_of(alloc, starts.len(), chain) {
         Ok(inside) => inside,
         Err(_) => return Err(FinalizeError::OutOfMemory),
     };
-    match check_items(&inside, lens, &flat.items) {
+    match check_items(&inside, lens, items) {
         Ok(()) => (),
-        Err(fault) => return Err(check_fault(chain, &flat.starts, fault)),
+        Err(fault) => return Err(check_fault(chain, starts, fault)),
     }
     if is_too_long(lens) {
         return Err(FinalizeError::TooManyNames);
     }
-    lay_list(alloc, chain, &flat.starts, &flat.items)
+    lay_list(alloc, chain, starts, items)
 }
 
-/// The code of a list of blocks, whose operands name tables of these lengths.
-pub fn lay_out_blocks(
+// The code of the list itself.
+fn lay_whole(
     alloc: Global,
-    blocks: &[Block],
+    blocks: &FlatBlocks,
+    chain: &[u32],
+    lens: TableLens,
+) -> Result<Laid, FinalizeError>
+    requires { IsChain (map plain blocks.now.blocks) chain.now }
+    ensures laid { IfOk result (λ l. (t : Tables) (bs : List Blk) → lens_of t ≡ lens → SameChain bs (map plain blocks.now.blocks) → IsLaid t 0 bs l.units.items l.locations.items l.depth) }
+    ensures clear { IfOk result (λ _. (t : Tables) (bs : List Blk) → lens_of t ≡ lens → SameChain bs (map plain blocks.now.blocks) → NoneBefore 10 t 0 bs) }
+    ensures refused { IfErr result (λ e. (t : Tables) (bs : List Blk) → lens_of t ≡ lens → SameChain bs (map plain blocks.now.blocks) → Refused t 0 bs e) }
+{
+    match blocks.starts(alloc) {
+        Ok(starts) => finish(alloc, chain, &starts, blocks.items(), lens),
+        Err(_) => Err(FinalizeError::OutOfMemory),
+    }
+}
+
+// The code of what stays of the list.
+fn lay_cut(
+    alloc: Global,
+    blocks: &FlatBlocks,
+    chain: &[u32],
     lens: TableLens,
     level: u8,
 ) -> Result<Laid, FinalizeError>
-    ensures laid { IfOk result (λ l. (t : Tables) → lens_of t ≡ lens → IsLaid t level (map plain blocks.now) l.units.items l.locations.items l.depth) }
-    ensures clear { IfOk result (λ _. (t : Tables) → lens_of t ≡ lens → NoneBefore 10 t level (map plain blocks.now)) }
-    ensures refused { IfErr result (λ e. (t : Tables) → lens_of t ≡ lens → Refused t level (map plain blocks.now) e) }
+    requires { IsChain (map plain blocks.now.blocks) chain.now }
+    ensures laid { IfOk result (λ l. (t : Tables) (bs : List Blk) → lens_of t ≡ lens → SameChain bs (map plain blocks.now.blocks) → IsLaid t level bs l.units.items l.locations.items l.depth) }
+    ensures clear { IfOk result (λ _. (t : Tables) (bs : List Blk) → lens_of t ≡ lens → SameChain bs (map plain blocks.now.blocks) → NoneBefore 10 t level bs) }
+    ensures refused { IfErr result (λ e. (t : Tables) (bs : List Blk) → lens_of t ≡ lens → SameChain bs (map plain blocks.now.blocks) → Refused t level bs e) }
 {
-    match chain_of(alloc, blocks) {
-        Ok(chain) => finish(alloc, blocks, &chain, lens, level),
-        Err(ChainError::NoBlocks) => Err(FinalizeError::NoBlocks),
-        Err(ChainError::BrokenChain(block)) => Err(FinalizeError::BrokenChain { block }),
-        Err(ChainError::OutOfMemory) => Err(FinalizeError::OutOfMemory),
+    match cut(alloc, blocks, chain, level) {
+        Ok(flat) => finish(alloc, chain, &flat.starts, &flat.items, lens),
+        Err(_) => Err(FinalizeError::OutOfMemory),
+    }
+}
+
+/// The code of blocks whose operands name tables of these lengths. Blocks that have the same chain have the same code.
+pub fn lay_out_blocks(
+    alloc: Global,
+    blocks: &FlatBlocks,
+    lens: TableLens,
+    level: u8,
+) -> Result<Laid, FinalizeError>
+    ensures whole { IsWhole blocks.now }
+    ensures laid { IfOk result (λ l. (t : Tables) (bs : List Blk) → lens_of t ≡ lens → SameChain bs (map plain blocks.now.blocks) → IsLaid t level bs l.units.items l.locations.items l.depth) }
+    ensures clear { IfOk result (λ _. (t : Tables) (bs : List Blk) → lens_of t ≡ lens → SameChain bs (map plain blocks.now.blocks) → NoneBefore 10 t level bs) }
+    ensures refused { IfErr result (λ e. (t : Tables) (bs : List Blk) → lens_of t ≡ lens → SameChain bs (map plain blocks.now.blocks) → Refused t level bs e) }
+{
+    match blocks.chain(alloc) {
+        Ok(chain) => {
+            if level == 0 {
+                lay_whole(alloc, blocks, &chain, lens)
+            } else {
+                lay_cut(alloc, blocks, &chain, lens, level)
+            }
+        }
+        Err(_) => Err(FinalizeError::OutOfMemory),
     }
 }

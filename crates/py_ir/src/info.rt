@@ -1,12 +1,10 @@
 ghost use Rattle.std.specs.Prelude.{ℕ, ◌≡◌, ◌<◌, ◌≤◌, ◌^◌, ◌++◌, All, IfErr, IfOk, Some, None as Nothing, false, length, map, slice_get, true};
 ghost use Rattle.py_ir.specs.Chain.{plain};
 ghost use Rattle.py_ir.specs.Refusals.{NoneBefore, Refused};
-ghost use Rattle.py_ir.specs.Finished.{IsAny, IsCell2Arg, IsLaid, cell_place, cell_places, parameter_count, parameter_of};
-ghost use Rattle.py_ir.specs.Final.{IsFilled, IsFinal, tables_of};
+ghost use Rattle.py_ir.specs.Finished.{IsAny, IsCell2Arg, cell_place, cell_places, parameter_count, parameter_of};
+ghost use Rattle.py_ir.specs.Final.{IsFinal, tables_of};
 
-use crate::checks::TableLens;
-use crate::finalize::{Laid, lay_out_blocks};
-use crate::{BlockIdx, Blocks, ConstantSet, FinalizeError, NameSet};
+use crate::{BlockIdx, Blocks, ConstantSet, FinalizeError, FlatCode, NameSet};
 use bitflags::Flags;
 use py_bytecode::{CodeFlags, CodeObject, ConstantData};
 use py_tree::{List, OneIndexed, Text};
@@ -80,81 +78,15 @@ impl CodeInfo {
         ensures clear { IfOk result (λ code. NoneBefore 10 (tables_of self) optimize (map plain self.blocks)) }
         ensures refused { IfErr result (λ e. Refused (tables_of self) optimize (map plain self.blocks) e) }
     {
-        let laid = self.lay_out(alloc, optimize)?;
-        match self.with_code(alloc, laid) {
-            Ok(code) => Ok(code),
-            Err(_) => Err(FinalizeError::OutOfMemory),
+        match FlatCode::from_info(alloc, self) {
+            Ok(code) => code.finalize(alloc, optimize),
+            Err(error) => Err(error),
         }
-    }
-
-    fn lay_out(&self, alloc: Global, optimize: u8) -> Result<Laid, FinalizeError>
-        ensures laid { IfOk result (λ l. IsLaid (tables_of self.now) optimize (map plain self.now.blocks) l.units.items l.locations.items l.depth) }
-        ensures clear { IfOk result (λ _. NoneBefore 10 (tables_of self.now) optimize (map plain self.now.blocks)) }
-        ensures refused { IfErr result (λ e. Refused (tables_of self.now) optimize (map plain self.now.blocks) e) }
-    {
-        let lens = TableLens {
-            constants: self.constants.len(),
-            names: self.name_cache.len(),
-            varnames: self.varname_cache.len(),
-            cells: self.cellvar_cache.len() + self.freevar_cache.len(),
-        };
-        lay_out_blocks(alloc, self.blocks.as_slice(), lens, optimize)
-    }
-
-    // All but the units, their locations and the height is as it is given.
-    fn with_code(self, alloc: Global, laid: Laid) -> Result<CodeObject, AllocError>
-        requires { length self.varname_cache < 2 ^ 31 }
-        ensures { IfOk result (λ code. IsFilled self laid.units.items laid.locations.items laid.depth code) }
-    {
-        let CodeInfo {
-            flags,
-            posonlyarg_count,
-            arg_count,
-            kwonlyarg_count,
-            source_path,
-            first_line_number,
-            obj_name,
-            blocks: _,
-            current_block: _,
-            constants,
-            name_cache,
-            varname_cache,
-            cellvar_cache,
-            freevar_cache,
-        } = self;
-        let count = parameters(&flags, arg_count, kwonlyarg_count);
-        let lists = listed(
-            alloc,
-            count,
-            constants,
-            name_cache,
-            varname_cache,
-            cellvar_cache,
-            freevar_cache,
-        )?;
-        Ok(CodeObject {
-            flags,
-            posonlyarg_count,
-            arg_count,
-            kwonlyarg_count,
-            source_path,
-            first_line_number: Some(first_line_number),
-            obj_name,
-            max_stackdepth: laid.depth,
-            instructions: List::from_vec(laid.units),
-            locations: List::from_vec(laid.locations),
-            constants: lists.constants,
-            names: lists.names,
-            varnames: lists.varnames,
-            cellvars: lists.cellvars,
-            freevars: lists.freevars,
-            cell2arg: lists.cell2arg,
-        })
     }
 }
 
 // How many of the local names are parameters.
-fn parameters(flags: &CodeFlags, args: u32, kwonly: u32) -> u64
+pub(crate) fn parameters(flags: &CodeFlags, args: u32, kwonly: u32) -> u64
     ensures { result ≡ parameter_count flags.now.0 args kwonly }
 {
     let mut count = u64::from(args) + u64::from(kwonly);
@@ -237,16 +169,16 @@ fn cell2arg(
 
 // The tables as lists.
 #[derive(Drop)]
-struct Lists {
-    constants: List<ConstantData>,
-    names: List<Text>,
-    varnames: List<Text>,
-    cellvars: List<Text>,
-    freevars: List<Text>,
-    cell2arg: Option<List<i32>>,
+pub(crate) struct Lists {
+    pub constants: List<ConstantData>,
+    pub names: List<Text>,
+    pub varnames: List<Text>,
+    pub cellvars: List<Text>,
+    pub freevars: List<Text>,
+    pub cell2arg: Option<List<i32>>,
 }
 
-fn listed(
+pub(crate) fn listed(
     alloc: Global,
     count: u64,
     constants: ConstantSet,

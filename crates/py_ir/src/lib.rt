@@ -6,11 +6,18 @@ pub mod chain;
 pub mod checks;
 pub mod error;
 pub mod finalize;
+pub mod flat;
+pub mod flat_code;
 pub mod info;
 pub mod sets;
+pub mod taking;
+#[cfg(test)]
+mod tests;
 
 pub use blocks::{Block, Blocks};
 pub use error::FinalizeError;
+pub use flat::FlatBlocks;
+pub use flat_code::FlatCode;
 pub use info::CodeInfo;
 pub use py_walks::{BlockIdx, InstructionInfo};
 pub use sets::{ConstantSet, NameSet, OrderedSet};

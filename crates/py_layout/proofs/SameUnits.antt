@@ -1,10 +1,9 @@
 -- The machine on the units and the machine on the instructions have the same runs, and walks go over both alike.
-use Rattle.std.proofs.Common.{◌≡◌, ◌≢◌, ℕ, zero, suc, ◌+◌, ◌-◌, ◌*◌, ◌/◌, ◌%◌, ◌^◌, ◌<◌, ◌≤◌, List, [], ◌∷◌, ◌++◌, length, drop, take, get_or, sum, map, Bool, true, false, Option, Some, None, refl, sym, inl, inr, ap, ◌∙◌, subst, arith, add-one, lt-ltb}
-use Rattle.std.specs.Prelude.{if◌then◌else◌, slice_get, nat_lt}
+use Rattle.std.proofs.Common.{◌≡◌, ℕ, zero, suc, ◌+◌, ◌-◌, ◌/◌, ◌^◌, ◌<◌, ◌≤◌, List, [], ◌∷◌, ◌++◌, length, drop, get_or, sum, map, Bool, true, false, Option, Some, None, refl, sym, inl, inr, ap, ◌∙◌, subst, arith, add-one, lt-ltb}
+use Rattle.std.specs.Prelude.{if◌then◌else◌, slice_get}
 use Rattle.std.specs.Option.{option_map}
 use Rattle.std.proofs.lemmas.Bool.{cases_lt}
-use Rattle.std.proofs.lemmas.Bool.Decides.{nat_tests}
-use Rattle.std.proofs.lemmas.List.{drop_all, drop_more, take_all, length-map, get_or-map}
+use Rattle.std.proofs.lemmas.List.{drop_more, take_all, length-map, get_or-map}
 use Rattle.std.proofs.lemmas.Option.{same_Some, slice_get-get_or, slice_get_past}
 use Rattle.std.proofs.Math.Nat.{div-eq_of_lt}
 use Rattle.py_tree.specs.declared.location.SourceLocation.{SourceLocation}
@@ -12,12 +11,12 @@ use Rattle.py_bytecode.specs.declared.operand.CodeUnit.{CodeUnit}
 use Rattle.py_bytecode.specs.declared.instruction.Instruction.{Instruction}
 use Rattle.py_bytecode.specs.Objects.{Object}
 use Rattle.py_bytecode.specs.Values.{World}
-use Rattle.py_bytecode.specs.Machine.{Instr, Fetched, Found, machine}
+use Rattle.py_bytecode.specs.Machine.{Instr, Found, machine}
 use Rattle.py_bytecode.specs.Decode.{Tables, instr_of}
 use Rattle.py_bytecode.specs.Operands.{units_for}
-use Rattle.py_bytecode.specs.Units.{is_prefix, Read, place_in, read_from, found, fetched, fetch_unit}
+use Rattle.py_bytecode.specs.Units.{is_prefix, Read, place_in, read_from, fetched, fetch_unit}
 use Rattle.py_walks.specs.declared.info.InstructionInfo.{InstructionInfo}
-use Rattle.py_walks.specs.Walks.{State, state, falls_to, jumps_to, Seen, seen, Edge, Falls, Jumps, Reached, Sound, IsDepth}
+use Rattle.py_walks.specs.Walks.{State, state, falls_to, jumps_to, Seen, seen, Falls, Jumps, Reached, Sound, IsDepth}
 use Rattle.py_walks.specs.Flat.{is_jump, named_place, jump_place, sees, look_at, decoded, fetch_at, IsCode}
 use Rattle.py_walks.proofs.Rows.{Proper}
 use Rattle.py_walks.proofs.SameRuns.{fetched_at}
@@ -32,7 +31,7 @@ use Rattle.py_layout.specs.Widths.{Fits, Least, IsLayout, TooManyUnits, IsWidth,
 use Rattle.py_layout.specs.Written.{InRange, need_of, needs_of, operand_in, units_of, written, located, IsAssembled, reads, Decoded, decode}
 use Rattle.py_layout.proofs.Offsets.{offset-suc, holds, size-same}
 use Rattle.py_layout.proofs.Reading.{read_units, decode_units}
-use Rattle.py_layout.proofs.Writing.{long, written_drop, length-written, target_within, chosen_within}
+use Rattle.py_layout.proofs.Writing.{long, written_drop, length-written, chosen_within}
 
 held_if : (b : Bool) (p a o w : ℕ) (ws : List ℕ) → o ≡ offset ws p → a < 2 ^ 32 → w ≤ 4 → IsWidth (if b then Jump p else Fixed (units_for a)) w → Reaches ws (if b then Jump p else Fixed (units_for a)) w → (if b then o else a) < 256 ^ w
 held_if true p a o w ws e h l4 i r = holds o w (let q = ap width_for e in omega (arith, q, r)) l4

@@ -9,7 +9,7 @@ use Rattle.py_tree.specs.declared.location.SourceLocation.{SourceLocation}
 use Rattle.py_walks.specs.declared.info.InstructionInfo.{InstructionInfo}
 use Rattle.py_bytecode.specs.declared.operand.CodeUnit.{CodeUnit}
 use Rattle.py_bytecode.specs.declared.instruction.Instruction.{Instruction}
-use Rattle.py_bytecode.specs.declared.instruction.Instruction.TheVariants.{ExtendedArg, Nop}
+use Rattle.py_bytecode.specs.declared.instruction.Instruction.TheVariants.{ExtendedArg}
 use Rattle.py_walks.specs.Flat.{is_jump}
 use Rattle.py_walks.specs.Flat.{IsCode, named_place}
 use Rattle.py_layout.proofs.Reading.{length-units_of}

@@ -1,5 +1,5 @@
 -- States that follow from one another cover all walks.
-use Rattle.std.proofs.Common.{◌≡◌, ℕ, zero, suc, [], ◌∷◌, Bool, true, false, Option, Some, refl, sym, ap, ◌∙◌, subst}
+use Rattle.std.proofs.Common.{◌≡◌, ℕ, zero, suc, [], ◌∷◌, Bool, true, false, Option, refl, sym, ap, ◌∙◌, subst}
 use Rattle.std.specs.Prelude.{◌||◌}
 use Rattle.py_walks.specs.declared.flow.Mark.{Mark}
 use Rattle.py_walks.specs.declared.flow.Branch.{Branch}

@@ -1,10 +1,10 @@
 -- What sound code objects do.
-use Rattle.std.proofs.Common.{◌≡◌, ◌≢◌, ℕ, suc, List, length, Option, Some, None, refl, sym, ap, ◌∙◌}
+use Rattle.std.proofs.Common.{◌≡◌, ℕ, suc, List, length, Option, Some, None, refl, sym, ap, ◌∙◌}
 use Rattle.py_bytecode.specs.declared.instruction.Instruction.{Instruction}
 use Rattle.py_bytecode.specs.declared.operand.CodeUnit.{CodeUnit}
 use Rattle.py_bytecode.specs.Objects.{Object, head}
 use Rattle.py_bytecode.specs.Values.{Ran}
-use Rattle.py_bytecode.specs.Machine.{Instr, Fetched, Found, Nothing, start, fuel}
+use Rattle.py_bytecode.specs.Machine.{Instr, Found, start, fuel}
 use Rattle.py_bytecode.specs.Decode.{Tables, tables, instr_of}
 use Rattle.py_bytecode.specs.Units.{Read, place_in, read_from, found, fetched, fetch_unit}
 use Rattle.std.proofs.Common.{drop}

@@ -1,17 +1,17 @@
 -- A run in step with a walk stays so: what each instruction does.
-use Rattle.std.proofs.Common.{◌≡◌, ◌≢◌, ℕ, zero, suc, ◌+◌, ◌-◌, ◌≤◌, List, [], ◌∷◌, ◌++◌, length, Bool, true, false, Option, Some, None, refl, sym, inl, inr, ap, ◌∙◌, subst, arith}
+use Rattle.std.proofs.Common.{◌≡◌, ℕ, suc, ◌+◌, ◌-◌, ◌≤◌, List, [], ◌∷◌, ◌++◌, length, Bool, true, false, Option, Some, None, refl, sym, inl, inr, ap, ◌∙◌, subst, arith}
 use Rattle.std.specs.Prelude.{if◌then◌else◌, nat_eq, not, ◌&&◌}
 use Rattle.std.proofs.lemmas.Bool.Decides.{nat_tests}
 use Rattle.std.proofs.lemmas.Option.{same_Some}
-use Rattle.py_bytecode.specs.Values.{Operation, Value, Cell, Entry, It, Cells, Usage, Load, Store, Delete, Kind, raise_again, enter_with, exit_with, Operates, Makes, Accesses, StoresCells, World, listed, on_got, ask_for, for_one, for_none, truth_of, next_of, on_some, choose, meets}
+use Rattle.py_bytecode.specs.Values.{Operation, Value, Entry, It, Cells, Load, Store, Delete, Kind, raise_again, enter_with, exit_with, Operates, Makes, Accesses, StoresCells, World, listed, on_got, ask_for, for_one, for_none, truth_of, next_of, on_some, meets}
 use Rattle.py_bytecode.specs.Machine as M
 use Rattle.py_bytecode.specs.Machine.{Instr, Reason, BreakTo, ContinueTo, ReturnOf, RaiseOf, Block, Loop, Except, Finally, ExceptHandler, FinallyHandler, Config, At, Over, wrong, leaked, unwind, pop, push, stack_of, stopped, raise, on_entry, on_top, below, pop_block, pop_exception, go_on, on_last, reraise, exception, after_exit, is_tuple, joins, access, is_silent, rotate2, rotate3, duplicate2, pop_closure, act}
 use Rattle.py_walks.specs.declared.flow.Kind.{Kind as BlockKind}
 use Rattle.py_walks.specs.declared.flow.Mark.{Mark}
 use Rattle.py_walks.specs.Flow.{one_if, flow_of, target_of}
-use Rattle.py_walks.specs.Walks.{Shape, State, state, rest_of, height_of, is_final, is_with, left_by, tops, from_loop, has_block, falls_enough, jumps_enough, falls_to, jumps_to, Seen, Reached}
+use Rattle.py_walks.specs.Walks.{Shape, state, rest_of, height_of, is_final, is_with, left_by, tops, has_block, falls_enough, jumps_enough, falls_to, jumps_to, Seen, Reached}
 use Rattle.py_walks.proofs.Rows.{Proper}
-use Rattle.py_walks.proofs.Unwinding.{mark, plain_mark, exit_mark, Stacked, Arrives_for, Keeps, Matches_one, Matches, unwinds}
+use Rattle.py_walks.proofs.Unwinding.{mark, plain_mark, exit_mark, Stacked, Arrives_for, Keeps, Matches_one, Matches, in_loop, unwinds}
 use Rattle.py_walks.proofs.Stacking.{stacked_at, enough_true}
 use Rattle.py_walks.proofs.Running.{length-push, length-stack_of, Step, Raising, raises, got_step, entry_step, top_step, below_step, pop_step, closure_step, given_step, none_step, nowhere_step, choose_step, meets_step, meets_place, some_step, here, joins_step, pops_block, pops_exception, last_step}
 
@@ -211,8 +211,8 @@ module _ (K P : Type 0) (look : P → Option (Seen P)) (start : P) where
   does (M.Jump p) n s bs slot w ms st mt y = here K P look start p s bs slot w (length s - 0 + 0) ms (y.target p refl) (omega arith) mt
   does M.SetupLoop n s bs slot w ms st mt y = here K P look start n s (Loop (length s) ∷ bs) slot w (length s - 0 + 0) (mark BlockKind.Loop (length s) ∷ ms) (y.next refl) (omega arith) ((refl, refl), mt)
   does M.PopBlock n s bs slot w ms st mt y = pops_block K P look start n s bs slot w ms mt y.block (y.next refl)
-  does (M.Break p) n s bs slot w ms st mt y = unwinds K P look start (BreakTo p) bs s ms slot w st mt (y.block, y.target p refl)
-  does (M.Continue p) n s bs slot w ms st mt y = unwinds K P look start (ContinueTo p) bs s ms slot w st mt (y.block, y.target p refl)
+  does (M.Break p) n s bs slot w ms st mt y = in_loop K P look start bs ms (unwind (BreakTo p) s bs slot w) w mt y.block (unwinds K P look start (BreakTo p) bs s ms slot w st mt (y.block, y.target p refl))
+  does (M.Continue p) n s bs slot w ms st mt y = in_loop K P look start bs ms (unwind (ContinueTo p) s bs slot w) w mt y.block (unwinds K P look start (ContinueTo p) bs s ms slot w st mt (y.block, y.target p refl))
   does M.ReturnValue n s bs slot w ms st mt y = let f = enough_true (height_of ms) 1 0 (length s) y.falls in entry_step K P look start s w (λ v rest. unwind (ReturnOf v) rest bs slot w) (omega (arith, f.0)) (λ v rest e. unwinds K P look start (ReturnOf v) bs rest ms slot w (stacked_at (length rest) (length s) ms (omega (arith, f.1, e)) st) mt tt)
   does (M.ReturnConst v) n s bs slot w ms st mt y = unwinds K P look start (ReturnOf (It v)) bs s ms slot w st mt tt
   does (M.SetupExcept p) n s bs slot w ms st mt y = let e : length s - 0 + 1 ≡ suc (length s) = omega arith in here K P look start n s (Except (length s) p ∷ bs) slot w (length s - 0 + 0) (mark BlockKind.Except (length s) ∷ ms) (y.next refl) (omega arith) ((refl, refl, subst (λ h. At_walk p h (mark BlockKind.ExceptHandler (length s) ∷ ms)) e (y.target p refl)), mt)

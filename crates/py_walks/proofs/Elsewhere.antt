@@ -1,13 +1,13 @@
 -- What each row of the table decodes to at other places: the same instruction, at those.
-use Rattle.std.proofs.Common.{◌≡◌, ℕ, ◌+◌, ◌-◌, ◌*◌, ◌%◌, ◌/◌, ◌^◌, List, [], ◌∷◌, Bool, true, false, Option, Some, None, refl, sym, ap, ◌∙◌}
+use Rattle.std.proofs.Common.{◌≡◌, ℕ, ◌+◌, ◌-◌, ◌*◌, ◌%◌, ◌/◌, ◌^◌, [], ◌∷◌, Bool, true, false, Option, Some, None, refl, ap, ◌∙◌}
 use Rattle.std.specs.Prelude.{◌==◌, nat_lt, nat_eq, slice_get, if◌then◌else◌}
 use Rattle.std.specs.Option.{option_map}
 use Rattle.py_bytecode.specs.declared.instruction.Instruction.{Instruction}
 use Rattle.py_bytecode.specs.declared.instruction.Instruction.TheVariants as op
 use Rattle.py_bytecode.specs.Table.{bits_of}
-use Rattle.py_bytecode.specs.Objects.{Const, Object}
-use Rattle.py_bytecode.specs.Values.{Bare, Number, Named, operation, Value, It, Cells, Load, Store, Delete, Fast, ByName, Global, Deref, ClassDeref}
-use Rattle.py_bytecode.specs.Machine.{Instr, Push, Access, Operate, MakeFunction, Import, Append, Unpack, Nop, Pop, Rotate2, Rotate3, Duplicate, Duplicate2, JumpIf, JumpIfOrPop, Jump, SetupLoop, PopBlock, Break, Continue, ReturnValue, ReturnConst, SetupExcept, SetupFinally, PopException, EnterFinally, EndFinally, Reraise, ForIter, SetupWith, WithCleanupStart, WithCleanupFinish, at_places, Found, Nothing}
+use Rattle.py_bytecode.specs.Objects.{Object}
+use Rattle.py_bytecode.specs.Values.{Bare, Number, Named, operation, It, Cells, Load, Store, Delete, Fast, ByName, Global, Deref, ClassDeref}
+use Rattle.py_bytecode.specs.Machine.{Instr, Push, Access, Operate, MakeFunction, Import, Append, Unpack, Nop, Pop, Rotate2, Rotate3, Duplicate, Duplicate2, JumpIf, JumpIfOrPop, Jump, SetupLoop, PopBlock, Break, Continue, ReturnValue, ReturnConst, SetupExcept, SetupFinally, PopException, EnterFinally, EndFinally, Reraise, ForIter, SetupWith, WithCleanupStart, WithCleanupFinish, at_places}
 use Rattle.py_bytecode.specs.Decode.{Tables, value_of, for_some, raising, instr_of}
 use Rattle.py_bytecode.specs.Units.{found}
 use Rattle.py_walks.specs.Flat.{is_jump}

@@ -1,8 +1,8 @@
 -- Where states are closed no walk is refused, and their greatest height is the depth.
-use Rattle.std.proofs.Common.{◌≡◌, ◌≢◌, ℕ, suc, ◌^◌, ◌<◌, ◌≤◌, [], ◌∷◌, Bool, true, false, Option, Some, None, sym, inl, inr, ap, ◌∙◌, subst, arith}
+use Rattle.std.proofs.Common.{◌≡◌, ℕ, suc, ◌<◌, ◌≤◌, [], ◌∷◌, Bool, true, false, Option, Some, sym, inl, inr, ap, ◌∙◌, subst, arith}
 use Rattle.std.specs.Prelude.{◌&&◌}
 use Rattle.std.proofs.lemmas.Option.{same_Some}
-use Rattle.py_walks.specs.Walks.{Shape, State, has_block, falls_enough, jumps_enough, Alike, Clash, Seen, Edge, Walk, Reached, LeavesEnd, UnevenHeights, TooHigh, HeightOutOfRange, LacksBlock, ShapesDiffer, Sound, IsDepth}
+use Rattle.py_walks.specs.Walks.{Shape, State, has_block, falls_enough, jumps_enough, Alike, Clash, Seen, Reached, LeavesEnd, UnevenHeights, HeightOutOfRange, LacksBlock, ShapesDiffer, Sound, IsDepth}
 use Rattle.py_walks.specs.Known.{join, Torn}
 use Rattle.py_walks.specs.Shown.{Shown, Covered, Closed}
 use Rattle.py_walks.proofs.Joins.{alike_sym, alike_trans, block_join, falls_enough_alike, jumps_enough_alike, or_right}

@@ -1,8 +1,8 @@
 -- The walks over the same code at other places.
-use Rattle.std.proofs.Common.{◌≡◌, ◌≢◌, ℕ, zero, suc, ◌≤◌, Bool, true, false, Option, Some, None, refl, sym, inl, inr, ap, ◌∙◌, subst}
+use Rattle.std.proofs.Common.{◌≡◌, ℕ, zero, suc, true, false, Option, Some, None, refl, sym, inl, inr, ap, ◌∙◌, subst}
 use Rattle.std.specs.Option.{option_map}
 use Rattle.std.proofs.lemmas.Option.{same_Some}
-use Rattle.py_walks.specs.Walks.{State, state, has_block, jumps_enough, falls_enough, falls_to, jumps_to, Seen, Edge, Falls, Jumps, Walk, Reached, LeavesEnd, UnevenHeights, TooHigh, OutOfRange, HeightOutOfRange, LacksBlock, ShapesDiffer, BlockMismatch, Sound, IsDepth}
+use Rattle.py_walks.specs.Walks.{State, has_block, Seen, Edge, Falls, Jumps, Walk, Reached, LeavesEnd, UnevenHeights, TooHigh, OutOfRange, HeightOutOfRange, LacksBlock, ShapesDiffer, BlockMismatch, Sound, IsDepth}
 
 abbrev pub seen_at : {P Q : Type 0} → (P → Q) → Seen P → Seen Q
 seen_at f x = record { flow = x.flow; next = f x.next; target = option_map f x.target }

@@ -1,6 +1,6 @@
 -- What a walk sees of the same instruction at other places, and of a list of instructions.
-use Rattle.std.proofs.Common.{◌≡◌, ◌≢◌, ℕ, suc, List, Bool, true, false, Option, Some, None, refl, sym, ap, ◌∙◌, subst}
-use Rattle.std.specs.Prelude.{slice_get, if◌then◌else◌}
+use Rattle.std.proofs.Common.{◌≡◌, ◌≢◌, ℕ, suc, List, Option, Some, None, refl, ap, ◌∙◌}
+use Rattle.std.specs.Prelude.{slice_get}
 use Rattle.std.specs.Option.{option_map}
 use Rattle.std.proofs.Math.Path.{fun_ext}
 use Rattle.py_bytecode.specs.Objects.{Object}
@@ -9,10 +9,9 @@ use Rattle.py_bytecode.specs.Machine.{Instr, at_places, Fetched, Found, Nothing}
 use Rattle.py_bytecode.specs.Decode.{Tables, instr_of}
 use Rattle.py_bytecode.specs.Units.{found}
 use Rattle.py_walks.specs.declared.info.InstructionInfo.{InstructionInfo}
-use Rattle.py_walks.specs.declared.flow.Flow.{Flow}
 use Rattle.py_walks.specs.Flow.{flow_of, target_of}
 use Rattle.py_walks.specs.Walks.{Seen, seen}
-use Rattle.py_walks.specs.Flat.{named_place, jump_place, sees, look_at, decoded, fetch_at}
+use Rattle.py_walks.specs.Flat.{named_place, sees, look_at, decoded, fetch_at}
 use Rattle.py_walks.proofs.Rows.{RowIs, row_is}
 use Rattle.py_walks.proofs.SameRuns.{fetched_at}
 use Rattle.py_walks.proofs.Images.{seen_at}

@@ -1,12 +1,12 @@
 -- A sound code is never Wrong, the limit of height changes no run, and the same code at other places runs the same.
-use Rattle.std.proofs.Common.{◌≡◌, ◌≢◌, ℕ, zero, suc, ◌<◌, ◌≤◌, List, [], ◌∷◌, length, Bool, true, false, Option, Some, None, refl, sym, inl, inr, ap, ◌∙◌, subst, arith}
+use Rattle.std.proofs.Common.{◌≡◌, ◌≢◌, ℕ, zero, suc, ◌<◌, ◌≤◌, List, [], length, Bool, true, false, Option, Some, None, refl, sym, inl, inr, ap, ◌∙◌, subst, arith}
 use Rattle.std.specs.Prelude.{nat_le}
 use Rattle.std.proofs.lemmas.Bool.{cases_lt}
 use Rattle.std.proofs.lemmas.Bool.Decides.{nat_tests}
 use Rattle.py_bytecode.specs.Values.{Value, Entry, World, choose, Wrong}
-use Rattle.py_bytecode.specs.Machine.{Instr, Fetched, Found, Nothing, Block, Config, At, Over, wrong, act, act_at, step, steps, result, machine, limited, limited_steps, limited_machine}
+use Rattle.py_bytecode.specs.Machine.{Instr, Fetched, Found, Nothing, Block, Config, At, Over, wrong, act_at, step, steps, result, machine, limited, limited_steps, limited_machine}
 use Rattle.py_walks.specs.Flow.{flow_of, target_of}
-use Rattle.py_walks.specs.Walks.{State, state, has_block, falls_enough, jumps_enough, falls_to, jumps_to, Seen, seen, Edge, Falls, Jumps, Walk, Reached, Sound}
+use Rattle.py_walks.specs.Walks.{State, state, has_block, Seen, seen, Falls, Jumps, Walk, Reached, Sound}
 use Rattle.py_walks.proofs.Rows.{Proper}
 use Rattle.py_walks.proofs.SameRuns.{blocks_at, config_at, fetched_at, act_at_same, result_same}
 use Rattle.py_walks.proofs.Unwinding.{Stacked, Matches, InStep}

@@ -1,10 +1,9 @@
 -- What is refused at joined states is so for walks.
-use Rattle.std.proofs.Common.{◌≡◌, ◌≢◌, ℕ, ◌+◌, ◌-◌, ◌^◌, ◌<◌, ◌≤◌, ◌⊎◌, Bool, true, false, Option, Some, None, refl, sym, inl, inr, ap, ◌∙◌, subst, arith}
+use Rattle.std.proofs.Common.{◌≡◌, ◌≢◌, ℕ, ◌+◌, ◌-◌, ◌^◌, ◌≤◌, ◌⊎◌, Bool, true, false, Option, Some, None, refl, sym, inl, inr, ap, ◌∙◌, subst, arith}
 use Rattle.std.specs.Prelude.{not, ◌&&◌, ◌||◌, nat_lt}
 use Rattle.std.proofs.lemmas.Bool.Decides.{nat_tests}
 use Rattle.py_walks.specs.declared.flow.Branch.{Branch}
-use Rattle.py_walks.specs.declared.flow.Flow.{Flow}
-use Rattle.py_walks.specs.Walks.{Shape, State, state, height_of, has_block, enough, falls_enough, jumps_enough, falls_to, jumps_to, Alike, Clash, Seen, Edge, Falls, Jumps, Reached, LeavesEnd, UnevenHeights, TooHigh, OutOfRange, HeightOutOfRange, LacksBlock, ShapesDiffer}
+use Rattle.py_walks.specs.Walks.{State, state, height_of, has_block, enough, falls_enough, jumps_enough, falls_to, jumps_to, Alike, Clash, Seen, Edge, Falls, Jumps, Reached, LeavesEnd, UnevenHeights, TooHigh, OutOfRange, HeightOutOfRange, LacksBlock, ShapesDiffer}
 use Rattle.py_walks.specs.Known.{join, Torn, falls_within, jumps_within}
 use Rattle.py_walks.specs.Shown.{Shown, One, Both}
 use Rattle.py_walks.proofs.Joins.{alike_sym, alike_trans, block_join, falls_enough_alike, jumps_enough_alike, jump_height_alike, clash_left, clash_sym, torn_clash}

@@ -1,16 +1,14 @@
 -- What each row of the table decodes to: the flow by class is the flow by operand.
-use Rattle.std.proofs.Common.{◌≡◌, ℕ, ◌+◌, ◌-◌, ◌*◌, ◌%◌, ◌/◌, ◌^◌, List, [], ◌∷◌, Bool, true, false, Option, Some, None, refl, sym, ap, ◌∙◌, subst}
+use Rattle.std.proofs.Common.{◌≡◌, ℕ, ◌+◌, ◌-◌, ◌*◌, ◌%◌, ◌/◌, ◌^◌, [], ◌∷◌, Bool, true, false, Option, Some, None, refl, subst}
 use Rattle.std.specs.Prelude.{◌==◌, nat_lt, nat_eq, slice_get, if◌then◌else◌}
 use Rattle.std.proofs.lemmas.Option.{same_Some}
 use Rattle.py_bytecode.specs.declared.instruction.Instruction.{Instruction}
 use Rattle.py_bytecode.specs.declared.instruction.Instruction.TheVariants as op
-use Rattle.py_bytecode.specs.declared.instruction.OperandKind.{OperandKind}
-use Rattle.py_bytecode.specs.declared.instruction.OperandKind.TheVariants as kind
-use Rattle.py_bytecode.specs.Table.{row_of, is_label, range_of, bits_of}
-use Rattle.py_bytecode.specs.Objects.{Const, Object}
-use Rattle.py_bytecode.specs.Values.{Bare, Number, Named, operation, Value, It, Cells, Load, Store, Delete, Fast, ByName, Global, Deref, ClassDeref}
+use Rattle.py_bytecode.specs.Table.{row_of, is_label, bits_of}
+use Rattle.py_bytecode.specs.Objects.{Object}
+use Rattle.py_bytecode.specs.Values.{Bare, Number, Named, operation, It, Cells, Load, Store, Delete, Fast, ByName, Global, Deref, ClassDeref}
 use Rattle.py_bytecode.specs.Machine.{Instr, Push, Access, Operate, MakeFunction, Import, Append, Unpack, Nop, Pop, Rotate2, Rotate3, Duplicate, Duplicate2, JumpIf, JumpIfOrPop, Jump, SetupLoop, PopBlock, Break, Continue, ReturnValue, ReturnConst, SetupExcept, SetupFinally, PopException, EnterFinally, EndFinally, Reraise, ForIter, SetupWith, WithCleanupStart, WithCleanupFinish, is_tuple}
-use Rattle.py_bytecode.specs.Decode.{Tables, value_of, for_some, below, within, raising, instr_of}
+use Rattle.py_bytecode.specs.Decode.{Tables, value_of, for_some, raising, instr_of}
 use Rattle.py_walks.specs.Flow.{flow_of, target_of, flow_at, leaves}
 
 -- what builds a tuple gives one value

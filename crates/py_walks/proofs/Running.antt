@@ -1,8 +1,8 @@
 -- A run in step with a walk stays so: values off the stack, answers, and where they land.
-use Rattle.std.proofs.Common.{◌≡◌, ℕ, zero, suc, ◌+◌, ◌-◌, ◌≤◌, List, [], ◌∷◌, ◌++◌, length, Bool, true, false, Option, Some, None, refl, sym, inl, inr, ap, ◌∙◌, subst, arith}
-use Rattle.std.specs.Prelude.{if◌then◌else◌, nat_eq, ◌&&◌}
+use Rattle.std.proofs.Common.{◌≡◌, ℕ, zero, suc, ◌+◌, ◌-◌, ◌≤◌, List, [], ◌∷◌, ◌++◌, length, Bool, true, false, Option, Some, None, refl, sym, inl, inr, ap, ◌∙◌, arith}
+use Rattle.std.specs.Prelude.{if◌then◌else◌, nat_eq}
 use Rattle.py_bytecode.specs.Values.{Value, Given, Cell, Entry, It, Cells, World, Answer, Gives, Truth, End, Raised, Event, Got, Fine, Raises, Stops, on_got, then_get, none_of, ask_of, fits, given, on_some, choose, meets}
-use Rattle.py_bytecode.specs.Machine.{Reason, RaiseOf, Block, Loop, Except, Finally, ExceptHandler, FinallyHandler, Config, At, Over, wrong, leaked, pop, pop_cells, push, stack_of, stopped, raise, on_entry, on_top, below, pop_block, pop_exception, on_last, joins, pop_closure}
+use Rattle.py_bytecode.specs.Machine.{Reason, RaiseOf, Block, Loop, Except, Finally, ExceptHandler, FinallyHandler, Config, At, wrong, leaked, pop, pop_cells, push, stack_of, stopped, raise, on_entry, on_top, below, pop_block, pop_exception, on_last, joins, pop_closure}
 use Rattle.py_walks.specs.declared.flow.Mark.{Mark}
 use Rattle.py_walks.specs.Flow.{one_if}
 use Rattle.py_walks.specs.Walks.{Shape, State, state, rest_of, height_of, is_entered, is_handler, is_final, tops, Seen, Reached}

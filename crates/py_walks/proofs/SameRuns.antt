@@ -1,8 +1,8 @@
 -- Two machines over the same instructions at other places do the same.
 use Rattle.std.proofs.Common.{◌≡◌, ℕ, zero, suc, ◌-◌, List, [], ◌∷◌, ◌++◌, length, drop, Bool, true, false, Option, Some, None, refl, sym, ap, ◌∙◌}
 use Rattle.std.specs.Prelude.{nat_le}
-use Rattle.py_bytecode.specs.Values.{Value, Cell, Entry, It, Cells, Usage, Load, Store, Delete, Kind, raise_again, enter_with, exit_with, Operates, Makes, Accesses, StoresCells, World, listed, Got, Fine, Raises, Stops, on_got, ask_for, for_one, for_none, truth_of, next_of, on_some, choose, meets}
-use Rattle.py_bytecode.specs.Machine.{Instr, Push, Access, Operate, MakeFunction, Import, Append, Unpack, Nop, Pop, Rotate2, Rotate3, Duplicate, Duplicate2, JumpIf, JumpIfOrPop, Jump, SetupLoop, PopBlock, Break, Continue, ReturnValue, ReturnConst, SetupExcept, SetupFinally, PopException, EnterFinally, EndFinally, Reraise, ForIter, SetupWith, WithCleanupStart, WithCleanupFinish, at_places, Fetched, Found, Nothing, Reason, BreakTo, ContinueTo, ReturnOf, RaiseOf, Block, Loop, Except, Finally, ExceptHandler, FinallyHandler, Config, At, Over, wrong, leaked, cut, unwind_out, slot_for, unwind, pop, pop_cells, push, stack_of, stopped, raise, on_entry, on_top, below, pop_block, pop_exception, go_on, on_last, reraise, exception, after_exit, is_tuple, joins, access, is_silent, rotate2, rotate3, duplicate2, pop_closure, act, act_at, result}
+use Rattle.py_bytecode.specs.Values.{Value, Cell, Entry, It, Cells, Usage, Load, Store, Delete, Kind, raise_again, enter_with, exit_with, Operates, Makes, Accesses, World, Got, Fine, Raises, Stops, on_got, ask_for, for_one, for_none, truth_of, next_of, on_some, choose, meets}
+use Rattle.py_bytecode.specs.Machine.{Instr, Push, Access, Operate, MakeFunction, Import, Append, Unpack, Nop, Pop, Rotate2, Rotate3, Duplicate, Duplicate2, JumpIf, JumpIfOrPop, Jump, SetupLoop, PopBlock, Break, Continue, ReturnValue, ReturnConst, SetupExcept, SetupFinally, PopException, EnterFinally, EndFinally, Reraise, ForIter, SetupWith, WithCleanupStart, WithCleanupFinish, at_places, Fetched, Found, Nothing, Reason, BreakTo, ContinueTo, ReturnOf, RaiseOf, Block, Loop, Except, Finally, ExceptHandler, FinallyHandler, has_loop, Config, At, Over, wrong, leaked, cut, unwind_out, slot_for, unwind, pop, pop_cells, push, stack_of, stopped, raise, on_entry, on_top, below, pop_block, pop_exception, go_on, on_last, reraise, exception, after_exit, is_tuple, joins, access, is_silent, rotate2, rotate3, duplicate2, pop_closure, act, act_at, result}
 
 meets_places : {P Q : Type 0} (f : P → Q) (d t : Bool) (p q : P) → f (meets d t p q) ≡ meets d t (f p) (f q)
 meets_places f true true p q = refl
@@ -50,6 +50,17 @@ module _ {K P Q : Type 0} (f : P → Q) where
   -- a cut, whose sequel is the same at other places
   cut_at : (h : ℕ) (s : List (Entry K)) (w : World K) (k : List (Entry K) → Config K P) (k1 : List (Entry K) → Config K Q) → ((s1 : List (Entry K)) → config_at (k s1) ≡ k1 s1) → config_at (cut h s w k) ≡ cut h s w k1
   cut_at h s w k k1 e = choose_at (nat_le h (length s)) _ _ ∙ ap (λ x. choose (nat_le h (length s)) x (wrong w)) (e (drop (length s - h) s))
+
+  has_loop_at : (bs : List (Block K P)) → has_loop (blocks_at bs) ≡ has_loop bs
+  has_loop_at [] = refl
+  has_loop_at (Loop h ∷ bs) = refl
+  has_loop_at (Except h q ∷ bs) = has_loop_at bs
+  has_loop_at (Finally h q ∷ bs) = has_loop_at bs
+  has_loop_at (ExceptHandler h old ∷ bs) = has_loop_at bs
+  has_loop_at (FinallyHandler h k old ∷ bs) = has_loop_at bs
+
+  in_loop_at : (bs : List (Block K P)) (w : World K) (x : Config K P) (y : Config K Q) → config_at x ≡ y → config_at (choose (has_loop bs) x (wrong w)) ≡ choose (has_loop (blocks_at bs)) y (wrong w)
+  in_loop_at bs w x y e = choose_at (has_loop bs) _ _ ∙ ap (λ z. choose (has_loop bs) z (wrong w)) e ∙ ap (λ b. choose b y (wrong w)) (sym (has_loop_at bs))
 
   slot_for_at : (r : Reason K P) (slot : Option (Value K)) → slot_for (reason_at r) slot ≡ slot_for r slot
   slot_for_at (BreakTo p) slot = refl
@@ -230,8 +241,8 @@ module _ {K P Q : Type 0} (f : P → Q) where
   act_same (Jump p) n s bs slot w = refl
   act_same SetupLoop n s bs slot w = refl
   act_same PopBlock n s bs slot w = pop_block_at n s bs slot w
-  act_same (Break p) n s bs slot w = unwind_at (BreakTo p) s bs slot w
-  act_same (Continue p) n s bs slot w = unwind_at (ContinueTo p) s bs slot w
+  act_same (Break p) n s bs slot w = in_loop_at bs w _ _ (unwind_at (BreakTo p) s bs slot w)
+  act_same (Continue p) n s bs slot w = in_loop_at bs w _ _ (unwind_at (ContinueTo p) s bs slot w)
   act_same ReturnValue n s bs slot w = entry_at s w (λ v rest. unwind (ReturnOf v) rest bs slot w) (λ v rest. unwind (ReturnOf v) rest (blocks_at bs) slot w) (λ v rest. unwind_at (ReturnOf v) rest bs slot w)
   act_same (ReturnConst v) n s bs slot w = unwind_at (ReturnOf (It v)) s bs slot w
   act_same (SetupExcept p) n s bs slot w = refl

@@ -1,12 +1,11 @@
 -- On sound walks no block is higher than the stack.
-use Rattle.std.proofs.Common.{◌≡◌, ℕ, zero, suc, ◌+◌, ◌-◌, ◌≤◌, List, [], ◌∷◌, Bool, true, false, Option, Some, None, refl, sym, inl, inr, ap, ◌∙◌, subst, arith}
-use Rattle.std.specs.Prelude.{if◌then◌else◌, nat_le, ◌≢◌}
+use Rattle.std.proofs.Common.{◌≡◌, ℕ, zero, suc, ◌+◌, ◌-◌, ◌≤◌, [], ◌∷◌, Bool, true, false, Option, Some, None, refl, sym, inl, inr, ◌∙◌, subst, arith}
+use Rattle.std.specs.Prelude.{if◌then◌else◌, ◌≢◌}
 use Rattle.std.proofs.lemmas.Bool.Decides.{nat_tests}
 use Rattle.std.proofs.lemmas.Option.{same_Some}
 use Rattle.py_bytecode.specs.Values.{Load, Store, Delete}
 use Rattle.py_bytecode.specs.Machine as M
 use Rattle.py_bytecode.specs.Machine.{Instr, Fetched, Found, Nothing}
-use Rattle.py_walks.specs.declared.flow.Kind.{Kind}
 use Rattle.py_walks.specs.declared.flow.Flow.{Flow}
 use Rattle.py_walks.specs.declared.flow.Branch.{Branch}
 use Rattle.py_walks.specs.declared.flow.NeededBlock.{NeededBlock}

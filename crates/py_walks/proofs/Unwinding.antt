@@ -3,7 +3,7 @@ use Rattle.std.proofs.Common.{◌≡◌, ◌≢◌, ℕ, suc, ◌-◌, ◌<◌, 
 use Rattle.std.specs.Prelude.{nat_le, if◌then◌else◌}
 use Rattle.std.proofs.lemmas.Bool.Decides.{nat_tests}
 use Rattle.py_bytecode.specs.Values.{Value, Entry, It, World, choose, Wrong}
-use Rattle.py_bytecode.specs.Machine.{Reason, BreakTo, ContinueTo, ReturnOf, RaiseOf, Block, Loop, Except, Finally, ExceptHandler, FinallyHandler, Config, At, Over, wrong, cut, slot_for, unwind}
+use Rattle.py_bytecode.specs.Machine.{Reason, BreakTo, ContinueTo, ReturnOf, RaiseOf, Block, Loop, Except, Finally, ExceptHandler, FinallyHandler, has_loop, Config, At, Over, wrong, cut, slot_for, unwind}
 use Rattle.py_walks.specs.declared.flow.Kind.{Kind}
 use Rattle.py_walks.specs.declared.flow.Mark.{Mark}
 use Rattle.py_walks.specs.Flow.{opening, plain_handler, exit_handler}
@@ -75,6 +75,25 @@ module _ (K P : Type 0) (look : P → Option (Seen P)) (start : P) where
 
   kind_loop : (m : Mark) (k : Kind) → m.kind ≡ k → is_loop k ≡ false → is_loop m.kind ≡ false
   kind_loop m k e f = ap is_loop e ∙ f
+
+  past_loop : (m : Mark) (ms : Shape) → is_loop m.kind ≡ false → tops (λ x. true) (from_loop (m ∷ ms)) ≡ true → tops (λ x. true) (from_loop ms) ≡ true
+  past_loop m ms f e = subst (λ b. tops (λ x. true) (if b then m ∷ ms else from_loop ms) ≡ true) f e
+
+  -- where a walk has a loop, the run has one
+  has_loops : (bs : List (Block K P)) (ms : Shape) → Matches bs ms → tops (λ x. true) (from_loop ms) ≡ true → has_loop bs ≡ true
+  has_loops [] [] mt e = absurd (let q : false ≡ true = e in cc)
+  has_loops [] (m ∷ ms) mt e = absurd mt
+  has_loops (b ∷ bs) [] mt e = absurd mt
+  has_loops (Loop h ∷ bs) (m ∷ ms) mt e = refl
+  has_loops (Except h q ∷ bs) (m ∷ ms) mt e = has_loops bs ms mt.1 (past_loop m ms (kind_loop m Kind.Except mt.0.0 refl) e)
+  has_loops (Finally h q ∷ bs) (m ∷ ms) ((eh, inl f), mt) e = has_loops bs ms mt (past_loop m ms (kind_loop m Kind.Finally f.0 refl) e)
+  has_loops (Finally h q ∷ bs) (m ∷ ms) ((eh, inr f), mt) e = has_loops bs ms mt (past_loop m ms (kind_loop m Kind.With f.0 refl) e)
+  has_loops (ExceptHandler h old ∷ bs) (m ∷ ms) mt e = has_loops bs ms mt.1 (past_loop m ms (kind_loop m Kind.ExceptHandler mt.0.0 refl) e)
+  has_loops (FinallyHandler h k old ∷ bs) (m ∷ ms) mt e = has_loops bs ms mt.1 (past_loop m ms (kind_loop m Kind.FinallyHandler mt.0.0 refl) e)
+
+  -- what needs a loop among the blocks
+  pub in_loop : (bs : List (Block K P)) (ms : Shape) (c : Config K P) (w : World K) → Matches bs ms → tops (λ x. true) (from_loop ms) ≡ true → InStep c → InStep (choose (has_loop bs) c (wrong w))
+  in_loop bs ms c w mt e h = subst (λ b. InStep (choose b c (wrong w))) (sym (has_loops bs ms mt e)) h
 
   kind_below : (m : Mark) (k : Kind) → m.kind ≡ k → is_with k ≡ false → left_by m ≡ m.height
   kind_below m k e f = ap (λ b. if b then m.height - 1 else m.height) (ap is_with e ∙ f)

@@ -11,7 +11,7 @@ use Rattle.py_walks.specs.declared.known.Change.{Change}
 use Rattle.py_walks.specs.declared.known.Refused.{Refused}
 use Rattle.py_walks.specs.Walks.{Shape, State, state, height_of, enough, falls_enough, jumps_enough, falls_to, jumps_to, Seen, Edge, Falls, Jumps, LeavesEnd}
 use Rattle.py_walks.specs.Flat.{is_jump, named_place, jump_place, sees, look_at}
-use Rattle.py_walks.specs.Known.{state_of, known_at, state_at, flow_in, falls_within, jumps_within, Passes, FailsAs, FallIs, JumpIs, Moves, combined}
+use Rattle.py_walks.specs.Known.{state_of, known_at, state_at, flow_in, jumps_within, Passes, FailsAs, FallIs, JumpIs, Moves, combined}
 use Rattle.py_walks.specs.Shown.{Shown, One, Covered, Closed, Closed_at, AllShown, RefusalAt, Steps, Settled}
 use Rattle.py_walks.proofs.Stepping.{moves_combine}
 use Rattle.py_walks.proofs.Reaching.{shown_edge}

@@ -4,7 +4,7 @@ use Rattle.std.specs.Option.{option_map}
 use Rattle.py_bytecode.specs.declared.instruction.Instruction.{Instruction}
 use Rattle.py_bytecode.specs.Table.{row_of, is_label}
 use Rattle.py_bytecode.specs.Objects.{Object}
-use Rattle.py_bytecode.specs.Machine.{Fetched, Found, Nothing}
+use Rattle.py_bytecode.specs.Machine.{Fetched, Nothing}
 use Rattle.py_bytecode.specs.Decode.{Tables, instr_of}
 use Rattle.py_bytecode.specs.Units.{found, is_prefix}
 use Rattle.py_walks.specs.declared.info.InstructionInfo.{InstructionInfo}

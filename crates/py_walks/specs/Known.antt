@@ -10,7 +10,7 @@ use Rattle.py_walks.specs.declared.known.Refused.{Refused}
 use Rattle.py_walks.specs.declared.known.Change.{Change}
 use Rattle.py_walks.specs.Flow.{flow_at}
 use Rattle.py_walks.specs.Flat.{is_jump}
-use Rattle.py_walks.specs.Walks.{Shape, State, state, rest_of, height_of, from_loop, has_block, enough, falls_enough, jumps_enough, falls_to, jumps_to, Alike}
+use Rattle.py_walks.specs.Walks.{Shape, State, state, rest_of, height_of, from_loop, has_block, enough, falls_enough, falls_to, jumps_to, Alike}
 
 abbrev pub state_of : KnownState → State
 state_of k = state k.height k.shape.items

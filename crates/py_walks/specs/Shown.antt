@@ -1,5 +1,5 @@
 -- What walks show of a place, and states that follow from one another.
-use Rattle.std.specs.Prelude.{◌≡◌, ◌≢◌, ℕ, ◌^◌, ◌<◌, List, [], length, true, Option, Some, None}
+use Rattle.std.specs.Prelude.{◌≡◌, ◌≢◌, ℕ, ◌^◌, List, [], length, true, Option, Some, None}
 use Rattle.py_walks.specs.declared.known.KnownState.{KnownState}
 use Rattle.py_walks.specs.declared.known.Refused.{Refused}
 use Rattle.py_walks.specs.declared.known.Change.{Change}

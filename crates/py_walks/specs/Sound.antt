@@ -1,7 +1,7 @@
 -- Code objects whose walks are never refused.
 use Rattle.std.specs.Prelude.{◌≡◌, ◌≢◌, ℕ, suc, List, Option}
 use Rattle.py_bytecode.specs.Objects.{Object, head}
-use Rattle.py_bytecode.specs.Values.{Answer, Ran, Wrong, World}
+use Rattle.py_bytecode.specs.Values.{Answer, Wrong, World}
 use Rattle.py_bytecode.specs.Machine as M
 use Rattle.py_bytecode.specs.Decode.{tables}
 use Rattle.py_bytecode.specs.Units.{fetch_unit, machine}

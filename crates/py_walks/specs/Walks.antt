@@ -1,5 +1,5 @@
 -- Walks over instructions: the height of the stack and the blocks at each place, from an empty stack at the start.
-use Rattle.std.specs.Prelude.{◌≡◌, ◌≢◌, ℕ, zero, suc, ◌+◌, ◌-◌, ◌<◌, ◌≤◌, ◌⊎◌, List, [], ◌∷◌, Bool, true, false, not, ◌&&◌, Option, Some, None, nat_eq, nat_le, if◌then◌else◌}
+use Rattle.std.specs.Prelude.{◌≡◌, ◌≢◌, ℕ, zero, suc, ◌+◌, ◌-◌, ◌≤◌, ◌⊎◌, List, [], ◌∷◌, Bool, true, false, not, ◌&&◌, Option, Some, None, nat_eq, nat_le, if◌then◌else◌}
 use Rattle.std.specs.List.{AllZip}
 use Rattle.py_bytecode.specs.Machine.{Fetched, Found, Nothing}
 use Rattle.py_walks.specs.declared.flow.Kind.{Kind}

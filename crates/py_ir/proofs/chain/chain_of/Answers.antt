@@ -1,7 +1,7 @@
-use Rattle.std.proofs.Common.{◌≡◌, ◌<◌, ◌≤◌, ◌++◌, ◌∷◌, [], ℕ, List, Bool, length, map, set, get_or, arith, Option, Some, true, false, ap, sym, subst, ◌∙◌, inl, inr, length-set}
+use Rattle.std.proofs.Common.{◌≡◌, ◌<◌, ℕ, List, Bool, length, map, set, get_or, arith, Option, Some, true, false, ap, sym, subst, ◌∙◌, inl, inr, length-set}
 use Rattle.std.specs.Prelude.{not}
 use Rattle.std.specs.List.{count_by}
-use Rattle.std.proofs.lemmas.List.{length-map, length_push, get_or_default}
+use Rattle.std.proofs.lemmas.List.{length-map, get_or_default}
 use Rattle.py_ir.specs.declared.blocks.Block.{Block}
 use Rattle.py_ir.specs.Chain.{Blk, blk, plain}
 use Rattle.py_ir.proofs.Following.{Following, blk_plain, inside_now, fewer, follow, breaks}
@@ -10,17 +10,11 @@ use Rattle.py_ir.proofs.chain.chain_of.Goals as goal
 next_is : (blocks : List Block) (b : ℕ) (block : Block) (o : Option ℕ) (n : ℕ) → b < length blocks → block ≡ get_or blocks b block → o ≡ (plain block).next → o ≡ Some n → (blk (map plain blocks) b).next ≡ Some n
 next_is blocks b block o n lt e r s = ap (λ (x : Blk). x.next) (blk_plain blocks b block lt) ∙ ap (λ (x : Block). (plain x).next) (sym e) ∙ sym r ∙ s
 
-short_of : (blocks : List Block) (cs cs1 : List ℕ) (block : ℕ) (met : List Bool) → Following (map plain blocks) cs block met → cs1 ≡ cs ++ block ∷ [] → length cs1 ≤ length blocks
-short_of blocks cs cs1 block met h e = let f = fewer (map plain blocks) cs block met h in let l = length_push cs block in let q = ap length e in let m = length-map blocks plain in omega (arith, f, l, q, m, h.count)
-
 within : (blocks : List Block) (cs : List ℕ) (block : ℕ) (met : List Bool) → Following (map plain blocks) cs block met → block < length blocks
 within blocks cs block met h = let w = inside_now (map plain blocks) cs block met h in let m = length-map blocks plain in omega (arith, w, m)
 
 read_met : (blocks : List Block) (cs : List ℕ) (block : ℕ) (met : List Bool) (n : ℕ) (r v : Bool) → Following (map plain blocks) cs block met → n < length blocks → r ≡ get_or (set met block true) n r → r ≡ v → get_or (set met block true) n false ≡ v
 read_met blocks cs block met n r v h lt e q = get_or_default (set met block true) n false r (let m = length-map blocks plain in let s = length-set met block true in omega (arith, m, s, h.long, lt)) ∙ sym e ∙ q
-
-pub returns-in_default-clause-short : goal.returns-in_default-clause-short
-returns-in_default-clause-short c = short_of c.args.blocks.now c.loop-chain.chain.items c.push.new.self.items c.loop-chain.block c.loop-chain.met.items c.loop-chain.invariant c.in-Ok-push.ensures.items
 
 pub returns-then-next-blocks-clause-refused : goal.returns-then-next-blocks-clause-refused
 returns-then-next-blocks-clause-refused c =

@@ -1,4 +1,4 @@
-use Rattle.std.proofs.Common.{◌≡◌, ◌<◌, ◌≤◌, ℕ, length, get_or}
+use Rattle.std.proofs.Common.{◌<◌, ◌≤◌, ℕ, length, get_or}
 use Rattle.py_ir.proofs.finalize.locate.Given as goal
 
 abbrev pub invariant-loop-k : goal.invariant-loop-k

@@ -1,4 +1,4 @@
-use Rattle.std.proofs.Common.{◌≡◌, ◌∙◌, sym}
+use Rattle.std.proofs.Common.{◌∙◌, sym}
 use Rattle.py_ir.proofs.Cells.{none_step, none_all}
 use Rattle.py_ir.proofs.info.is_any.Goals as goal
 

@@ -1,5 +1,4 @@
-use Rattle.std.proofs.Common.{◌++◌, ap, ◌∙◌, sym, replicate, get_or, arith}
-use Rattle.py_walks.specs.declared.info.InstructionInfo.{InstructionInfo}
+use Rattle.std.proofs.Common.{arith}
 use Rattle.py_layout.proofs.Offsets.{offset-suc}
 use Rattle.py_layout.proofs.Writing.{locate_step}
 use Rattle.py_layout.proofs.units.write_locations.Goals as goal

@@ -1,4 +1,4 @@
-use Rattle.std.proofs.Common.{◌≡◌, ◌<◌, length, arith, sym, subst, ◌∙◌}
+use Rattle.std.proofs.Common.{◌<◌, length, arith, sym, subst, ◌∙◌}
 use Rattle.py_walks.specs.declared.walk.Fault.{Fault}
 use Rattle.py_walks.specs.Flat.{look_at}
 use Rattle.py_walks.specs.Known.{state_of}

@@ -1,4 +1,4 @@
-use Rattle.std.proofs.Common.{◌+◌, ◌<◌, [], length, subst, arith}
+use Rattle.std.proofs.Common.{◌+◌, [], length, subst, arith}
 use Rattle.py_walks.specs.Walks.{State, state, IsDepth}
 use Rattle.py_walks.specs.Flat.{look_at}
 use Rattle.py_walks.specs.Known.{state_of, state_at}

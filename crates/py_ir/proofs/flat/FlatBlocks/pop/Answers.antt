@@ -1,0 +1,24 @@
+use Rattle.std.proofs.Common.{ap, ◌∙◌, arith}
+use Rattle.std.specs.Option.{IsSome}
+use Rattle.std.proofs.lemmas.Grind.{common_steps}
+use Rattle.py_ir.specs.BlockList.{last_item, popped}
+use Rattle.py_ir.proofs.Growing.{is_some, popped_follows, popped_told, popped_viewed}
+use Rattle.py_ir.proofs.flat.FlatBlocks.pop.Goals as goal
+
+pub invariant_of-self : goal.invariant_of-self
+invariant_of-self c =
+    let n = is_some c.self.inside.items.items c.pop-last.new.self.items c.self.inside.spans.items c.self.inside.current c.index_mut.result.now c.index-current.result.now c.self.invariant c.index_mut.ensures.value c.index-current.ensures c.if-current.true in
+    let some : IsSome c.pop-last.result = c.pop-last.ensures.variant.1 (grind (arith, common_steps)) in
+    popped_follows c.self.inside.items.items c.pop-last.new.self.items c.self.inside.spans.items c.self.inside.current c.index_mut.result.now c.index-current.result.now c.self.invariant c.index_mut.ensures.value c.index-current.ensures c.if-current.true c.pop-last.result some c.pop-last.ensures.items
+
+pub returns-then-current-clause-last : goal.returns-then-current-clause-last
+returns-then-current-clause-last c =
+    let n = is_some c.self.inside.items.items c.pop-last.new.self.items c.self.inside.spans.items c.self.inside.current c.index_mut.result.now c.index-current.result.now c.self.invariant c.index_mut.ensures.value c.index-current.ensures c.if-current.true in
+    let some : IsSome c.pop-last.result = c.pop-last.ensures.variant.1 (grind (arith, common_steps)) in
+    popped_told c.self.inside.items.items c.pop-last.new.self.items c.self.inside.spans.items c.self.inside.current c.index_mut.result.now c.index-current.result.now c.self.invariant c.index_mut.ensures.value c.index-current.ensures c.if-current.true c.pop-last.result some c.pop-last.ensures.items ∙ ap last_item c.self.view_is
+
+pub returns-then-current-clause-left : goal.returns-then-current-clause-left
+returns-then-current-clause-left c =
+    let n = is_some c.self.inside.items.items c.pop-last.new.self.items c.self.inside.spans.items c.self.inside.current c.index_mut.result.now c.index-current.result.now c.self.invariant c.index_mut.ensures.value c.index-current.ensures c.if-current.true in
+    let some : IsSome c.pop-last.result = c.pop-last.ensures.variant.1 (grind (arith, common_steps)) in
+    popped_viewed c.self.inside.items.items c.pop-last.new.self.items c.self.inside.spans.items c.self.inside.current c.index_mut.result.now c.index-current.result.now c.self.invariant c.index_mut.ensures.value c.index-current.ensures c.if-current.true c.pop-last.result some c.pop-last.ensures.items ∙ ap popped c.self.view_is
