@@ -1,0 +1,38 @@
+-- The code object of what is emitted.
+use Rattle.std.specs.Prelude.{◌≡◌, ℕ, List, [], length, map}
+use Rattle.py_bytecode.specs.declared.code.CodeObject.{CodeObject}
+use Rattle.py_bytecode.specs.View.{constant}
+use Rattle.py_ir.specs.declared.info.CodeInfo.{CodeInfo}
+use Rattle.py_ir.specs.Chain.{plain}
+use Rattle.py_ir.specs.Final.{IsFinal}
+use Rattle.py_meaning.specs.Emission.{State, Outcome, Done, TooWide, Refused}
+use Rattle.py_emit.specs.States.{Head, module_head}
+use Rattle.py_emit.specs.Steps.{steps_in}
+
+-- the blocks and the tables are what is emitted, and the rest is the head
+pub record Holds (info : CodeInfo) (head : Head) (s : State) : Type 0 where
+  pub flags : info.flags.0 ≡ head.flags
+  pub posonlyarg_count : info.posonlyarg_count ≡ head.posonlyarg_count
+  pub arg_count : info.arg_count ≡ head.arg_count
+  pub kwonlyarg_count : info.kwonlyarg_count ≡ head.kwonlyarg_count
+  pub source_path : info.source_path ≡ head.source_path
+  pub first_line_number : info.first_line_number ≡ head.first_line_number
+  pub obj_name : info.obj_name ≡ head.obj_name
+  pub steps : steps_in (map plain info.blocks) ≡ s.steps
+  pub blocks : length info.blocks ≡ s.blocks
+  pub names : info.name_cache ≡ s.names
+  pub constants : map constant info.constants ≡ s.constants
+  pub varnames : info.varname_cache ≡ head.varnames
+  pub cellvars : info.cellvar_cache ≡ head.cellvars
+  pub freevars : info.freevar_cache ≡ head.freevars
+
+-- the code object is what blocks and tables that hold what is emitted are laid out to
+pub record IsMade (code : CodeObject) (path : List ℕ) (level : ℕ) (s : State) : Type 0 where
+  pub info : CodeInfo
+  pub holds : Holds info (module_head path) s
+  pub final : IsFinal level info code
+
+abbrev pub IsEmitted : CodeObject → (path : List ℕ) → (level : ℕ) → Outcome → Type 0
+IsEmitted code path level (Done s) = IsMade code path level s
+IsEmitted code path level TooWide = ⊥
+IsEmitted code path level (Refused e at) = ⊥

@@ -1,0 +1,32 @@
+-- Blocks as the steps of an emission.
+use Rattle.std.specs.Prelude.{◌≡◌, ◌≢◌, ◌⊎◌, ◌<◌, ℕ, zero, suc, List, [], ◌∷◌, ◌++◌, length, map, Option, Some, None}
+use Rattle.py_walks.specs.declared.info.InstructionInfo.{InstructionInfo}
+use Rattle.py_ir.specs.Chain.{Blk, blk, block_number}
+use Rattle.py_meaning.specs.Emission.{Step, Put, Begin, State}
+
+abbrev pub step_of : InstructionInfo → Step
+step_of x = Put x.instr x.arg.0 (block_number x.target.0) x.location
+
+abbrev pub onwards : Option ℕ → (ℕ → List Step) → List Step
+onwards None go = []
+onwards (Some b) go = Begin b ∷ go b
+
+-- the instructions of a block and of those that follow it, at most so many blocks, and where each of these begins
+abbrev pub steps_from : List Blk → (count block : ℕ) → List Step
+steps_from bs zero b = []
+steps_from bs (suc n) b = map step_of (blk bs b).items ++ onwards (blk bs b).next (steps_from bs n)
+
+abbrev pub steps_in : List Blk → List Step
+steps_in bs = steps_from bs (length bs) 0
+
+-- the block begins in these steps
+abbrev pub Begun : ℕ → List Step → Type 0
+Begun b [] = ⊥
+Begun b (Put i n to at ∷ xs) = Begun b xs
+Begun b (Begin c ∷ xs) = (b ≡ c) ⊎ Begun b xs
+
+-- the block is made and has not begun; block 0 has from the start
+pub record IsOpen (b : ℕ) (s : State) : Type 0 where
+  pub made : b < s.blocks
+  pub later : b ≢ 0
+  pub not_begun : ¬ Begun b s.steps

@@ -1,0 +1,41 @@
+//! What an emitter is told of the code around.
+
+use py_bytecode::CodeFlags;
+use py_ir::BlockIdx;
+use py_tree::Text;
+
+/// How a tree is compiled.
+#[derive(Clone, Copy, Debug, Default)]
+pub struct CompileOpts {
+    /// The level of optimization: above 0 asserts are dropped, above 1 docstrings too. Levels above 2 act as 2.
+    pub optimize: u8,
+}
+
+/// What is done with a name.
+#[derive(Clone, Copy, PartialEq, Eq, Debug)]
+pub enum NameUsage {
+    Load,
+    Store,
+    Delete,
+}
+
+/// What a code object says of a scope before its instructions.
+#[derive(Drop)]
+pub struct ScopeHead {
+    pub flags: CodeFlags,
+    pub posonlyarg_count: u32,
+    pub arg_count: u32,
+    pub kwonlyarg_count: u32,
+    pub obj_name: Text,
+}
+
+/// What the code around says.
+#[derive(Clone, Copy, Debug)]
+pub struct EmitContext {
+    /// The blocks to which `continue` and `break` of the innermost loop of this scope go.
+    pub loop_blocks: Option<(BlockIdx, BlockIdx)>,
+    /// Whether a statement was compiled after which no future import may stand.
+    pub future_over: bool,
+    /// Whether annotations are postponed (PEP 563).
+    pub future_annotations: bool,
+}

@@ -1,0 +1,13 @@
+//! What is emitted of a scope: instructions with their locations, in blocks, and the tables that their operands name.
+#![tactic(auto)]
+
+mod context;
+mod emitter;
+mod macros;
+mod names;
+mod refusals;
+mod tables;
+
+pub use context::{CompileOpts, EmitContext, NameUsage, ScopeHead};
+pub use emitter::Emitter;
+pub use names::{debug_constant, is_debug};

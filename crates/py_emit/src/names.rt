@@ -1,0 +1,95 @@
+//! Accesses to names.
+ghost use Rattle.std.specs.Prelude.{◌≡◌, ◌≢◌};
+ghost use Rattle.py_bytecode.specs.View.{constant};
+ghost use Rattle.py_meaning.specs.Emission.{Next, Refused, emission_of_name, refuse};
+ghost use Rattle.py_meaning.specs.Table.{debug_constant as constant_debug, is_debug as named_debug};
+ghost use Rattle.py_emit.specs.Access.{changing, emission_of_access};
+ghost use Rattle.py_emit.specs.States.{Goes, Same, rest, state};
+
+use crate::context::{CompileOpts, NameUsage};
+use crate::emitter::Emitter;
+use py_bytecode::{ConstantData, Instruction};
+use py_meaning::{CodegenError, CodegenErrorType};
+use py_tree::Text;
+
+/// Whether a name is the constant that says whether the level is 0.
+pub fn is_debug(name: &str) -> bool
+    ensures { result ≡ named_debug name.now }
+{
+    name == "__debug__"
+}
+
+/// The constant that `__debug__` is.
+#[tactic(auto, using(py_bytecode::proofs::View::views))]
+pub fn debug_constant(opts: CompileOpts) -> ConstantData
+    ensures { constant result ≡ constant_debug opts.optimize }
+{
+    ConstantData::Boolean {
+        value: opts.optimize == 0,
+    }
+}
+
+impl Emitter {
+    /// Appends an access to a name, which is looked up by its name. The name `__debug__` is the constant that says
+    /// whether the level is 0.
+    ///
+    /// # Errors
+    /// SyntaxError where `__debug__` is stored or deleted, at the present location, or OutOfMemory.
+    pub fn compile_name(&mut self, usage: NameUsage, name: &str) -> Result<(), CodegenError>
+        ensures goes { (k : Next) → Goes result (k (state self.new)) (emission_of_access usage (rest self.old).opts.optimize name.now k (state self.old)) }
+        ensures same { Same result (rest self.new) (rest self.old) }
+    {
+        match usage {
+            NameUsage::Load => self.load_name(name),
+            NameUsage::Store => self.change_name(
+                Instruction::StoreLocal,
+                name,
+                "cannot assign to __debug__",
+            ),
+            NameUsage::Delete => self.change_name(
+                Instruction::DeleteLocal,
+                name,
+                "cannot delete __debug__",
+            ),
+        }
+    }
+
+    fn load_name(&mut self, name: &str) -> Result<(), CodegenError>
+        ensures goes { (k : Next) → Goes result (k (state self.new)) (emission_of_name (rest self.old).opts.optimize name.now k (state self.old)) }
+        ensures same { Same result (rest self.new) (rest self.old) }
+    {
+        if is_debug(name) {
+            let opts = self.opts();
+            return self.load_const(debug_constant(opts));
+        }
+        self.emit_name(Instruction::LoadNameAny, name)
+    }
+
+    /// Appends what stores or deletes a name, or leaves with the text where the name is `__debug__`.
+    fn change_name(
+        &mut self,
+        instr: Instruction,
+        name: &str,
+        text: &str,
+    ) -> Result<(), CodegenError>
+        ensures goes { (k : Next) → Goes result (k (state self.new)) (changing instr name.now text.now k (state self.old)) }
+        ensures same { Same result (rest self.new) (rest self.old) }
+    {
+        if is_debug(name) {
+            return Err(self.syntax_error(text));
+        }
+        self.emit_name(instr, name)
+    }
+
+    /// The SyntaxError with a text, or want of memory for it.
+    #[tactic(auto, unfolding(py_meaning::specs::Emission::refuse))]
+    fn syntax_error(&mut self, text: &str) -> CodegenError
+        ensures goes { result.error ≢ CodegenErrorType.OutOfMemory → refuse (CodegenErrorType.SyntaxError text.now) (state self.old) ≡ Refused result.error result.location }
+        ensures path { result.source_path ≡ (rest self.old).path }
+    {
+        match String::from_str(self.alloc(), text) {
+            Ok(copy) => self.error(CodegenErrorType::SyntaxError(Text::from_string(copy))),
+            Err(_) => self.error(CodegenErrorType::OutOfMemory),
+        }
+    }
+}

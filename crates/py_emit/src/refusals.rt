@@ -1,0 +1,44 @@
+//! Why nothing more is emitted.
+ghost use Rattle.std.specs.Prelude.{◌≡◌, true};
+ghost use Rattle.py_ir.specs.Checks.{lens_of};
+ghost use Rattle.py_ir.specs.Final.{tables_of};
+ghost use Rattle.py_ir.specs.FlatCode.{info_of};
+ghost use Rattle.py_ir.specs.Refusals.{TooLong};
+ghost use Rattle.py_emit.specs.States.{IsStarved};
+
+use py_ir::{FinalizeError, FlatCode};
+use py_meaning::{CodegenError, CodegenErrorType};
+use py_tree::{LocatedError, Text};
+
+/// The number of entries that no table has.
+const TABLE_LIMIT: usize = 1 << 31;
+
+/// Whether each table is shorter than the limit.
+pub(crate) fn has_short_tables(code: &FlatCode) -> bool
+    ensures { result ≡ true → ¬ TooLong (lens_of (tables_of (info_of code.now))) }
+{
+    code.constants.len() < TABLE_LIMIT
+        && code.name_cache.len() < TABLE_LIMIT
+        && code.varname_cache.len() < TABLE_LIMIT
+        && code.cellvar_cache.len() + code.freevar_cache.len() < TABLE_LIMIT
+}
+
+/// There is no memory. That stands nowhere.
+pub(crate) fn starved(source_path: Text) -> CodegenError
+    ensures { IsStarved result source_path }
+{
+    LocatedError {
+        error: CodegenErrorType::OutOfMemory,
+        location: None,
+        source_path,
+    }
+}
+
+/// The error where blocks that no refusal holds of have no code: there is no memory.
+pub(crate) fn only_starved(error: FinalizeError, source_path: Text) -> CodegenError
+    requires { error ≡ FinalizeError.OutOfMemory }
+    ensures { IsStarved result source_path }
+{
+    let _ = error;
+    starved(source_path)
+}

@@ -1,0 +1,101 @@
+//! The tables that operands name, and the instructions that name them.
+ghost use Rattle.std.specs.Prelude.{◌≡◌, IfOk, IfErr, OnOk};
+ghost use Rattle.py_bytecode.specs.Equality.{const_eq, text_eq};
+ghost use Rattle.py_bytecode.specs.View.{constant as constant_of};
+ghost use Rattle.py_meaning.specs.Emission.{Next, emit_constant, emit_name as emission_of_name, place_in, with_constant, with_name};
+ghost use Rattle.py_emit.specs.States.{Goes, Same, IsStarved, rest, state};
+
+use crate::emitter::Emitter;
+use py_bytecode::{ConstantData, Instruction};
+use py_meaning::{CodegenError, CodegenErrorType};
+use py_tree::Text;
+
+impl Emitter {
+    /// The place of a name in the name table, where it is entered if it is new.
+    ///
+    /// # Errors
+    /// OutOfMemory alone.
+    #[tactic(auto, unfolding(py_meaning::specs::Emission::with_name, crate::specs::States::rest))]
+    pub fn name(&mut self, name: &str) -> Result<u32, CodegenError>
+        ensures place { IfOk result (λ place. place ≡ place_in text_eq (state self.old).names name.now) }
+        ensures next { OnOk result (state self.new ≡ with_name name.now (state self.old)) }
+        ensures rest { OnOk result (rest self.new ≡ rest self.old) }
+        ensures err { IfErr result (λ e. IsStarved e (rest self.old).path) }
+    {
+        let Ok(copy) = String::from_str(self.alloc(), name) else {
+            return Err(self.error(CodegenErrorType::OutOfMemory));
+        };
+        match self.code.name_cache.insert_full(Text::from_string(copy)) {
+            Ok(place) => self.narrow(place),
+            Err(_) => Err(self.error(CodegenErrorType::OutOfMemory)),
+        }
+    }
+
+    /// The place of a constant in the constant table, where it is entered if it is new.
+    ///
+    /// # Errors
+    /// OutOfMemory alone.
+    #[tactic(auto, unfolding(py_meaning::specs::Emission::with_constant, crate::specs::States::rest), using(py_bytecode::proofs::Entered::constants_entered, py_bytecode::proofs::Entered::constant_place))]
+    pub fn add_constant(&mut self, constant: ConstantData) -> Result<u32, CodegenError>
+        ensures place { IfOk result (λ place. place ≡ place_in const_eq (state self.old).constants (constant_of constant)) }
+        ensures next { OnOk result (state self.new ≡ with_constant (constant_of constant) (state self.old)) }
+        ensures rest { OnOk result (rest self.new ≡ rest self.old) }
+        ensures err { IfErr result (λ e. IsStarved e (rest self.old).path) }
+    {
+        match self.code.constants.insert_full(constant) {
+            Ok(place) => self.narrow(place),
+            Err(_) => Err(self.error(CodegenErrorType::OutOfMemory)),
+        }
+    }
+
+    /// A place in a table. What does not fit 32 bits counts as want of memory.
+    fn narrow(&mut self, place: usize) -> Result<u32, CodegenError>
+        ensures value { IfOk result (λ n. n ≡ place) }
+        ensures same { OnOk result (self.new ≡ self.old) }
+        ensures err { IfErr result (λ e. IsStarved e (rest self.old).path) }
+    {
+        match u32::try_from(place) {
+            Ok(n) => Ok(n),
+            Err(_) => Err(self.error(CodegenErrorType::OutOfMemory)),
+        }
+    }
+
+    /// Appends the load of a constant.
+    ///
+    /// # Errors
+    /// OutOfMemory alone.
+    #[tactic(auto, unfolding(py_meaning::specs::Emission::emit_constant))]
+    pub fn load_const(&mut self, constant: ConstantData) -> Result<(), CodegenError>
+        ensures goes { (k : Next) → Goes result (k (state self.new)) (emit_constant Instruction.LoadConst (constant_of constant) k (state self.old)) }
+        ensures same { Same result (rest self.new) (rest self.old) }
+    {
+        let place = self.add_constant(constant)?;
+        self.emit_arg(Instruction::LoadConst, place)
+    }
+
+    /// Appends the return of a constant.
+    ///
+    /// # Errors
+    /// OutOfMemory alone.
+    #[tactic(auto, unfolding(py_meaning::specs::Emission::emit_constant))]
+    pub fn return_const(&mut self, constant: ConstantData) -> Result<(), CodegenError>
+        ensures goes { (k : Next) → Goes result (k (state self.new)) (emit_constant Instruction.ReturnConst (constant_of constant) k (state self.old)) }
+        ensures same { Same result (rest self.new) (rest self.old) }
+    {
+        let place = self.add_constant(constant)?;
+        self.emit_arg(Instruction::ReturnConst, place)
+    }
+
+    /// Appends an instruction that names a name.
+    ///
+    /// # Errors
+    /// OutOfMemory alone.
+    #[tactic(auto, unfolding(py_meaning::specs::Emission::emit_name))]
+    pub fn emit_name(&mut self, instr: Instruction, name: &str) -> Result<(), CodegenError>
+        ensures goes { (k : Next) → Goes result (k (state self.new)) (emission_of_name instr name.now k (state self.old)) }
+        ensures same { Same result (rest self.new) (rest self.old) }
+    {
+        let place = self.name(name)?;
+        self.emit_arg(instr, place)
+    }
+}
