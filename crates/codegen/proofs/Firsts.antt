@@ -1,15 +1,21 @@
 -- The first fault of a tree.
-use Rattle.std.proofs.Common.{◌≡◌, ◌≢◌, ℕ, ◌<◌, ◌≤◌, ◌^◌, List, [], ◌∷◌, ◌++◌, Bool, true, false, Option, None, refl, sym, ap, ◌∙◌, arith, rules}
+use Rattle.std.proofs.Common.{◌≡◌, ℕ, ◌<◌, ◌≤◌, ◌^◌, List, [], ◌∷◌, ◌++◌, Bool, true, false, Some, None, refl, sym, ap, ◌∙◌, append_assoc, rules}
 use Rattle.std.specs.Prelude.{nat_lt, if◌then◌else◌}
 use Rattle.py_tree.specs.Tree as tree
 use Rattle.py_tree.specs.Nesting.{nesting}
 use Rattle.py_tree.specs.Size.{size_of}
+use Rattle.py_tree.specs.Valid.{shapes, first}
 use Rattle.py_tree.specs.declared.location.LocatedError.{LocatedError}
 use Rattle.py_tree.specs.declared.modules.Mode.{Mode}
-use Rattle.py_meaning.specs.Faults.{Fault, faults, whole, too_deep, too_large}
+use Rattle.py_tree.specs.declared.shapes.Malformed.{Malformed}
+use Rattle.py_bytecode.specs.declared.code.CodeObject.{CodeObject}
+use Rattle.py_meaning.specs.Emission.{Outcome, Done, TooWide, Refused, emitted}
+use Rattle.py_meaning.specs.Faults.{Fault, faults, whole, too_deep, too_large, malformed, compile_faults}
 use Rattle.py_meaning.specs.declared.errors.CodegenErrorType.{CodegenErrorType}
 use Rattle.py_meaning.specs.declared.errors.CodegenErrorType.TheVariants as error
-use Rattle.codegen.specs.Compiled.{IsFirst}
+use Rattle.codegen.specs.Compiled.{IsFirst, IsRefused}
+use Rattle.py_emit.specs.Emitted.{IsEmitted}
+use Rattle.codegen.proofs.Ending.{refusal_heads, done_faultless}
 
 abbrev fault_of : LocatedError CodegenErrorType → Fault
 fault_of e = record { error = e.error; location = e.location }
@@ -27,24 +33,67 @@ reached : (b : Bool) (f : Fault) (rest : List Fault) → b ≡ false → (if b t
 reached true f rest e = absurd cc
 reached false f rest e = refl
 
-refused : (b : Bool) (f : Fault) → b ≡ false → (if b then [] else f ∷ []) ≡ f ∷ []
-refused true f e = absurd cc
-refused false f e = refl
-
 passed : (b : Bool) (f : Fault) (rest : List Fault) → b ≡ true → (if b then [] else f ∷ []) ++ rest ≡ rest
 passed true f rest e = refl
 passed false f rest e = absurd cc
 
+-- what comes after nesting, and after size
+abbrev shaped : tree.Mod → Mode → List Fault
+shaped t m = malformed (shapes t m) ++ compile_faults t
+
+abbrev sized : tree.Mod → Mode → List Fault
+sized t m = whole too_large (2 ^ 22) (size_of t) ++ shaped t m
+
+in_turn : (t : tree.Mod) (m : Mode) (l : ℕ) → faults t m l ≡ whole too_deep (2 ^ 10) (nesting t) ++ sized t m
+in_turn t m l =
+    let deep = whole too_deep (2 ^ 10) (nesting t) in
+    let large = whole too_large (2 ^ 22) (size_of t) in
+    append_assoc (deep ++ large) (malformed (shapes t m)) (compile_faults t) ∙ append_assoc deep large (shaped t m)
+
+not_deep : (t : tree.Mod) (m : Mode) (l : ℕ) → nesting t < 1024 → faults t m l ≡ sized t m
+not_deep t m l d = in_turn t m l ∙ passed (nat_lt (nesting t) (2 ^ 10)) too_deep (sized t m) (search (rules, d))
+
+not_large : (t : tree.Mod) (m : Mode) (l : ℕ) → nesting t < 1024 → size_of t < 4194304 → faults t m l ≡ shaped t m
+not_large t m l d z = not_deep t m l d ∙ passed (nat_lt (size_of t) (2 ^ 22)) too_large (shaped t m) (search (rules, z))
+
 pub deep_first : (e : LocatedError CodegenErrorType) (t : tree.Mod) (m : Mode) (l : ℕ) → e.error ≡ too_deep.error → e.location ≡ None → 1024 ≤ nesting t → IsFirst e (faults t m l)
-deep_first e t m l p q h =
-    let later = whole too_large (2 ^ 22) (size_of t) in
-    first_as e too_deep (faults t m l) p q (later, reached (nat_lt (nesting t) (2 ^ 10)) too_deep later (search (rules, h)))
+deep_first e t m l p q h = first_as e too_deep (faults t m l) p q (sized t m, in_turn t m l ∙ reached (nat_lt (nesting t) (2 ^ 10)) too_deep (sized t m) (search (rules, h)))
 
 pub large_first : (e : LocatedError CodegenErrorType) (t : tree.Mod) (m : Mode) (l : ℕ) → e.error ≡ too_large.error → e.location ≡ None → nesting t < 1024 → 4194304 ≤ size_of t → IsFirst e (faults t m l)
-large_first e t m l p q d h =
-    let later = whole too_large (2 ^ 22) (size_of t) in
-    first_as e too_large (faults t m l) p q (
-      [],
-      passed (nat_lt (nesting t) (2 ^ 10)) too_deep later (search (rules, d))
-          ∙ refused (nat_lt (size_of t) (2 ^ 22)) too_large (search (rules, h)),
-    )
+large_first e t m l p q d h = first_as e too_large (faults t m l) p q (shaped t m, not_deep t m l d ∙ reached (nat_lt (size_of t) (2 ^ 22)) too_large (shaped t m) (search (rules, h)))
+
+abbrev shape_fault : Malformed → Fault
+shape_fault shape = record { error = error.MalformedTree shape; location = None }
+
+shape_heads : (ms : List Malformed) (shape : Malformed) (rest : List Fault) → first ms ≡ Some shape → Heads (shape_fault shape) (malformed ms ++ rest)
+shape_heads [] shape rest e = absurd cc
+shape_heads (m ∷ ms) shape rest e = let same : m ≡ shape = cc in (malformed ms ++ rest, ap (λ x. shape_fault x ∷ malformed ms ++ rest) same)
+
+no_shapes : (ms : List Malformed) → first ms ≡ None → ms ≡ []
+no_shapes [] e = refl
+no_shapes (m ∷ ms) e = absurd cc
+
+pub malformed_first : (e : LocatedError CodegenErrorType) (t : tree.Mod) (m : Mode) (l : ℕ) (shape : Malformed) → e.error ≡ error.MalformedTree shape → e.location ≡ None → nesting t < 1024 → size_of t < 4194304 → first (shapes t m) ≡ Some shape → IsFirst e (faults t m l)
+malformed_first e t m l shape p q d z h =
+    let r = shape_heads (shapes t m) shape (compile_faults t) h in
+    first_as e (shape_fault shape) (faults t m l) p q (r.0, not_large t m l d z ∙ r.1)
+
+-- where no shape is wrong, what is left are the faults of the nodes that are compiled
+compiled : (t : tree.Mod) (m : Mode) (l : ℕ) → nesting t < 1024 → size_of t < 4194304 → shapes t m ≡ [] → faults t m l ≡ compile_faults t
+compiled t m l d z h = not_large t m l d z ∙ ap (λ ms. malformed ms ++ compile_faults t) h
+
+pub refused_first : (e : LocatedError CodegenErrorType) (t : tree.Mod) (m : Mode) (l : ℕ) → nesting t < 1024 → size_of t < 4194304 → first (shapes t m) ≡ None → IsRefused e (emitted t l) → IsFirst e (faults t m l)
+refused_first e t m l d z n h known =
+    let none = no_shapes (shapes t m) n in
+    let f = refusal_heads t m l e.error e.location none (h known) in
+    (f.0, compiled t m l d z none ∙ f.1)
+
+emitted_faultless : (code : CodeObject) (path : List ℕ) (t : tree.Mod) (m : Mode) (l : ℕ) (o : Outcome) → emitted t l ≡ o → shapes t m ≡ [] → IsEmitted code path l o → compile_faults t ≡ []
+emitted_faultless code path t m l (Done r) e h is = done_faultless t m l r h e
+emitted_faultless code path t m l TooWide e h is = absurd is
+emitted_faultless code path t m l (Refused r at) e h is = absurd is
+
+pub emitted_clean : (code : CodeObject) (path : List ℕ) (t : tree.Mod) (m : Mode) (l : ℕ) → nesting t < 1024 → size_of t < 4194304 → first (shapes t m) ≡ None → IsEmitted code path l (emitted t l) → faults t m l ≡ []
+emitted_clean code path t m l d z n is =
+    let none = no_shapes (shapes t m) n in
+    compiled t m l d z none ∙ emitted_faultless code path t m l (emitted t l) refl none is

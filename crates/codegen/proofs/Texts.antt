@@ -1,5 +1,5 @@
 -- Texts are equal where all their bytes are.
-use Rattle.std.proofs.Common.{◌≡◌, ℕ, List, [], ◌∷◌, Bool, true, false, refl, ap, ◌∙◌, rules, ◌&&◌, nat_eq}
+use Rattle.std.proofs.Common.{◌≡◌, ℕ, List, [], ◌∷◌, Bool, true, false, refl, rules, ◌&&◌, nat_eq}
 use Rattle.py_bytecode.specs.Equality.{text_eq}
 
 both : (a b : Bool) → a && b ≡ true → (a ≡ true) × (b ≡ true)

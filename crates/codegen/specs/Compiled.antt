@@ -7,6 +7,7 @@ use Rattle.py_bytecode.specs.Decode.{tables}
 use Rattle.py_bytecode.specs.Units.{fetch_unit, machine}
 use Rattle.py_meaning.specs.Laws.{IsEnd}
 use Rattle.py_meaning.specs.Faults.{Fault}
+use Rattle.py_meaning.specs.Emission.{Outcome, Refused}
 use Rattle.py_meaning.specs.declared.errors.CodegenErrorType.{CodegenErrorType}
 use Rattle.py_meaning.specs.declared.errors.CodegenErrorType.TheVariants as error
 use Rattle.py_tree.specs.declared.location.LocatedError.{LocatedError}
@@ -28,3 +29,7 @@ AlwaysEnds o = (answers : List Answer) → IsEnd (machine o answers).outcome
 -- the error is the first fault, with its location, or says that there was no memory
 abbrev pub IsFirst : LocatedError CodegenErrorType → List Fault → Type 0
 IsFirst e fs = e.error ≢ error.OutOfMemory → (rest : List Fault) × (fs ≡ record { error = e.error; location = e.location } ∷ rest)
+
+-- the emission is refused so, unless the error says that there was no memory
+abbrev pub IsRefused : LocatedError CodegenErrorType → Outcome → Type 0
+IsRefused e o = e.error ≢ error.OutOfMemory → o ≡ Refused e.error e.location

@@ -1,30 +1,25 @@
 //! The compile calls.
 
-ghost use Rattle.std.specs.Prelude.{◌≡◌, [], ◌<◌, ◌^◌, IfOk, IfErr, OnOk};
-ghost use Rattle.py_tree.specs.Nesting.{nesting};
+ghost use Rattle.std.specs.Prelude.{◌≡◌, [], ◌<◌, ◌^◌, None, IfOk, IfErr, OnOk};
+ghost use Rattle.py_tree.specs.Size.{size_of};
 ghost use Rattle.py_tree.specs.View.{mod_tree, stmt_tree, stmts};
-ghost use Rattle.py_tree.specs.Tree.{Module as module_of};
 ghost use Rattle.py_bytecode.specs.View.{object};
 ghost use Rattle.py_meaning.specs.Agreement.{Agree, AgreeFull};
-ghost use Rattle.py_meaning.specs.Emission.{Done, Goes, IsEmitted, emission_of_program, emitted};
+ghost use Rattle.py_meaning.specs.Emission.{Done, emission_of_mod, emission_of_program, emitted};
 ghost use Rattle.py_meaning.specs.Faults.{faults};
 ghost use Rattle.py_meaning.specs.Meaning.{body};
-ghost use Rattle.codegen.specs.Compiled.{AlwaysEnds, IsFirst, NoHigher};
-ghost use Rattle.codegen.specs.States.{state};
+ghost use Rattle.codegen.specs.Compiled.{AlwaysEnds, IsFirst, IsRefused, NoHigher};
+ghost use Rattle.py_emit.specs.Emitted.{IsEmitted};
+ghost use Rattle.py_emit.specs.States.{AreMade, Goes, Same, loop_blocks, rest, state};
 
-use crate::emitter::Emitter;
-use crate::error::{CodegenError, CodegenErrorType};
 use crate::statements::compile_statements;
 use py_bytecode::{CodeObject, ConstantData};
-use py_tree::{LocatedError, Mod, Mode, Stmt, Stmts, Text, TreeLimit, depth_of_tree, size_of_tree};
+pub use py_emit::CompileOpts;
+use py_emit::Emitter;
+use py_expr::compile_return;
+use py_meaning::{CodegenError, CodegenErrorType};
+use py_tree::{LocatedError, Mod, Mode, Stmt, Text, TreeLimit, depth_of_tree, size_of_tree, valid};
 use std::alloc::Global;
-
-/// How a tree is compiled.
-#[derive(Clone, Copy, Debug, Default)]
-pub struct CompileOpts {
-    /// The level of optimization: above 0 asserts are dropped, above 1 docstrings too. Levels above 2 act as 2.
-    pub optimize: u8,
-}
 
 /// The nesting that no accepted tree reaches.
 pub const NESTING_LIMIT: u32 = 1024;
@@ -45,19 +40,22 @@ pub fn compile_top(
 ) -> Result<CodeObject, CodegenError>
     ensures agrees { IfOk result (λ code. Agree (object code) (body (mod_tree ast.now) mode opts.optimize)) }
     ensures agrees_full { IfOk result (λ code. AgreeFull (object code) (body (mod_tree ast.now) mode opts.optimize)) }
-    ensures emission { IfOk result (λ code. IsEmitted (object code) source_path (emitted (mod_tree ast.now) opts.optimize)) }
+    ensures emission { IfOk result (λ code. IsEmitted code source_path opts.optimize (emitted (mod_tree ast.now) opts.optimize)) }
     ensures ends { IfOk result (λ code. AlwaysEnds (object code)) }
     ensures depth { IfOk result (λ code. NoHigher (object code)) }
     ensures clean { OnOk result (faults (mod_tree ast.now) mode opts.optimize ≡ []) }
     ensures first { IfErr result (λ e. IsFirst e (faults (mod_tree ast.now) mode opts.optimize)) }
     ensures path { IfErr result (λ e. e.source_path ≡ source_path) }
 {
-    match depth_of_tree(ast, NESTING_LIMIT) {
-        None => Err(refused(CodegenErrorType::TooLarge(TreeLimit::Depth), source_path)),
-        Some(_) => match size_of_tree(ast, SIZE_LIMIT) {
-            None => Err(refused(CodegenErrorType::TooLarge(TreeLimit::Nodes), source_path)),
-            Some(_) => compile_mod(alloc, ast, source_path, opts),
-        },
+    if depth_of_tree(ast, NESTING_LIMIT).is_none() {
+        return Err(refused(CodegenErrorType::TooLarge(TreeLimit::Depth), source_path));
+    }
+    if size_of_tree(ast, SIZE_LIMIT).is_none() {
+        return Err(refused(CodegenErrorType::TooLarge(TreeLimit::Nodes), source_path));
+    }
+    match valid(ast, mode) {
+        Some(shape) => Err(refused(CodegenErrorType::MalformedTree(shape), source_path)),
+        None => compile_mod(alloc, ast, source_path, opts),
     }
 }
 
@@ -74,43 +72,44 @@ fn refused(error: CodegenErrorType, source_path: Text) -> CodegenError
     }
 }
 
+/// The code of a tree whose nesting, size and shapes are right.
 fn compile_mod(
     alloc: Global,
     ast: &Mod,
     source_path: Text,
     opts: CompileOpts,
 ) -> Result<CodeObject, CodegenError>
-    ensures emission { IfOk result (λ code. IsEmitted (object code) source_path (emitted (mod_tree ast.now) opts.optimize)) }
-    ensures error { IfErr result (λ e. e.error ≡ CodegenErrorType.OutOfMemory) }
+    requires { size_of (mod_tree ast.now) < 2 ^ 22 }
+    ensures emission { IfOk result (λ code. IsEmitted code source_path opts.optimize (emitted (mod_tree ast.now) opts.optimize)) }
+    ensures refused { IfErr result (λ e. IsRefused e (emitted (mod_tree ast.now) opts.optimize)) }
     ensures path { IfErr result (λ e. e.source_path ≡ source_path) }
 {
-    match ast {
-        Mod::Module(m) => compile_module(alloc, &m.body, source_path, opts),
-    }
+    let mut em = Emitter::new(alloc, opts, source_path)?;
+    emit_mod(&mut em, ast)?;
+    em.finish()
 }
 
-fn compile_module(
-    alloc: Global,
-    ast: &Stmts,
-    source_path: Text,
-    opts: CompileOpts,
-) -> Result<CodeObject, CodegenError>
-    ensures emission { IfOk result (λ code. IsEmitted (object code) source_path (emitted (module_of (stmts stmt_tree ast.now)) opts.optimize)) }
-    ensures error { IfErr result (λ e. e.error ≡ CodegenErrorType.OutOfMemory) }
-    ensures path { IfErr result (λ e. e.source_path ≡ source_path) }
+/// Emits a whole tree.
+fn emit_mod(em: &mut Emitter, ast: &Mod) -> Result<(), CodegenError>
+    requires loops { AreMade (rest em.old).context.loop_blocks }
+    requires outside { loop_blocks (rest em.old).context.loop_blocks ≡ None }
+    ensures goes { Goes result (Done (state em.new)) (emission_of_mod (rest em.old).opts.optimize (mod_tree ast.now) (state em.old)) }
+    ensures same { Same result (rest em.new) (rest em.old) }
 {
-    let mut em = Emitter::new(alloc);
-    match emit_program(&mut em, opts, ast.as_slice()) {
-        Ok(()) => em.finish(source_path),
-        Err(error) => Err(refused(error, source_path)),
+    match ast {
+        Mod::Module(m) => emit_program(em, m.body.as_slice()),
+        Mod::Expression(m) => compile_return(em, &m.body),
     }
 }
 
 /// Emits the statements of a file, and the return of None.
 #[tactic(auto, using(py_bytecode::proofs::View::views))]
-fn emit_program(em: &mut Emitter, opts: CompileOpts, ast: &[Stmt]) -> Result<(), CodegenErrorType>
-    ensures { Goes result (Done (state em.new)) (emission_of_program opts.optimize (stmts stmt_tree ast.now) (state em.old)) }
+fn emit_program(em: &mut Emitter, ast: &[Stmt]) -> Result<(), CodegenError>
+    requires loops { AreMade (rest em.old).context.loop_blocks }
+    requires outside { loop_blocks (rest em.old).context.loop_blocks ≡ None }
+    ensures goes { Goes result (Done (state em.new)) (emission_of_program (rest em.old).opts.optimize (stmts stmt_tree ast.now) (state em.old)) }
+    ensures same { Same result (rest em.new) (rest em.old) }
 {
-    compile_statements(em, opts, ast)?;
+    compile_statements(em, ast)?;
     em.return_const(ConstantData::None)
 }

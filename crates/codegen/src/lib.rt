@@ -2,10 +2,7 @@
 #![tactic(auto)]
 
 pub mod compile;
-mod emitter;
 pub mod error;
-mod expressions;
-mod sets;
 mod statements;
 #[cfg(test)]
 mod tests;

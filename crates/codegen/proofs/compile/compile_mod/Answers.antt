@@ -1,0 +1,43 @@
+use Rattle.std.proofs.Common.{◌≡◌, Result, Ok, Err, IfOk, IfErr, IsErrAnd, sym, ap, ◌∙◌, subst}
+use Rattle.std.proofs.lemmas.Result.{err_from_is_err_and}
+use Rattle.py_tree.specs.View.{mod_tree}
+use Rattle.py_tree.specs.declared.location.LocatedError.{LocatedError}
+use Rattle.py_bytecode.specs.declared.code.CodeObject.{CodeObject}
+use Rattle.py_ir.specs.Final.{IsFinal}
+use Rattle.py_meaning.specs.Emission.{Done, emitted}
+use Rattle.py_meaning.specs.declared.errors.CodegenErrorType.{CodegenErrorType}
+use Rattle.py_emit.specs.Emitted.{IsEmitted}
+use Rattle.py_emit.specs.States.{Rest, info, rest, state}
+use Rattle.codegen.specs.Compiled.{IsRefused}
+use Rattle.codegen.proofs.Made.{goes_first, made_mod, unrefused_mod}
+use Rattle.codegen.proofs.compile.compile_mod.Goals as goal
+
+errs : {T E : Type 0} (r : Result T E) (e : E) → IsErrAnd r (λ y. y ≡ e) → r ≡ Err e
+errs r e is = let p = err_from_is_err_and r is in p.1 ∙ ap (λ y. Err y) p.2
+
+on_ok : {T E : Type 0} (r : Result T E) (P Q : T → Type 0) → ((x : T) → P x → Q x) → IfOk r P → IfOk r Q
+on_ok (Ok x) P Q f p = f x p
+on_ok (Err e) P Q f p = p
+
+pub returns-in_err-emit_mod-clause-refused : goal.returns-in_err-emit_mod-clause-refused
+returns-in_err-emit_mod-clause-refused c =
+    let r : c.from_residual-in_err-emit_mod.result ≡ Err c.in_err-emit_mod.field-0.0 = errs _ _ c.from_residual-in_err-emit_mod.ensures.1 in
+    let x : Result (Unit {0}) (LocatedError CodegenErrorType) = Err c.in_err-emit_mod.field-0.0 in
+    let h : IsRefused c.in_err-emit_mod.field-0.0 (emitted (mod_tree c.args.ast.now) c.args.opts.optimize) = goes_first (mod_tree c.args.ast.now) c.args.opts c.args.source_path c.in_ok-em.em c.in_ok-em.ensures.state c.in_ok-em.ensures.rest x (Done (state c.emit_mod.new.em)) c.in_err-emit_mod.ensures.goes in
+    subst (λ y. IfErr y (λ e. IsRefused e (emitted (mod_tree c.args.ast.now) c.args.opts.optimize))) (sym r) h
+
+pub returns-in_err-emit_mod-clause-path : goal.returns-in_err-emit_mod-clause-path
+returns-in_err-emit_mod-clause-path c =
+    let r : c.from_residual-in_err-emit_mod.result ≡ Err c.in_err-emit_mod.field-0.0 = errs _ _ c.from_residual-in_err-emit_mod.ensures.1 in
+    subst (λ y. IfErr y (λ e. e.source_path ≡ c.args.source_path)) (sym r) (c.in_err-emit_mod.ensures.same ∙ ap (λ (q : Rest). q.path) c.in_ok-em.ensures.rest)
+
+pub finish-requires : goal.finish-requires
+finish-requires c =
+    let is = goes_first (mod_tree c.args.ast.now) c.args.opts c.args.source_path c.in_ok-em.em c.in_ok-em.ensures.state c.in_ok-em.ensures.rest (Ok (tt {0})) (Done (state c.emit_mod.new.em)) c.in_ok-emit_mod.ensures.goes in
+    unrefused_mod (mod_tree c.args.ast.now) c.args.opts c.args.source_path c.in_ok-em.em c.in_ok-em.ensures.state c.in_ok-em.ensures.rest c.emit_mod.new.em c.in_ok-emit_mod.ensures.same is c.requires
+
+pub returns-clause-emission : goal.returns-clause-emission
+returns-clause-emission c =
+    let t = mod_tree c.args.ast.now in
+    let is = goes_first t c.args.opts c.args.source_path c.in_ok-em.em c.in_ok-em.ensures.state c.in_ok-em.ensures.rest (Ok (tt {0})) (Done (state c.emit_mod.new.em)) c.in_ok-emit_mod.ensures.goes in
+    on_ok c.finish.result (λ code. IsFinal (rest c.emit_mod.new.em).opts.optimize (info c.emit_mod.new.em) code) (λ code. IsEmitted code c.args.source_path c.args.opts.optimize (emitted t c.args.opts.optimize)) (made_mod t c.args.opts c.args.source_path c.in_ok-em.em c.in_ok-em.ensures.state c.in_ok-em.ensures.rest c.emit_mod.new.em c.in_ok-emit_mod.ensures.same is) c.finish.ensures.code
