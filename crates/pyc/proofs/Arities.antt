@@ -3,7 +3,7 @@ use Rattle.std.proofs.Common.{◌≡◌, ◌<◌, ℕ, List, [], ◌∷◌, leng
 use Rattle.serde_json.specs.View.{view, items_view}
 use Rattle.serde_json.specs.declared.value.Value.{Value}
 use Rattle.pyc.specs.declared.rows.error.RowsError.TheVariants.{WrongRow}
-use Rattle.pyc.specs.Fields.{one, three, five}
+use Rattle.pyc.specs.Fields.{one, two, three, four, five}
 use Rattle.pyc.specs.Forms.{word_form}
 use Rattle.py_tree.specs.declared.expressions.Constant.{Constant}
 
@@ -12,12 +12,35 @@ not_one n [] h = refl
 not_one n (a ∷ []) h = absurd (h refl)
 not_one n (a ∷ b ∷ vs) h = refl
 
+pub not_two : (n : ℕ) (vs : List Value) → (length vs ≡ 2 → ⊥) → two n (items_view vs) ≡ Err (WrongRow n)
+not_two n [] h = refl
+not_two n (a ∷ []) h = refl
+not_two n (a ∷ b ∷ []) h = absurd (h refl)
+not_two n (a ∷ b ∷ c ∷ vs) h = refl
+
 pub not_three : (n : ℕ) (vs : List Value) → (length vs ≡ 3 → ⊥) → three n (items_view vs) ≡ Err (WrongRow n)
 not_three n [] h = refl
 not_three n (a ∷ []) h = refl
 not_three n (a ∷ b ∷ []) h = refl
 not_three n (a ∷ b ∷ c ∷ []) h = absurd (h refl)
 not_three n (a ∷ b ∷ c ∷ d ∷ vs) h = refl
+
+pub not_four : (n : ℕ) (vs : List Value) → (length vs ≡ 4 → ⊥) → four n (items_view vs) ≡ Err (WrongRow n)
+not_four n [] h = refl
+not_four n (a ∷ []) h = refl
+not_four n (a ∷ b ∷ []) h = refl
+not_four n (a ∷ b ∷ c ∷ []) h = refl
+not_four n (a ∷ b ∷ c ∷ d ∷ []) h = absurd (h refl)
+not_four n (a ∷ b ∷ c ∷ d ∷ e ∷ vs) h = refl
+
+pub are_four : (n : ℕ) (vs : List Value) (a b c d : Value) → length vs ≡ 4 → a ≡ get_or vs 0 a → b ≡ get_or vs 1 b → c ≡ get_or vs 2 c → d ≡ get_or vs 3 d
+    → four n (items_view vs) ≡ Ok (view a, view b, view c, view d)
+are_four n [] a b c d l p q r s = absurd (omega (arith, l))
+are_four n (u ∷ []) a b c d l p q r s = absurd (omega (arith, l))
+are_four n (u ∷ v ∷ []) a b c d l p q r s = absurd (omega (arith, l))
+are_four n (u ∷ v ∷ w ∷ []) a b c d l p q r s = absurd (omega (arith, l))
+are_four n (u ∷ v ∷ w ∷ x ∷ []) a b c d l p q r s = rw (p, q, r, s) refl
+are_four n (u ∷ v ∷ w ∷ x ∷ y ∷ vs) a b c d l p q r s = absurd (omega (arith, l))
 
 pub not_five : (n : ℕ) (vs : List Value) → (length vs ≡ 5 → ⊥) → five n (items_view vs) ≡ Err (WrongRow n)
 not_five n [] h = refl

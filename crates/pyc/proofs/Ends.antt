@@ -4,8 +4,10 @@ use Rattle.std.specs.List.{slice_get, prefix_len}
 use Rattle.std.proofs.lemmas.List.{length-map, map-append}
 use Rattle.py_tree.specs.Tree as tree
 use Rattle.pyc.specs.declared.rows.error.RowsError.{RowsError}
+use Rattle.pyc.specs.declared.rows.error.RowsError.TheVariants.{NotJson, NotRows, NotBuilt, WrongRow, WideInteger, LaterRow, WrongKind, NamedTwice, TooDeep, NoMod, NotNamed, OutOfMemory}
 use Rattle.pyc.specs.declared.rows.slots.Node as row
 use Rattle.pyc.specs.declared.rows.slots.Slot as kept
+use Rattle.pyc.specs.Gives.{Fails}
 use Rattle.pyc.specs.Rows.{mod_of, first_left, whole, where_none}
 use Rattle.pyc.specs.Slots.{Slot, node_view, slot_view}
 
@@ -40,10 +42,25 @@ whole_of xs rest (Some x) m e h =
     rw (e, map-append slot_view rest (x ∷ []), l, minus (length ys), back ys (slot_view x), front ys (slot_view x), h, first_left-map rest) refl
 
 -- the last slot is no module, or there is none
-pub no_mod : (xs rest : List kept.Slot) (last : Option kept.Slot) (f : RowsError) → xs ≡ rest ++ option_to_list last → (last ≡ None → length xs ≡ 0) → mod_of (option_map slot_view last) ≡ Err f → whole (map slot_view xs) ≡ Err f
+no_mod : (xs rest : List kept.Slot) (last : Option kept.Slot) (f : RowsError) → xs ≡ rest ++ option_to_list last → (last ≡ None → length xs ≡ 0) → mod_of (option_map slot_view last) ≡ Err f → whole (map slot_view xs) ≡ Err f
 no_mod [] rest None f e n h = h
 no_mod (x ∷ xs) rest None f e n h = absurd (omega (arith, n refl))
 no_mod xs rest (Some x) f e n h =
     let ys = map slot_view rest in
     let l : length (ys ++ slot_view x ∷ []) ≡ length ys + 1 = simp length-append refl in
     rw (e, map-append slot_view rest (x ∷ []), l, minus (length ys), back ys (slot_view x), h) refl
+
+pub failing : (xs rest : List kept.Slot) (last : Option kept.Slot) (f : RowsError) → xs ≡ rest ++ option_to_list last → (last ≡ None → length xs ≡ 0)
+    → Fails f (mod_of (option_map slot_view last)) → Fails f (whole (map slot_view xs))
+failing xs rest last NotJson e n h = no_mod xs rest last NotJson e n h
+failing xs rest last NotRows e n h = no_mod xs rest last NotRows e n h
+failing xs rest last (NotBuilt row location) e n h = no_mod xs rest last (NotBuilt row location) e n h
+failing xs rest last (WrongRow row) e n h = no_mod xs rest last (WrongRow row) e n h
+failing xs rest last (WideInteger row) e n h = no_mod xs rest last (WideInteger row) e n h
+failing xs rest last (LaterRow row) e n h = no_mod xs rest last (LaterRow row) e n h
+failing xs rest last (WrongKind row) e n h = no_mod xs rest last (WrongKind row) e n h
+failing xs rest last (NamedTwice row) e n h = no_mod xs rest last (NamedTwice row) e n h
+failing xs rest last (TooDeep row) e n h = no_mod xs rest last (TooDeep row) e n h
+failing xs rest last NoMod e n h = no_mod xs rest last NoMod e n h
+failing xs rest last (NotNamed row) e n h = no_mod xs rest last (NotNamed row) e n h
+failing xs rest last OutOfMemory e n h = tt

@@ -7,6 +7,5 @@ pub mod Jsons
 pub mod Numerals
 pub mod Pieces
 pub mod Sofar
-pub mod Statements
 pub mod Takes
 pub mod Verdicts

@@ -1,11 +1,8 @@
 -- The fields of rows.
-use Rattle.std.specs.Prelude.{ℕ, ◌^◌, ◌&&◌, nat_lt, List, [], ◌∷◌, Option, Some, None, option_and_then, Result, Ok, Err, if◌then◌else◌, codes}
-use Rattle.std.specs.Str.{bytes_eq}
+use Rattle.std.specs.Prelude.{ℕ, ◌^◌, ◌&&◌, nat_lt, List, [], ◌∷◌, Option, Some, None, option_and_then, Result, Ok, Err, if◌then◌else◌}
 use Rattle.serde_json.specs.Data.{Data, Items, no_items, item}
 use Rattle.serde_json.specs.Find.{as_array, as_number, as_str, as_u64}
 use Rattle.py_tree.specs.declared.location.SourceLocation.{SourceLocation}
-use Rattle.py_tree.specs.declared.operators.Operator.{Operator}
-use Rattle.py_tree.specs.declared.operators.Operator.TheVariants as operator
 use Rattle.pyc.specs.declared.rows.error.RowsError.{RowsError}
 use Rattle.pyc.specs.declared.rows.error.RowsError.TheVariants.{WrongRow}
 use Rattle.pyc.specs.Gives.{or_fault, ◌>>=◌}
@@ -16,9 +13,17 @@ abbrev pub one : ℕ → Items → Result Data RowsError
 one n (item a no_items) = Ok a
 one n fields = Err (WrongRow n)
 
+abbrev pub two : ℕ → Items → Result (Data × Data) RowsError
+two n (item a (item b no_items)) = Ok (a, b)
+two n fields = Err (WrongRow n)
+
 abbrev pub three : ℕ → Items → Result (Data × Data × Data) RowsError
 three n (item a (item b (item c no_items))) = Ok (a, b, c)
 three n fields = Err (WrongRow n)
+
+abbrev pub four : ℕ → Items → Result (Data × Data × Data × Data) RowsError
+four n (item a (item b (item c (item d no_items)))) = Ok (a, b, c, d)
+four n fields = Err (WrongRow n)
 
 abbrev pub five : ℕ → Items → Result (Data × Data × Data × Data × Data) RowsError
 five n (item a (item b (item c (item d (item e no_items))))) = Ok (a, b, c, d, e)
@@ -60,22 +65,3 @@ numbers_at n d = or_fault (WrongRow n) (as_array d) >>= numbers_in n
 
 abbrev pub text_at : ℕ → Data → Result (List ℕ) RowsError
 text_at n d = or_fault (WrongRow n) (as_str d)
-
-abbrev pub operator_of : List ℕ → Option Operator
-operator_of word =
-    if bytes_eq word (codes "Add") then Some operator.Add else
-    (if bytes_eq word (codes "Sub") then Some operator.Sub else
-    (if bytes_eq word (codes "Mult") then Some operator.Mult else
-    (if bytes_eq word (codes "MatMult") then Some operator.MatMult else
-    (if bytes_eq word (codes "Div") then Some operator.Div else
-    (if bytes_eq word (codes "FloorDiv") then Some operator.FloorDiv else
-    (if bytes_eq word (codes "Mod") then Some operator.Mod else
-    (if bytes_eq word (codes "Pow") then Some operator.Pow else
-    (if bytes_eq word (codes "LShift") then Some operator.LShift else
-    (if bytes_eq word (codes "RShift") then Some operator.RShift else
-    (if bytes_eq word (codes "BitOr") then Some operator.BitOr else
-    (if bytes_eq word (codes "BitXor") then Some operator.BitXor else
-    (if bytes_eq word (codes "BitAnd") then Some operator.BitAnd else None))))))))))))
-
-abbrev pub operator_at : ℕ → Data → Result Operator RowsError
-operator_at n d = or_fault (WrongRow n) (option_and_then operator_of (as_str d))

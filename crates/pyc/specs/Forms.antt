@@ -8,28 +8,60 @@ use Rattle.pyc.specs.declared.rows.error.RowsError.{RowsError}
 use Rattle.pyc.specs.declared.rows.error.RowsError.TheVariants.{WrongRow}
 use Rattle.pyc.specs.declared.rows.forms.Form.{Form}
 use Rattle.pyc.specs.declared.rows.forms.Form.TheVariants as form
+use Rattle.pyc.specs.declared.rows.forms.Branches.{Branches}
+use Rattle.py_tree.specs.declared.location.SourceLocation.{SourceLocation}
 use Rattle.pyc.specs.declared.rows.forms.Sort.{Sort}
 use Rattle.pyc.specs.declared.rows.forms.Sort.TheVariants as sort
 use Rattle.pyc.specs.declared.rows.forms.Part.{Part}
 use Rattle.pyc.specs.declared.rows.kinds.Kind.{Kind}
 use Rattle.pyc.specs.declared.rows.kinds.Kind.TheVariants as kind
-use Rattle.pyc.specs.Fields.{one, three, five, number_at, numbers_at, operator_at, place_at, text_at}
+use Rattle.pyc.specs.Fields.{one, two, three, four, five, number_at, numbers_at, place_at, text_at}
 use Rattle.pyc.specs.Gives.{or_fault, ◌>>=◌}
 use Rattle.pyc.specs.Integers.{integer_at}
 use Rattle.pyc.specs.Kinds.{kind_of}
+use Rattle.pyc.specs.Operators.{bool_operator_at, comparisons_at, operator_at, unary_operator_at}
 
 -- ---- the fields of each kind
 
 abbrev pub module_form : ℕ → Items → Result Form RowsError
 module_form n fields = one n fields >>= λ body. numbers_at n body >>= λ body. Ok (form.Module body)
 
+abbrev pub expression_form : ℕ → Items → Result Form RowsError
+expression_form n fields = one n fields >>= λ body. number_at n body >>= λ body. Ok (form.Expression body)
+
+-- a test and the two bodies that hang on it
+abbrev pub branches_form : ℕ → Items → Result Branches RowsError
+branches_form n fields = five n fields >>= λ (line, column, test, body, orelse).
+    place_at n line column >>= λ at. number_at n test >>= λ test. numbers_at n body >>= λ body. numbers_at n orelse >>= λ orelse.
+    Ok (record { location = at; test = test; body = body; orelse = orelse })
+
+-- the location that is all that a row holds
+abbrev pub place_form : ℕ → Items → Result SourceLocation RowsError
+place_form n fields = two n fields >>= λ (line, column). place_at n line column
+
 abbrev pub statement_form : ℕ → Items → Result Form RowsError
 statement_form n fields = three n fields >>= λ (line, column, value).
     place_at n line column >>= λ at. number_at n value >>= λ value. Ok (form.Expr at value)
 
+abbrev pub bool_op_form : ℕ → Items → Result Form RowsError
+bool_op_form n fields = four n fields >>= λ (line, column, op, values).
+    place_at n line column >>= λ at. bool_operator_at n op >>= λ op. numbers_at n values >>= λ values. Ok (form.BoolOp at op values)
+
 abbrev pub bin_op_form : ℕ → Items → Result Form RowsError
 bin_op_form n fields = five n fields >>= λ (line, column, left, op, right).
     place_at n line column >>= λ at. number_at n left >>= λ left. operator_at n op >>= λ op. number_at n right >>= λ right. Ok (form.BinOp at left op right)
+
+abbrev pub unary_op_form : ℕ → Items → Result Form RowsError
+unary_op_form n fields = four n fields >>= λ (line, column, op, operand).
+    place_at n line column >>= λ at. unary_operator_at n op >>= λ op. number_at n operand >>= λ operand. Ok (form.UnaryOp at op operand)
+
+abbrev pub if_exp_form : ℕ → Items → Result Form RowsError
+if_exp_form n fields = five n fields >>= λ (line, column, test, body, orelse).
+    place_at n line column >>= λ at. number_at n test >>= λ test. number_at n body >>= λ body. number_at n orelse >>= λ orelse. Ok (form.IfExp at test body orelse)
+
+abbrev pub compare_form : ℕ → Items → Result Form RowsError
+compare_form n fields = five n fields >>= λ (line, column, left, ops, comparators).
+    place_at n line column >>= λ at. number_at n left >>= λ left. comparisons_at n ops >>= λ ops. numbers_at n comparators >>= λ comparators. Ok (form.Compare at left ops comparators)
 
 abbrev pub call_form : ℕ → Items → Result Form RowsError
 call_form n fields = five n fields >>= λ (line, column, func, args, keywords).
@@ -53,8 +85,18 @@ int_form n fields = one n fields >>= text_at n >>= integer_at n >>= λ z. Ok (fo
 
 abbrev pub form_of_kind : ℕ → Kind → Items → Result Form RowsError
 form_of_kind n kind.Module = module_form n
+form_of_kind n kind.Expression = expression_form n
+form_of_kind n kind.While = λ fields. branches_form n fields >>= λ b. Ok (form.While b)
+form_of_kind n kind.If = λ fields. branches_form n fields >>= λ b. Ok (form.If b)
 form_of_kind n kind.Expr = statement_form n
+form_of_kind n kind.Pass = λ fields. place_form n fields >>= λ at. Ok (form.Pass at)
+form_of_kind n kind.Break = λ fields. place_form n fields >>= λ at. Ok (form.Break at)
+form_of_kind n kind.Continue = λ fields. place_form n fields >>= λ at. Ok (form.Continue at)
+form_of_kind n kind.BoolOp = bool_op_form n
 form_of_kind n kind.BinOp = bin_op_form n
+form_of_kind n kind.UnaryOp = unary_op_form n
+form_of_kind n kind.IfExp = if_exp_form n
+form_of_kind n kind.Compare = compare_form n
 form_of_kind n kind.Call = call_form n
 form_of_kind n kind.Constant = constant_form n
 form_of_kind n kind.Name = name_form n
@@ -77,10 +119,23 @@ form_at n row = or_fault (WrongRow n) (as_array row) >>= form_in n
 abbrev pub each_part : Sort → List ℕ → List Part
 each_part s = map (λ n. record { sort = s; number = n })
 
+abbrev pub branches_parts : Branches → List Part
+branches_parts b = each_part sort.Expr (b.test ∷ []) ++ each_part sort.Stmt b.body ++ each_part sort.Stmt b.orelse
+
 abbrev pub parts_of : Form → List Part
 parts_of (form.Module body) = each_part sort.Stmt body
+parts_of (form.Expression body) = each_part sort.Expr (body ∷ [])
+parts_of (form.While b) = branches_parts b
+parts_of (form.If b) = branches_parts b
 parts_of (form.Expr at value) = each_part sort.Expr (value ∷ [])
+parts_of (form.Pass at) = []
+parts_of (form.Break at) = []
+parts_of (form.Continue at) = []
+parts_of (form.BoolOp at op values) = each_part sort.Expr values
 parts_of (form.BinOp at left op right) = each_part sort.Expr (left ∷ right ∷ [])
+parts_of (form.UnaryOp at op operand) = each_part sort.Expr (operand ∷ [])
+parts_of (form.IfExp at test body orelse) = each_part sort.Expr (test ∷ body ∷ orelse ∷ [])
+parts_of (form.Compare at left ops comparators) = each_part sort.Expr (left ∷ comparators)
 parts_of (form.Call at func args keywords) = each_part sort.Expr (func ∷ args) ++ each_part sort.Keyword keywords
 parts_of (form.Constant at value) = each_part sort.Constant (value ∷ [])
 parts_of (form.Name at id) = []

@@ -15,8 +15,18 @@ use Rattle.pyc.specs.declared.rows.kinds.Kind.TheVariants as kind
 abbrev pub kind_of : List ℕ → Option Kind
 kind_of word =
     if bytes_eq word (codes "Module") then Some kind.Module else
+    (if bytes_eq word (codes "Expression") then Some kind.Expression else
+    (if bytes_eq word (codes "While") then Some kind.While else
+    (if bytes_eq word (codes "If") then Some kind.If else
     (if bytes_eq word (codes "Expr") then Some kind.Expr else
+    (if bytes_eq word (codes "Pass") then Some kind.Pass else
+    (if bytes_eq word (codes "Break") then Some kind.Break else
+    (if bytes_eq word (codes "Continue") then Some kind.Continue else
+    (if bytes_eq word (codes "BoolOp") then Some kind.BoolOp else
     (if bytes_eq word (codes "BinOp") then Some kind.BinOp else
+    (if bytes_eq word (codes "UnaryOp") then Some kind.UnaryOp else
+    (if bytes_eq word (codes "IfExp") then Some kind.IfExp else
+    (if bytes_eq word (codes "Compare") then Some kind.Compare else
     (if bytes_eq word (codes "Call") then Some kind.Call else
     (if bytes_eq word (codes "Constant") then Some kind.Constant else
     (if bytes_eq word (codes "Name") then Some kind.Name else
@@ -24,7 +34,7 @@ kind_of word =
     (if bytes_eq word (codes "true") then Some kind.True else
     (if bytes_eq word (codes "false") then Some kind.False else
     (if bytes_eq word (codes "ellipsis") then Some kind.Ellipsis else
-    (if bytes_eq word (codes "int") then Some kind.Int else None))))))))))
+    (if bytes_eq word (codes "int") then Some kind.Int else None))))))))))))))))))))
 
 -- the word is one of these
 abbrev pub is_one_of : List (List ℕ) → List ℕ → Bool
@@ -35,15 +45,15 @@ is_one_of words word = list_any (bytes_eq word) words
 abbrev pub is_unbuilt_statement : List ℕ → Bool
 is_unbuilt_statement = is_one_of
     (codes "FunctionDef" ∷ codes "AsyncFunctionDef" ∷ codes "ClassDef" ∷ codes "Return" ∷ codes "Delete" ∷ codes "Assign"
-    ∷ codes "TypeAlias" ∷ codes "AugAssign" ∷ codes "AnnAssign" ∷ codes "For" ∷ codes "AsyncFor" ∷ codes "While" ∷ codes "If"
+    ∷ codes "TypeAlias" ∷ codes "AugAssign" ∷ codes "AnnAssign" ∷ codes "For" ∷ codes "AsyncFor"
     ∷ codes "With" ∷ codes "AsyncWith" ∷ codes "Match" ∷ codes "Raise" ∷ codes "Try" ∷ codes "TryStar" ∷ codes "Assert"
-    ∷ codes "Import" ∷ codes "ImportFrom" ∷ codes "Global" ∷ codes "Nonlocal" ∷ codes "Pass" ∷ codes "Break" ∷ codes "Continue" ∷ [])
+    ∷ codes "Import" ∷ codes "ImportFrom" ∷ codes "Global" ∷ codes "Nonlocal" ∷ [])
 
 abbrev pub is_unbuilt_expression : List ℕ → Bool
 is_unbuilt_expression = is_one_of
-    (codes "BoolOp" ∷ codes "NamedExpr" ∷ codes "UnaryOp" ∷ codes "Lambda" ∷ codes "IfExp" ∷ codes "Dict" ∷ codes "Set"
+    (codes "NamedExpr" ∷ codes "Lambda" ∷ codes "Dict" ∷ codes "Set"
     ∷ codes "List" ∷ codes "Tuple" ∷ codes "ListComp" ∷ codes "SetComp" ∷ codes "GeneratorExp" ∷ codes "DictComp" ∷ codes "Await"
-    ∷ codes "YieldFrom" ∷ codes "Starred" ∷ codes "Yield" ∷ codes "Compare" ∷ codes "FormattedValue" ∷ codes "JoinedStr"
+    ∷ codes "YieldFrom" ∷ codes "Starred" ∷ codes "Yield" ∷ codes "FormattedValue" ∷ codes "JoinedStr"
     ∷ codes "Attribute" ∷ codes "Subscript" ∷ codes "Slice" ∷ [])
 
 abbrev pub is_unbuilt_located_part : List ℕ → Bool
@@ -51,7 +61,7 @@ is_unbuilt_located_part = is_one_of (codes "Arg" ∷ codes "TypeVar" ∷ codes "
 
 abbrev pub is_unbuilt_plain : List ℕ → Bool
 is_unbuilt_plain = is_one_of
-    (codes "Interactive" ∷ codes "Expression" ∷ codes "FunctionType" ∷ codes "Arguments" ∷ codes "ArgWithDefault" ∷ codes "Keyword" ∷ codes "Alias" ∷ codes "WithItem"
+    (codes "Interactive" ∷ codes "FunctionType" ∷ codes "Arguments" ∷ codes "ArgWithDefault" ∷ codes "Keyword" ∷ codes "Alias" ∷ codes "WithItem"
     ∷ codes "ExceptHandler" ∷ codes "Comprehension" ∷ codes "MatchCase" ∷ codes "str" ∷ codes "bytes" ∷ codes "tuple" ∷ [])
 
 -- whether rows of the kind have a location, where the kind is not built yet

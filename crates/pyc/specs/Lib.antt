@@ -7,6 +7,7 @@ pub mod JsonRows
 pub mod Kinds
 pub mod Memory
 pub mod Nodes
+pub mod Operators
 pub mod Prepared
 pub mod Rows
 pub mod Runs

@@ -2,6 +2,8 @@
 #![tactic(auto)]
 
 mod buffer;
+#[cfg(test)]
+mod choices;
 mod clean;
 mod engine;
 mod lines;

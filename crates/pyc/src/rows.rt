@@ -10,6 +10,7 @@ pub mod integer;
 pub mod json_rows;
 pub mod kinds;
 pub mod nodes;
+pub mod operators;
 pub mod parts;
 pub mod slots;
 pub mod whole;

@@ -4,7 +4,8 @@ use crate::clean::{CleanSink, CleanSource};
 use crate::engine::run;
 use crate::memory::{MemSink, MemSource};
 use crate::report::Status;
-use py_tree::{List, Text};
+use crate::rows::read_rows;
+use py_tree::{BoolOp, CmpOp, Expr, List, Mod, Stmt, Text, UnaryOp};
 use std::alloc::{AllocError, Global};
 use std::fmt::Write;
 use std::test::Fail;
@@ -107,6 +108,14 @@ fn says_what_is_wrong(rt: HostRuntime) -> Result<(), Fail> {
             "input: row 1: named twice\n",
         ),
         (
+            "[[\"Pass\",1,1],[\"Module\",[0,0]]]",
+            "input: row 1: named twice\n",
+        ),
+        (
+            "[[\"Name\",1,1,\"f\"],[\"Compare\",1,1,0,[\"lt\"],[0]]]",
+            "input: row 1: wrong form\n",
+        ),
+        (
             "[[\"Module\",[]],[\"Name\",1,1,\"f\"]]",
             "input: no module\n",
         ),
@@ -115,7 +124,7 @@ fn says_what_is_wrong(rt: HostRuntime) -> Result<(), Fail> {
             "input: row 1: not named\n",
         ),
         (
-            "[7,[\"Dict\",1,2,[],[]],[\"While\",3,4]]",
+            "[7,[\"Dict\",1,2,[],[]],[\"With\",3,4]]",
             "1:2 RustPython does not implement this feature yet\n",
         ),
         (
@@ -130,6 +139,94 @@ fn says_what_is_wrong(rt: HostRuntime) -> Result<(), Fail> {
     }
     let end = run_over(rt.alloc(), b"\xff")?;
     assert_eq!(rt; end.err.bytes(), b"input: not JSON\n".as_slice());
+    Ok(())
+}
+
+/// `while a < b not in c: break`, with `continue` and `pass` as its else part, and `if a: pass`.
+const BRANCHES: &str =
+    "[[\"Name\",1,7,\"a\"],[\"Name\",1,11,\"b\"],[\"Name\",1,20,\"c\"],[\"Compare\",1,7,0,[\"Lt\",\"NotIn\"],[1,2]],[\"Break\",2,3],[\"Continue\",4,3],[\"Pass\",5,3],[\"While\",1,1,3,[4],[5,6]],[\"Name\",6,4,\"a\"],[\"Pass\",7,3],[\"If\",6,1,8,[9],[]],[\"Module\",[7,10]]]";
+
+/// `b if a else c or not a`.
+const CHOICE: &str =
+    "[[\"Name\",1,6,\"a\"],[\"Name\",1,1,\"b\"],[\"Name\",1,13,\"c\"],[\"Name\",1,22,\"a\"],[\"UnaryOp\",1,18,\"Not\",3],[\"BoolOp\",1,13,\"Or\",[2,4]],[\"IfExp\",1,1,0,1,5],[\"Expression\",6]]";
+
+fn tree_of(alloc: Global, rows: &str) -> Option<Mod> {
+    if rows.len() >= 1 << 26 {
+        return None;
+    }
+    read_rows(alloc, rows.as_bytes()).ok()
+}
+
+fn is_name(e: &Expr, id: &str) -> bool {
+    match e {
+        Expr::Name(e) => e.id.as_str() == id,
+        _ => false,
+    }
+}
+
+fn is_test(test: &Expr) -> bool {
+    match test {
+        Expr::Compare(e) => match e.comparators.as_slice() {
+            [b, c] => e.ops.as_slice() == [CmpOp::Lt, CmpOp::NotIn].as_slice()
+                && is_name(&e.left, "a")
+                && is_name(b, "b")
+                && is_name(c, "c"),
+            _ => false,
+        },
+        _ => false,
+    }
+}
+
+fn is_branches(tree: &Mod) -> bool {
+    match tree {
+        Mod::Module(m) => match m.body.as_slice() {
+            [Stmt::While(s), Stmt::If(t)] => is_test(&s.test)
+                && matches!(s.body.as_slice(), [Stmt::Break(_)])
+                && matches!(s.orelse.as_slice(), [Stmt::Continue(_), Stmt::Pass(_)])
+                && is_name(&t.test, "a")
+                && matches!(t.body.as_slice(), [Stmt::Pass(_)])
+                && t.orelse.is_empty(),
+            _ => false,
+        },
+        _ => false,
+    }
+}
+
+fn is_or_not(e: &Expr) -> bool {
+    match e {
+        Expr::BoolOp(e) => match e.values.as_slice() {
+            [c, Expr::UnaryOp(a)] => e.op == BoolOp::Or
+                && is_name(c, "c")
+                && a.op == UnaryOp::Not
+                && is_name(&a.operand, "a"),
+            _ => false,
+        },
+        _ => false,
+    }
+}
+
+fn is_choice(tree: &Mod) -> bool {
+    match tree {
+        Mod::Expression(m) => match &*m.body {
+            Expr::IfExp(e) => is_name(&e.test, "a")
+                && is_name(&e.body, "b")
+                && is_or_not(&e.orelse),
+            _ => false,
+        },
+        _ => false,
+    }
+}
+
+#[test]
+fn reads_the_rows_of_each_kind(rt: HostRuntime) -> Result<(), Fail> {
+    match tree_of(rt.alloc(), BRANCHES) {
+        Some(tree) => assert!(rt; is_branches(&tree)),
+        None => panic!(rt; "no tree"),
+    }
+    match tree_of(rt.alloc(), CHOICE) {
+        Some(tree) => assert!(rt; is_choice(&tree)),
+        None => panic!(rt; "no tree"),
+    }
     Ok(())
 }
 

@@ -1,10 +1,10 @@
 ghost use Rattle.std.specs.Prelude.{◌≡◌};
 ghost use Rattle.serde_json.specs.View.{view, items_view};
 ghost use Rattle.pyc.specs.Gives.{Gives};
-ghost use Rattle.pyc.specs.Fields.{one, three, five, one_indexed, number_at, numbers_at, text_at, place_at, operator_of, operator_at};
+ghost use Rattle.pyc.specs.Fields.{one, two, three, four, five, one_indexed, number_at, numbers_at, text_at, place_at};
 
 use crate::rows::error::RowsError;
-use py_tree::{List, OneIndexed, Operator, SourceLocation, Text};
+use py_tree::{List, OneIndexed, SourceLocation, Text};
 use serde_json::Value;
 use std::alloc::Global;
 
@@ -25,6 +25,16 @@ pub fn one(fields: &[Value], row: u32) -> Result<&Value, RowsError>
     Ok(&fields[0])
 }
 
+/// Two fields.
+pub fn two(fields: &[Value], row: u32) -> Result<(&Value, &Value), RowsError>
+    ensures { Gives (λ t. (view t.0.now, view t.1.now)) result (two row (items_view fields.now)) }
+{
+    if fields.len() != 2 {
+        return Err(RowsError::WrongRow { row });
+    }
+    Ok((&fields[0], &fields[1]))
+}
+
 /// Three fields.
 pub fn three(fields: &[Value], row: u32) -> Result<(&Value, &Value, &Value), RowsError>
     ensures { Gives (λ t. (view t.0.now, view t.1.now, view t.2.now)) result (three row (items_view fields.now)) }
@@ -33,6 +43,16 @@ pub fn three(fields: &[Value], row: u32) -> Result<(&Value, &Value, &Value), Row
         return Err(RowsError::WrongRow { row });
     }
     Ok((&fields[0], &fields[1], &fields[2]))
+}
+
+/// Four fields.
+pub fn four(fields: &[Value], row: u32) -> Result<(&Value, &Value, &Value, &Value), RowsError>
+    ensures { Gives (λ t. (view t.0.now, view t.1.now, view t.2.now, view t.3.now)) result (four row (items_view fields.now)) }
+{
+    if fields.len() != 4 {
+        return Err(RowsError::WrongRow { row });
+    }
+    Ok((&fields[0], &fields[1], &fields[2], &fields[3]))
 }
 
 /// Five fields.
@@ -99,36 +119,5 @@ pub fn text(alloc: Global, value: &Value, row: u32) -> Result<Text, RowsError>
     match value.as_str() {
         Some(text) => Ok(Text::from_string(String::from_str(alloc, text)?)),
         None => Err(RowsError::WrongRow { row }),
-    }
-}
-
-/// The operator of a `BinOp`.
-pub fn operator(value: &Value, row: u32) -> Result<Operator, RowsError>
-    ensures { Gives (λ x. x) result (operator_at row (view value.now)) }
-{
-    match value.as_str().and_then(operator_of) {
-        Some(operator) => Ok(operator),
-        None => Err(RowsError::WrongRow { row }),
-    }
-}
-
-fn operator_of(word: &str) -> Option<Operator>
-    ensures { result ≡ operator_of word.now }
-{
-    match word {
-        "Add" => Some(Operator::Add),
-        "Sub" => Some(Operator::Sub),
-        "Mult" => Some(Operator::Mult),
-        "MatMult" => Some(Operator::MatMult),
-        "Div" => Some(Operator::Div),
-        "FloorDiv" => Some(Operator::FloorDiv),
-        "Mod" => Some(Operator::Mod),
-        "Pow" => Some(Operator::Pow),
-        "LShift" => Some(Operator::LShift),
-        "RShift" => Some(Operator::RShift),
-        "BitOr" => Some(Operator::BitOr),
-        "BitXor" => Some(Operator::BitXor),
-        "BitAnd" => Some(Operator::BitAnd),
-        _ => None,
     }
 }

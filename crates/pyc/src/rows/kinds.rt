@@ -12,8 +12,18 @@ use serde_json::Value;
 #[derive(Clone, Copy, Debug, PartialEq, Eq)]
 pub enum Kind {
     Module,
+    Expression,
+    While,
+    If,
     Expr,
+    Pass,
+    Break,
+    Continue,
+    BoolOp,
     BinOp,
+    UnaryOp,
+    IfExp,
+    Compare,
     Call,
     Constant,
     Name,
@@ -30,8 +40,18 @@ pub fn kind_of(word: &str) -> Option<Kind>
 {
     match word {
         "Module" => Some(Kind::Module),
+        "Expression" => Some(Kind::Expression),
+        "While" => Some(Kind::While),
+        "If" => Some(Kind::If),
         "Expr" => Some(Kind::Expr),
+        "Pass" => Some(Kind::Pass),
+        "Break" => Some(Kind::Break),
+        "Continue" => Some(Kind::Continue),
+        "BoolOp" => Some(Kind::BoolOp),
         "BinOp" => Some(Kind::BinOp),
+        "UnaryOp" => Some(Kind::UnaryOp),
+        "IfExp" => Some(Kind::IfExp),
+        "Compare" => Some(Kind::Compare),
         "Call" => Some(Kind::Call),
         "Constant" => Some(Kind::Constant),
         "Name" => Some(Kind::Name),
@@ -61,8 +81,6 @@ fn is_unbuilt_statement(word: &str) -> bool
             | "AnnAssign"
             | "For"
             | "AsyncFor"
-            | "While"
-            | "If"
             | "With"
             | "AsyncWith"
             | "Match"
@@ -74,9 +92,6 @@ fn is_unbuilt_statement(word: &str) -> bool
             | "ImportFrom"
             | "Global"
             | "Nonlocal"
-            | "Pass"
-            | "Break"
-            | "Continue"
     )
 }
 
@@ -86,11 +101,8 @@ fn is_unbuilt_expression(word: &str) -> bool
 {
     matches!(
         word,
-        "BoolOp"
-            | "NamedExpr"
-            | "UnaryOp"
+        "NamedExpr"
             | "Lambda"
-            | "IfExp"
             | "Dict"
             | "Set"
             | "List"
@@ -103,7 +115,6 @@ fn is_unbuilt_expression(word: &str) -> bool
             | "YieldFrom"
             | "Starred"
             | "Yield"
-            | "Compare"
             | "FormattedValue"
             | "JoinedStr"
             | "Attribute"
@@ -126,7 +137,6 @@ fn is_unbuilt_plain(word: &str) -> bool
     matches!(
         word,
         "Interactive"
-            | "Expression"
             | "FunctionType"
             | "Arguments"
             | "ArgWithDefault"

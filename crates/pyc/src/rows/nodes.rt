@@ -1,27 +1,46 @@
 ghost use Rattle.std.specs.Prelude.{◌≡◌, map, IfOk};
-ghost use Rattle.py_tree.specs.View.{expr_tree, stmt_tree, literal_of};
+ghost use Rattle.py_tree.specs.View.{expr_tree, literal_of, stmts, stmt_tree};
 ghost use Rattle.pyc.specs.Forms.{each_part, parts_of};
 ghost use Rattle.pyc.specs.Gives.{Gives};
-ghost use Rattle.pyc.specs.Nodes.{node_of, module_node, statement_node, bin_op_node, call_node, constant_node};
+ghost use Rattle.pyc.specs.Nodes.{node_of, module_node, expression_node, take_branches, while_node, if_node, statement_node, bool_op_node, bin_op_node, unary_op_node, if_exp_node, compare_node, call_node, constant_node};
 ghost use Rattle.pyc.specs.Slots.{node_view, slot_view, take_constant, take_expr, take_exprs, take_stmt, take_stmts};
 
 use crate::rows::error::RowsError;
-use crate::rows::forms::Form;
+use crate::rows::forms::{Branches, Form};
 use crate::rows::slots::{Node, Slot, take_node};
 use py_tree::{
-    Constant, Expr, ExprBinOp, ExprCall, ExprConstant, ExprName, List, Mod, ModModule, Operator,
-    SourceLocation, Stmt, StmtExpr,
+    BoolOp, CmpOp, Constant, Expr, ExprBinOp, ExprBoolOp, ExprCall, ExprCompare, ExprConstant,
+    ExprIfExp, ExprName, ExprUnaryOp, List, Mod, ModExpression, ModModule, Operator,
+    SourceLocation, Stmt, StmtBreak, StmtContinue, StmtExpr, StmtIf, StmtPass, StmtWhile, Stmts,
+    UnaryOp,
 };
 use std::alloc::Global;
 
 /// What the row makes of the rows that it names, which it takes.
+#[tactic(auto, using(py_tree::proofs::View::trees))]
 pub fn node_of(alloc: Global, form: Form, slots: &mut [Slot], row: u32) -> Result<Node, RowsError>
     ensures { Gives (λ node. (node_view node, map slot_view slots.new)) result (node_of row form (map slot_view slots.old)) }
 {
     match form {
         Form::Module(body) => module_node(alloc, body.as_slice(), slots, row),
+        Form::Expression(body) => expression_node(alloc, body, slots, row),
+        Form::While(b) => while_node(alloc, &b, slots, row),
+        Form::If(b) => if_node(alloc, &b, slots, row),
+        Form::Pass(location) => Ok(Node::Stmt(Stmt::Pass(StmtPass { location }))),
+        Form::Break(location) => Ok(Node::Stmt(Stmt::Break(StmtBreak { location }))),
+        Form::Continue(location) => Ok(Node::Stmt(Stmt::Continue(StmtContinue { location }))),
         Form::Expr(at, value) => statement_node(alloc, at, value, slots, row),
+        Form::BoolOp(at, op, values) => {
+            bool_op_node(alloc, at, op, values.as_slice(), slots, row)
+        }
         Form::BinOp(at, left, op, right) => bin_op_node(alloc, at, left, op, right, slots, row),
+        Form::UnaryOp(at, op, operand) => unary_op_node(alloc, at, op, operand, slots, row),
+        Form::IfExp(at, test, body, orelse) => {
+            if_exp_node(alloc, at, test, body, orelse, slots, row)
+        }
+        Form::Compare(at, left, ops, comparators) => {
+            compare_node(alloc, at, left, ops, comparators.as_slice(), slots, row)
+        }
         Form::Call(at, func, args, _) => call_node(alloc, at, func, args.as_slice(), slots, row),
         Form::Constant(at, value) => constant_node(at, value, slots, row),
         Form::Name(location, id) => Ok(Node::Expr(Expr::Name(ExprName { location, id }))),
@@ -36,6 +55,70 @@ fn module_node(alloc: Global, body: &[u64], slots: &mut [Slot], row: u32) -> Res
     Ok(Node::Mod(Mod::Module(ModModule { body })))
 }
 
+fn expression_node(
+    alloc: Global,
+    body: u64,
+    slots: &mut [Slot],
+    row: u32,
+) -> Result<Node, RowsError>
+    ensures { Gives (λ node. (node_view node, map slot_view slots.new)) result (expression_node row body (map slot_view slots.old)) }
+{
+    let body = Box::new(alloc, take_expr(slots, body, row)?)?;
+    Ok(Node::Mod(Mod::Expression(ModExpression { body })))
+}
+
+/// What the rows of a test and of the two bodies that hang on it made.
+fn take_branches(
+    alloc: Global,
+    branches: &Branches,
+    slots: &mut [Slot],
+    row: u32,
+) -> Result<(Box<Expr>, Stmts, Stmts), RowsError>
+    ensures { Gives (λ t. ((expr_tree t.0.value, stmts stmt_tree t.1, stmts stmt_tree t.2), map slot_view slots.new)) result (take_branches row branches.now (map slot_view slots.old)) }
+{
+    let test = Box::new(alloc, take_expr(slots, branches.test, row)?)?;
+    let body = List::from_vec(take_stmts(alloc, branches.body.as_slice(), slots, row)?);
+    let orelse = List::from_vec(take_stmts(alloc, branches.orelse.as_slice(), slots, row)?);
+    Ok((test, body, orelse))
+}
+
+#[tactic(auto, using(py_tree::proofs::View::trees))]
+fn while_node(
+    alloc: Global,
+    branches: &Branches,
+    slots: &mut [Slot],
+    row: u32,
+) -> Result<Node, RowsError>
+    ensures { Gives (λ node. (node_view node, map slot_view slots.new)) result (while_node row branches.now (map slot_view slots.old)) }
+{
+    let (test, body, orelse) = take_branches(alloc, branches, slots, row)?;
+    Ok(Node::Stmt(Stmt::While(StmtWhile {
+        location: branches.location,
+        test,
+        body,
+        orelse,
+    })))
+}
+
+#[tactic(auto, using(py_tree::proofs::View::trees))]
+fn if_node(
+    alloc: Global,
+    branches: &Branches,
+    slots: &mut [Slot],
+    row: u32,
+) -> Result<Node, RowsError>
+    ensures { Gives (λ node. (node_view node, map slot_view slots.new)) result (if_node row branches.now (map slot_view slots.old)) }
+{
+    let (test, body, orelse) = take_branches(alloc, branches, slots, row)?;
+    Ok(Node::Stmt(Stmt::If(StmtIf {
+        location: branches.location,
+        test,
+        body,
+        orelse,
+    })))
+}
+
+#[tactic(auto, using(py_tree::proofs::View::trees))]
 fn statement_node(
     alloc: Global,
     location: SourceLocation,
@@ -47,6 +130,25 @@ fn statement_node(
 {
     let value = Box::new(alloc, take_expr(slots, value, row)?)?;
     Ok(Node::Stmt(Stmt::Expr(StmtExpr { location, value })))
+}
+
+#[tactic(auto, using(py_tree::proofs::View::trees))]
+fn bool_op_node(
+    alloc: Global,
+    location: SourceLocation,
+    op: BoolOp,
+    values: &[u64],
+    slots: &mut [Slot],
+    row: u32,
+) -> Result<Node, RowsError>
+    ensures { Gives (λ node. (node_view node, map slot_view slots.new)) result (bool_op_node row location op values.now (map slot_view slots.old)) }
+{
+    let values = List::from_vec(take_exprs(alloc, values, slots, row)?);
+    Ok(Node::Expr(Expr::BoolOp(ExprBoolOp {
+        location,
+        op,
+        values,
+    })))
 }
 
 #[tactic(auto, using(py_tree::proofs::View::trees))]
@@ -68,6 +170,70 @@ fn bin_op_node(
         left,
         op,
         right,
+    })))
+}
+
+#[tactic(auto, using(py_tree::proofs::View::trees))]
+fn unary_op_node(
+    alloc: Global,
+    location: SourceLocation,
+    op: UnaryOp,
+    operand: u64,
+    slots: &mut [Slot],
+    row: u32,
+) -> Result<Node, RowsError>
+    ensures { Gives (λ node. (node_view node, map slot_view slots.new)) result (unary_op_node row location op operand (map slot_view slots.old)) }
+{
+    let operand = Box::new(alloc, take_expr(slots, operand, row)?)?;
+    Ok(Node::Expr(Expr::UnaryOp(ExprUnaryOp {
+        location,
+        op,
+        operand,
+    })))
+}
+
+#[tactic(auto, using(py_tree::proofs::View::trees))]
+fn if_exp_node(
+    alloc: Global,
+    location: SourceLocation,
+    test: u64,
+    body: u64,
+    orelse: u64,
+    slots: &mut [Slot],
+    row: u32,
+) -> Result<Node, RowsError>
+    ensures { Gives (λ node. (node_view node, map slot_view slots.new)) result (if_exp_node row location test body orelse (map slot_view slots.old)) }
+{
+    let test = Box::new(alloc, take_expr(slots, test, row)?)?;
+    let body = Box::new(alloc, take_expr(slots, body, row)?)?;
+    let orelse = Box::new(alloc, take_expr(slots, orelse, row)?)?;
+    Ok(Node::Expr(Expr::IfExp(ExprIfExp {
+        location,
+        test,
+        body,
+        orelse,
+    })))
+}
+
+#[tactic(auto, using(py_tree::proofs::View::trees))]
+fn compare_node(
+    alloc: Global,
+    location: SourceLocation,
+    left: u64,
+    ops: List<CmpOp>,
+    comparators: &[u64],
+    slots: &mut [Slot],
+    row: u32,
+) -> Result<Node, RowsError>
+    ensures { Gives (λ node. (node_view node, map slot_view slots.new)) result (compare_node row location left ops comparators.now (map slot_view slots.old)) }
+{
+    let left = Box::new(alloc, take_expr(slots, left, row)?)?;
+    let comparators = List::from_vec(take_exprs(alloc, comparators, slots, row)?);
+    Ok(Node::Expr(Expr::Compare(ExprCompare {
+        location,
+        left,
+        ops,
+        comparators,
     })))
 }
 

@@ -1,5 +1,5 @@
 use Rattle.std.proofs.Common.{refl}
-use Rattle.pyc.proofs.Statements.{stmts_map}
+use Rattle.py_tree.proofs.View.{stmts_map}
 use Rattle.pyc.proofs.rows.nodes.module_node.Goals as goal
 
 pub returns : goal.returns

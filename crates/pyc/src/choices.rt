@@ -1,0 +1,1132 @@
+//! Choices and loops: small programs with what a run writes over their rows. The tables are made by
+//! tools/choice_tables.py.
+
+use crate::engine::run;
+use crate::memory::{MemSink, MemSource};
+use crate::report::Status;
+use py_tree::{List, Text};
+use std::alloc::{AllocError, Global};
+use std::process::Abort;
+use std::test::Fail;
+
+/// A program, and what a run writes over its rows.
+struct Choice {
+    source: &'static str,
+    mode: &'static str,
+    level: &'static str,
+    rows: &'static str,
+    want: &'static str,
+}
+
+/// How a run ended, and what it wrote on both sinks.
+#[derive(Drop)]
+struct Ending {
+    status: Status,
+    out: MemSink,
+    err: MemSink,
+}
+
+fn words(alloc: Global, choice: &Choice) -> Result<List<Text>, AllocError> {
+    let mut words = Vec::new(alloc);
+    for word in [choice.mode, choice.level, "m.py"] {
+        words.push(Text::from_string(String::from_str(alloc, word)?))?;
+    }
+    Ok(List::from_vec(words))
+}
+
+/// A sink that takes all.
+fn sink(alloc: Global) -> Result<MemSink, AllocError> {
+    let room = List::from_vec(vec![in alloc; 0u8; 4096]?);
+    Ok(MemSink::new(room, 64, List::new(alloc)))
+}
+
+fn written(alloc: Global, choice: &Choice) -> Result<Ending, AllocError> {
+    let words = words(alloc, choice)?;
+    let rows = List::from_vec(Vec::from_slice(alloc, choice.rows.as_bytes())?);
+    let mut source = MemSource::new(rows, 512, List::new(alloc));
+    let mut out = sink(alloc)?;
+    let mut err = sink(alloc)?;
+    let status = run(alloc, &words, &mut source, &mut out, &mut err).status;
+    Ok(Ending { status, out, err })
+}
+
+/// A listing is written by a run that is done, and a line by one that is refused.
+fn check(rt: &impl Abort, alloc: Global, choices: &[Choice]) -> Result<(), AllocError> {
+    for choice in choices {
+        let end = written(alloc, choice)?;
+        let out = end.out.bytes();
+        let err = end.err.bytes();
+        let is_listing = choice.want.starts_with("code ");
+        let (status, text, other) = if is_listing {
+            (Status::Done, out, err)
+        } else {
+            (Status::Refused, err, out)
+        };
+        assert_eq!(rt; text, choice.want.as_bytes(), "{}", choice.source);
+        assert_eq!(rt; other, b"".as_slice(), "{}", choice.source);
+        assert_eq!(rt; end.status, status, "{}", choice.source);
+    }
+    Ok(())
+}
+
+#[test]
+fn branches(rt: HostRuntime) -> Result<(), Fail> {
+    Ok(check(&rt, rt.alloc(), &BRANCHES)?)
+}
+
+#[test]
+fn tests(rt: HostRuntime) -> Result<(), Fail> {
+    Ok(check(&rt, rt.alloc(), &TESTS)?)
+}
+
+#[test]
+fn loops(rt: HostRuntime) -> Result<(), Fail> {
+    Ok(check(&rt, rt.alloc(), &LOOPS)?)
+}
+
+#[test]
+fn loops_within(rt: HostRuntime) -> Result<(), Fail> {
+    Ok(check(&rt, rt.alloc(), &LOOPS_WITHIN)?)
+}
+
+#[test]
+fn faults(rt: HostRuntime) -> Result<(), Fail> {
+    Ok(check(&rt, rt.alloc(), &FAULTS)?)
+}
+
+#[test]
+fn truths(rt: HostRuntime) -> Result<(), Fail> {
+    Ok(check(&rt, rt.alloc(), &TRUTHS)?)
+}
+
+#[test]
+fn comparisons(rt: HostRuntime) -> Result<(), Fail> {
+    Ok(check(&rt, rt.alloc(), &COMPARISONS)?)
+}
+
+#[test]
+fn conditionals(rt: HostRuntime) -> Result<(), Fail> {
+    Ok(check(&rt, rt.alloc(), &CONDITIONALS)?)
+}
+
+const BRANCHES: [Choice; 6] = [
+    Choice {
+        source: "if a: pass",
+        mode: "exec",
+        level: "0",
+        rows: r#"[["Name",1,4,"a"],["Pass",1,7],["If",1,1,0,[1],[]],["Module",[2]]]"#,
+        want: "code '<module>' from 'm.py' line 1 flags 1 args 0 0 0 depth 1\n\
+            constants: None\n\
+            names: 'a'\n\
+            0 1:4 LoadNameAny 0 'a'\n\
+            1 1:4 JumpIfFalse 2 to 2\n\
+            2 1:7 ReturnConst 0 None\n",
+    },
+    Choice {
+        source: "if a: b\nelse: c",
+        mode: "exec",
+        level: "1",
+        rows: r#"[["Name",1,4,"a"],["Name",1,7,"b"],["Expr",1,7,1],["Name",2,7,"c"],["Expr",2,7,3],["If",1,1,0,[2],[4]],["Module",[5]]]"#,
+        want: "code '<module>' from 'm.py' line 1 flags 1 args 0 0 0 depth 1\n\
+            constants: None\n\
+            names: 'a', 'b', 'c'\n\
+            0 1:4 LoadNameAny 0 'a'\n\
+            1 1:4 JumpIfFalse 5 to 5\n\
+            2 1:7 LoadNameAny 1 'b'\n\
+            3 1:7 Pop\n\
+            4 1:7 Jump 7 to 7\n\
+            5 2:7 LoadNameAny 2 'c'\n\
+            6 2:7 Pop\n\
+            7 2:7 ReturnConst 0 None\n",
+    },
+    Choice {
+        source: "if a: b\nelif c: d\nelif e: f\nelse: g",
+        mode: "exec",
+        level: "2",
+        rows: r#"[["Name",1,4,"a"],["Name",1,7,"b"],["Expr",1,7,1],["Name",2,6,"c"],["Name",2,9,"d"],["Expr",2,9,4],["Name",3,6,"e"],["Name",3,9,"f"],["Expr",3,9,7],["Name",4,7,"g"],["Expr",4,7,9],["If",3,1,6,[8],[10]],["If",2,1,3,[5],[11]],["If",1,1,0,[2],[12]],["Module",[13]]]"#,
+        want: "code '<module>' from 'm.py' line 1 flags 1 args 0 0 0 depth 1\n\
+            constants: None\n\
+            names: 'a', 'b', 'c', 'd', 'e', 'f', 'g'\n\
+            0 1:4 LoadNameAny 0 'a'\n\
+            1 1:4 JumpIfFalse 5 to 5\n\
+            2 1:7 LoadNameAny 1 'b'\n\
+            3 1:7 Pop\n\
+            4 1:7 Jump 17 to 17\n\
+            5 2:6 LoadNameAny 2 'c'\n\
+            6 2:6 JumpIfFalse 10 to 10\n\
+            7 2:9 LoadNameAny 3 'd'\n\
+            8 2:9 Pop\n\
+            9 2:9 Jump 17 to 17\n\
+            10 3:6 LoadNameAny 4 'e'\n\
+            11 3:6 JumpIfFalse 15 to 15\n\
+            12 3:9 LoadNameAny 5 'f'\n\
+            13 3:9 Pop\n\
+            14 3:9 Jump 17 to 17\n\
+            15 4:7 LoadNameAny 6 'g'\n\
+            16 4:7 Pop\n\
+            17 4:7 ReturnConst 0 None\n",
+    },
+    Choice {
+        source: "if a:\n if b: c\n else: d\nelse:\n if e: pass",
+        mode: "exec",
+        level: "0",
+        rows: r#"[["Name",1,4,"a"],["Name",2,5,"b"],["Name",2,8,"c"],["Expr",2,8,2],["Name",3,8,"d"],["Expr",3,8,4],["If",2,2,1,[3],[5]],["Name",5,5,"e"],["Pass",5,8],["If",5,2,7,[8],[]],["If",1,1,0,[6],[9]],["Module",[10]]]"#,
+        want: "code '<module>' from 'm.py' line 1 flags 1 args 0 0 0 depth 1\n\
+            constants: None\n\
+            names: 'a', 'b', 'c', 'd', 'e'\n\
+            0 1:4 LoadNameAny 0 'a'\n\
+            1 1:4 JumpIfFalse 10 to 10\n\
+            2 2:5 LoadNameAny 1 'b'\n\
+            3 2:5 JumpIfFalse 7 to 7\n\
+            4 2:8 LoadNameAny 2 'c'\n\
+            5 2:8 Pop\n\
+            6 2:8 Jump 9 to 9\n\
+            7 3:8 LoadNameAny 3 'd'\n\
+            8 3:8 Pop\n\
+            9 3:8 Jump 12 to 12\n\
+            10 5:5 LoadNameAny 4 'e'\n\
+            11 5:5 JumpIfFalse 12 to 12\n\
+            12 5:8 ReturnConst 0 None\n",
+    },
+    Choice {
+        source: "pass\npass",
+        mode: "exec",
+        level: "1",
+        rows: r#"[["Pass",1,1],["Pass",2,1],["Module",[0,1]]]"#,
+        want: "code '<module>' from 'm.py' line 1 flags 1 args 0 0 0 depth 0\n\
+            constants: None\n\
+            0 2:1 ReturnConst 0 None\n",
+    },
+    Choice {
+        source: "if b if a else c: d",
+        mode: "exec",
+        level: "2",
+        rows: r#"[["Name",1,9,"a"],["Name",1,4,"b"],["Name",1,16,"c"],["IfExp",1,4,0,1,2],["Name",1,19,"d"],["Expr",1,19,4],["If",1,1,3,[5],[]],["Module",[6]]]"#,
+        want: "code '<module>' from 'm.py' line 1 flags 1 args 0 0 0 depth 1\n\
+            constants: None\n\
+            names: 'a', 'b', 'c', 'd'\n\
+            0 1:9 LoadNameAny 0 'a'\n\
+            1 1:9 JumpIfFalse 4 to 4\n\
+            2 1:4 LoadNameAny 1 'b'\n\
+            3 1:4 Jump 5 to 5\n\
+            4 1:16 LoadNameAny 2 'c'\n\
+            5 1:16 JumpIfFalse 8 to 8\n\
+            6 1:19 LoadNameAny 3 'd'\n\
+            7 1:19 Pop\n\
+            8 1:19 ReturnConst 0 None\n",
+    },
+];
+
+const TESTS: [Choice; 8] = [
+    Choice {
+        source: "if not a: b\nelse: pass\nc",
+        mode: "exec",
+        level: "0",
+        rows: r#"[["Name",1,8,"a"],["UnaryOp",1,4,"Not",0],["Name",1,11,"b"],["Expr",1,11,2],["Pass",2,7],["If",1,1,1,[3],[4]],["Name",3,1,"c"],["Expr",3,1,6],["Module",[5,7]]]"#,
+        want: "code '<module>' from 'm.py' line 1 flags 1 args 0 0 0 depth 1\n\
+            constants: None\n\
+            names: 'a', 'b', 'c'\n\
+            0 1:8 LoadNameAny 0 'a'\n\
+            1 1:8 JumpIfTrue 5 to 5\n\
+            2 1:11 LoadNameAny 1 'b'\n\
+            3 1:11 Pop\n\
+            4 1:11 Jump 5 to 5\n\
+            5 3:1 LoadNameAny 2 'c'\n\
+            6 3:1 Pop\n\
+            7 3:1 ReturnConst 0 None\n",
+    },
+    Choice {
+        source: "if a and b: c",
+        mode: "exec",
+        level: "1",
+        rows: r#"[["Name",1,4,"a"],["Name",1,10,"b"],["BoolOp",1,4,"And",[0,1]],["Name",1,13,"c"],["Expr",1,13,3],["If",1,1,2,[4],[]],["Module",[5]]]"#,
+        want: "code '<module>' from 'm.py' line 1 flags 1 args 0 0 0 depth 1\n\
+            constants: None\n\
+            names: 'a', 'b', 'c'\n\
+            0 1:4 LoadNameAny 0 'a'\n\
+            1 1:4 JumpIfFalse 6 to 6\n\
+            2 1:10 LoadNameAny 1 'b'\n\
+            3 1:10 JumpIfFalse 6 to 6\n\
+            4 1:13 LoadNameAny 2 'c'\n\
+            5 1:13 Pop\n\
+            6 1:13 ReturnConst 0 None\n",
+    },
+    Choice {
+        source: "if a or b: c\nelse: d",
+        mode: "exec",
+        level: "2",
+        rows: r#"[["Name",1,4,"a"],["Name",1,9,"b"],["BoolOp",1,4,"Or",[0,1]],["Name",1,12,"c"],["Expr",1,12,3],["Name",2,7,"d"],["Expr",2,7,5],["If",1,1,2,[4],[6]],["Module",[7]]]"#,
+        want: "code '<module>' from 'm.py' line 1 flags 1 args 0 0 0 depth 1\n\
+            constants: None\n\
+            names: 'a', 'b', 'c', 'd'\n\
+            0 1:4 LoadNameAny 0 'a'\n\
+            1 1:4 JumpIfTrue 4 to 4\n\
+            2 1:9 LoadNameAny 1 'b'\n\
+            3 1:9 JumpIfFalse 7 to 7\n\
+            4 1:12 LoadNameAny 2 'c'\n\
+            5 1:12 Pop\n\
+            6 1:12 Jump 9 to 9\n\
+            7 2:7 LoadNameAny 3 'd'\n\
+            8 2:7 Pop\n\
+            9 2:7 ReturnConst 0 None\n",
+    },
+    Choice {
+        source: "if not (a and b or c): d",
+        mode: "exec",
+        level: "0",
+        rows: r#"[["Name",1,9,"a"],["Name",1,15,"b"],["BoolOp",1,9,"And",[0,1]],["Name",1,20,"c"],["BoolOp",1,9,"Or",[2,3]],["UnaryOp",1,4,"Not",4],["Name",1,24,"d"],["Expr",1,24,6],["If",1,1,5,[7],[]],["Module",[8]]]"#,
+        want: "code '<module>' from 'm.py' line 1 flags 1 args 0 0 0 depth 1\n\
+            constants: None\n\
+            names: 'a', 'b', 'c', 'd'\n\
+            0 1:9 LoadNameAny 0 'a'\n\
+            1 1:9 JumpIfFalse 4 to 4\n\
+            2 1:15 LoadNameAny 1 'b'\n\
+            3 1:15 JumpIfTrue 8 to 8\n\
+            4 1:20 LoadNameAny 2 'c'\n\
+            5 1:20 JumpIfTrue 8 to 8\n\
+            6 1:24 LoadNameAny 3 'd'\n\
+            7 1:24 Pop\n\
+            8 1:24 ReturnConst 0 None\n",
+    },
+    Choice {
+        source: "if a and (b or not c) and d: e\nelse: f",
+        mode: "exec",
+        level: "1",
+        rows: r#"[["Name",1,4,"a"],["Name",1,11,"b"],["Name",1,20,"c"],["UnaryOp",1,16,"Not",2],["BoolOp",1,11,"Or",[1,3]],["Name",1,27,"d"],["BoolOp",1,4,"And",[0,4,5]],["Name",1,30,"e"],["Expr",1,30,7],["Name",2,7,"f"],["Expr",2,7,9],["If",1,1,6,[8],[10]],["Module",[11]]]"#,
+        want: "code '<module>' from 'm.py' line 1 flags 1 args 0 0 0 depth 1\n\
+            constants: None\n\
+            names: 'a', 'b', 'c', 'd', 'e', 'f'\n\
+            0 1:4 LoadNameAny 0 'a'\n\
+            1 1:4 JumpIfFalse 11 to 11\n\
+            2 1:11 LoadNameAny 1 'b'\n\
+            3 1:11 JumpIfTrue 6 to 6\n\
+            4 1:20 LoadNameAny 2 'c'\n\
+            5 1:20 JumpIfTrue 11 to 11\n\
+            6 1:27 LoadNameAny 3 'd'\n\
+            7 1:27 JumpIfFalse 11 to 11\n\
+            8 1:30 LoadNameAny 4 'e'\n\
+            9 1:30 Pop\n\
+            10 1:30 Jump 13 to 13\n\
+            11 2:7 LoadNameAny 5 'f'\n\
+            12 2:7 Pop\n\
+            13 2:7 ReturnConst 0 None\n",
+    },
+    Choice {
+        source: "if not (not a or b) and c: pass",
+        mode: "exec",
+        level: "2",
+        rows: r#"[["Name",1,13,"a"],["UnaryOp",1,9,"Not",0],["Name",1,18,"b"],["BoolOp",1,9,"Or",[1,2]],["UnaryOp",1,4,"Not",3],["Name",1,25,"c"],["BoolOp",1,4,"And",[4,5]],["Pass",1,28],["If",1,1,6,[7],[]],["Module",[8]]]"#,
+        want: "code '<module>' from 'm.py' line 1 flags 1 args 0 0 0 depth 1\n\
+            constants: None\n\
+            names: 'a', 'b', 'c'\n\
+            0 1:13 LoadNameAny 0 'a'\n\
+            1 1:13 JumpIfFalse 6 to 6\n\
+            2 1:18 LoadNameAny 1 'b'\n\
+            3 1:18 JumpIfTrue 6 to 6\n\
+            4 1:25 LoadNameAny 2 'c'\n\
+            5 1:25 JumpIfFalse 6 to 6\n\
+            6 1:28 ReturnConst 0 None\n",
+    },
+    Choice {
+        source: "if a < b <= c != d: e\nelse: f",
+        mode: "exec",
+        level: "0",
+        rows: r#"[["Name",1,4,"a"],["Name",1,8,"b"],["Name",1,13,"c"],["Name",1,18,"d"],["Compare",1,4,0,["Lt","LtE","NotEq"],[1,2,3]],["Name",1,21,"e"],["Expr",1,21,5],["Name",2,7,"f"],["Expr",2,7,7],["If",1,1,4,[6],[8]],["Module",[9]]]"#,
+        want: "code '<module>' from 'm.py' line 1 flags 1 args 0 0 0 depth 3\n\
+            constants: None\n\
+            names: 'a', 'b', 'c', 'd', 'e', 'f'\n\
+            0 1:4 LoadNameAny 0 'a'\n\
+            1 1:8 LoadNameAny 1 'b'\n\
+            2 1:8 Duplicate\n\
+            3 1:8 Rotate3\n\
+            4 1:8 CompareOperation 0 Less\n\
+            5 1:8 JumpIfFalseOrPop 14 to 14\n\
+            6 1:13 LoadNameAny 2 'c'\n\
+            7 1:13 Duplicate\n\
+            8 1:13 Rotate3\n\
+            9 1:13 CompareOperation 4 LessOrEqual\n\
+            10 1:13 JumpIfFalseOrPop 14 to 14\n\
+            11 1:18 LoadNameAny 3 'd'\n\
+            12 1:18 CompareOperation 2 NotEqual\n\
+            13 1:18 Jump 16 to 16\n\
+            14 1:18 Rotate2\n\
+            15 1:18 Pop\n\
+            16 1:18 JumpIfFalse 20 to 20\n\
+            17 1:21 LoadNameAny 4 'e'\n\
+            18 1:21 Pop\n\
+            19 1:21 Jump 22 to 22\n\
+            20 2:7 LoadNameAny 5 'f'\n\
+            21 2:7 Pop\n\
+            22 2:7 ReturnConst 0 None\n",
+    },
+    Choice {
+        source: "if (a and b) < c or -d: e",
+        mode: "exec",
+        level: "1",
+        rows: r#"[["Name",1,5,"a"],["Name",1,11,"b"],["BoolOp",1,5,"And",[0,1]],["Name",1,16,"c"],["Compare",1,4,2,["Lt"],[3]],["Name",1,22,"d"],["UnaryOp",1,21,"USub",5],["BoolOp",1,4,"Or",[4,6]],["Name",1,25,"e"],["Expr",1,25,8],["If",1,1,7,[9],[]],["Module",[10]]]"#,
+        want: "code '<module>' from 'm.py' line 1 flags 1 args 0 0 0 depth 2\n\
+            constants: None\n\
+            names: 'a', 'b', 'c', 'd', 'e'\n\
+            0 1:5 LoadNameAny 0 'a'\n\
+            1 1:5 JumpIfFalseOrPop 3 to 3\n\
+            2 1:11 LoadNameAny 1 'b'\n\
+            3 1:16 LoadNameAny 2 'c'\n\
+            4 1:16 CompareOperation 0 Less\n\
+            5 1:16 JumpIfTrue 9 to 9\n\
+            6 1:22 LoadNameAny 3 'd'\n\
+            7 1:22 UnaryOperation 1 Minus\n\
+            8 1:22 JumpIfFalse 11 to 11\n\
+            9 1:25 LoadNameAny 4 'e'\n\
+            10 1:25 Pop\n\
+            11 1:25 ReturnConst 0 None\n",
+    },
+];
+
+const LOOPS: [Choice; 8] = [
+    Choice {
+        source: "while a: pass",
+        mode: "exec",
+        level: "0",
+        rows: r#"[["Name",1,7,"a"],["Pass",1,10],["While",1,1,0,[1],[]],["Module",[2]]]"#,
+        want: "code '<module>' from 'm.py' line 1 flags 1 args 0 0 0 depth 1\n\
+            constants: None\n\
+            names: 'a'\n\
+            0 1:1 SetupLoop\n\
+            1 1:7 LoadNameAny 0 'a'\n\
+            2 1:7 JumpIfFalse 4 to 4\n\
+            3 1:10 Jump 1 to 1\n\
+            4 1:10 PopBlock\n\
+            5 1:10 ReturnConst 0 None\n",
+    },
+    Choice {
+        source: "while a: b\nelse: c",
+        mode: "exec",
+        level: "1",
+        rows: r#"[["Name",1,7,"a"],["Name",1,10,"b"],["Expr",1,10,1],["Name",2,7,"c"],["Expr",2,7,3],["While",1,1,0,[2],[4]],["Module",[5]]]"#,
+        want: "code '<module>' from 'm.py' line 1 flags 1 args 0 0 0 depth 1\n\
+            constants: None\n\
+            names: 'a', 'b', 'c'\n\
+            0 1:1 SetupLoop\n\
+            1 1:7 LoadNameAny 0 'a'\n\
+            2 1:7 JumpIfFalse 6 to 6\n\
+            3 1:10 LoadNameAny 1 'b'\n\
+            4 1:10 Pop\n\
+            5 1:10 Jump 1 to 1\n\
+            6 1:10 PopBlock\n\
+            7 2:7 LoadNameAny 2 'c'\n\
+            8 2:7 Pop\n\
+            9 2:7 ReturnConst 0 None\n",
+    },
+    Choice {
+        source: "while a:\n if b: break\n c\nelse: d",
+        mode: "exec",
+        level: "2",
+        rows: r#"[["Name",1,7,"a"],["Name",2,5,"b"],["Break",2,8],["If",2,2,1,[2],[]],["Name",3,2,"c"],["Expr",3,2,4],["Name",4,7,"d"],["Expr",4,7,6],["While",1,1,0,[3,5],[7]],["Module",[8]]]"#,
+        want: "code '<module>' from 'm.py' line 1 flags 1 args 0 0 0 depth 1\n\
+            constants: None\n\
+            names: 'a', 'b', 'c', 'd'\n\
+            0 1:1 SetupLoop\n\
+            1 1:7 LoadNameAny 0 'a'\n\
+            2 1:7 JumpIfFalse 9 to 9\n\
+            3 2:5 LoadNameAny 1 'b'\n\
+            4 2:5 JumpIfFalse 6 to 6\n\
+            5 2:8 Break 12 to 12\n\
+            6 3:2 LoadNameAny 2 'c'\n\
+            7 3:2 Pop\n\
+            8 3:2 Jump 1 to 1\n\
+            9 3:2 PopBlock\n\
+            10 4:7 LoadNameAny 3 'd'\n\
+            11 4:7 Pop\n\
+            12 4:7 ReturnConst 0 None\n",
+    },
+    Choice {
+        source: "while a:\n if b: continue\n c\nelse: d",
+        mode: "exec",
+        level: "0",
+        rows: r#"[["Name",1,7,"a"],["Name",2,5,"b"],["Continue",2,8],["If",2,2,1,[2],[]],["Name",3,2,"c"],["Expr",3,2,4],["Name",4,7,"d"],["Expr",4,7,6],["While",1,1,0,[3,5],[7]],["Module",[8]]]"#,
+        want: "code '<module>' from 'm.py' line 1 flags 1 args 0 0 0 depth 1\n\
+            constants: None\n\
+            names: 'a', 'b', 'c', 'd'\n\
+            0 1:1 SetupLoop\n\
+            1 1:7 LoadNameAny 0 'a'\n\
+            2 1:7 JumpIfFalse 9 to 9\n\
+            3 2:5 LoadNameAny 1 'b'\n\
+            4 2:5 JumpIfFalse 6 to 6\n\
+            5 2:8 Continue 1 to 1\n\
+            6 3:2 LoadNameAny 2 'c'\n\
+            7 3:2 Pop\n\
+            8 3:2 Jump 1 to 1\n\
+            9 3:2 PopBlock\n\
+            10 4:7 LoadNameAny 3 'd'\n\
+            11 4:7 Pop\n\
+            12 4:7 ReturnConst 0 None\n",
+    },
+    Choice {
+        source: "while a: break",
+        mode: "exec",
+        level: "1",
+        rows: r#"[["Name",1,7,"a"],["Break",1,10],["While",1,1,0,[1],[]],["Module",[2]]]"#,
+        want: "code '<module>' from 'm.py' line 1 flags 1 args 0 0 0 depth 1\n\
+            constants: None\n\
+            names: 'a'\n\
+            0 1:1 SetupLoop\n\
+            1 1:7 LoadNameAny 0 'a'\n\
+            2 1:7 JumpIfFalse 4 to 4\n\
+            3 1:10 Break 5 to 5\n\
+            4 1:10 PopBlock\n\
+            5 1:10 ReturnConst 0 None\n",
+    },
+    Choice {
+        source: "while a:\n continue\n b",
+        mode: "exec",
+        level: "2",
+        rows: r#"[["Name",1,7,"a"],["Continue",2,2],["Name",3,2,"b"],["Expr",3,2,2],["While",1,1,0,[1,3],[]],["Module",[4]]]"#,
+        want: "code '<module>' from 'm.py' line 1 flags 1 args 0 0 0 depth 1\n\
+            constants: None\n\
+            names: 'a', 'b'\n\
+            0 1:1 SetupLoop\n\
+            1 1:7 LoadNameAny 0 'a'\n\
+            2 1:7 JumpIfFalse 4 to 4\n\
+            3 2:2 Continue 1 to 1\n\
+            4 3:2 PopBlock\n\
+            5 3:2 ReturnConst 0 None\n",
+    },
+    Choice {
+        source: "while a < b < c: d",
+        mode: "exec",
+        level: "0",
+        rows: r#"[["Name",1,7,"a"],["Name",1,11,"b"],["Name",1,15,"c"],["Compare",1,7,0,["Lt","Lt"],[1,2]],["Name",1,18,"d"],["Expr",1,18,4],["While",1,1,3,[5],[]],["Module",[6]]]"#,
+        want: "code '<module>' from 'm.py' line 1 flags 1 args 0 0 0 depth 3\n\
+            constants: None\n\
+            names: 'a', 'b', 'c', 'd'\n\
+            0 1:1 SetupLoop\n\
+            1 1:7 LoadNameAny 0 'a'\n\
+            2 1:11 LoadNameAny 1 'b'\n\
+            3 1:11 Duplicate\n\
+            4 1:11 Rotate3\n\
+            5 1:11 CompareOperation 0 Less\n\
+            6 1:11 JumpIfFalseOrPop 10 to 10\n\
+            7 1:15 LoadNameAny 2 'c'\n\
+            8 1:15 CompareOperation 0 Less\n\
+            9 1:15 Jump 12 to 12\n\
+            10 1:15 Rotate2\n\
+            11 1:15 Pop\n\
+            12 1:15 JumpIfFalse 16 to 16\n\
+            13 1:18 LoadNameAny 3 'd'\n\
+            14 1:18 Pop\n\
+            15 1:18 Jump 1 to 1\n\
+            16 1:18 PopBlock\n\
+            17 1:18 ReturnConst 0 None\n",
+    },
+    Choice {
+        source: "while __debug__:\n if not __debug__: break",
+        mode: "exec",
+        level: "1",
+        rows: r#"[["Name",1,7,"__debug__"],["Name",2,9,"__debug__"],["UnaryOp",2,5,"Not",1],["Break",2,20],["If",2,2,2,[3],[]],["While",1,1,0,[4],[]],["Module",[5]]]"#,
+        want: "code '<module>' from 'm.py' line 1 flags 1 args 0 0 0 depth 1\n\
+            constants: False, None\n\
+            0 1:1 SetupLoop\n\
+            1 1:7 LoadConst 0 False\n\
+            2 1:7 JumpIfFalse 7 to 7\n\
+            3 2:9 LoadConst 0 False\n\
+            4 2:9 JumpIfTrue 6 to 6\n\
+            5 2:20 Break 8 to 8\n\
+            6 2:20 Jump 1 to 1\n\
+            7 2:20 PopBlock\n\
+            8 2:20 ReturnConst 1 None\n",
+    },
+];
+
+const LOOPS_WITHIN: [Choice; 6] = [
+    Choice {
+        source: "while a:\n while b:\n  if c: break\n  if d: continue\n else: break\n e",
+        mode: "exec",
+        level: "0",
+        rows: r#"[["Name",1,7,"a"],["Name",2,8,"b"],["Name",3,6,"c"],["Break",3,9],["If",3,3,2,[3],[]],["Name",4,6,"d"],["Continue",4,9],["If",4,3,5,[6],[]],["Break",5,8],["While",2,2,1,[4,7],[8]],["Name",6,2,"e"],["Expr",6,2,10],["While",1,1,0,[9,11],[]],["Module",[12]]]"#,
+        want: "code '<module>' from 'm.py' line 1 flags 1 args 0 0 0 depth 1\n\
+            constants: None\n\
+            names: 'a', 'b', 'c', 'd', 'e'\n\
+            0 1:1 SetupLoop\n\
+            1 1:7 LoadNameAny 0 'a'\n\
+            2 1:7 JumpIfFalse 18 to 18\n\
+            3 2:2 SetupLoop\n\
+            4 2:8 LoadNameAny 1 'b'\n\
+            5 2:8 JumpIfFalse 13 to 13\n\
+            6 3:6 LoadNameAny 2 'c'\n\
+            7 3:6 JumpIfFalse 9 to 9\n\
+            8 3:9 Break 15 to 15\n\
+            9 4:6 LoadNameAny 3 'd'\n\
+            10 4:6 JumpIfFalse 12 to 12\n\
+            11 4:9 Continue 4 to 4\n\
+            12 4:9 Jump 4 to 4\n\
+            13 4:9 PopBlock\n\
+            14 5:8 Break 19 to 19\n\
+            15 6:2 LoadNameAny 4 'e'\n\
+            16 6:2 Pop\n\
+            17 6:2 Jump 1 to 1\n\
+            18 6:2 PopBlock\n\
+            19 6:2 ReturnConst 0 None\n",
+    },
+    Choice {
+        source: "while a:\n while b: pass\n else: continue\n c\nelse: d",
+        mode: "exec",
+        level: "1",
+        rows: r#"[["Name",1,7,"a"],["Name",2,8,"b"],["Pass",2,11],["Continue",3,8],["While",2,2,1,[2],[3]],["Name",4,2,"c"],["Expr",4,2,5],["Name",5,7,"d"],["Expr",5,7,7],["While",1,1,0,[4,6],[8]],["Module",[9]]]"#,
+        want: "code '<module>' from 'm.py' line 1 flags 1 args 0 0 0 depth 1\n\
+            constants: None\n\
+            names: 'a', 'b', 'c', 'd'\n\
+            0 1:1 SetupLoop\n\
+            1 1:7 LoadNameAny 0 'a'\n\
+            2 1:7 JumpIfFalse 12 to 12\n\
+            3 2:2 SetupLoop\n\
+            4 2:8 LoadNameAny 1 'b'\n\
+            5 2:8 JumpIfFalse 7 to 7\n\
+            6 2:11 Jump 4 to 4\n\
+            7 2:11 PopBlock\n\
+            8 3:8 Continue 1 to 1\n\
+            9 4:2 LoadNameAny 2 'c'\n\
+            10 4:2 Pop\n\
+            11 4:2 Jump 1 to 1\n\
+            12 4:2 PopBlock\n\
+            13 5:7 LoadNameAny 3 'd'\n\
+            14 5:7 Pop\n\
+            15 5:7 ReturnConst 0 None\n",
+    },
+    Choice {
+        source: "while not a or b:\n if c:\n  d\n  break\n  e\n else: continue\nelse: f",
+        mode: "exec",
+        level: "2",
+        rows: r#"[["Name",1,11,"a"],["UnaryOp",1,7,"Not",0],["Name",1,16,"b"],["BoolOp",1,7,"Or",[1,2]],["Name",2,5,"c"],["Name",3,3,"d"],["Expr",3,3,5],["Break",4,3],["Name",5,3,"e"],["Expr",5,3,8],["Continue",6,8],["If",2,2,4,[6,7,9],[10]],["Name",7,7,"f"],["Expr",7,7,12],["While",1,1,3,[11],[13]],["Module",[14]]]"#,
+        want: "code '<module>' from 'm.py' line 1 flags 1 args 0 0 0 depth 1\n\
+            constants: None\n\
+            names: 'a', 'b', 'c', 'd', 'e', 'f'\n\
+            0 1:1 SetupLoop\n\
+            1 1:11 LoadNameAny 0 'a'\n\
+            2 1:11 JumpIfFalse 5 to 5\n\
+            3 1:16 LoadNameAny 1 'b'\n\
+            4 1:16 JumpIfFalse 12 to 12\n\
+            5 2:5 LoadNameAny 2 'c'\n\
+            6 2:5 JumpIfFalse 10 to 10\n\
+            7 3:3 LoadNameAny 3 'd'\n\
+            8 3:3 Pop\n\
+            9 4:3 Break 15 to 15\n\
+            10 6:8 Continue 1 to 1\n\
+            11 6:8 Jump 1 to 1\n\
+            12 6:8 PopBlock\n\
+            13 7:7 LoadNameAny 5 'f'\n\
+            14 7:7 Pop\n\
+            15 7:7 ReturnConst 0 None\n",
+    },
+    Choice {
+        source: "while True:\n if a == 1: pass\n elif b: break\n else: continue",
+        mode: "exec",
+        level: "0",
+        rows: r#"[["true"],["Constant",1,7,0],["Name",2,5,"a"],["int","1"],["Constant",2,10,3],["Compare",2,5,2,["Eq"],[4]],["Pass",2,13],["Name",3,7,"b"],["Break",3,10],["Continue",4,8],["If",3,2,7,[8],[9]],["If",2,2,5,[6],[10]],["While",1,1,1,[11],[]],["Module",[12]]]"#,
+        want: "code '<module>' from 'm.py' line 1 flags 1 args 0 0 0 depth 2\n\
+            constants: True, 1, None\n\
+            names: 'a', 'b'\n\
+            0 1:1 SetupLoop\n\
+            1 1:7 LoadConst 0 True\n\
+            2 1:7 JumpIfFalse 14 to 14\n\
+            3 2:5 LoadNameAny 0 'a'\n\
+            4 2:10 LoadConst 1 1\n\
+            5 2:10 CompareOperation 3 Equal\n\
+            6 2:10 JumpIfFalse 8 to 8\n\
+            7 2:13 Jump 13 to 13\n\
+            8 3:7 LoadNameAny 1 'b'\n\
+            9 3:7 JumpIfFalse 12 to 12\n\
+            10 3:10 Break 15 to 15\n\
+            11 3:10 Jump 13 to 13\n\
+            12 4:8 Continue 1 to 1\n\
+            13 4:8 Jump 1 to 1\n\
+            14 4:8 PopBlock\n\
+            15 4:8 ReturnConst 2 None\n",
+    },
+    Choice {
+        source: "if a:\n while b:\n  if c: break\nelse:\n while d: pass\ne",
+        mode: "exec",
+        level: "1",
+        rows: r#"[["Name",1,4,"a"],["Name",2,8,"b"],["Name",3,6,"c"],["Break",3,9],["If",3,3,2,[3],[]],["While",2,2,1,[4],[]],["Name",5,8,"d"],["Pass",5,11],["While",5,2,6,[7],[]],["If",1,1,0,[5],[8]],["Name",6,1,"e"],["Expr",6,1,10],["Module",[9,11]]]"#,
+        want: "code '<module>' from 'm.py' line 1 flags 1 args 0 0 0 depth 1\n\
+            constants: None\n\
+            names: 'a', 'b', 'c', 'd', 'e'\n\
+            0 1:4 LoadNameAny 0 'a'\n\
+            1 1:4 JumpIfFalse 11 to 11\n\
+            2 2:2 SetupLoop\n\
+            3 2:8 LoadNameAny 1 'b'\n\
+            4 2:8 JumpIfFalse 9 to 9\n\
+            5 3:6 LoadNameAny 2 'c'\n\
+            6 3:6 JumpIfFalse 8 to 8\n\
+            7 3:9 Break 10 to 10\n\
+            8 3:9 Jump 3 to 3\n\
+            9 3:9 PopBlock\n\
+            10 3:9 Jump 16 to 16\n\
+            11 5:2 SetupLoop\n\
+            12 5:8 LoadNameAny 3 'd'\n\
+            13 5:8 JumpIfFalse 15 to 15\n\
+            14 5:11 Jump 12 to 12\n\
+            15 5:11 PopBlock\n\
+            16 6:1 LoadNameAny 4 'e'\n\
+            17 6:1 Pop\n\
+            18 6:1 ReturnConst 0 None\n",
+    },
+    Choice {
+        source: "while a:\n break\n while b: continue\nelse: pass\nc",
+        mode: "exec",
+        level: "2",
+        rows: r#"[["Name",1,7,"a"],["Break",2,2],["Name",3,8,"b"],["Continue",3,11],["While",3,2,2,[3],[]],["Pass",4,7],["While",1,1,0,[1,4],[5]],["Name",5,1,"c"],["Expr",5,1,7],["Module",[6,8]]]"#,
+        want: "code '<module>' from 'm.py' line 1 flags 1 args 0 0 0 depth 1\n\
+            constants: None\n\
+            names: 'a', 'b', 'c'\n\
+            0 1:1 SetupLoop\n\
+            1 1:7 LoadNameAny 0 'a'\n\
+            2 1:7 JumpIfFalse 9 to 9\n\
+            3 2:2 Break 10 to 10\n\
+            4 3:8 LoadNameAny 1 'b'\n\
+            5 3:8 JumpIfFalse 7 to 7\n\
+            6 3:11 Continue 4 to 4\n\
+            7 3:11 PopBlock\n\
+            8 3:11 Jump 1 to 1\n\
+            9 3:11 PopBlock\n\
+            10 5:1 LoadNameAny 2 'c'\n\
+            11 5:1 Pop\n\
+            12 5:1 ReturnConst 0 None\n",
+    },
+];
+
+const FAULTS: [Choice; 5] = [
+    Choice {
+        source: "break",
+        mode: "exec",
+        level: "0",
+        rows: r#"[["Break",1,1],["Module",[0]]]"#,
+        want: "1:1 'break' outside loop\n",
+    },
+    Choice {
+        source: "while a: b\nelse:\n continue",
+        mode: "exec",
+        level: "1",
+        rows: r#"[["Name",1,7,"a"],["Name",1,10,"b"],["Expr",1,10,1],["Continue",3,2],["While",1,1,0,[2],[3]],["Module",[4]]]"#,
+        want: "3:2 'continue' outside loop\n",
+    },
+    Choice {
+        source: "if a:\n b\n if c: break",
+        mode: "exec",
+        level: "2",
+        rows: r#"[["Name",1,4,"a"],["Name",2,2,"b"],["Expr",2,2,1],["Name",3,5,"c"],["Break",3,8],["If",3,2,3,[4],[]],["If",1,1,0,[2,5],[]],["Module",[6]]]"#,
+        want: "3:8 'break' outside loop\n",
+    },
+    Choice {
+        source: "while a: pass\nif b: pass\nelse: continue",
+        mode: "exec",
+        level: "0",
+        rows: r#"[["Name",1,7,"a"],["Pass",1,10],["While",1,1,0,[1],[]],["Name",2,4,"b"],["Pass",2,7],["Continue",3,7],["If",2,1,3,[4],[5]],["Module",[2,6]]]"#,
+        want: "3:7 'continue' outside loop\n",
+    },
+    Choice {
+        source: "while a:\n while b: pass\n else: break\nelse:\n if c: break",
+        mode: "exec",
+        level: "1",
+        rows: r#"[["Name",1,7,"a"],["Name",2,8,"b"],["Pass",2,11],["Break",3,8],["While",2,2,1,[2],[3]],["Name",5,5,"c"],["Break",5,8],["If",5,2,5,[6],[]],["While",1,1,0,[4],[7]],["Module",[8]]]"#,
+        want: "5:8 'break' outside loop\n",
+    },
+];
+
+const TRUTHS: [Choice; 8] = [
+    Choice {
+        source: "a and b and c",
+        mode: "eval",
+        level: "0",
+        rows: r#"[["Name",1,1,"a"],["Name",1,7,"b"],["Name",1,13,"c"],["BoolOp",1,1,"And",[0,1,2]],["Expression",3]]"#,
+        want: "code '<module>' from 'm.py' line 1 flags 1 args 0 0 0 depth 1\n\
+            names: 'a', 'b', 'c'\n\
+            0 1:1 LoadNameAny 0 'a'\n\
+            1 1:1 JumpIfFalseOrPop 5 to 5\n\
+            2 1:7 LoadNameAny 1 'b'\n\
+            3 1:7 JumpIfFalseOrPop 5 to 5\n\
+            4 1:13 LoadNameAny 2 'c'\n\
+            5 1:13 ReturnValue\n",
+    },
+    Choice {
+        source: "a or b or c",
+        mode: "eval",
+        level: "1",
+        rows: r#"[["Name",1,1,"a"],["Name",1,6,"b"],["Name",1,11,"c"],["BoolOp",1,1,"Or",[0,1,2]],["Expression",3]]"#,
+        want: "code '<module>' from 'm.py' line 1 flags 1 args 0 0 0 depth 1\n\
+            names: 'a', 'b', 'c'\n\
+            0 1:1 LoadNameAny 0 'a'\n\
+            1 1:1 JumpIfTrueOrPop 5 to 5\n\
+            2 1:6 LoadNameAny 1 'b'\n\
+            3 1:6 JumpIfTrueOrPop 5 to 5\n\
+            4 1:11 LoadNameAny 2 'c'\n\
+            5 1:11 ReturnValue\n",
+    },
+    Choice {
+        source: "a and b or not c and d",
+        mode: "eval",
+        level: "2",
+        rows: r#"[["Name",1,1,"a"],["Name",1,7,"b"],["BoolOp",1,1,"And",[0,1]],["Name",1,16,"c"],["UnaryOp",1,12,"Not",3],["Name",1,22,"d"],["BoolOp",1,12,"And",[4,5]],["BoolOp",1,1,"Or",[2,6]],["Expression",7]]"#,
+        want: "code '<module>' from 'm.py' line 1 flags 1 args 0 0 0 depth 1\n\
+            names: 'a', 'b', 'c', 'd'\n\
+            0 1:1 LoadNameAny 0 'a'\n\
+            1 1:1 JumpIfFalseOrPop 3 to 3\n\
+            2 1:7 LoadNameAny 1 'b'\n\
+            3 1:7 JumpIfTrueOrPop 8 to 8\n\
+            4 1:16 LoadNameAny 2 'c'\n\
+            5 1:16 UnaryOperation 2 Not\n\
+            6 1:16 JumpIfFalseOrPop 8 to 8\n\
+            7 1:22 LoadNameAny 3 'd'\n\
+            8 1:22 ReturnValue\n",
+    },
+    Choice {
+        source: "not not a",
+        mode: "eval",
+        level: "0",
+        rows: r#"[["Name",1,9,"a"],["UnaryOp",1,5,"Not",0],["UnaryOp",1,1,"Not",1],["Expression",2]]"#,
+        want: "code '<module>' from 'm.py' line 1 flags 1 args 0 0 0 depth 1\n\
+            names: 'a'\n\
+            0 1:9 LoadNameAny 0 'a'\n\
+            1 1:9 UnaryOperation 2 Not\n\
+            2 1:9 UnaryOperation 2 Not\n\
+            3 1:9 ReturnValue\n",
+    },
+    Choice {
+        source: "(a or b) and (c or d)",
+        mode: "eval",
+        level: "1",
+        rows: r#"[["Name",1,2,"a"],["Name",1,7,"b"],["BoolOp",1,2,"Or",[0,1]],["Name",1,15,"c"],["Name",1,20,"d"],["BoolOp",1,15,"Or",[3,4]],["BoolOp",1,1,"And",[2,5]],["Expression",6]]"#,
+        want: "code '<module>' from 'm.py' line 1 flags 1 args 0 0 0 depth 1\n\
+            names: 'a', 'b', 'c', 'd'\n\
+            0 1:2 LoadNameAny 0 'a'\n\
+            1 1:2 JumpIfTrueOrPop 3 to 3\n\
+            2 1:7 LoadNameAny 1 'b'\n\
+            3 1:7 JumpIfFalseOrPop 7 to 7\n\
+            4 1:15 LoadNameAny 2 'c'\n\
+            5 1:15 JumpIfTrueOrPop 7 to 7\n\
+            6 1:20 LoadNameAny 3 'd'\n\
+            7 1:20 ReturnValue\n",
+    },
+    Choice {
+        source: "__debug__ and a",
+        mode: "eval",
+        level: "2",
+        rows: r#"[["Name",1,1,"__debug__"],["Name",1,15,"a"],["BoolOp",1,1,"And",[0,1]],["Expression",2]]"#,
+        want: "code '<module>' from 'm.py' line 1 flags 1 args 0 0 0 depth 1\n\
+            constants: False\n\
+            names: 'a'\n\
+            0 1:1 LoadConst 0 False\n\
+            1 1:1 JumpIfFalseOrPop 3 to 3\n\
+            2 1:15 LoadNameAny 0 'a'\n\
+            3 1:15 ReturnValue\n",
+    },
+    Choice {
+        source: "-a + ~b - +c",
+        mode: "eval",
+        level: "0",
+        rows: r#"[["Name",1,2,"a"],["UnaryOp",1,1,"USub",0],["Name",1,7,"b"],["UnaryOp",1,6,"Invert",2],["BinOp",1,1,1,"Add",3],["Name",1,12,"c"],["UnaryOp",1,11,"UAdd",5],["BinOp",1,1,4,"Sub",6],["Expression",7]]"#,
+        want: "code '<module>' from 'm.py' line 1 flags 1 args 0 0 0 depth 2\n\
+            names: 'a', 'b', 'c'\n\
+            0 1:2 LoadNameAny 0 'a'\n\
+            1 1:2 UnaryOperation 1 Minus\n\
+            2 1:7 LoadNameAny 1 'b'\n\
+            3 1:7 UnaryOperation 3 Invert\n\
+            4 1:7 BinaryOperation 0 Add\n\
+            5 1:12 LoadNameAny 2 'c'\n\
+            6 1:12 UnaryOperation 0 Plus\n\
+            7 1:12 BinaryOperation 1 Subtract\n\
+            8 1:12 ReturnValue\n",
+    },
+    Choice {
+        source: "~(not a)",
+        mode: "eval",
+        level: "1",
+        rows: r#"[["Name",1,7,"a"],["UnaryOp",1,3,"Not",0],["UnaryOp",1,1,"Invert",1],["Expression",2]]"#,
+        want: "code '<module>' from 'm.py' line 1 flags 1 args 0 0 0 depth 1\n\
+            names: 'a'\n\
+            0 1:7 LoadNameAny 0 'a'\n\
+            1 1:7 UnaryOperation 2 Not\n\
+            2 1:7 UnaryOperation 3 Invert\n\
+            3 1:7 ReturnValue\n",
+    },
+];
+
+const COMPARISONS: [Choice; 8] = [
+    Choice {
+        source: "a == b",
+        mode: "eval",
+        level: "0",
+        rows: r#"[["Name",1,1,"a"],["Name",1,6,"b"],["Compare",1,1,0,["Eq"],[1]],["Expression",2]]"#,
+        want: "code '<module>' from 'm.py' line 1 flags 1 args 0 0 0 depth 2\n\
+            names: 'a', 'b'\n\
+            0 1:1 LoadNameAny 0 'a'\n\
+            1 1:6 LoadNameAny 1 'b'\n\
+            2 1:6 CompareOperation 3 Equal\n\
+            3 1:6 ReturnValue\n",
+    },
+    Choice {
+        source: "a != b < c",
+        mode: "eval",
+        level: "1",
+        rows: r#"[["Name",1,1,"a"],["Name",1,6,"b"],["Name",1,10,"c"],["Compare",1,1,0,["NotEq","Lt"],[1,2]],["Expression",3]]"#,
+        want: "code '<module>' from 'm.py' line 1 flags 1 args 0 0 0 depth 3\n\
+            names: 'a', 'b', 'c'\n\
+            0 1:1 LoadNameAny 0 'a'\n\
+            1 1:6 LoadNameAny 1 'b'\n\
+            2 1:6 Duplicate\n\
+            3 1:6 Rotate3\n\
+            4 1:6 CompareOperation 2 NotEqual\n\
+            5 1:6 JumpIfFalseOrPop 9 to 9\n\
+            6 1:10 LoadNameAny 2 'c'\n\
+            7 1:10 CompareOperation 0 Less\n\
+            8 1:10 Jump 11 to 11\n\
+            9 1:10 Rotate2\n\
+            10 1:10 Pop\n\
+            11 1:10 ReturnValue\n",
+    },
+    Choice {
+        source: "a < b <= c > d >= e == f",
+        mode: "eval",
+        level: "2",
+        rows: r#"[["Name",1,1,"a"],["Name",1,5,"b"],["Name",1,10,"c"],["Name",1,14,"d"],["Name",1,19,"e"],["Name",1,24,"f"],["Compare",1,1,0,["Lt","LtE","Gt","GtE","Eq"],[1,2,3,4,5]],["Expression",6]]"#,
+        want: "code '<module>' from 'm.py' line 1 flags 1 args 0 0 0 depth 3\n\
+            names: 'a', 'b', 'c', 'd', 'e', 'f'\n\
+            0 1:1 LoadNameAny 0 'a'\n\
+            1 1:5 LoadNameAny 1 'b'\n\
+            2 1:5 Duplicate\n\
+            3 1:5 Rotate3\n\
+            4 1:5 CompareOperation 0 Less\n\
+            5 1:5 JumpIfFalseOrPop 24 to 24\n\
+            6 1:10 LoadNameAny 2 'c'\n\
+            7 1:10 Duplicate\n\
+            8 1:10 Rotate3\n\
+            9 1:10 CompareOperation 4 LessOrEqual\n\
+            10 1:10 JumpIfFalseOrPop 24 to 24\n\
+            11 1:14 LoadNameAny 3 'd'\n\
+            12 1:14 Duplicate\n\
+            13 1:14 Rotate3\n\
+            14 1:14 CompareOperation 1 Greater\n\
+            15 1:14 JumpIfFalseOrPop 24 to 24\n\
+            16 1:19 LoadNameAny 4 'e'\n\
+            17 1:19 Duplicate\n\
+            18 1:19 Rotate3\n\
+            19 1:19 CompareOperation 5 GreaterOrEqual\n\
+            20 1:19 JumpIfFalseOrPop 24 to 24\n\
+            21 1:24 LoadNameAny 5 'f'\n\
+            22 1:24 CompareOperation 3 Equal\n\
+            23 1:24 Jump 26 to 26\n\
+            24 1:24 Rotate2\n\
+            25 1:24 Pop\n\
+            26 1:24 ReturnValue\n",
+    },
+    Choice {
+        source: "a is b",
+        mode: "eval",
+        level: "0",
+        rows: r#"[["Name",1,1,"a"],["Name",1,6,"b"],["Compare",1,1,0,["Is"],[1]],["Expression",2]]"#,
+        want: "code '<module>' from 'm.py' line 1 flags 1 args 0 0 0 depth 2\n\
+            names: 'a', 'b'\n\
+            0 1:1 LoadNameAny 0 'a'\n\
+            1 1:6 LoadNameAny 1 'b'\n\
+            2 1:6 TestOperation 2 Is\n\
+            3 1:6 ReturnValue\n",
+    },
+    Choice {
+        source: "a is not b is c",
+        mode: "eval",
+        level: "1",
+        rows: r#"[["Name",1,1,"a"],["Name",1,10,"b"],["Name",1,15,"c"],["Compare",1,1,0,["IsNot","Is"],[1,2]],["Expression",3]]"#,
+        want: "code '<module>' from 'm.py' line 1 flags 1 args 0 0 0 depth 3\n\
+            names: 'a', 'b', 'c'\n\
+            0 1:1 LoadNameAny 0 'a'\n\
+            1 1:10 LoadNameAny 1 'b'\n\
+            2 1:10 Duplicate\n\
+            3 1:10 Rotate3\n\
+            4 1:10 TestOperation 3 IsNot\n\
+            5 1:10 JumpIfFalseOrPop 9 to 9\n\
+            6 1:15 LoadNameAny 2 'c'\n\
+            7 1:15 TestOperation 2 Is\n\
+            8 1:15 Jump 11 to 11\n\
+            9 1:15 Rotate2\n\
+            10 1:15 Pop\n\
+            11 1:15 ReturnValue\n",
+    },
+    Choice {
+        source: "a in b not in c",
+        mode: "eval",
+        level: "2",
+        rows: r#"[["Name",1,1,"a"],["Name",1,6,"b"],["Name",1,15,"c"],["Compare",1,1,0,["In","NotIn"],[1,2]],["Expression",3]]"#,
+        want: "code '<module>' from 'm.py' line 1 flags 1 args 0 0 0 depth 3\n\
+            names: 'a', 'b', 'c'\n\
+            0 1:1 LoadNameAny 0 'a'\n\
+            1 1:6 LoadNameAny 1 'b'\n\
+            2 1:6 Duplicate\n\
+            3 1:6 Rotate3\n\
+            4 1:6 TestOperation 0 In\n\
+            5 1:6 JumpIfFalseOrPop 9 to 9\n\
+            6 1:15 LoadNameAny 2 'c'\n\
+            7 1:15 TestOperation 1 NotIn\n\
+            8 1:15 Jump 11 to 11\n\
+            9 1:15 Rotate2\n\
+            10 1:15 Pop\n\
+            11 1:15 ReturnValue\n",
+    },
+    Choice {
+        source: "not a in b",
+        mode: "eval",
+        level: "0",
+        rows: r#"[["Name",1,5,"a"],["Name",1,10,"b"],["Compare",1,5,0,["In"],[1]],["UnaryOp",1,1,"Not",2],["Expression",3]]"#,
+        want: "code '<module>' from 'm.py' line 1 flags 1 args 0 0 0 depth 2\n\
+            names: 'a', 'b'\n\
+            0 1:5 LoadNameAny 0 'a'\n\
+            1 1:10 LoadNameAny 1 'b'\n\
+            2 1:10 TestOperation 0 In\n\
+            3 1:10 UnaryOperation 2 Not\n\
+            4 1:10 ReturnValue\n",
+    },
+    Choice {
+        source: "a < (b < c) < (d and e)",
+        mode: "eval",
+        level: "1",
+        rows: r#"[["Name",1,1,"a"],["Name",1,6,"b"],["Name",1,10,"c"],["Compare",1,6,1,["Lt"],[2]],["Name",1,16,"d"],["Name",1,22,"e"],["BoolOp",1,16,"And",[4,5]],["Compare",1,1,0,["Lt","Lt"],[3,6]],["Expression",7]]"#,
+        want: "code '<module>' from 'm.py' line 1 flags 1 args 0 0 0 depth 3\n\
+            names: 'a', 'b', 'c', 'd', 'e'\n\
+            0 1:1 LoadNameAny 0 'a'\n\
+            1 1:6 LoadNameAny 1 'b'\n\
+            2 1:10 LoadNameAny 2 'c'\n\
+            3 1:10 CompareOperation 0 Less\n\
+            4 1:10 Duplicate\n\
+            5 1:10 Rotate3\n\
+            6 1:10 CompareOperation 0 Less\n\
+            7 1:10 JumpIfFalseOrPop 13 to 13\n\
+            8 1:16 LoadNameAny 3 'd'\n\
+            9 1:16 JumpIfFalseOrPop 11 to 11\n\
+            10 1:22 LoadNameAny 4 'e'\n\
+            11 1:22 CompareOperation 0 Less\n\
+            12 1:22 Jump 15 to 15\n\
+            13 1:22 Rotate2\n\
+            14 1:22 Pop\n\
+            15 1:22 ReturnValue\n",
+    },
+];
+
+const CONDITIONALS: [Choice; 6] = [
+    Choice {
+        source: "a if b else c",
+        mode: "eval",
+        level: "0",
+        rows: r#"[["Name",1,6,"b"],["Name",1,1,"a"],["Name",1,13,"c"],["IfExp",1,1,0,1,2],["Expression",3]]"#,
+        want: "code '<module>' from 'm.py' line 1 flags 1 args 0 0 0 depth 1\n\
+            names: 'b', 'a', 'c'\n\
+            0 1:6 LoadNameAny 0 'b'\n\
+            1 1:6 JumpIfFalse 4 to 4\n\
+            2 1:1 LoadNameAny 1 'a'\n\
+            3 1:1 Jump 5 to 5\n\
+            4 1:13 LoadNameAny 2 'c'\n\
+            5 1:13 ReturnValue\n",
+    },
+    Choice {
+        source: "a if b else c if d else e",
+        mode: "eval",
+        level: "1",
+        rows: r#"[["Name",1,6,"b"],["Name",1,1,"a"],["Name",1,18,"d"],["Name",1,13,"c"],["Name",1,25,"e"],["IfExp",1,13,2,3,4],["IfExp",1,1,0,1,5],["Expression",6]]"#,
+        want: "code '<module>' from 'm.py' line 1 flags 1 args 0 0 0 depth 1\n\
+            names: 'b', 'a', 'd', 'c', 'e'\n\
+            0 1:6 LoadNameAny 0 'b'\n\
+            1 1:6 JumpIfFalse 4 to 4\n\
+            2 1:1 LoadNameAny 1 'a'\n\
+            3 1:1 Jump 9 to 9\n\
+            4 1:18 LoadNameAny 2 'd'\n\
+            5 1:18 JumpIfFalse 8 to 8\n\
+            6 1:13 LoadNameAny 3 'c'\n\
+            7 1:13 Jump 9 to 9\n\
+            8 1:25 LoadNameAny 4 'e'\n\
+            9 1:25 ReturnValue\n",
+    },
+    Choice {
+        source: "(a if b else c) if d and not e else f",
+        mode: "eval",
+        level: "2",
+        rows: r#"[["Name",1,20,"d"],["Name",1,30,"e"],["UnaryOp",1,26,"Not",1],["BoolOp",1,20,"And",[0,2]],["Name",1,7,"b"],["Name",1,2,"a"],["Name",1,14,"c"],["IfExp",1,2,4,5,6],["Name",1,37,"f"],["IfExp",1,1,3,7,8],["Expression",9]]"#,
+        want: "code '<module>' from 'm.py' line 1 flags 1 args 0 0 0 depth 1\n\
+            names: 'd', 'e', 'b', 'a', 'c', 'f'\n\
+            0 1:20 LoadNameAny 0 'd'\n\
+            1 1:20 JumpIfFalse 10 to 10\n\
+            2 1:30 LoadNameAny 1 'e'\n\
+            3 1:30 JumpIfTrue 10 to 10\n\
+            4 1:7 LoadNameAny 2 'b'\n\
+            5 1:7 JumpIfFalse 8 to 8\n\
+            6 1:2 LoadNameAny 3 'a'\n\
+            7 1:2 Jump 9 to 9\n\
+            8 1:14 LoadNameAny 4 'c'\n\
+            9 1:14 Jump 11 to 11\n\
+            10 1:37 LoadNameAny 5 'f'\n\
+            11 1:37 ReturnValue\n",
+    },
+    Choice {
+        source: "a if not (b or c) else d",
+        mode: "eval",
+        level: "0",
+        rows: r#"[["Name",1,11,"b"],["Name",1,16,"c"],["BoolOp",1,11,"Or",[0,1]],["UnaryOp",1,6,"Not",2],["Name",1,1,"a"],["Name",1,24,"d"],["IfExp",1,1,3,4,5],["Expression",6]]"#,
+        want: "code '<module>' from 'm.py' line 1 flags 1 args 0 0 0 depth 1\n\
+            names: 'b', 'c', 'a', 'd'\n\
+            0 1:11 LoadNameAny 0 'b'\n\
+            1 1:11 JumpIfTrue 6 to 6\n\
+            2 1:16 LoadNameAny 1 'c'\n\
+            3 1:16 JumpIfTrue 6 to 6\n\
+            4 1:1 LoadNameAny 2 'a'\n\
+            5 1:1 Jump 7 to 7\n\
+            6 1:24 LoadNameAny 3 'd'\n\
+            7 1:24 ReturnValue\n",
+    },
+    Choice {
+        source: "f(a and b, c < d, e if g else None) or ...",
+        mode: "eval",
+        level: "1",
+        rows: r#"[["Name",1,1,"f"],["Name",1,3,"a"],["Name",1,9,"b"],["BoolOp",1,3,"And",[1,2]],["Name",1,12,"c"],["Name",1,16,"d"],["Compare",1,12,4,["Lt"],[5]],["Name",1,24,"g"],["Name",1,19,"e"],["none"],["Constant",1,31,9],["IfExp",1,19,7,8,10],["Call",1,1,0,[3,6,11],[]],["ellipsis"],["Constant",1,40,13],["BoolOp",1,1,"Or",[12,14]],["Expression",15]]"#,
+        want: "code '<module>' from 'm.py' line 1 flags 1 args 0 0 0 depth 4\n\
+            constants: None, Ellipsis\n\
+            names: 'f', 'a', 'b', 'c', 'd', 'g', 'e'\n\
+            0 1:1 LoadNameAny 0 'f'\n\
+            1 1:3 LoadNameAny 1 'a'\n\
+            2 1:3 JumpIfFalseOrPop 4 to 4\n\
+            3 1:9 LoadNameAny 2 'b'\n\
+            4 1:12 LoadNameAny 3 'c'\n\
+            5 1:16 LoadNameAny 4 'd'\n\
+            6 1:16 CompareOperation 0 Less\n\
+            7 1:24 LoadNameAny 5 'g'\n\
+            8 1:24 JumpIfFalse 11 to 11\n\
+            9 1:19 LoadNameAny 6 'e'\n\
+            10 1:19 Jump 12 to 12\n\
+            11 1:31 LoadConst 0 None\n\
+            12 1:31 CallFunctionPositional 3\n\
+            13 1:31 JumpIfTrueOrPop 15 to 15\n\
+            14 1:40 LoadConst 1 Ellipsis\n\
+            15 1:40 ReturnValue\n",
+    },
+    Choice {
+        source: "a if 1 < b < 2 else -1",
+        mode: "eval",
+        level: "2",
+        rows: r#"[["int","1"],["Constant",1,6,0],["Name",1,10,"b"],["int","2"],["Constant",1,14,3],["Compare",1,6,1,["Lt","Lt"],[2,4]],["Name",1,1,"a"],["int","1"],["Constant",1,22,7],["UnaryOp",1,21,"USub",8],["IfExp",1,1,5,6,9],["Expression",10]]"#,
+        want: "code '<module>' from 'm.py' line 1 flags 1 args 0 0 0 depth 3\n\
+            constants: 1, 2\n\
+            names: 'b', 'a'\n\
+            0 1:6 LoadConst 0 1\n\
+            1 1:10 LoadNameAny 0 'b'\n\
+            2 1:10 Duplicate\n\
+            3 1:10 Rotate3\n\
+            4 1:10 CompareOperation 0 Less\n\
+            5 1:10 JumpIfFalseOrPop 9 to 9\n\
+            6 1:14 LoadConst 1 2\n\
+            7 1:14 CompareOperation 0 Less\n\
+            8 1:14 Jump 11 to 11\n\
+            9 1:14 Rotate2\n\
+            10 1:14 Pop\n\
+            11 1:14 JumpIfFalse 14 to 14\n\
+            12 1:1 LoadNameAny 1 'a'\n\
+            13 1:1 Jump 16 to 16\n\
+            14 1:22 LoadConst 0 1\n\
+            15 1:22 UnaryOperation 1 Minus\n\
+            16 1:22 ReturnValue\n",
+    },
+];
