@@ -4,7 +4,7 @@ use Rattle.std.specs.Cmp.Lexicographic.{pointwise}
 use Rattle.std.specs.Option.{option_eq}
 use Rattle.std.specs.Ordering.{int_eq}
 use Rattle.std.proofs.lemmas.Bool.Decides.{Decides-eqb, Decides-int_eq}
-use Rattle.py_tree.specs.declared.location.SourceLocation.{SourceLocation}
+use Rattle.py_base.specs.declared.location.SourceLocation.{SourceLocation}
 use Rattle.py_bytecode.specs.declared.instruction.Instruction.{Instruction}
 use Rattle.py_bytecode.specs.declared.operand.CodeUnit.{CodeUnit}
 use Rattle.py_bytecode.specs.contracts.instruction.Instruction.{the_type}

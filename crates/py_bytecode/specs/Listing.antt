@@ -2,7 +2,7 @@
 use Rattle.std.specs.Prelude.{ℕ, zero, suc, ◌+◌, ◌*◌, ◌%◌, ◌^◌, ℤ, List, [], ◌∷◌, ◌++◌, Bool, true, false, Option, Some, None, codes, decimal, slice_get, if◌then◌else◌}
 use Rattle.std.specs.List.{join_by}
 use Rattle.std.specs.Fmt.{signed_decimal}
-use Rattle.py_tree.specs.declared.location.SourceLocation.{SourceLocation}
+use Rattle.py_base.specs.declared.location.SourceLocation.{SourceLocation}
 use Rattle.py_bytecode.specs.declared.operand.CodeUnit.{CodeUnit}
 use Rattle.py_bytecode.specs.declared.instruction.OperandKind.{OperandKind}
 use Rattle.py_bytecode.specs.declared.instruction.OperandKind.TheVariants as kind

@@ -1,6 +1,6 @@
 -- Constants and code objects as definitions see them: no pointers, and lists of their own.
 use Rattle.std.specs.Prelude.{ℕ, ℤ, Bool, List, [], ◌∷◌, Option}
-use Rattle.py_tree.specs.declared.location.SourceLocation.{SourceLocation}
+use Rattle.py_base.specs.declared.location.SourceLocation.{SourceLocation}
 use Rattle.py_bytecode.specs.declared.operand.CodeUnit.{CodeUnit}
 
 -- all of a code object but its constants; flags as the sum of their bits

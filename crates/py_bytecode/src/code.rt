@@ -1,5 +1,5 @@
 use crate::{CodeFlags, CodeUnit};
-use py_tree::{List, OneIndexed, SourceLocation, Text};
+use py_base::{List, OneIndexed, SourceLocation, Text};
 
 /// A constant of a code object. Two are equal where the same stands in them, to any depth, and equal ones hash alike.
 #[derive(PartialEq, Eq, Hash, Drop)]

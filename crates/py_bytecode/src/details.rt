@@ -9,7 +9,7 @@ use crate::cases::{
 use crate::constants::push_constant;
 use crate::quote::push_quote;
 use crate::{CodeObject, ConstantData, OperandKind};
-use py_tree::Text;
+use py_base::Text;
 use std::alloc::AllocError;
 use std::fmt::Write;
 

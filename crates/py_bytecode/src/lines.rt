@@ -10,7 +10,7 @@ use crate::details::push_detail;
 use crate::quote::{push_quote, push_text};
 use crate::{CodeObject, CodeUnit, ConstantData, Instruction, OperandKind};
 use bitflags::Flags;
-use py_tree::{List, OneIndexed, SourceLocation, Text};
+use py_base::{List, OneIndexed, SourceLocation, Text};
 use std::alloc::AllocError;
 use std::fmt::Write;
 

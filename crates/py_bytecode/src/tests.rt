@@ -2,7 +2,7 @@ use crate::{
     CodeFlags, CodeObject, CodeUnit, ConstantData, Instruction, MakeFunctionFlags, OpArg, listing,
 };
 use bitflags::Flags;
-use py_tree::{List, OneIndexed, SourceLocation, Text};
+use py_base::{List, OneIndexed, SourceLocation, Text};
 use std::alloc::Global;
 use std::hash::{DefaultHasher, Hash, Hasher};
 use std::test::Fail;

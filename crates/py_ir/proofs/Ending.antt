@@ -15,7 +15,7 @@ use Rattle.py_ir.specs.Finished.{IsLaid}
 use Rattle.py_ir.specs.Final.{IsGiven, IsFilled, IsFinal, tables_of, runs_of}
 use Rattle.py_ir.specs.declared.error.FinalizeError.{FinalizeError}
 use Rattle.py_ir.specs.Refusals.{NoneBefore}
-use Rattle.py_tree.specs.declared.location.SourceLocation.{SourceLocation}
+use Rattle.py_base.specs.declared.location.SourceLocation.{SourceLocation}
 use Rattle.py_bytecode.specs.declared.operand.CodeUnit.{CodeUnit}
 use Rattle.std.proofs.lemmas.Bool.{cases_lt}
 

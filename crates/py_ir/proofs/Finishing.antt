@@ -4,7 +4,7 @@ use Rattle.std.specs.Prelude.{Result, Ok, Err, IfOk}
 use Rattle.py_bytecode.specs.Objects.{none}
 use Rattle.std.proofs.Common.{◌≡◌, ℕ, [], replicate, ◌+◌, ◌^◌, ◌<◌, ◌≤◌, List, length, get_or, All, Bool, true, false, sym, ap, ◌∙◌, subst}
 use Rattle.std.specs.List.{Contains}
-use Rattle.py_tree.specs.declared.location.SourceLocation.{SourceLocation}
+use Rattle.py_base.specs.declared.location.SourceLocation.{SourceLocation}
 use Rattle.py_bytecode.specs.declared.operand.CodeUnit.{CodeUnit}
 use Rattle.py_bytecode.specs.Decode.{Tables}
 use Rattle.py_walks.specs.declared.info.InstructionInfo.{InstructionInfo}

@@ -4,7 +4,7 @@ use Rattle.std.proofs.lemmas.List.{length-map}
 use Rattle.py_bytecode.specs.View.{constant}
 use Rattle.py_ir.specs.declared.checks.TableLens.{TableLens}
 use Rattle.py_ir.specs.Checks.{lens_of}
-use Rattle.py_tree.specs.declared.location.SourceLocation.{SourceLocation}
+use Rattle.py_base.specs.declared.location.SourceLocation.{SourceLocation}
 use Rattle.py_bytecode.specs.declared.operand.CodeUnit.{CodeUnit}
 use Rattle.py_bytecode.specs.declared.code.CodeObject.{CodeObject}
 use Rattle.py_bytecode.specs.Decode.{Tables}

@@ -4,7 +4,7 @@ ghost use Rattle.py_ir.specs.contracts.blocks.Block.{the_row as block_row};
 ghost use Rattle.py_ir.specs.contracts.blocks.Blocks.{the_row};
 
 use crate::{BlockIdx, InstructionInfo};
-use py_tree::List;
+use py_base::List;
 use std::alloc::Global;
 use std::marker::Model;
 

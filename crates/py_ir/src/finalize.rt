@@ -17,9 +17,9 @@ ghost use Rattle.py_ir.specs.Finished.{IsLaid};
 use crate::chain::cut;
 use crate::checks::{Check, ItemFault, TableLens, check_items};
 use crate::{FinalizeError, FlatBlocks, InstructionInfo};
+use py_base::SourceLocation;
 use py_bytecode::CodeUnit;
 use py_layout::{LayoutError, assemble};
-use py_tree::SourceLocation;
 use py_walks::{Fault, Refused as Walked, depth};
 use std::alloc::{AllocError, Global};
 

@@ -15,8 +15,8 @@ use crate::finalize::{Laid, lay_out_blocks};
 use crate::info::{listed, parameters};
 use crate::taking::flat_blocks;
 use crate::{CodeInfo, ConstantSet, FinalizeError, FlatBlocks, NameSet};
+use py_base::{List, OneIndexed, Text};
 use py_bytecode::{CodeFlags, CodeObject};
-use py_tree::{List, OneIndexed, Text};
 use std::alloc::{AllocError, Global};
 
 /// What becomes a code object: its blocks, and the tables that operands name.

@@ -6,8 +6,8 @@ ghost use Rattle.py_ir.specs.Final.{IsFinal, tables_of};
 
 use crate::{BlockIdx, Blocks, ConstantSet, FinalizeError, FlatCode, NameSet};
 use bitflags::Flags;
+use py_base::{List, OneIndexed, Text};
 use py_bytecode::{CodeFlags, CodeObject, ConstantData};
-use py_tree::{List, OneIndexed, Text};
 use std::alloc::{AllocError, Global};
 
 /// What becomes a code object: its blocks, and the tables that operands name.

@@ -4,8 +4,8 @@ ghost use Rattle.std.specs.List.{position_or_len, IsDistinct};
 ghost use Rattle.indexmap.specs.IndexSet.{insert_key};
 
 use indexmap::IndexSet;
+use py_base::{List, Text};
 use py_bytecode::ConstantData;
-use py_tree::{List, Text};
 use std::alloc::{AllocError, AllocFailed, Global};
 use std::hash::Hash;
 use std::marker::Model;

@@ -3,8 +3,8 @@ use crate::{
     Block, BlockIdx, Blocks, CodeInfo, ConstantSet, FlatBlocks, FlatCode, InstructionInfo, NameSet,
 };
 use bitflags::Flags;
+use py_base::{List, OneIndexed, SourceLocation, Text};
 use py_bytecode::{CodeFlags, CodeObject, ConstantData, Instruction, OpArg};
-use py_tree::{List, OneIndexed, SourceLocation, Text};
 use std::alloc::Global;
 use std::process::Abort;
 use std::test::Fail;

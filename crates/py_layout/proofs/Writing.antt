@@ -5,7 +5,7 @@ use Rattle.std.proofs.lemmas.List.{append-nil, drop-drop, drop_at, length-map, g
 use Rattle.std.proofs.lemmas.List.Sums.{sum_by-cons}
 use Rattle.std.specs.Prelude.{if◌then◌else◌}
 use Rattle.std.proofs.lemmas.List.Elements.{All-map}
-use Rattle.py_tree.specs.declared.location.SourceLocation.{SourceLocation}
+use Rattle.py_base.specs.declared.location.SourceLocation.{SourceLocation}
 use Rattle.py_walks.specs.declared.info.InstructionInfo.{InstructionInfo}
 use Rattle.py_bytecode.specs.declared.operand.CodeUnit.{CodeUnit}
 use Rattle.py_bytecode.specs.declared.instruction.Instruction.{Instruction}

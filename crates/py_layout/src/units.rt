@@ -5,8 +5,8 @@ ghost use Rattle.py_layout.specs.Widths.{Chosen, IsNeed, Offsets, TooManyUnits};
 ghost use Rattle.py_layout.specs.Written.{InRange, IsAssembled, located, need_of, needs_of, operand_at, operand_in, units_of, written};
 
 use crate::widths::{LayoutError, Need, lay_out, width_of};
+use py_base::SourceLocation;
 use py_bytecode::{CodeUnit, Instruction, OpArg};
-use py_tree::SourceLocation;
 use py_walks::InstructionInfo;
 use std::alloc::{AllocError, Global};
 

@@ -1,6 +1,6 @@
 -- Want of memory may come in the place of each refusal.
 use Rattle.std.proofs.Common.{Option, None}
-use Rattle.py_tree.specs.declared.location.SourceLocation.{SourceLocation}
+use Rattle.py_base.specs.declared.location.SourceLocation.{SourceLocation}
 use Rattle.py_scope.specs.declared.error.ScanFault.{ScanFault}
 use Rattle.py_scope.specs.declared.error.ScanFault.TheVariants.{Text, TooLarge, OutOfMemory}
 use Rattle.py_scope.specs.declared.error.SymbolTableError.{SymbolTableError}

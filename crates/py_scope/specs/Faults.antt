@@ -1,6 +1,6 @@
 -- What an error tells of a refusal.
 use Rattle.std.specs.Prelude.{◌≡◌, Option, Some, None}
-use Rattle.py_tree.specs.declared.location.SourceLocation.{SourceLocation}
+use Rattle.py_base.specs.declared.location.SourceLocation.{SourceLocation}
 use Rattle.py_scope.specs.declared.error.ScanFault.{ScanFault}
 use Rattle.py_scope.specs.declared.error.ScanFault.TheVariants.{Text, TooLarge, OutOfMemory}
 use Rattle.py_scope.specs.declared.error.SymbolTableError.{SymbolTableError}

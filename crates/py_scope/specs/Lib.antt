@@ -23,3 +23,4 @@ pub mod Refusals
 pub mod Symbols
 pub mod SymbolList
 pub mod Registered
+pub mod Mangle

@@ -14,7 +14,7 @@ use crate::roles::{Role, register};
 use crate::rows::{Entries, Head, Row};
 use crate::table::SymbolTable;
 use crate::table_type::SymbolTableType;
-use py_tree::{SourceLocation, Text};
+use py_base::{SourceLocation, Text};
 use std::alloc::{AllocError, Global};
 use std::marker::Model;
 

@@ -15,7 +15,7 @@ use crate::outward::{Found, is_free};
 use crate::refusal::{Fault, Refusal};
 use crate::rows::{Entry, Holds, Row};
 use crate::table_type::SymbolTableType;
-use py_tree::Text;
+use py_base::Text;
 use std::alloc::Global;
 
 /// The refusal of a nonlocal name that no scope around binds.

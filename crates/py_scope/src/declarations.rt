@@ -8,7 +8,7 @@ use crate::roles::Role;
 use crate::rows::{Entry, Holds};
 use crate::table_type::SymbolTableType;
 use bitflags::Flags;
-use py_tree::Text;
+use py_base::Text;
 use std::alloc::{AllocError, Global};
 
 /// Why a name with these flags may not be declared.

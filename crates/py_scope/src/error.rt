@@ -2,7 +2,7 @@ ghost use Rattle.std.specs.Prelude.{◌≡◌};
 ghost use Rattle.py_scope.specs.Faults.{TellsRefusal, TellsNone};
 
 use crate::refusal::Refusal;
-use py_tree::{SourceLocation, Text, TreeLimit};
+use py_base::{SourceLocation, Text, TreeLimit};
 use std::alloc::Global;
 
 /// Why the scopes of a program are refused.

@@ -9,7 +9,7 @@ ghost use Rattle.py_scope.specs.Tables.{declares_opt, declares_in, global_within
 
 use crate::rows::{Entry, Holds, Row};
 use indexmap::IndexSet;
-use py_tree::Text;
+use py_base::Text;
 use std::alloc::{AllocError, Global};
 
 fn is_declared_global(holds: Holds) -> bool

@@ -9,7 +9,7 @@ ghost use Rattle.py_scope.specs.Kinds.{nowhere, kind_found, kind_of_entry};
 use crate::outward::{Found, Meets, look_in};
 use crate::rows::{Entry, Holds, Row};
 use crate::table_type::SymbolTableType;
-use py_tree::Text;
+use py_base::Text;
 
 /// What a name is in a scope.
 #[derive(Clone, Copy, Debug, PartialEq, Eq)]

@@ -12,7 +12,7 @@ use crate::flags::SymbolFlags;
 use crate::refusal::{Fault, Refusal};
 use crate::rows::{Entries, Entry, Holds, Row};
 use crate::table_type::SymbolTableType;
-use py_tree::Text;
+use py_base::Text;
 use std::alloc::{AllocError, Global};
 
 pub(crate) fn or_absent(entry: Option<Entry>) -> Entry

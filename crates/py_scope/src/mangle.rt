@@ -1,9 +1,9 @@
 //! Private names of classes.
 ghost use Rattle.std.specs.Prelude.{◌≡◌, ◌++◌, ◌∷◌, [], IfOk, OnOk, string_bytes};
 ghost use Rattle.std.specs.Option.{option_copied};
-ghost use Rattle.py_tree.specs.Mangle.{stays, less_underscore, mangled};
+ghost use Rattle.py_scope.specs.Mangle.{stays, less_underscore, mangled};
 
-use py_tree::Text;
+use py_base::Text;
 use std::alloc::{AllocError, Global};
 
 /// Whether the name is not private: it does not begin with two underscores, or ends with two, or holds a dot.

@@ -10,7 +10,7 @@ use crate::flags::SymbolFlags;
 use crate::outward::{Found, Meets, asks, is_free, look_in};
 use crate::rows::{Entries, Entry, Holds, Row};
 use crate::table_type::SymbolTableType;
-use py_tree::Text;
+use py_base::Text;
 use std::alloc::{AllocError, Global};
 
 fn or_new(entry: Option<Entry>) -> Entry

@@ -5,7 +5,7 @@ ghost use Rattle.py_scope.specs.Marks.{after, IsLooked, IsSettled, looks};
 
 use crate::rows::{Entry, Holds, Row};
 use crate::table_type::SymbolTableType;
-use py_tree::Text;
+use py_base::Text;
 
 /// What a look for a name meets in a scope.
 #[derive(Clone, Copy, Debug, PartialEq, Eq)]

@@ -2,7 +2,7 @@
 ghost use Rattle.std.specs.Prelude.{◌≡◌, ◌++◌, IfOk, codes};
 ghost use Rattle.py_scope.specs.Refusals.{word_of, text_of};
 
-use py_tree::Text;
+use py_base::Text;
 use std::alloc::{AllocError, Global};
 
 /// A statement that declares names.

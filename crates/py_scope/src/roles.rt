@@ -5,7 +5,7 @@ ghost use Rattle.py_scope.specs.Roles.{flags_of, declares, register};
 use crate::flags::SymbolFlags;
 use crate::lifts::or_absent;
 use crate::rows::{Entries, Entry, Holds};
-use py_tree::Text;
+use py_base::Text;
 use std::alloc::{AllocError, Global};
 
 /// How a scope uses a name.

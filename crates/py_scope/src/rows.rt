@@ -11,7 +11,7 @@ use crate::flags::SymbolFlags;
 use crate::table_type::SymbolTableType;
 use bitflags::Flags;
 use indexmap::IndexMap;
-use py_tree::Text;
+use py_base::Text;
 use std::alloc::{AllocError, Global};
 use std::marker::Model;
 

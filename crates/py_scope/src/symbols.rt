@@ -10,7 +10,7 @@ use crate::flags::SymbolFlags;
 use crate::kinds::SymbolScope;
 use bitflags::Flags;
 use indexmap::IndexMap;
-use py_tree::Text;
+use py_base::Text;
 use std::alloc::{AllocError, Global};
 use std::fmt;
 use std::marker::Model;

@@ -6,7 +6,7 @@ ghost use Rattle.py_scope.specs.Symbols.{symbols_of};
 
 use crate::symbols::{Symbol, Symbols};
 use crate::table_type::SymbolTableType;
-use py_tree::{List, Text};
+use py_base::{List, Text};
 use std::alloc::{AllocError, Global};
 use std::fmt;
 

@@ -16,7 +16,7 @@ use crate::rows::{Entry, Head, Holds, Row};
 use crate::symbols::{Symbol, Symbols};
 use crate::table::SymbolTable;
 use indexmap::IndexSet;
-use py_tree::{List, Text};
+use py_base::{List, Text};
 use std::alloc::{AllocError, Global};
 
 fn is_plain(holds: Holds) -> bool

@@ -6,7 +6,7 @@ use crate::{
     SymbolTableError, SymbolTableType, mangle_name,
 };
 use bitflags::Flags;
-use py_tree::{SourceLocation, Text};
+use py_base::{SourceLocation, Text};
 use std::alloc::{AllocError, Global};
 use std::marker::Brand;
 use std::process::Abort;

@@ -1,5 +1,5 @@
+use py_base::SourceLocation;
 use py_bytecode::{Instruction, OpArg};
-use py_tree::SourceLocation;
 
 /// The number of a block.
 #[derive(Clone, Copy, PartialEq, Eq, Debug)]

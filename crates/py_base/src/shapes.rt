@@ -1,5 +1,5 @@
 ghost use Rattle.std.specs.Prelude.{◌≡◌};
-ghost use Rattle.py_tree.specs.Shapes.{shape_name};
+ghost use Rattle.py_base.specs.Shapes.{shape_name};
 
 /// A shape that no tree of a program has.
 #[derive(Clone, Copy, PartialEq, Eq, Debug)]

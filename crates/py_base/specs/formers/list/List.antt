@@ -14,10 +14,10 @@ use Rattle.std.specs.formers.vec.Vec as vec
 use Rattle.std.specs.declared.alloc.Global.{Global}
 use Rattle.std.specs.contracts.alloc.Global as heap
 use Rattle.std.specs.contracts.impls.GlobalAllocator.TheImpl.{ghosts}
-use Rattle.py_tree.specs.declared.list.List.TheInside.{Inside}
-use Rattle.py_tree.specs.declared.list.List.TheView.{view, invariant}
-use Rattle.py_tree.specs.contracts.list.List as outer
-use Rattle.py_tree.specs.contracts.list.List.TheInside as inner
+use Rattle.py_base.specs.declared.list.List.TheInside.{Inside}
+use Rattle.py_base.specs.declared.list.List.TheView.{view, invariant}
+use Rattle.py_base.specs.contracts.list.List as outer
+use Rattle.py_base.specs.contracts.list.List.TheInside as inner
 
 -- contracts see a `List` as a list, so its former is that of lists
 abbrev pub the_former : Former {0} → Former {0}

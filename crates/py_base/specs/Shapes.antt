@@ -1,7 +1,7 @@
 -- Names of wrong shapes.
 use Rattle.std.specs.Prelude.{ℕ, List, codes}
-use Rattle.py_tree.specs.declared.shapes.Malformed.{Malformed}
-use Rattle.py_tree.specs.declared.shapes.Malformed.TheVariants as shape
+use Rattle.py_base.specs.declared.shapes.Malformed.{Malformed}
+use Rattle.py_base.specs.declared.shapes.Malformed.TheVariants as shape
 
 abbrev pub shape_name : Malformed → List ℕ
 shape_name shape.WrongMode = codes "WrongMode"

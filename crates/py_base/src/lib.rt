@@ -1,0 +1,19 @@
+//! The small types that every crate stands on: texts, lists, places in the source.
+#![tactic(auto)]
+
+pub mod limits;
+pub mod list;
+pub mod location;
+pub mod shapes;
+#[cfg(test)]
+mod tests;
+pub mod text;
+
+pub use limits::TreeLimit;
+pub use list::List;
+pub use location::{LocatedError, OneIndexed, SourceLocation};
+pub use shapes::Malformed;
+pub use text::Text;
+
+/// Names in order.
+pub type Names = List<Text>;
