@@ -1,10 +1,10 @@
 -- What is checked part by part is checked as a whole.
-use Rattle.std.proofs.Common.{◌≡◌, ◌++◌, List, [], ◌∷◌, length, refl, arith, Result, Ok, Err}
+use Rattle.std.proofs.Common.{◌≡◌, ◌++◌, List, [], ◌∷◌, length, refl, arith, Option, Result, Ok, Err}
 use Rattle.std.specs.Result.{result_err}
-use Rattle.py_tree.specs.Valid.{checked, count, first}
-use Rattle.py_tree.specs.View.{exprs, expr_tree}
+use Rattle.py_tree.specs.Valid.{checked, count, first, opt_count}
+use Rattle.py_tree.specs.View.{exprs, expr_tree, opt_exprs}
 use Rattle.py_tree.specs.declared.expressions.Expr.{Expr}
-use Rattle.py_tree.specs.declared.shapes.Malformed.{Malformed}
+use Rattle.py_base.specs.declared.shapes.Malformed.{Malformed}
 use Rattle.py_tree.proofs.View.{trees}
 
 -- the second, where nothing was wrong in the first
@@ -20,8 +20,12 @@ pub count_exprs : (xs : List Expr) → count (exprs expr_tree xs) ≡ length xs
 count_exprs [] = refl
 count_exprs (x ∷ xs) = omega (arith, count_exprs xs)
 
+pub count_keys : (xs : List (Option Expr)) → opt_count (opt_exprs expr_tree xs) ≡ length xs
+count_keys [] = refl
+count_keys (x ∷ xs) = omega (arith, count_keys xs)
+
 pub err_checked : (shapes : List Malformed) → result_err (checked shapes) ≡ first shapes
 err_checked [] = refl
 err_checked (shape ∷ shapes) = refl
 
-pub ruleset checks = (checked_append, count_exprs, trees)
+pub ruleset checks = (checked_append, count_exprs, count_keys, trees)

@@ -1,10 +1,8 @@
 pub mod Limits
 pub mod Literal
-pub mod Mangle
 pub mod Nesting
+pub mod PythonName
 pub mod Size
 pub mod Tree
 pub mod Valid
 pub mod View
-pub mod formers
-pub mod Shapes

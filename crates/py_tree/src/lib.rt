@@ -1,38 +1,35 @@
-//! The syntax tree that the compiler reads, its small types, its limits and its shapes.
+//! The syntax tree that the compiler reads, its limits and its shapes.
 #![tactic(auto)]
 
 pub mod depth;
 pub mod expressions;
-pub mod list;
-pub mod location;
 pub mod modules;
 pub mod operators;
-pub mod shapes;
+mod python_name;
 pub mod size;
 pub mod statements;
 #[cfg(test)]
 mod tests;
-pub mod text;
 pub mod validity;
 
 pub use depth::{depth_of_body, depth_of_expr, depth_of_tree};
 pub use expressions::{
-    Constant, Expr, ExprBinOp, ExprBinOpOf, ExprBoolOp, ExprBoolOpOf, ExprCall, ExprCallOf,
-    ExprCompare, ExprCompareOf, ExprConstant, ExprIfExp, ExprIfExpOf, ExprName, ExprUnaryOp,
-    ExprUnaryOpOf, Exprs,
+    Constant, Expr, ExprAttribute, ExprAttributeOf, ExprBinOp, ExprBinOpOf, ExprBoolOp,
+    ExprBoolOpOf, ExprCall, ExprCallOf, ExprCompare, ExprCompareOf, ExprConstant, ExprDict,
+    ExprDictOf, ExprFormattedValue, ExprFormattedValueOf, ExprIfExp, ExprIfExpOf, ExprJoinedStr,
+    ExprJoinedStrOf, ExprList, ExprListOf, ExprName, ExprNamedExpr, ExprNamedExprOf, ExprSet,
+    ExprSetOf, ExprSlice, ExprSliceOf, ExprStarred, ExprStarredOf, ExprSubscript, ExprSubscriptOf,
+    ExprTuple, ExprTupleOf, ExprUnaryOp, ExprUnaryOpOf, Exprs, Keyword, KeywordOf,
 };
-pub use list::List;
-pub use location::{LocatedError, OneIndexed, SourceLocation};
-pub use modules::{Mod, ModExpression, ModModule, Mode, TreeLimit};
-pub use operators::{BoolOp, CmpOp, Operator, UnaryOp};
-pub use shapes::Malformed;
+pub use modules::{Mod, ModExpression, ModModule, Mode};
+pub use operators::{BoolOp, CmpOp, ConversionFlag, Operator, UnaryOp};
+pub use py_base::{
+    List, LocatedError, Malformed, Names, OneIndexed, SourceLocation, Text, TreeLimit,
+};
 pub use size::{size_of_body, size_of_expr, size_of_tree};
 pub use statements::{
-    Stmt, StmtBreak, StmtContinue, StmtExpr, StmtExprOf, StmtIf, StmtIfOf, StmtPass, StmtWhile,
-    StmtWhileOf, Stmts,
+    Stmt, StmtAnnAssign, StmtAnnAssignOf, StmtAssign, StmtAssignOf, StmtAugAssign, StmtAugAssignOf,
+    StmtBreak, StmtContinue, StmtDelete, StmtDeleteOf, StmtExpr, StmtExprOf, StmtIf, StmtIfOf,
+    StmtPass, StmtWhile, StmtWhileOf, Stmts,
 };
-pub use text::Text;
 pub use validity::{valid, valid_body, valid_expr};
-
-/// Names in order.
-pub type Names = List<Text>;

@@ -31,12 +31,3 @@ pub enum Mode {
     /// A file whose last value is given.
     BlockExpr,
 }
-
-/// What a tree has too much of.
-#[derive(Clone, Copy, PartialEq, Eq, Debug)]
-pub enum TreeLimit {
-    /// Its size.
-    Nodes,
-    /// Its nesting.
-    Depth,
-}

@@ -2,11 +2,15 @@ ghost use Rattle.std.specs.Prelude.{◌≡◌};
 ghost use Rattle.py_tree.specs.Tree.{stmt_location};
 ghost use Rattle.py_tree.specs.View.{stmt_tree};
 
-use crate::{Expr, List, SourceLocation};
+use crate::{Expr, List, Operator, SourceLocation};
 
 /// A statement.
 #[derive(Drop)]
 pub enum Stmt {
+    Delete(StmtDeleteOf<Expr>),
+    Assign(StmtAssignOf<Expr>),
+    AugAssign(StmtAugAssignOf<Expr>),
+    AnnAssign(StmtAnnAssignOf<Expr>),
     While(StmtWhileOf<Stmt>),
     If(StmtIfOf<Stmt>),
     Expr(StmtExprOf<Expr>),
@@ -17,6 +21,48 @@ pub enum Stmt {
 
 /// Statements in order.
 pub type Stmts = List<Stmt>;
+
+/// `del targets`.
+#[derive(Drop)]
+pub struct StmtDeleteOf<E> {
+    pub location: SourceLocation,
+    pub targets: List<E>,
+}
+
+pub type StmtDelete = StmtDeleteOf<Expr>;
+
+/// `target = value`, for each of the targets.
+#[derive(Drop)]
+pub struct StmtAssignOf<E> {
+    pub location: SourceLocation,
+    pub targets: List<E>,
+    pub value: Box<E>,
+}
+
+pub type StmtAssign = StmtAssignOf<Expr>;
+
+/// `target op= value`.
+#[derive(Drop)]
+pub struct StmtAugAssignOf<E> {
+    pub location: SourceLocation,
+    pub target: Box<E>,
+    pub op: Operator,
+    pub value: Box<E>,
+}
+
+pub type StmtAugAssign = StmtAugAssignOf<Expr>;
+
+/// `target: annotation = value`. It is simple where the target is a name without parentheses.
+#[derive(Drop)]
+pub struct StmtAnnAssignOf<E> {
+    pub location: SourceLocation,
+    pub target: Box<E>,
+    pub annotation: Box<E>,
+    pub value: Option<Box<E>>,
+    pub simple: bool,
+}
+
+pub type StmtAnnAssign = StmtAnnAssignOf<Expr>;
 
 /// `while test: body`, with an else part.
 #[derive(Drop)]
@@ -74,6 +120,10 @@ impl Stmt {
         ensures { result ≡ stmt_location (stmt_tree self.now) }
     {
         match self {
+            Stmt::Delete(s) => s.location,
+            Stmt::Assign(s) => s.location,
+            Stmt::AugAssign(s) => s.location,
+            Stmt::AnnAssign(s) => s.location,
             Stmt::While(s) => s.location,
             Stmt::If(s) => s.location,
             Stmt::Expr(s) => s.location,

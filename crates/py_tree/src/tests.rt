@@ -1,10 +1,10 @@
 use crate::{
-    CmpOp, Constant, Expr, ExprBinOp, ExprCall, ExprCompare, ExprConstant, ExprName, List,
-    Malformed, Mod, ModExpression, ModModule, Mode, OneIndexed, Operator, SourceLocation, Stmt,
-    StmtExpr, StmtIf, StmtPass, Text, depth_of_tree, size_of_tree, valid,
+    CmpOp, Constant, Expr, ExprAttribute, ExprBinOp, ExprCall, ExprCompare, ExprConstant, ExprDict,
+    ExprJoinedStr, ExprName, ExprSlice, ExprSubscript, Keyword, List, Malformed, Mod,
+    ModExpression, ModModule, Mode, Operator, SourceLocation, Stmt, StmtAssign, StmtExpr, StmtIf,
+    StmtPass, Text, depth_of_tree, size_of_tree, valid,
 };
 use std::alloc::Global;
-use std::collections::HashSet;
 use std::test::Fail;
 
 fn text(alloc: Global, s: &str) -> Result<Text, Fail> {
@@ -18,15 +18,29 @@ fn name(alloc: Global, id: &str) -> Result<Expr, Fail> {
     }))
 }
 
-fn one() -> Expr {
+fn constant(value: Constant) -> Expr {
     Expr::Constant(ExprConstant {
         location: SourceLocation::default(),
-        value: Constant::Int(1),
+        value,
     })
 }
 
-/// `f(a + 1)`.
-fn call(alloc: Global) -> Result<Expr, Fail> {
+fn one() -> Expr {
+    constant(Constant::Int(1))
+}
+
+/// The program with this value as its one statement.
+fn program(alloc: Global, value: Expr) -> Result<Mod, Fail> {
+    let statement = Stmt::Expr(StmtExpr {
+        location: SourceLocation::default(),
+        value: Box::new(alloc, value)?,
+    });
+    let body = List::from_vec(vec![in alloc; statement]?);
+    Ok(Mod::Module(ModModule { body }))
+}
+
+/// `f(a + 1)`, with these keywords.
+fn call(alloc: Global, keywords: List<Keyword>) -> Result<Expr, Fail> {
     let location = SourceLocation::default();
     let sum = Expr::BinOp(ExprBinOp {
         location,
@@ -38,23 +52,62 @@ fn call(alloc: Global) -> Result<Expr, Fail> {
         location,
         func: Box::new(alloc, name(alloc, "f")?)?,
         args: List::from_vec(vec![in alloc; sum]?),
+        keywords,
     }))
 }
 
 #[test]
 fn counts_the_rows_of_a_call(rt: HostRuntime) -> Result<(), Fail> {
     let alloc = rt.alloc();
-    let statement = Stmt::Expr(StmtExpr {
-        location: SourceLocation::default(),
-        value: Box::new(alloc, call(alloc)?)?,
-    });
-    let body = List::from_vec(vec![in alloc; statement]?);
-    let tree = Mod::Module(ModModule { body });
+    let tree = program(alloc, call(alloc, List::new(alloc))?)?;
     assert_eq!(rt; depth_of_tree(&tree, 6), None);
     let depth = depth_of_tree(&tree, 7);
     assert_eq!(rt; depth, Some(6));
     assert_eq!(rt; size_of_tree(&tree, 10), None);
     assert_eq!(rt; size_of_tree(&tree, 11), Some(10));
+    Ok(())
+}
+
+fn keyword(alloc: Global, arg: &str) -> Result<Keyword, Fail> {
+    Ok(Keyword {
+        arg: Some(text(alloc, arg)?),
+        value: one(),
+    })
+}
+
+#[test]
+fn counts_the_rows_of_keywords(rt: HostRuntime) -> Result<(), Fail> {
+    let alloc = rt.alloc();
+    let unpacked = Keyword {
+        arg: None,
+        value: name(alloc, "a")?,
+    };
+    let keywords = vec![in alloc; keyword(alloc, "k")?, unpacked]?;
+    let tree = program(alloc, call(alloc, List::from_vec(keywords))?)?;
+    assert_eq!(rt; depth_of_tree(&tree, 7), Some(6));
+    assert_eq!(rt; size_of_tree(&tree, 18), Some(17));
+    assert_eq!(rt; size_of_tree(&tree, 17), None);
+    Ok(())
+}
+
+/// `targets = value`.
+fn assignment(alloc: Global, targets: List<Expr>, value: Expr) -> Result<Mod, Fail> {
+    let statement = Stmt::Assign(StmtAssign {
+        location: SourceLocation::default(),
+        targets,
+        value: Box::new(alloc, value)?,
+    });
+    let body = List::from_vec(vec![in alloc; statement]?);
+    Ok(Mod::Module(ModModule { body }))
+}
+
+#[test]
+fn counts_the_rows_of_an_assignment(rt: HostRuntime) -> Result<(), Fail> {
+    let alloc = rt.alloc();
+    let targets = vec![in alloc; name(alloc, "a")?, name(alloc, "b")?]?;
+    let tree = assignment(alloc, List::from_vec(targets), one())?;
+    assert_eq!(rt; depth_of_tree(&tree, 9), Some(4));
+    assert_eq!(rt; size_of_tree(&tree, 9), Some(8));
     Ok(())
 }
 
@@ -87,6 +140,71 @@ fn counts_the_rows_of_a_branch(rt: HostRuntime) -> Result<(), Fail> {
     Ok(())
 }
 
+fn attribute(alloc: Global, id: &str, attr: &str) -> Result<Expr, Fail> {
+    Ok(Expr::Attribute(ExprAttribute {
+        location: SourceLocation::default(),
+        value: Box::new(alloc, name(alloc, id)?)?,
+        attr: text(alloc, attr)?,
+    }))
+}
+
+/// `id.attr[d:]`.
+fn subscript(alloc: Global, id: &str, attr: &str) -> Result<Expr, Fail> {
+    let location = SourceLocation::default();
+    let slice = Expr::Slice(ExprSlice {
+        location,
+        lower: Some(Box::new(alloc, name(alloc, "d")?)?),
+        upper: None,
+        step: None,
+    });
+    Ok(Expr::Subscript(ExprSubscript {
+        location,
+        value: Box::new(alloc, attribute(alloc, id, attr)?)?,
+        slice: Box::new(alloc, slice)?,
+    }))
+}
+
+/// `{**a, 'x': value}`, and without its first value where the lists are to be uneven.
+fn dict(alloc: Global, value: Expr, even: bool) -> Result<Mod, Fail> {
+    let key = constant(Constant::Str(text(alloc, "x")?));
+    let values = if even {
+        vec![in alloc; name(alloc, "a")?, value]?
+    } else {
+        vec![in alloc; value]?
+    };
+    let dict = Expr::Dict(ExprDict {
+        location: SourceLocation::default(),
+        keys: List::from_vec(vec![in alloc; None, Some(key)]?),
+        values: List::from_vec(values),
+    });
+    program(alloc, dict)
+}
+
+#[test]
+fn counts_the_rows_of_a_dict(rt: HostRuntime) -> Result<(), Fail> {
+    let alloc = rt.alloc();
+    let tree = dict(alloc, subscript(alloc, "b", "c")?, true)?;
+    assert_eq!(rt; depth_of_tree(&tree, 7), Some(6));
+    assert_eq!(rt; depth_of_tree(&tree, 6), None);
+    assert_eq!(rt; size_of_tree(&tree, 17), Some(16));
+    assert_eq!(rt; size_of_tree(&tree, 16), None);
+    Ok(())
+}
+
+#[test]
+fn counts_the_constants_of_a_tuple(rt: HostRuntime) -> Result<(), Fail> {
+    let alloc = rt.alloc();
+    let letter = Constant::Str(text(alloc, "x")?);
+    let bytes = Constant::Bytes(List::from_vec(vec![in alloc; b'y']?));
+    let pair = Constant::Tuple(List::from_vec(vec![in alloc; letter, bytes]?));
+    let items = List::from_vec(vec![in alloc; Constant::Int(1), pair]?);
+    let tree = program(alloc, constant(Constant::Tuple(items)))?;
+    assert_eq!(rt; depth_of_tree(&tree, 7), Some(6));
+    assert_eq!(rt; depth_of_tree(&tree, 6), None);
+    assert_eq!(rt; size_of_tree(&tree, 9), Some(8));
+    Ok(())
+}
+
 /// The first wrong shape of a tree that nests below the limit.
 fn shape_of(tree: &Mod, mode: Mode) -> Option<Option<Malformed>> {
     depth_of_tree(tree, 1024)?;
@@ -112,6 +230,42 @@ fn tells_the_first_wrong_shape(rt: HostRuntime) -> Result<(), Fail> {
     for (tree, shape) in cases {
         assert_eq!(rt; shape_of(&tree, Mode::Exec), Some(shape));
     }
+    let cases = [
+        (dict(alloc, subscript(alloc, "b", "c")?, true)?, None),
+        (
+            dict(alloc, name(alloc, "")?, false)?,
+            Some(Malformed::UnevenLists),
+        ),
+        (
+            dict(alloc, name(alloc, "")?, true)?,
+            Some(Malformed::EmptyName),
+        ),
+        (
+            program(alloc, attribute(alloc, "", "b.c")?)?,
+            Some(Malformed::StrayDot),
+        ),
+        (
+            program(alloc, subscript(alloc, "a", "")?)?,
+            Some(Malformed::EmptyName),
+        ),
+        (
+            program(
+                alloc,
+                call(
+                    alloc,
+                    List::from_vec(vec![in alloc; keyword(alloc, "b.c")?]?),
+                )?,
+            )?,
+            Some(Malformed::StrayDot),
+        ),
+        (
+            assignment(alloc, List::new(alloc), name(alloc, "")?)?,
+            Some(Malformed::NoTarget),
+        ),
+    ];
+    for (tree, shape) in cases {
+        assert_eq!(rt; shape_of(&tree, Mode::Exec), Some(shape));
+    }
     let body = Box::new(alloc, name(alloc, "")?)?;
     let tree = Mod::Expression(ModExpression { body });
     let shape = Some(Malformed::EmptyName);
@@ -119,32 +273,26 @@ fn tells_the_first_wrong_shape(rt: HostRuntime) -> Result<(), Fail> {
     Ok(())
 }
 
-#[test]
-fn texts_go_by_their_bytes(rt: HostRuntime) -> Result<(), Fail> {
-    let alloc = rt.alloc();
-    let x = text(alloc, "x")?;
-    let copy = x.try_clone(alloc)?;
-    let longer = text(alloc, "xa")?;
-    assert_eq!(rt; copy.as_str(), "x");
-    assert!(rt; copy == x);
-    assert!(rt; copy != longer);
-    assert!(rt; x < longer);
-    assert_eq!(rt; format!(in alloc; "{x:?}")?.as_str(), "\"x\"");
-    let mut seen = HashSet::new(alloc);
-    seen.insert(x)?;
-    assert!(rt; seen.contains(&copy));
-    Ok(())
+fn joined(values: List<Expr>) -> Expr {
+    Expr::JoinedStr(ExprJoinedStr {
+        location: SourceLocation::default(),
+        values,
+    })
 }
 
 #[test]
-fn small_values_begin_at_one(rt: HostRuntime) -> Result<(), Fail> {
-    let mut numbers = List::new(rt.alloc());
-    numbers.push(7)?;
-    assert_eq!(rt; numbers.len(), 1);
-    assert_eq!(rt; format!(in rt.alloc(); "{numbers:?}")?.as_str(), "[7]");
-    assert_eq!(rt; OneIndexed::new(0), None);
-    let start = SourceLocation::default();
-    assert_eq!(rt; start.row.get(), 1);
-    assert_eq!(rt; start.column.get(), 1);
+fn expressions_have_names(rt: HostRuntime) -> Result<(), Fail> {
+    let alloc = rt.alloc();
+    let within = vec![in alloc; one(), joined(List::new(alloc))]?;
+    let cases = [
+        (one(), "literal"),
+        (constant(Constant::Bool(true)), "True"),
+        (call(alloc, List::new(alloc))?, "function call"),
+        (joined(List::new(alloc)), "literal"),
+        (joined(List::from_vec(within)), "f-string expression"),
+    ];
+    for (expr, name) in cases {
+        assert_eq!(rt; expr.python_name(), name);
+    }
     Ok(())
 }
