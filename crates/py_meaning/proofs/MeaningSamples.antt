@@ -2,7 +2,7 @@
 use Rattle.std.proofs.Common.{◌≡◌, refl, ℕ, List, [], ◌∷◌, pos, codes}
 use Rattle.py_tree.specs.Literal as literal
 use Rattle.py_tree.specs.Tree as tree
-use Rattle.py_tree.specs.declared.location.SourceLocation.{SourceLocation}
+use Rattle.py_base.specs.declared.location.SourceLocation.{SourceLocation}
 use Rattle.py_tree.specs.declared.operators.Operator.TheVariants.{Add}
 use Rattle.py_tree.specs.declared.modules.Mode.TheVariants.{Exec}
 use Rattle.py_bytecode.specs.declared.instruction.Instruction.TheVariants as op
@@ -16,7 +16,7 @@ at column = record { row = 1; column = column }
 
 abbrev sum_called : tree.Mod
 sum_called =
-    tree.Module (tree.more_stmts (tree.StmtExpr (at 1) (tree.Call (at 1) (tree.Name (at 1) (codes "f")) (tree.more_exprs (tree.BinOp (at 3) (tree.Name (at 3) (codes "a")) Add (tree.Constant (at 7) (literal.Int (pos 1)))) tree.no_exprs))) tree.no_stmts)
+    tree.Module (tree.more_stmts (tree.StmtExpr (at 1) (tree.Call (at 1) (tree.Name (at 1) (codes "f")) (tree.more_exprs (tree.BinOp (at 3) (tree.Name (at 3) (codes "a")) Add (tree.Constant (at 7) (literal.Int (pos 1)))) tree.no_exprs) tree.no_keywords)) tree.no_stmts)
 
 abbrev loads : List ℕ → Event Scope
 loads n = Accesses Unsaid Load n 0 []

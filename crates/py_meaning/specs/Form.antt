@@ -1,6 +1,6 @@
 -- Forms and scopes, and what a run of each does.
 use Rattle.std.specs.Prelude.{ℕ, zero, suc, List, [], ◌∷◌, ◌++◌, length, Bool, true, false, Option, Some, None}
-use Rattle.py_tree.specs.declared.location.SourceLocation.{SourceLocation}
+use Rattle.py_base.specs.declared.location.SourceLocation.{SourceLocation}
 use Rattle.py_bytecode.specs.Objects as const
 use Rattle.py_bytecode.specs.Objects.{Const}
 use Rattle.py_bytecode.specs.Values.{Operation, raise_again, match_exception, enter_with, exit_with, Value, Constant, Child, Cell, It, Cells, Usage, Load, Store, Delete, Kind, Event, Operates, Makes, Accesses, StoresCells, World, listed, Got, Fine, Stops, then_get, ask_for, for_one, for_two, for_none, truth_of, next_of, on_some, Leave, Breaks, Continues, Returns, Throws, Ended, Normal, Leaves, Halts, on_ended, then_do, use_it, effect, choose, meets, flip, Ran, ran, Returned, RaisedOut, Stopped, Wrong}

@@ -11,6 +11,9 @@ pub mod Places
 pub mod Walks
 pub mod Agreement
 pub mod Messages
+pub mod Elements
+pub mod Texts
+pub mod Ends
 pub mod Table
 pub mod Meaning
 pub mod Emission
