@@ -1,7 +1,7 @@
 -- What an emitter holds: what is emitted, and the rest, which steps of an emission leave as it is.
 use Rattle.std.specs.Prelude.{◌≡◌, ◌≢◌, ◌<◌, ℕ, List, [], length, map, codes, false, Option, Some, None, Result, Ok, Err}
-use Rattle.py_tree.specs.declared.location.SourceLocation.{SourceLocation}
-use Rattle.py_tree.specs.declared.location.LocatedError.{LocatedError}
+use Rattle.py_base.specs.declared.location.SourceLocation.{SourceLocation}
+use Rattle.py_base.specs.declared.location.LocatedError.{LocatedError}
 use Rattle.py_bytecode.specs.View.{constant}
 use Rattle.py_walks.specs.declared.info.BlockIdx.{BlockIdx}
 use Rattle.py_ir.specs.declared.error.FinalizeError.{FinalizeError}

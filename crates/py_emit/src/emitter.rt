@@ -2,7 +2,7 @@
 ghost use Rattle.std.specs.Prelude.{◌≡◌, ◌≢◌, ◌<◌, None, Some, IfOk, IfErr, OnOk};
 ghost use Rattle.py_ir.specs.Chain.{block_number};
 ghost use Rattle.py_ir.specs.Final.{IsFinal};
-ghost use Rattle.py_meaning.specs.Emission.{Begin, Next, Put, emit as emission_of, jump as jumping, located, nothing, with_block, with_step};
+ghost use Rattle.py_meaning.specs.Emission.{Begin, Next, Put, emit as emission_of, emit_count, jump as jumping, located, nothing, with_block, with_step};
 ghost use Rattle.py_emit.specs.States.{Goes, Same, IsFirst, IsStarved, IsUnrefused, first_rest, info, placed_error, rest, state, with_context};
 ghost use Rattle.py_emit.specs.Steps.{IsOpen};
 
@@ -14,6 +14,9 @@ use py_meaning::{CodegenError, CodegenErrorType};
 use py_tree::{LocatedError, OneIndexed, SourceLocation, Text};
 use std::alloc::{AllocError, Global};
 use std::mem;
+
+/// The number of values that no instruction counts.
+const COUNT_LIMIT: usize = 1 << 30;
 
 /// What is emitted so far, and where the next instruction stands in the source. Besides what its contract says and the
 /// table entry of an instruction that it appends, a call changes nothing. After an error it may only be dropped.
@@ -149,6 +152,22 @@ impl Emitter {
         ensures same { Same result (rest self.new) (rest self.old) }
     {
         self.emit(instr, OpArg(arg), BlockIdx::NULL)
+    }
+
+    /// Appends one instruction that counts so many values, at the present location. More than an instruction counts are
+    /// want of memory.
+    ///
+    /// # Errors
+    /// OutOfMemory alone.
+    #[tactic(auto, unfolding(py_meaning::specs::Emission::emit_count))]
+    pub fn emit_count(&mut self, instr: Instruction, count: usize) -> Result<(), CodegenError>
+        ensures goes { (k : Next) → Goes result (k (state self.new)) (emit_count instr count k (state self.old)) }
+        ensures same { Same result (rest self.new) (rest self.old) }
+    {
+        if count >= COUNT_LIMIT {
+            return Err(self.error(CodegenErrorType::OutOfMemory));
+        }
+        self.emit_arg(instr, count as u32)
     }
 
     /// Appends one instruction that jumps to a block, at the present location.

@@ -1,10 +1,10 @@
 //! Accesses to names.
-ghost use Rattle.std.specs.Prelude.{◌≡◌, ◌≢◌};
+ghost use Rattle.std.specs.Prelude.{◌≡◌, ◌≢◌, IfOk, IfErr, OnOk};
 ghost use Rattle.py_bytecode.specs.View.{constant};
-ghost use Rattle.py_meaning.specs.Emission.{Next, Refused, emission_of_name, refuse};
+ghost use Rattle.py_meaning.specs.Emission.{Next, Refused, emission_of_name, emit_name, refuse, unless_debug};
 ghost use Rattle.py_meaning.specs.Table.{debug_constant as constant_debug, is_debug as named_debug};
-ghost use Rattle.py_emit.specs.Access.{changing, emission_of_access};
-ghost use Rattle.py_emit.specs.States.{Goes, Same, rest, state};
+ghost use Rattle.py_emit.specs.Access.{emission_of_access};
+ghost use Rattle.py_emit.specs.States.{Goes, IsStarved, Same, rest, state};
 
 use crate::context::{CompileOpts, NameUsage};
 use crate::emitter::Emitter;
@@ -72,7 +72,7 @@ impl Emitter {
         name: &str,
         text: &str,
     ) -> Result<(), CodegenError>
-        ensures goes { (k : Next) → Goes result (k (state self.new)) (changing instr name.now text.now k (state self.old)) }
+        ensures goes { (k : Next) → Goes result (k (state self.new)) (unless_debug text.now name.now (emit_name instr name.now) k (state self.old)) }
         ensures same { Same result (rest self.new) (rest self.old) }
     {
         if is_debug(name) {
@@ -83,13 +83,28 @@ impl Emitter {
 
     /// The SyntaxError with a text, or want of memory for it.
     #[tactic(auto, unfolding(py_meaning::specs::Emission::refuse))]
-    fn syntax_error(&mut self, text: &str) -> CodegenError
+    pub fn syntax_error(&mut self, text: &str) -> CodegenError
         ensures goes { result.error ≢ CodegenErrorType.OutOfMemory → refuse (CodegenErrorType.SyntaxError text.now) (state self.old) ≡ Refused result.error result.location }
         ensures path { result.source_path ≡ (rest self.old).path }
     {
+        match self.text(text) {
+            Ok(copy) => self.error(CodegenErrorType::SyntaxError(copy)),
+            Err(error) => error,
+        }
+    }
+
+    /// A copy of a text.
+    ///
+    /// # Errors
+    /// OutOfMemory alone.
+    pub fn text(&mut self, text: &str) -> Result<Text, CodegenError>
+        ensures data { IfOk result (λ copy. copy ≡ text.now) }
+        ensures same { OnOk result (self.new ≡ self.old) }
+        ensures err { IfErr result (λ e. IsStarved e (rest self.old).path) }
+    {
         match String::from_str(self.alloc(), text) {
-            Ok(copy) => self.error(CodegenErrorType::SyntaxError(Text::from_string(copy))),
-            Err(_) => self.error(CodegenErrorType::OutOfMemory),
+            Ok(copy) => Ok(Text::from_string(copy)),
+            Err(_) => Err(self.error(CodegenErrorType::OutOfMemory)),
         }
     }
 }

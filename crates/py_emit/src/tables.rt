@@ -49,7 +49,7 @@ impl Emitter {
     }
 
     /// A place in a table. What does not fit 32 bits counts as want of memory.
-    fn narrow(&mut self, place: usize) -> Result<u32, CodegenError>
+    pub fn narrow(&mut self, place: usize) -> Result<u32, CodegenError>
         ensures value { IfOk result (λ n. n ≡ place) }
         ensures same { OnOk result (self.new ≡ self.old) }
         ensures err { IfErr result (λ e. IsStarved e (rest self.old).path) }
