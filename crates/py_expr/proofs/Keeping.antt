@@ -1,21 +1,22 @@
 -- A block that is made and has not begun stays so through what is emitted of a node: a node begins only blocks that it makes.
 use Rattle.std.proofs.Common.{◌≡◌, ◌≢◌, ℕ, ◌<◌, ◌≤◌, ◌^◌, List, [], ◌∷◌, ◌++◌, length, Bool, true, false, Option, Some, None, inl, inr, arith}
 use Rattle.std.specs.Prelude.{nat_eq, nat_lt, if◌then◌else◌}
-use Rattle.py_tree.specs.declared.location.SourceLocation.{SourceLocation}
+use Rattle.py_base.specs.declared.location.SourceLocation.{SourceLocation}
 use Rattle.py_tree.specs.declared.operators.BoolOp.{BoolOp}
 use Rattle.py_tree.specs.declared.operators.CmpOp.{CmpOp}
 use Rattle.py_tree.specs.declared.operators.CmpOp.TheVariants as comparison
 use Rattle.py_tree.specs.declared.operators.UnaryOp.{UnaryOp}
 use Rattle.py_tree.specs.declared.operators.UnaryOp.TheVariants as unary
-use Rattle.py_tree.specs.declared.shapes.Malformed.TheVariants as shape
+use Rattle.py_base.specs.declared.shapes.Malformed.TheVariants as shape
 use Rattle.py_bytecode.specs.declared.instruction.Instruction.{Instruction}
 use Rattle.py_bytecode.specs.declared.instruction.Instruction.TheVariants as op
 use Rattle.py_bytecode.specs.Objects.{Const}
 use Rattle.py_meaning.specs.Table.{deciding}
 use Rattle.py_meaning.specs.declared.errors.CodegenErrorType.{CodegenErrorType}
 use Rattle.py_meaning.specs.declared.errors.CodegenErrorType.TheVariants as error
+use Rattle.py_meaning.specs.Elements.{Element, Single, Spread, Callee, Function, Method}
 use Rattle.py_meaning.specs.Emission as emitting
-use Rattle.py_meaning.specs.Emission.{Step, Put, Begin, State, Outcome, Done, TooWide, Next, Emissions, LoopBlocks, with_step, with_block, with_name, with_constant, located, refuse, emit, emit_call, emit_name, emit_constant, jump, begin, new_block, move, keeping_jump, testing_jump, in_turn, shorts, bool_value, tests, some_test, bool_test, bool_emissions, unary_value, unary_emissions, emission_of_comparison, emission_of_link, emission_of_name, links, chain, choice, comparisons, emission_of_compare, emissions, all_emissions, leave_loop, emission_of_stmt, emission_of_stmts}
+use Rattle.py_meaning.specs.Emission.{Step, Put, Begin, State, Outcome, Done, TooWide, Next, Emissions, LoopBlocks, with_step, with_block, with_name, with_constant, located, refuse, emit, emit_count, emit_name, emit_constant, jump, begin, new_block, move, keeping_jump, testing_jump, in_turn, shorts, bool_value, tests, some_test, bool_test, bool_emissions, unary_value, unary_emissions, emission_of_comparison, emission_of_link, emission_of_name, links, chain, choice, comparisons, emission_of_compare, emissions, all_emissions, leave_loop, emission_of_stmt, emission_of_stmts}
 use Rattle.py_emit.specs.Steps.{Begun, IsOpen}
 use Rattle.py_emit.proofs.States.{never_refused}
 
@@ -108,13 +109,13 @@ pub constant_keeps : (i : Instruction) (c : Const) → Keeps (emit_constant i c)
 unfolding emit_constant
 constant_keeps i c z s o k g e = emit_keeps i _ z (with_constant c s) o k (grows_constant z s c g) e
 
-if_called : (b : Bool) (r : Outcome) (o : State) → (if b then r else TooWide) ≡ Done o → r ≡ Done o
-if_called true r o e = e
-if_called false r o e = absurd cc
+if_counted : (b : Bool) (r : Outcome) (o : State) → (if b then r else TooWide) ≡ Done o → r ≡ Done o
+if_counted true r o e = e
+if_counted false r o e = absurd cc
 
-pub call_keeps : (n : ℕ) → Keeps (emit_call n)
-unfolding emit_call
-call_keeps n z s o k g e = emit_keeps op.CallFunctionPositional n z s o k g (if_called (nat_lt n (2 ^ 30)) (emit op.CallFunctionPositional n k s) o e)
+pub count_keeps : (i : Instruction) (n : ℕ) → Keeps (emit_count i n)
+unfolding emit_count
+count_keeps i n z s o k g e = emit_keeps i n z s o k g (if_counted (nat_lt n (2 ^ 30)) (emit i n k s) o e)
 
 -- one after the other
 pub then_keeps : (v w : Next → Next) → Keeps v → Keeps w → Keeps (λ k. v (w k))
@@ -130,18 +131,28 @@ pub new_from : (a : ℕ → Next) (z s o : State) → Grows z s → new_block a 
 unfolding new_block
 new_from a z s o g e = (s.blocks, with_block s, (let l = g.blocks in omega (arith, l)), grows_block z s g, e)
 
--- an expression, as a value and as a test
-pub record BothKeep (e : Emissions) : Type 0 where
+pub either_keeps : (b : Bool) (v w : Next → Next) → Keeps v → Keeps w → Keeps (λ k. if b then v k else w k)
+either_keeps true v w x y = x
+either_keeps false v w x y = y
+
+abbrev pub ElementKeeps : Element (Next → Next) (Next → Next) → Type 0
+ElementKeeps (Single v) = Keeps v
+ElementKeeps (Spread v) = Keeps v
+
+abbrev pub CalleeKeeps : Callee (Next → Next) → Type 0
+CalleeKeeps (Function v) = Keeps v
+CalleeKeeps (Method name v) = Keeps v
+
+-- an expression, as a value, as a test, as an element and as what is called
+pub record EachKeeps (e : Emissions) : Type 0 where
   pub value : Keeps e.value
   pub test : (c : Bool) (to : ℕ) → Keeps (e.test c to)
+  pub element : ElementKeeps e.element
+  pub callee : CalleeKeeps e.callee
 
 abbrev pub AllKeep : List Emissions → Type 0
 AllKeep [] = Unit {0}
-AllKeep (e ∷ es) = BothKeep e × AllKeep es
-
-pub turn_keeps : (es : List Emissions) → AllKeep es → Keeps (in_turn es)
-turn_keeps [] a z s o k g e = record { reached = s; grows = g; goes_on = e }
-turn_keeps (x ∷ es) a z s o k g e = then_keeps x.value (in_turn es) a.0.value (turn_keeps es a.1) z s o k g e
+AllKeep (e ∷ es) = EachKeeps e × AllKeep es
 
 pub shorts_keep : (d : BoolOp) (end : ℕ) (es : List Emissions) → AllKeep es → Keeps (shorts d end es)
 shorts_keep d end [] a z s o k g e = record { reached = s; grows = g; goes_on = e }
@@ -179,20 +190,26 @@ bool_value_keeps d es a =
     some_keeps (nat_eq (length es) 0) (error.MalformedTree shape.NoOperand) (λ k. new_block (λ end. shorts d end es (begin end k)))
     (new_keeps (λ end k. shorts d end es (begin end k)) (λ n z s o k le g e. let f = shorts_keep d n es a z s o (begin n k) g e in begin_keeps n z f.reached o k le f.grows f.goes_on))
 
-pub tested_keeps : (v : Next → Next) → Keeps v → BothKeep (emitting.tested v)
-tested_keeps v h = record { value = h; test = λ c to. then_keeps v (jump (testing_jump c) to) h (jump_keeps (testing_jump c) to) }
+pub ordinary_keeps : (v : Next → Next) (t : (truth : Bool) → (block : ℕ) → Next → Next) → Keeps v → ((c : Bool) (to : ℕ) → Keeps (t c to)) → EachKeeps (emitting.ordinary v t)
+ordinary_keeps v t h g = record { value = h; test = g; element = h; callee = h }
+
+pub truth_keeps : (v : Next → Next) → Keeps v → (c : Bool) (to : ℕ) → Keeps (emitting.truth_of v c to)
+truth_keeps v h c to = then_keeps v (jump (testing_jump c) to) h (jump_keeps (testing_jump c) to)
+
+pub tested_keeps : (v : Next → Next) → Keeps v → EachKeeps (emitting.tested v)
+tested_keeps v h = ordinary_keeps v (emitting.truth_of v) h (truth_keeps v h)
 
 pub moved_keeps : (at : SourceLocation) (v : Next → Next) → Keeps v → Keeps (λ k. move at (v k))
 moved_keeps at v h = then_keeps (move at) v (move_keeps at) h
 
-unary_value_keeps : (at : SourceLocation) (u : UnaryOp) (x : Emissions) → BothKeep x → Keeps (unary_value at u x)
+unary_value_keeps : (at : SourceLocation) (u : UnaryOp) (x : Emissions) → EachKeeps x → Keeps (unary_value at u x)
 unary_value_keeps at u x h = moved_keeps at _ (then_keeps x.value _ h.value (emit_keeps op.UnaryOperation _))
 
-pub unary_keeps : (at : SourceLocation) (u : UnaryOp) (x : Emissions) → BothKeep x → BothKeep (unary_emissions at u x)
-unary_keeps at unary.Not x h = record { value = unary_value_keeps at unary.Not x h; test = λ c to. h.test _ to }
-unary_keeps at unary.Invert x h = record { value = unary_value_keeps at unary.Invert x h; test = (tested_keeps _ (unary_value_keeps at unary.Invert x h)).test }
-unary_keeps at unary.UAdd x h = record { value = unary_value_keeps at unary.UAdd x h; test = (tested_keeps _ (unary_value_keeps at unary.UAdd x h)).test }
-unary_keeps at unary.USub x h = record { value = unary_value_keeps at unary.USub x h; test = (tested_keeps _ (unary_value_keeps at unary.USub x h)).test }
+pub unary_keeps : (at : SourceLocation) (u : UnaryOp) (x : Emissions) → EachKeeps x → EachKeeps (unary_emissions at u x)
+unary_keeps at unary.Not x h = ordinary_keeps _ _ (unary_value_keeps at unary.Not x h) (λ c to. h.test _ to)
+unary_keeps at unary.Invert x h = tested_keeps _ (unary_value_keeps at unary.Invert x h)
+unary_keeps at unary.UAdd x h = tested_keeps _ (unary_value_keeps at unary.UAdd x h)
+unary_keeps at unary.USub x h = tested_keeps _ (unary_value_keeps at unary.USub x h)
 
 pub comparison_keeps : (c : CmpOp) → Keeps (emission_of_comparison c)
 comparison_keeps comparison.Lt = emit_keeps op.CompareOperation 0

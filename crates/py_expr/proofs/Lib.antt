@@ -1,4 +1,14 @@
 pub mod Steps
 pub mod Turns
 pub mod Keeping
+pub mod KeptDisplays
+pub mod KeptTargets
+pub mod KeptCalls
 pub mod Opening
+pub mod Groups
+pub mod Pairs
+pub mod Otherwise
+pub mod Appending
+pub mod Stores
+pub mod Mapping
+pub mod Calling

@@ -5,7 +5,7 @@ use Rattle.std.specs.Prelude.{nat_eq}
 use Rattle.py_tree.specs.declared.expressions.Expr.{Expr}
 use Rattle.py_tree.specs.View.{expr_tree, exprs}
 use Rattle.py_meaning.specs.Table.{count}
-use Rattle.py_tree.specs.declared.location.SourceLocation.{SourceLocation}
+use Rattle.py_base.specs.declared.location.SourceLocation.{SourceLocation}
 use Rattle.py_tree.specs.declared.statements.Stmt.{Stmt}
 use Rattle.py_tree.specs.View.{stmt_tree, stmts}
 use Rattle.py_meaning.specs.declared.errors.CodegenErrorType.{CodegenErrorType}

@@ -9,15 +9,15 @@ use Rattle.py_tree.specs.declared.operators.BoolOp.{BoolOp}
 use Rattle.py_tree.specs.declared.operators.CmpOp.{CmpOp}
 use Rattle.py_tree.specs.Tree as tree
 use Rattle.py_tree.specs.View.{expr_tree, exprs}
-use Rattle.py_tree.specs.declared.shapes.Malformed.{Malformed}
-use Rattle.py_tree.specs.declared.shapes.Malformed.TheVariants as shape
+use Rattle.py_base.specs.declared.shapes.Malformed.{Malformed}
+use Rattle.py_base.specs.declared.shapes.Malformed.TheVariants as shape
 use Rattle.py_meaning.specs.declared.errors.CodegenErrorType.{CodegenErrorType}
 use Rattle.py_meaning.specs.declared.errors.CodegenErrorType.TheVariants as error
-use Rattle.py_meaning.specs.Emission.{Emissions, Next, State, Outcome, Refused, all_emissions, chain, comparisons, emission_of_compare, emission_of_test, first_comparison, in_turn, links, refuse, shorts, some_test, past_tests, tests}
+use Rattle.py_meaning.specs.Emission.{Emissions, Next, State, Outcome, Refused, all_emissions, chain, comparisons, emission_of_compare, emission_of_test, first_comparison, in_turn, links, refuse, shorts, some_test, past_tests, tests, values}
 use Rattle.py_emit.specs.States.{Goes, Rest, Same, placed_error}
 use Rattle.py_expr.specs.Turns.{linked, short}
-use Rattle.py_tree.specs.declared.location.LocatedError.{LocatedError}
-use Rattle.py_expr.specs.declared.expressions.JumpIf.{JumpIf}
+use Rattle.py_base.specs.declared.location.LocatedError.{LocatedError}
+use Rattle.py_expr.specs.declared.conditions.JumpIf.{JumpIf}
 use Rattle.py_expr.proofs.Steps.{refuse_goes}
 
 -- what is left to do, by another name
@@ -36,6 +36,10 @@ if_not false x y e = refl
 -- a refusal, by its parts
 pub refused_as : (e : CodegenErrorType) (s : State) (r : LocatedError CodegenErrorType) → r.error ≡ e → r.location ≡ Some s.location → refuse e s ≡ Refused r.error r.location
 refused_as e s r p q = refuse_goes e s ∙ (λ i. Refused (sym p i) (sym q i))
+
+-- a refusal at the location of the state, but for want of memory
+pub refused_by : (e : CodegenErrorType) (s : State) (path : List ℕ) (r : LocatedError CodegenErrorType) → r ≡ record { error = e; location = Some s.location; source_path = path } → refuse e s ≡ Refused r.error r.location
+refused_by e s path r h = refused_as e s r (ap (λ (x : LocatedError CodegenErrorType). x.error) h) (ap (λ (x : LocatedError CodegenErrorType). x.location) h)
 
 abbrev pub some : {A : Type 0} → List A → Bool
 some [] = false
@@ -142,7 +146,7 @@ module _ (left : Next → Next) (ops : List CmpOp) (es : List Emissions) (k : Ne
   pub a_chain : length ops ≢ 0 → length ops ≡ length es → 1 < length ops → emission_of_compare left ops es k ≡ chain left ops es k
   a_chain h g f = even_lists h g ∙ if_so _ _ _ (less_so 1 (length ops) f)
 
-  pub one_comparison : length ops ≢ 0 → length ops ≡ length es → ¬ (1 < length ops) → emission_of_compare left ops es k ≡ left (in_turn es (first_comparison ops k))
+  pub one_comparison : length ops ≢ 0 → length ops ≡ length es → ¬ (1 < length ops) → emission_of_compare left ops es k ≡ left (in_turn (values es) (first_comparison ops k))
   one_comparison h g f = even_lists h g ∙ if_not _ _ _ (less_not 1 (length ops) f)
 
 -- a test by one of two jumps

@@ -1,1 +1,4 @@
 pub mod Turns
+pub mod Appending
+pub mod Targets
+pub mod Calling

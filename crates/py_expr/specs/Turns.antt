@@ -1,10 +1,14 @@
--- What is emitted for one of several values.
-use Rattle.std.specs.Prelude.{ℕ, Bool, if◌then◌else◌}
+-- What is emitted for one of several values, and what is left to emit of elements.
+use Rattle.std.specs.Prelude.{ℕ, zero, suc, ◌+◌, List, [], ◌∷◌, Bool, true, false, Option, if◌then◌else◌}
 use Rattle.py_tree.specs.Tree as tree
+use Rattle.py_tree.specs.View.{expr_tree, exprs, opt_exprs}
+use Rattle.py_tree.specs.declared.expressions.Expr.{Expr}
 use Rattle.py_tree.specs.declared.operators.BoolOp.{BoolOp}
 use Rattle.py_tree.specs.declared.operators.CmpOp.{CmpOp}
+use Rattle.py_bytecode.specs.declared.instruction.Instruction.TheVariants as op
+use Rattle.py_meaning.specs.Elements.{Element, Single, Spread, pairs}
 use Rattle.py_meaning.specs.Table.{deciding}
-use Rattle.py_meaning.specs.Emission.{Next, emission, emission_of_comparison, emission_of_link, jump, keeping_jump}
+use Rattle.py_meaning.specs.Emission.{Next, all_emissions, emission, emission_of_comparison, emission_of_link, emit_count, jump, keeping_jump, opt_emissions, values}
 
 -- a value of `and` or `or`, with a jump to the end where more follow
 abbrev pub short : (level : ℕ) → BoolOp → (end : ℕ) → (more : Bool) → tree.Expr → Next → Next
@@ -13,3 +17,48 @@ short l o end more t k = emission l t (if more then jump (keeping_jump (deciding
 -- a value that is compared with the one before it, and kept where more follow
 abbrev pub linked : (level : ℕ) → (out : ℕ) → CmpOp → (more : Bool) → tree.Expr → Next → Next
 linked l out o more t k = emission l t (if more then emission_of_link o out k else emission_of_comparison o k)
+
+module _ {B A : Type 0} where
+  abbrev pub is_spread : Element B A → Bool
+  is_spread (Single x) = false
+  is_spread (Spread x) = true
+
+-- the tuple of a run of so many elements, where there are any
+abbrev pub closed : (run : ℕ) → Next → Next
+closed zero k = k
+closed (suc n) k = emit_count op.BuildTuple (suc n) k
+
+-- how many tuples that is
+abbrev pub runs : (run : ℕ) → ℕ
+runs zero = 0
+runs (suc n) = 1
+
+-- an element behind a run of so many plain ones, which a starred one ends
+abbrev pub element_behind : (run : ℕ) → Element (Next → Next) (Next → Next) → Next → Next
+element_behind n (Single v) k = v k
+element_behind n (Spread v) k = closed n (v k)
+
+module _ {B A : Type 0} where
+  -- how many groups are complete with it
+  abbrev pub groups_by : (run : ℕ) → Element B A → ℕ
+  groups_by n (Single x) = 0
+  groups_by n (Spread x) = runs n + 1
+
+  -- the run of plain elements behind it
+  abbrev pub run_behind : (run : ℕ) → Element B A → ℕ
+  run_behind n (Single x) = n + 1
+  run_behind n (Spread x) = 0
+
+  -- how many groups elements give behind it
+  abbrev pub group_count : (run : ℕ) → List (Element B A) → ℕ
+  group_count n [] = runs n
+  group_count n (e ∷ es) = groups_by n e + group_count (run_behind n e) es
+
+-- what is left to emit of elements behind a run of so many plain ones
+abbrev pub group_rest : (run : ℕ) → List (Element (Next → Next) (Next → Next)) → Next → Next
+group_rest n [] k = closed n k
+group_rest n (e ∷ es) k = element_behind n e (group_rest (run_behind n e) es k)
+
+-- the pairs of a dict display
+abbrev pub pairs_of : (level : ℕ) → List (Option Expr) → List Expr → List (Option (Next → Next) × (Next → Next))
+pairs_of l ks vs = pairs (opt_emissions l (opt_exprs expr_tree ks)) (values (all_emissions l (exprs expr_tree vs)))

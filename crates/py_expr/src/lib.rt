@@ -1,6 +1,20 @@
 //! The code of expressions.
 #![tactic(auto)]
 
+mod calls;
+mod comparisons;
+mod conditions;
+mod displays;
+mod elements;
 mod expressions;
+mod keywords;
+mod returns;
+mod targets;
+mod texts;
 
-pub use expressions::{compile_expression, compile_jump_if, compile_return};
+pub use calls::{CallType, compile_call_inner, emit_call};
+pub use conditions::compile_jump_if;
+pub use expressions::{case_of, compile_expression};
+pub use returns::compile_return;
+pub use targets::{compile_delete, compile_deletes, compile_store, refuse_store};
+pub use texts::text_of;

@@ -1,0 +1,257 @@
+use Rattle.std.proofs.Common.{◌≡◌, ◌≤◌, ◌+◌, ◌*◌, [], drop, length}
+use Rattle.py_bytecode.specs.declared.instruction.Instruction.TheVariants as op
+use Rattle.py_tree.specs.View.{expr_tree, exprs, keywords}
+use Rattle.py_meaning.specs.Elements.{bare, groups, keyed, sides, unkeyed}
+use Rattle.py_meaning.specs.Emission.{Next, all_emissions, all_stores, keyword_emissions, map_of, values_in, built, elements, emission_of_exprs, in_turn, links, shorts, tests, updates}
+use Rattle.py_emit.specs.States.{rest, state}
+use Rattle.py_expr.specs.Calling.{map_rest}
+use Rattle.py_expr.specs.Turns.{group_count, group_rest, pairs_of}
+use Rattle.py_expr.proofs.+code.Given as goal
+
+abbrev pub invariant-expressions::compile_expressions-loop-item : goal.invariant-expressions::compile_expressions-loop-item
+invariant-expressions::compile_expressions-loop-item l = (rest l.em ≡ rest l.initial.em) × ((k : Next) → emission_of_exprs (rest l.initial.em).opts.optimize (exprs expr_tree l.items) k (state l.initial.em) ≡ emission_of_exprs (rest l.initial.em).opts.optimize (exprs expr_tree (drop l.item-index l.items)) k (state l.em))
+
+abbrev pub invariant-conditions::compile_shorts-loop-i : goal.invariant-conditions::compile_shorts-loop-i
+invariant-conditions::compile_shorts-loop-i l = (rest l.em ≡ rest l.initial.em) × ((k : Next) → shorts l.op l.end.0 (all_emissions (rest l.initial.em).opts.optimize (exprs expr_tree l.values)) k (state l.initial.em) ≡ shorts l.op l.end.0 (all_emissions (rest l.initial.em).opts.optimize (exprs expr_tree (drop l.i l.values))) k (state l.em))
+
+abbrev pub invariant-comparisons::compile_links-loop-i : goal.invariant-comparisons::compile_links-loop-i
+invariant-comparisons::compile_links-loop-i l = (rest l.em ≡ rest l.initial.em) × ((k : Next) → links l.out.0 l.ops (all_emissions (rest l.initial.em).opts.optimize (exprs expr_tree l.values)) k (state l.initial.em) ≡ links l.out.0 (drop l.i l.ops) (all_emissions (rest l.initial.em).opts.optimize (exprs expr_tree (drop l.i l.values))) k (state l.em))
+
+abbrev pub invariant-conditions::compile_tests-loop-i : goal.invariant-conditions::compile_tests-loop-i
+invariant-conditions::compile_tests-loop-i l = (rest l.em ≡ rest l.initial.em) × ((k : Next) → tests l.stop.truth l.stop.block.0 l.last.truth l.last.block.0 (all_emissions (rest l.initial.em).opts.optimize (exprs expr_tree l.values)) k (state l.initial.em) ≡ tests l.stop.truth l.stop.block.0 l.last.truth l.last.block.0 (all_emissions (rest l.initial.em).opts.optimize (exprs expr_tree (drop l.i l.values))) k (state l.em))
+
+abbrev pub invariant-elements::compile_groups-loop-elt : goal.invariant-elements::compile_groups-loop-elt
+invariant-elements::compile_groups-loop-elt l =
+    let all = elements (all_emissions (rest l.initial.em).opts.optimize (exprs expr_tree l.elts)) in
+    let left = elements (all_emissions (rest l.initial.em).opts.optimize (exprs expr_tree (drop l.elt-index l.elts))) in
+    (rest l.em ≡ rest l.initial.em)
+    × ((k : Next) → in_turn (groups (built op.BuildTuple) [] all) k (state l.initial.em) ≡ group_rest l.run left k (state l.em))
+    × (length (groups (built op.BuildTuple) [] all) ≡ l.groups + group_count l.run left)
+    × (l.groups + l.run ≤ l.elt-index)
+
+abbrev pub invariant-displays::compile_pairs-loop-i : goal.invariant-displays::compile_pairs-loop-i
+invariant-displays::compile_pairs-loop-i l =
+    let all = pairs_of (rest l.initial.em).opts.optimize l.keys l.values in
+    let left = pairs_of (rest l.initial.em).opts.optimize (drop l.i l.keys) (drop l.i l.values) in
+    (rest l.em ≡ rest l.initial.em)
+    × ((k : Next) → in_turn (sides (keyed all)) k (state l.initial.em) ≡ in_turn (sides (keyed left)) k (state l.em))
+    × (length (keyed all) ≡ l.count + length (keyed left))
+    × (l.count ≤ l.i)
+
+abbrev pub invariant-displays::compile_updates-loop-i : goal.invariant-displays::compile_updates-loop-i
+invariant-displays::compile_updates-loop-i l =
+    (rest l.em ≡ rest l.initial.em)
+    × ((k : Next) → updates (unkeyed (pairs_of (rest l.initial.em).opts.optimize l.keys l.values)) k (state l.initial.em) ≡ updates (unkeyed (pairs_of (rest l.initial.em).opts.optimize (drop l.i l.keys) (drop l.i l.values))) k (state l.em))
+
+abbrev pub decreases-expressions::compile_expression : goal.decreases-expressions::compile_expression
+decreases-expressions::compile_expression l = 8 * goal.size-expressions::compile_expression l + 0
+
+abbrev pub decreases-conditions::compile_truth : goal.decreases-conditions::compile_truth
+decreases-conditions::compile_truth l = 8 * goal.size-conditions::compile_truth l + 1
+
+abbrev pub decreases-conditions::compile_test : goal.decreases-conditions::compile_test
+decreases-conditions::compile_test l = 8 * goal.size-conditions::compile_test l + 2
+
+abbrev pub decreases-expressions::compile_expressions : goal.decreases-expressions::compile_expressions
+decreases-expressions::compile_expressions l = 8 * goal.size-expressions::compile_expressions l + 1
+
+abbrev pub decreases-conditions::compile_shorts : goal.decreases-conditions::compile_shorts
+decreases-conditions::compile_shorts l = 8 * goal.size-conditions::compile_shorts l + 3
+
+abbrev pub decreases-conditions::compile_tests : goal.decreases-conditions::compile_tests
+decreases-conditions::compile_tests l = 8 * goal.size-conditions::compile_tests l + 3
+
+abbrev pub decreases-comparisons::compile_links : goal.decreases-comparisons::compile_links
+decreases-comparisons::compile_links l = 8 * goal.size-comparisons::compile_links l + 3
+
+abbrev pub decreases-conditions::compile_some_values : goal.decreases-conditions::compile_some_values
+decreases-conditions::compile_some_values l = 8 * goal.size-conditions::compile_some_values l + 4
+
+abbrev pub decreases-conditions::compile_past_tests : goal.decreases-conditions::compile_past_tests
+decreases-conditions::compile_past_tests l = 8 * goal.size-conditions::compile_past_tests l + 4
+
+abbrev pub decreases-conditions::compile_some_test : goal.decreases-conditions::compile_some_test
+decreases-conditions::compile_some_test l = 8 * goal.size-conditions::compile_some_test l + 5
+
+abbrev pub decreases-conditions::compile_bool_value : goal.decreases-conditions::compile_bool_value
+decreases-conditions::compile_bool_value l = 8 * goal.size-conditions::compile_bool_value l + 5
+
+abbrev pub decreases-comparisons::compile_chain : goal.decreases-comparisons::compile_chain
+decreases-comparisons::compile_chain l = 8 * goal.size-comparisons::compile_chain l + 4
+
+abbrev pub decreases-comparisons::compile_one_comparison : goal.decreases-comparisons::compile_one_comparison
+decreases-comparisons::compile_one_comparison l = 8 * goal.size-comparisons::compile_one_comparison l + 4
+
+abbrev pub decreases-comparisons::compile_comparisons : goal.decreases-comparisons::compile_comparisons
+decreases-comparisons::compile_comparisons l = 8 * goal.size-comparisons::compile_comparisons l + 5
+
+abbrev pub decreases-conditions::compile_bool_op : goal.decreases-conditions::compile_bool_op
+decreases-conditions::compile_bool_op l = 8 * goal.size-conditions::compile_bool_op l + 7
+
+abbrev pub decreases-conditions::compile_bool_test : goal.decreases-conditions::compile_bool_test
+decreases-conditions::compile_bool_test l = 8 * goal.size-conditions::compile_bool_test l + 7
+
+abbrev pub decreases-expressions::compile_bin_op : goal.decreases-expressions::compile_bin_op
+decreases-expressions::compile_bin_op l = 8 * goal.size-expressions::compile_bin_op l + 7
+
+abbrev pub decreases-expressions::compile_unary_op : goal.decreases-expressions::compile_unary_op
+decreases-expressions::compile_unary_op l = 8 * goal.size-expressions::compile_unary_op l + 5
+
+abbrev pub decreases-expressions::compile_if_exp : goal.decreases-expressions::compile_if_exp
+decreases-expressions::compile_if_exp l = 8 * goal.size-expressions::compile_if_exp l + 7
+
+abbrev pub decreases-comparisons::compile_compare : goal.decreases-comparisons::compile_compare
+decreases-comparisons::compile_compare l = 8 * goal.size-comparisons::compile_compare l + 7
+
+abbrev pub decreases-conditions::compile_short : goal.decreases-conditions::compile_short
+decreases-conditions::compile_short l = 8 * goal.size-conditions::compile_short l + 1
+
+abbrev pub decreases-comparisons::compile_linked : goal.decreases-comparisons::compile_linked
+decreases-comparisons::compile_linked l = 8 * goal.size-comparisons::compile_linked l + 1
+
+abbrev pub decreases-conditions::compile_unary_test : goal.decreases-conditions::compile_unary_test
+decreases-conditions::compile_unary_test l = 8 * goal.size-conditions::compile_unary_test l + 7
+
+abbrev pub decreases-conditions::compile_unary_truth : goal.decreases-conditions::compile_unary_truth
+decreases-conditions::compile_unary_truth l = 8 * goal.size-conditions::compile_unary_truth l + 6
+
+abbrev pub decreases-calls::compile_call : goal.decreases-calls::compile_call
+decreases-calls::compile_call l = 8 * goal.size-calls::compile_call l + 7
+
+abbrev pub decreases-calls::compile_callee : goal.decreases-calls::compile_callee
+decreases-calls::compile_callee l = 8 * goal.size-calls::compile_callee l + 1
+
+abbrev pub decreases-displays::compile_list : goal.decreases-displays::compile_list
+decreases-displays::compile_list l = 8 * goal.size-displays::compile_list l + 7
+
+abbrev pub decreases-displays::compile_tuple : goal.decreases-displays::compile_tuple
+decreases-displays::compile_tuple l = 8 * goal.size-displays::compile_tuple l + 7
+
+abbrev pub decreases-displays::compile_set : goal.decreases-displays::compile_set
+decreases-displays::compile_set l = 8 * goal.size-displays::compile_set l + 7
+
+abbrev pub decreases-displays::compile_display : goal.decreases-displays::compile_display
+decreases-displays::compile_display l = 8 * goal.size-displays::compile_display l + 5
+
+abbrev pub decreases-displays::compile_dict : goal.decreases-displays::compile_dict
+decreases-displays::compile_dict l = 8 * goal.size-displays::compile_dict l + 7
+
+abbrev pub decreases-displays::compile_pairs : goal.decreases-displays::compile_pairs
+decreases-displays::compile_pairs l = 8 * goal.size-displays::compile_pairs l + 6
+
+abbrev pub decreases-displays::compile_updates : goal.decreases-displays::compile_updates
+decreases-displays::compile_updates l = 8 * goal.size-displays::compile_updates l + 6
+
+abbrev pub decreases-displays::compile_slice : goal.decreases-displays::compile_slice
+decreases-displays::compile_slice l = 8 * goal.size-displays::compile_slice l + 7
+
+abbrev pub decreases-displays::compile_bound : goal.decreases-displays::compile_bound
+decreases-displays::compile_bound l = 8 * goal.size-displays::compile_bound l + 1
+
+abbrev pub decreases-displays::compile_step : goal.decreases-displays::compile_step
+decreases-displays::compile_step l = 8 * goal.size-displays::compile_step l + 1
+
+abbrev pub decreases-elements::compile_unpacked : goal.decreases-elements::compile_unpacked
+decreases-elements::compile_unpacked l = 8 * goal.size-elements::compile_unpacked l + 4
+
+abbrev pub decreases-elements::compile_groups : goal.decreases-elements::compile_groups
+decreases-elements::compile_groups l = 8 * goal.size-elements::compile_groups l + 2
+
+abbrev pub decreases-elements::compile_element : goal.decreases-elements::compile_element
+decreases-elements::compile_element l = 8 * goal.size-elements::compile_element l + 1
+
+abbrev pub decreases-texts::compile_joined_str : goal.decreases-texts::compile_joined_str
+decreases-texts::compile_joined_str l = 8 * goal.size-texts::compile_joined_str l + 7
+
+abbrev pub decreases-texts::compile_joined : goal.decreases-texts::compile_joined
+decreases-texts::compile_joined l = 8 * goal.size-texts::compile_joined l + 5
+
+abbrev pub decreases-texts::compile_parts : goal.decreases-texts::compile_parts
+decreases-texts::compile_parts l = 8 * goal.size-texts::compile_parts l + 4
+
+abbrev pub decreases-texts::compile_formatted_value : goal.decreases-texts::compile_formatted_value
+decreases-texts::compile_formatted_value l = 8 * goal.size-texts::compile_formatted_value l + 7
+
+abbrev pub decreases-texts::compile_format_spec : goal.decreases-texts::compile_format_spec
+decreases-texts::compile_format_spec l = 8 * goal.size-texts::compile_format_spec l + 1
+
+abbrev pub decreases-expressions::compile_attribute : goal.decreases-expressions::compile_attribute
+decreases-expressions::compile_attribute l = 8 * goal.size-expressions::compile_attribute l + 7
+
+abbrev pub decreases-expressions::compile_subscript : goal.decreases-expressions::compile_subscript
+decreases-expressions::compile_subscript l = 8 * goal.size-expressions::compile_subscript l + 7
+
+abbrev pub decreases-displays::compile_update : goal.decreases-displays::compile_update
+decreases-displays::compile_update l = 8 * goal.size-displays::compile_update l + 1
+
+abbrev pub invariant-targets::compile_stores-loop-elt : goal.invariant-targets::compile_stores-loop-elt
+invariant-targets::compile_stores-loop-elt l = (rest l.em ≡ rest l.initial.em) × ((k : Next) → in_turn (bare (all_stores (rest l.initial.em).opts.optimize (exprs expr_tree l.elts))) k (state l.initial.em) ≡ in_turn (bare (all_stores (rest l.initial.em).opts.optimize (exprs expr_tree (drop l.elt-index l.elts)))) k (state l.em))
+
+abbrev pub invariant-keywords::compile_values-loop-keyword : goal.invariant-keywords::compile_values-loop-keyword
+invariant-keywords::compile_values-loop-keyword l = (rest l.em ≡ rest l.initial.em) × ((k : Next) → in_turn (values_in (keyword_emissions (rest l.initial.em).opts.optimize (keywords expr_tree l.keywords))) k (state l.initial.em) ≡ in_turn (values_in (keyword_emissions (rest l.initial.em).opts.optimize (keywords expr_tree (drop l.keyword-index l.keywords)))) k (state l.em))
+
+abbrev pub invariant-keywords::compile_maps-loop-keyword : goal.invariant-keywords::compile_maps-loop-keyword
+invariant-keywords::compile_maps-loop-keyword l =
+    let all = keyword_emissions (rest l.initial.em).opts.optimize (keywords expr_tree l.keywords) in
+    let left = keyword_emissions (rest l.initial.em).opts.optimize (keywords expr_tree (drop l.keyword-index l.keywords)) in
+    (rest l.em ≡ rest l.initial.em)
+    × ((k : Next) → in_turn (groups map_of [] all) k (state l.initial.em) ≡ map_rest l.run left k (state l.em))
+    × (length (groups map_of [] all) ≡ l.maps + group_count l.run left)
+    × (l.maps + l.run ≤ l.keyword-index)
+
+abbrev pub decreases-calls::compile_argument_tuple : goal.decreases-calls::compile_argument_tuple
+decreases-calls::compile_argument_tuple l = 8 * goal.size-calls::compile_argument_tuple l + 3
+
+abbrev pub decreases-targets::compile_store : goal.decreases-targets::compile_store
+decreases-targets::compile_store l = 8 * goal.size-targets::compile_store l + 0
+
+abbrev pub decreases-targets::compile_attribute_change : goal.decreases-targets::compile_attribute_change
+decreases-targets::compile_attribute_change l = 8 * goal.size-targets::compile_attribute_change l + 7
+
+abbrev pub decreases-targets::compile_subscript_change : goal.decreases-targets::compile_subscript_change
+decreases-targets::compile_subscript_change l = 8 * goal.size-targets::compile_subscript_change l + 7
+
+abbrev pub decreases-targets::compile_unpack : goal.decreases-targets::compile_unpack
+decreases-targets::compile_unpack l = 8 * goal.size-targets::compile_unpack l + 4
+
+abbrev pub decreases-targets::compile_stores : goal.decreases-targets::compile_stores
+decreases-targets::compile_stores l = 8 * goal.size-targets::compile_stores l + 3
+
+abbrev pub decreases-targets::compile_element_store : goal.decreases-targets::compile_element_store
+decreases-targets::compile_element_store l = 8 * goal.size-targets::compile_element_store l + 1
+
+abbrev pub decreases-targets::compile_named_expr : goal.decreases-targets::compile_named_expr
+decreases-targets::compile_named_expr l = 8 * goal.size-targets::compile_named_expr l + 7
+
+abbrev pub decreases-keywords::compile_named_values : goal.decreases-keywords::compile_named_values
+decreases-keywords::compile_named_values l = 8 * goal.size-keywords::compile_named_values l + 3
+
+abbrev pub decreases-keywords::compile_some_named : goal.decreases-keywords::compile_some_named
+decreases-keywords::compile_some_named l = 8 * goal.size-keywords::compile_some_named l + 2
+
+abbrev pub decreases-keywords::compile_values : goal.decreases-keywords::compile_values
+decreases-keywords::compile_values l = 8 * goal.size-keywords::compile_values l + 1
+
+abbrev pub decreases-keywords::compile_keyword_map : goal.decreases-keywords::compile_keyword_map
+decreases-keywords::compile_keyword_map l = 8 * goal.size-keywords::compile_keyword_map l + 3
+
+abbrev pub decreases-keywords::compile_maps : goal.decreases-keywords::compile_maps
+decreases-keywords::compile_maps l = 8 * goal.size-keywords::compile_maps l + 2
+
+abbrev pub decreases-keywords::compile_keyword : goal.decreases-keywords::compile_keyword
+decreases-keywords::compile_keyword l = 8 * goal.size-keywords::compile_keyword l + 1
+
+abbrev pub decreases-calls::compile_called : goal.decreases-calls::compile_called
+decreases-calls::compile_called l = 8 * goal.size-calls::compile_called l + 6
+
+abbrev pub decreases-calls::compile_call_arguments : goal.decreases-calls::compile_call_arguments
+decreases-calls::compile_call_arguments l = 8 * goal.size-calls::compile_call_arguments l + 5
+
+abbrev pub decreases-calls::compile_positional : goal.decreases-calls::compile_positional
+decreases-calls::compile_positional l = 8 * goal.size-calls::compile_positional l + 4
+
+abbrev pub decreases-calls::compile_plain : goal.decreases-calls::compile_plain
+decreases-calls::compile_plain l = 8 * goal.size-calls::compile_plain l + 2
+
+abbrev pub decreases-calls::compile_keywords : goal.decreases-calls::compile_keywords
+decreases-calls::compile_keywords l = 8 * goal.size-calls::compile_keywords l + 4

@@ -1,0 +1,58 @@
+-- What an expression of no kind that is named is.
+use Rattle.std.proofs.Common.{◌≡◌, ◌≢◌, ℕ, Bool, refl, sym, ap, ◌∙◌, subst}
+use Rattle.py_tree.specs.Tree as tree
+use Rattle.py_tree.specs.View.{expr_layer, expr_tree}
+use Rattle.py_tree.proofs.View.{expr_roll}
+use Rattle.py_tree.specs.declared.expressions.Expr as expr
+use Rattle.py_tree.specs.declared.expressions.Expr.{Expr}
+use Rattle.py_tree.specs.declared.expressions.Expr.TheOpen as kind
+use Rattle.py_tree.specs.declared.expressions.Expr.TheOpen.{Expr-F}
+use Rattle.py_tree.specs.declared.expressions.Expr.TheViews.{roll-Expr, out-Expr, roll-out-Expr, rolls-Attribute, rolls-BoolOp, rolls-Constant, rolls-JoinedStr, rolls-Name, rolls-Starred, rolls-UnaryOp}
+use Rattle.py_tree.specs.declared.expressions.ExprAttributeOf.{ExprAttributeOf}
+use Rattle.py_tree.specs.declared.expressions.ExprBoolOpOf.{ExprBoolOpOf}
+use Rattle.py_tree.specs.declared.expressions.ExprConstant.{ExprConstant}
+use Rattle.py_tree.specs.declared.expressions.ExprJoinedStrOf.{ExprJoinedStrOf}
+use Rattle.py_tree.specs.declared.expressions.ExprName.{ExprName}
+use Rattle.py_tree.specs.declared.expressions.ExprStarredOf.{ExprStarredOf}
+use Rattle.py_tree.specs.declared.expressions.ExprUnaryOpOf.{ExprUnaryOpOf}
+use Rattle.py_bytecode.specs.declared.instruction.Instruction.TheVariants as op
+use Rattle.py_meaning.specs.Elements.{Single, Function}
+use Rattle.py_meaning.specs.Emission.{Next, emission, emission_of_return, emission_of_test, emissions, emit, jump, testing_jump}
+
+pub as_layer : (x : Expr) → expr_tree x ≡ expr_layer expr_tree (out-Expr x)
+as_layer x = ap expr_tree (sym (roll-out-Expr x)) ∙ expr_roll (out-Expr x)
+
+-- x is not of the kind, so neither is its layer
+pub apart : {A : Type 0} (kind : A → Expr) (x : Expr) → ((e : A) → x ≢ kind e) → (e : A) → roll-Expr (out-Expr x) ≢ kind e
+apart kind x h e q = h e (sym (roll-out-Expr x) ∙ q)
+
+plain_layer : (l : ℕ) (y : Expr-F Expr) → ((e : ExprStarredOf Expr) → roll-Expr y ≢ expr.Starred e) → (emissions l (expr_layer expr_tree y)).element ≡ Single (emissions l (expr_layer expr_tree y)).value
+plain_layer l (kind.Starred e) h = absurd (h e (rolls-Starred e))
+plain_layer l y h = refl
+
+pub plain_element : (l : ℕ) (x : Expr) → ((e : ExprStarredOf Expr) → x ≢ expr.Starred e) → (emissions l (expr_tree x)).element ≡ Single (emissions l (expr_tree x)).value
+plain_element l x h = subst (λ (t : tree.Expr). (emissions l t).element ≡ Single (emissions l t).value) (sym (as_layer x)) (plain_layer l (out-Expr x) (apart expr.Starred x h))
+
+function_layer : (l : ℕ) (y : Expr-F Expr) → ((e : ExprAttributeOf Expr) → roll-Expr y ≢ expr.Attribute e) → (emissions l (expr_layer expr_tree y)).callee ≡ Function (emissions l (expr_layer expr_tree y)).value
+function_layer l (kind.Attribute e) h = absurd (h e (rolls-Attribute e))
+function_layer l y h = refl
+
+pub function_callee : (l : ℕ) (x : Expr) → ((e : ExprAttributeOf Expr) → x ≢ expr.Attribute e) → (emissions l (expr_tree x)).callee ≡ Function (emissions l (expr_tree x)).value
+function_callee l x h = subst (λ (t : tree.Expr). (emissions l t).callee ≡ Function (emissions l t).value) (sym (as_layer x)) (function_layer l (out-Expr x) (apart expr.Attribute x h))
+
+truth_layer : (l : ℕ) (y : Expr-F Expr) → ((e : ExprBoolOpOf Expr) → roll-Expr y ≢ expr.BoolOp e) → ((e : ExprUnaryOpOf Expr) → roll-Expr y ≢ expr.UnaryOp e) → (c : Bool) (to : ℕ) (k : Next) → emission_of_test l (expr_layer expr_tree y) c to k ≡ emission l (expr_layer expr_tree y) (jump (testing_jump c) to k)
+truth_layer l (kind.BoolOp e) h g c to k = absurd (h e (rolls-BoolOp e))
+truth_layer l (kind.UnaryOp e) h g c to k = absurd (g e (rolls-UnaryOp e))
+truth_layer l y h g c to k = refl
+
+pub truth_test : (l : ℕ) (x : Expr) → ((e : ExprBoolOpOf Expr) → x ≢ expr.BoolOp e) → ((e : ExprUnaryOpOf Expr) → x ≢ expr.UnaryOp e) → (c : Bool) (to : ℕ) (k : Next) → emission_of_test l (expr_tree x) c to k ≡ emission l (expr_tree x) (jump (testing_jump c) to k)
+truth_test l x h g c to k = subst (λ (t : tree.Expr). emission_of_test l t c to k ≡ emission l t (jump (testing_jump c) to k)) (sym (as_layer x)) (truth_layer l (out-Expr x) (apart expr.BoolOp x h) (apart expr.UnaryOp x g) c to k)
+
+value_layer : (l : ℕ) (y : Expr-F Expr) → ((e : ExprJoinedStrOf Expr) → roll-Expr y ≢ expr.JoinedStr e) → ((e : ExprConstant) → roll-Expr y ≢ expr.Constant e) → ((e : ExprName) → roll-Expr y ≢ expr.Name e) → (k : Next) → emission_of_return l (expr_layer expr_tree y) k ≡ emission l (expr_layer expr_tree y) (emit op.ReturnValue 0 k)
+value_layer l (kind.JoinedStr e) h g f k = absurd (h e (rolls-JoinedStr e))
+value_layer l (kind.Constant e) h g f k = absurd (g e (rolls-Constant e))
+value_layer l (kind.Name e) h g f k = absurd (f e (rolls-Name e))
+value_layer l y h g f k = refl
+
+pub value_return : (l : ℕ) (x : Expr) → ((e : ExprJoinedStrOf Expr) → x ≢ expr.JoinedStr e) → ((e : ExprConstant) → x ≢ expr.Constant e) → ((e : ExprName) → x ≢ expr.Name e) → (k : Next) → emission_of_return l (expr_tree x) k ≡ emission l (expr_tree x) (emit op.ReturnValue 0 k)
+value_return l x h g f k = subst (λ (t : tree.Expr). emission_of_return l t k ≡ emission l t (emit op.ReturnValue 0 k)) (sym (as_layer x)) (value_layer l (out-Expr x) (apart expr.JoinedStr x h) (apart expr.Constant x g) (apart expr.Name x f) k)

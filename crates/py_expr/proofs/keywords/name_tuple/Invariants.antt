@@ -1,0 +1,9 @@
+use Rattle.std.proofs.Common.{◌≡◌, ◌++◌, ℕ, drop, map}
+use Rattle.py_tree.specs.View.{expr_tree, keywords}
+use Rattle.py_bytecode.specs.Objects.{listed}
+use Rattle.py_bytecode.specs.View.{constant}
+use Rattle.py_meaning.specs.Emission.{keyword_emissions, names_in}
+use Rattle.py_expr.proofs.keywords.name_tuple.Given as goal
+
+abbrev pub invariant-loop-keyword : goal.invariant-loop-keyword
+invariant-loop-keyword l = (level : ℕ) → listed (names_in (keyword_emissions level (keywords expr_tree l.keywords))) ≡ map constant l.names.items ++ listed (names_in (keyword_emissions level (keywords expr_tree (drop l.keyword-index l.keywords))))

@@ -1,0 +1,260 @@
+//! Calls.
+ghost use Rattle.std.specs.Prelude.{◌≡◌, ◌+◌, ◌||◌, ℕ, false, length, IfErr, IfOk, OnOk, if◌then◌else◌};
+ghost use Rattle.py_tree.specs.View.{call_tree, expr_tree, exprs, keywords as keyword_trees};
+ghost use Rattle.py_meaning.specs.Emission.{Next, all_emissions, elements, emission, emissions, in_turn, keyword_emissions};
+ghost use Rattle.py_meaning.specs.Elements.{bare, starred};
+ghost use Rattle.py_emit.specs.States.{Goes, IsStarved, Same, rest, state};
+ghost use Rattle.py_expr.specs.Calling.{argument_tuple, arguments, call_operand, called, callee_value, calling, function_call, is_method, keyworded, method_call, positional, taken, type_of};
+
+use crate::elements::{close_run, compile_groups, has_star};
+use crate::expressions::{compile_expression, compile_expressions};
+use crate::keywords::{check_keywords, compile_keyword_map, compile_named_values, has_double_star};
+use py_bytecode::Instruction;
+use py_emit::{Emitter, refuse};
+use py_meaning::{CodegenError, CodegenErrorType};
+use py_tree::{Expr, ExprCall, Exprs, Keyword, List};
+
+/// What a call takes.
+#[derive(Clone, Copy, PartialEq, Eq, Debug)]
+pub enum CallType {
+    /// So many values.
+    Positional { nargs: u32 },
+    /// So many values, the last of which are named, and the tuple of these names.
+    Keyword { nargs: u32 },
+    /// A tuple of the values, and a map of the named ones where there are any.
+    Ex { has_kwargs: bool },
+}
+
+#[cycle(code)]
+pub(crate) fn compile_call(em: &mut Emitter, e: &ExprCall) -> Result<(), CodegenError>
+    ensures goes { (k : Next) → Goes result (k (state em.new)) (emission (rest em.old).opts.optimize (call_tree e.now) k (state em.old)) }
+    ensures same { Same result (rest em.new) (rest em.old) }
+{
+    em.set_location(e.location);
+    compile_called(em, e)
+}
+
+/// Emits what is called, its arguments and the call.
+#[cycle(code)]
+fn compile_called(em: &mut Emitter, e: &ExprCall) -> Result<(), CodegenError>
+    ensures goes { (k : Next) → Goes result (k (state em.new)) (called (emissions (rest em.old).opts.optimize (expr_tree e.now.func.value)).callee (elements (all_emissions (rest em.old).opts.optimize (exprs expr_tree e.now.args))) (keyword_emissions (rest em.old).opts.optimize (keyword_trees expr_tree e.now.keywords)) k (state em.old)) }
+    ensures same { Same result (rest em.new) (rest em.old) }
+{
+    let is_method = compile_callee(em, &e.func)?;
+    let call = compile_call_arguments(em, e)?;
+    emit_call(em, is_method, call)
+}
+
+/// Emits what is called. Answers whether it is a method.
+#[cycle(code)]
+fn compile_callee(em: &mut Emitter, func: &Expr) -> Result<bool, CodegenError>
+    ensures method { IfOk result (λ b. b ≡ is_method (emissions (rest em.old).opts.optimize (expr_tree func.now)).callee) }
+    ensures goes { (k : Next) → Goes result (k (state em.new)) (callee_value (emissions (rest em.old).opts.optimize (expr_tree func.now)).callee k (state em.old)) }
+    ensures same { Same result (rest em.new) (rest em.old) }
+{
+    match func {
+        Expr::Attribute(e) => {
+            compile_expression(em, &e.value)?;
+            em.emit_name(Instruction::LoadMethod, e.attr.as_str())?;
+            Ok(true)
+        }
+        _ => {
+            compile_expression(em, func)?;
+            Ok(false)
+        }
+    }
+}
+
+/// Emits the arguments of a call. Answers what the call takes.
+#[cycle(code)]
+fn compile_call_arguments(em: &mut Emitter, e: &ExprCall) -> Result<CallType, CodegenError>
+    ensures call { IfOk result (λ c. c ≡ taken 0 (elements (all_emissions (rest em.old).opts.optimize (exprs expr_tree e.now.args))) (keyword_emissions (rest em.old).opts.optimize (keyword_trees expr_tree e.now.keywords))) }
+    ensures goes { (k : Next) → Goes result (k (state em.new)) (arguments 0 (elements (all_emissions (rest em.old).opts.optimize (exprs expr_tree e.now.args))) (keyword_emissions (rest em.old).opts.optimize (keyword_trees expr_tree e.now.keywords)) k (state em.old)) }
+    ensures same { Same result (rest em.new) (rest em.old) }
+{
+    let args = e.args.as_slice();
+    let keywords = e.keywords.as_slice();
+    let packed = is_packed(args, keywords);
+    compile_positional(em, packed, 0, args, keywords)?;
+    compile_keywords(em, packed, keywords)?;
+    call_type(em, packed, 0, args, keywords)
+}
+
+/// Emits arguments as those of a call, behind `additional` values that lie there. Answers what the call takes with these.
+///
+/// # Errors
+/// The first compile fault of the arguments, or OutOfMemory.
+pub fn compile_call_inner(
+    em: &mut Emitter,
+    additional: u32,
+    args: &Exprs,
+    keywords: &List<Keyword>,
+) -> Result<CallType, CodegenError>
+    ensures call { IfOk result (λ c. c ≡ taken additional (elements (all_emissions (rest em.old).opts.optimize (exprs expr_tree args.now))) (keyword_emissions (rest em.old).opts.optimize (keyword_trees expr_tree keywords.now))) }
+    ensures goes { (k : Next) → Goes result (k (state em.new)) (arguments additional (elements (all_emissions (rest em.old).opts.optimize (exprs expr_tree args.now))) (keyword_emissions (rest em.old).opts.optimize (keyword_trees expr_tree keywords.now)) k (state em.old)) }
+    ensures same { Same result (rest em.new) (rest em.old) }
+{
+    let args = args.as_slice();
+    let keywords = keywords.as_slice();
+    let packed = is_packed(args, keywords);
+    compile_positional(em, packed, additional, args, keywords)?;
+    compile_keywords(em, packed, keywords)?;
+    call_type(em, packed, additional, args, keywords)
+}
+
+/// Whether arguments come in one tuple and one map.
+fn is_packed(args: &[Expr], keywords: &[Keyword]) -> bool
+    ensures { (l : ℕ) → result ≡ (starred (elements (all_emissions l (exprs expr_tree args.now))) || starred (keyword_emissions l (keyword_trees expr_tree keywords.now))) }
+{
+    has_star(args) || has_double_star(keywords)
+}
+
+/// Emits arguments, behind `additional` values, in their places or in one tuple.
+#[cycle(code)]
+fn compile_positional(
+    em: &mut Emitter,
+    packed: bool,
+    additional: u32,
+    args: &[Expr],
+    keywords: &[Keyword],
+) -> Result<(), CodegenError>
+    requires plain { (l : ℕ) → packed ≡ false → starred (elements (all_emissions l (exprs expr_tree args.now))) ≡ false }
+    ensures goes { (k : Next) → Goes result (k (state em.new)) (positional packed additional (elements (all_emissions (rest em.old).opts.optimize (exprs expr_tree args.now))) (keyword_emissions (rest em.old).opts.optimize (keyword_trees expr_tree keywords.now)) k (state em.old)) }
+    ensures same { Same result (rest em.new) (rest em.old) }
+{
+    if packed {
+        return compile_argument_tuple(em, additional, args, keywords);
+    }
+    compile_plain(em, args)
+}
+
+/// Emits arguments of which none is starred.
+#[cycle(code)]
+fn compile_plain(em: &mut Emitter, args: &[Expr]) -> Result<(), CodegenError>
+    requires plain { (l : ℕ) → starred (elements (all_emissions l (exprs expr_tree args.now))) ≡ false }
+    ensures goes { (k : Next) → Goes result (k (state em.new)) (in_turn (bare (elements (all_emissions (rest em.old).opts.optimize (exprs expr_tree args.now)))) k (state em.old)) }
+    ensures same { Same result (rest em.new) (rest em.old) }
+{
+    compile_expressions(em, args)
+}
+
+/// Emits a tuple of arguments, behind `additional` values: where some are starred, of these first.
+#[cycle(code)]
+#[tactic(auto, using(crate::proofs::Groups::many_elements))]
+fn compile_argument_tuple(
+    em: &mut Emitter,
+    additional: u32,
+    args: &[Expr],
+    keywords: &[Keyword],
+) -> Result<(), CodegenError>
+    ensures goes { (k : Next) → Goes result (k (state em.new)) (argument_tuple additional (elements (all_emissions (rest em.old).opts.optimize (exprs expr_tree args.now))) (keyword_emissions (rest em.old).opts.optimize (keyword_trees expr_tree keywords.now)) k (state em.old)) }
+    ensures same { Same result (rest em.new) (rest em.old) }
+{
+    if has_star(args) {
+        let own = close_run(em, additional as usize)?;
+        let groups = compile_groups(em, args)?;
+        check_keywords(em, keywords)?;
+        let Some(groups) = own.checked_add(groups) else {
+            refuse!(em, CodegenErrorType::OutOfMemory);
+        };
+        return em.emit_count(Instruction::BuildTupleUnpack, groups);
+    }
+    compile_plain(em, args)?;
+    check_keywords(em, keywords)?;
+    em.emit_count(Instruction::BuildTuple, additional as usize + args.len())
+}
+
+/// Emits keywords, with their names or in one map.
+#[cycle(code)]
+fn compile_keywords(
+    em: &mut Emitter,
+    packed: bool,
+    keywords: &[Keyword],
+) -> Result<(), CodegenError>
+    ensures goes { (k : Next) → Goes result (k (state em.new)) (keyworded packed (keyword_emissions (rest em.old).opts.optimize (keyword_trees expr_tree keywords.now)) k (state em.old)) }
+    ensures same { Same result (rest em.new) (rest em.old) }
+{
+    if packed {
+        return compile_keyword_map(em, keywords);
+    }
+    compile_named_values(em, keywords)
+}
+
+/// What a call takes with `additional` values. More than 32 bits count are want of memory.
+fn call_type(
+    em: &mut Emitter,
+    packed: bool,
+    additional: u32,
+    args: &[Expr],
+    keywords: &[Keyword],
+) -> Result<CallType, CodegenError>
+    ensures call { IfOk result (λ c. c ≡ type_of packed (additional + length args.now) (length keywords.now)) }
+    ensures same { OnOk result (em.new ≡ em.old) }
+    ensures err { IfErr result (λ e. IsStarved e (rest em.old).path) }
+{
+    if packed {
+        return Ok(CallType::Ex {
+            has_kwargs: !keywords.is_empty(),
+        });
+    }
+    let values = (additional as usize).saturating_add(args.len());
+    let nargs = em.narrow(values.saturating_add(keywords.len()))?;
+    if keywords.is_empty() {
+        return Ok(CallType::Positional { nargs });
+    }
+    Ok(CallType::Keyword { nargs })
+}
+
+/// Emits the call of what lies below its arguments.
+pub fn emit_call(em: &mut Emitter, is_method: bool, call: CallType) -> Result<(), CodegenError>
+    ensures goes { (k : Next) → Goes result (k (state em.new)) (calling is_method call k (state em.old)) }
+    ensures same { Same result (rest em.new) (rest em.old) }
+{
+    em.emit_count(
+        call_instruction(is_method, call),
+        call_operand(call) as usize,
+    )
+}
+
+fn call_instruction(is_method: bool, call: CallType) -> Instruction
+    ensures { result ≡ (if is_method then method_call call else function_call call) }
+{
+    if is_method {
+        method_call(call)
+    } else {
+        function_call(call)
+    }
+}
+
+/// The call of a method, of which its object lies below the arguments too.
+fn method_call(call: CallType) -> Instruction
+    ensures { result ≡ method_call call }
+{
+    match call {
+        CallType::Positional { nargs: _ } => Instruction::CallMethodPositional,
+        CallType::Keyword { nargs: _ } => Instruction::CallMethodKeyword,
+        CallType::Ex { has_kwargs: _ } => Instruction::CallMethodEx,
+    }
+}
+
+/// The call of what is no method.
+fn function_call(call: CallType) -> Instruction
+    ensures { result ≡ function_call call }
+{
+    match call {
+        CallType::Positional { nargs: _ } => Instruction::CallFunctionPositional,
+        CallType::Keyword { nargs: _ } => Instruction::CallFunctionKeyword,
+        CallType::Ex { has_kwargs: _ } => Instruction::CallFunctionEx,
+    }
+}
+
+/// How many values a call counts, or 1 where there is a map.
+fn call_operand(call: CallType) -> u32
+    ensures { result ≡ call_operand call }
+{
+    match call {
+        CallType::Positional { nargs } => nargs,
+        CallType::Keyword { nargs } => nargs,
+        CallType::Ex { has_kwargs } => { if has_kwargs { 1 } else { 0 } }
+    }
+}

@@ -1,0 +1,162 @@
+//! Comparisons, one or a chain of them.
+ghost use Rattle.std.specs.Prelude.{◌≡◌, ◌<◌, length};
+ghost use Rattle.py_tree.specs.View.{compare_tree, expr_tree, exprs};
+ghost use Rattle.py_meaning.specs.Emission.{Next, all_emissions, chain, emission, emission_of_compare, emissions, emission_of_comparison, emission_of_link, in_turn, links, first_comparison, values, emit as emitting};
+ghost use Rattle.py_emit.specs.States.{Goes, Same, rest, state};
+ghost use Rattle.py_expr.specs.Turns.{linked};
+
+use crate::expressions::{compile_expression, compile_expressions};
+use py_bytecode::Instruction;
+use py_emit::{Emitter, emit, refuse};
+use py_ir::BlockIdx;
+use py_meaning::{CodegenError, CodegenErrorType};
+use py_tree::{CmpOp, Expr, ExprCompare, Malformed};
+
+#[cycle(code)]
+#[tactic(auto, using(crate::proofs::Steps::steps))]
+pub(crate) fn compile_compare(em: &mut Emitter, e: &ExprCompare) -> Result<(), CodegenError>
+    ensures goes { (k : Next) → Goes result (k (state em.new)) (emission (rest em.old).opts.optimize (compare_tree e.now) k (state em.old)) }
+    ensures same { Same result (rest em.new) (rest em.old) }
+{
+    em.set_location(e.location);
+    compile_comparisons(em, e)
+}
+
+/// Emits one comparison, or a chain of them.
+#[cycle(code)]
+fn compile_comparisons(em: &mut Emitter, e: &ExprCompare) -> Result<(), CodegenError>
+    ensures goes { (k : Next) → Goes result (k (state em.new)) (emission_of_compare (emissions (rest em.old).opts.optimize (expr_tree e.now.left.value)).value e.now.ops (all_emissions (rest em.old).opts.optimize (exprs expr_tree e.now.comparators)) k (state em.old)) }
+    ensures same { Same result (rest em.new) (rest em.old) }
+{
+    let count = e.ops.len();
+    if count == 0 {
+        refuse!(em, CodegenErrorType::MalformedTree(Malformed::NoOperand));
+    }
+    if count != e.comparators.len() {
+        refuse!(em, CodegenErrorType::MalformedTree(Malformed::UnevenLists));
+    }
+    if count > 1 {
+        return compile_chain(em, e);
+    }
+    compile_one_comparison(em, e)
+}
+
+#[cycle(code)]
+#[tactic(auto, using(crate::proofs::Steps::steps))]
+fn compile_one_comparison(em: &mut Emitter, e: &ExprCompare) -> Result<(), CodegenError>
+    requires { 0 < length e.now.ops }
+    ensures goes { (k : Next) → Goes result (k (state em.new)) ((emissions (rest em.old).opts.optimize (expr_tree e.now.left.value)).value (in_turn (values (all_emissions (rest em.old).opts.optimize (exprs expr_tree e.now.comparators))) (first_comparison e.now.ops k)) (state em.old)) }
+    ensures same { Same result (rest em.new) (rest em.old) }
+{
+    compile_expression(em, &e.left)?;
+    compile_expressions(em, e.comparators.as_slice())?;
+    compile_first_comparison(em, e.ops.as_slice())
+}
+
+fn compile_first_comparison(em: &mut Emitter, ops: &[CmpOp]) -> Result<(), CodegenError>
+    requires { 0 < length ops.now }
+    ensures goes { (k : Next) → Goes result (k (state em.new)) (first_comparison ops.now k (state em.old)) }
+    ensures same { Same result (rest em.new) (rest em.old) }
+{
+    compile_comparison(em, ops[0])
+}
+
+/// Emits a chain of comparisons. What a false one leaves lies above a value that goes.
+#[cycle(code)]
+#[tactic(auto, using(crate::proofs::Steps::steps))]
+fn compile_chain(em: &mut Emitter, e: &ExprCompare) -> Result<(), CodegenError>
+    requires { length e.now.ops ≡ length e.now.comparators }
+    ensures goes { (k : Next) → Goes result (k (state em.new)) (chain (emissions (rest em.old).opts.optimize (expr_tree e.now.left.value)).value e.now.ops (all_emissions (rest em.old).opts.optimize (exprs expr_tree e.now.comparators)) k (state em.old)) }
+    ensures same { Same result (rest em.new) (rest em.old) }
+{
+    let out = em.new_block()?;
+    let end = em.new_block()?;
+    compile_expression(em, &e.left)?;
+    compile_links(em, out, e.ops.as_slice(), e.comparators.as_slice())?;
+    emit!(em, Instruction::Jump => end);
+    em.switch_to_block(out);
+    emit!(em, Instruction::Rotate2);
+    emit!(em, Instruction::Pop);
+    em.switch_to_block(end);
+    Ok(())
+}
+
+/// Emits values that are compared with those before them. All but the last are needed by the next comparison too.
+#[cycle(code)]
+fn compile_links(
+    em: &mut Emitter,
+    out: BlockIdx,
+    ops: &[CmpOp],
+    values: &[Expr],
+) -> Result<(), CodegenError>
+    requires even { length ops.now ≡ length values.now }
+    requires below { out.0 < 0xffff_ffff }
+    ensures goes { (k : Next) → Goes result (k (state em.new)) (links out.0 ops.now (all_emissions (rest em.old).opts.optimize (exprs expr_tree values.now)) k (state em.old)) }
+    ensures same { Same result (rest em.new) (rest em.old) }
+{
+    for (i, value) in values.iter().enumerate() {
+        compile_linked(em, out, ops[i], i + 1 < values.len(), value)?;
+    }
+    Ok(())
+}
+
+/// Emits a value, and its comparison with the one before it.
+#[cycle(code)]
+fn compile_linked(
+    em: &mut Emitter,
+    out: BlockIdx,
+    op: CmpOp,
+    more: bool,
+    value: &Expr,
+) -> Result<(), CodegenError>
+    requires below { out.0 < 0xffff_ffff }
+    ensures goes { (k : Next) → Goes result (k (state em.new)) (linked (rest em.old).opts.optimize out.0 op more (expr_tree value.now) k (state em.old)) }
+    ensures same { Same result (rest em.new) (rest em.old) }
+{
+    compile_expression(em, value)?;
+    if more {
+        return compile_link(em, op, out);
+    }
+    compile_comparison(em, op)
+}
+
+/// Emits a comparison whose right value the next one needs too.
+fn compile_link(em: &mut Emitter, op: CmpOp, out: BlockIdx) -> Result<(), CodegenError>
+    requires below { out.0 < 0xffff_ffff }
+    ensures goes { (k : Next) → Goes result (k (state em.new)) (emission_of_link op out.0 k (state em.old)) }
+    ensures same { Same result (rest em.new) (rest em.old) }
+{
+    emit!(em, Instruction::Duplicate);
+    emit!(em, Instruction::Rotate3);
+    compile_comparison(em, op)?;
+    emit!(em, Instruction::JumpIfFalseOrPop => out);
+    Ok(())
+}
+
+#[tactic(auto, using(crate::proofs::Steps::steps))]
+fn compile_comparison(em: &mut Emitter, op: CmpOp) -> Result<(), CodegenError>
+    ensures goes { (k : Next) → Goes result (k (state em.new)) (emission_of_comparison op k (state em.old)) }
+    ensures same { Same result (rest em.new) (rest em.old) }
+{
+    let (instr, case) = comparison_case(op);
+    emit!(em, instr, case);
+    Ok(())
+}
+
+/// The instruction of a comparison, with the number of its case.
+fn comparison_case(op: CmpOp) -> (Instruction, u32)
+    ensures { (k : Next) → emission_of_comparison op k ≡ emitting result.0 result.1 k }
+{
+    match op {
+        CmpOp::Lt => (Instruction::CompareOperation, 0),
+        CmpOp::Gt => (Instruction::CompareOperation, 1),
+        CmpOp::NotEq => (Instruction::CompareOperation, 2),
+        CmpOp::Eq => (Instruction::CompareOperation, 3),
+        CmpOp::LtE => (Instruction::CompareOperation, 4),
+        CmpOp::GtE => (Instruction::CompareOperation, 5),
+        CmpOp::In => (Instruction::TestOperation, 0),
+        CmpOp::NotIn => (Instruction::TestOperation, 1),
+        CmpOp::Is => (Instruction::TestOperation, 2),
+        CmpOp::IsNot => (Instruction::TestOperation, 3),
+    }
+}

@@ -1,0 +1,291 @@
+//! Tests, and the values of `and` and `or`.
+ghost use Rattle.std.specs.Prelude.{◌≡◌, ◌<◌, if◌then◌else◌};
+ghost use Rattle.py_tree.specs.View.{bool_op_tree, expr_tree, exprs, unary_op_tree};
+ghost use Rattle.py_meaning.specs.Table.{deciding};
+ghost use Rattle.py_meaning.specs.Emission.{Next, all_emissions, bool_test, bool_value, emission, emission_of_test, keeping_jump, past_tests, shorts, some_test, some_values, testing_jump, tests, values, jump as jumping};
+ghost use Rattle.py_emit.specs.States.{Goes, Same, rest, state};
+ghost use Rattle.py_expr.specs.Turns.{short};
+
+use crate::expressions::{compile_expression, compile_unary_op};
+use py_bytecode::Instruction;
+use py_emit::{Emitter, emit, refuse};
+use py_ir::BlockIdx;
+use py_meaning::{CodegenError, CodegenErrorType};
+use py_tree::{BoolOp, Expr, ExprBoolOp, ExprUnaryOp, Malformed, UnaryOp};
+
+/// Where a test jumps: to the block, where the truth is this.
+#[derive(Clone, Copy)]
+pub(crate) struct JumpIf {
+    pub(crate) truth: bool,
+    pub(crate) block: BlockIdx,
+}
+
+#[cycle(code)]
+#[tactic(auto, using(crate::proofs::Steps::steps))]
+pub(crate) fn compile_bool_op(em: &mut Emitter, e: &ExprBoolOp) -> Result<(), CodegenError>
+    ensures goes { (k : Next) → Goes result (k (state em.new)) (emission (rest em.old).opts.optimize (bool_op_tree e.now) k (state em.old)) }
+    ensures same { Same result (rest em.new) (rest em.old) }
+{
+    em.set_location(e.location);
+    compile_bool_value(em, e.op, e.values.as_slice())
+}
+
+/// Emits a value of `and` or `or`.
+#[cycle(code)]
+fn compile_bool_value(em: &mut Emitter, op: BoolOp, values: &[Expr]) -> Result<(), CodegenError>
+    ensures goes { (k : Next) → Goes result (k (state em.new)) (bool_value op (all_emissions (rest em.old).opts.optimize (exprs expr_tree values.now)) k (state em.old)) }
+    ensures same { Same result (rest em.new) (rest em.old) }
+{
+    if values.is_empty() {
+        refuse!(em, CodegenErrorType::MalformedTree(Malformed::NoOperand));
+    }
+    compile_some_values(em, op, values)
+}
+
+/// Emits values, each but the last of which decides where its truth does.
+#[cycle(code)]
+#[tactic(auto, using(crate::proofs::Steps::steps))]
+fn compile_some_values(em: &mut Emitter, op: BoolOp, values: &[Expr]) -> Result<(), CodegenError>
+    ensures goes { (k : Next) → Goes result (k (state em.new)) (some_values op (all_emissions (rest em.old).opts.optimize (exprs expr_tree values.now)) k (state em.old)) }
+    ensures same { Same result (rest em.new) (rest em.old) }
+{
+    let end = em.new_block()?;
+    compile_shorts(em, op, end, values)?;
+    em.switch_to_block(end);
+    Ok(())
+}
+
+/// Emits values, where all but the last are followed by a jump to the end.
+#[cycle(code)]
+fn compile_shorts(
+    em: &mut Emitter,
+    op: BoolOp,
+    end: BlockIdx,
+    values: &[Expr],
+) -> Result<(), CodegenError>
+    requires below { end.0 < 0xffff_ffff }
+    ensures goes { (k : Next) → Goes result (k (state em.new)) (shorts op end.0 (all_emissions (rest em.old).opts.optimize (exprs expr_tree values.now)) k (state em.old)) }
+    ensures same { Same result (rest em.new) (rest em.old) }
+{
+    for (i, value) in values.iter().enumerate() {
+        compile_short(em, op, end, i + 1 < values.len(), value)?;
+    }
+    Ok(())
+}
+
+/// Emits a value, with a jump to the end where more follow.
+#[cycle(code)]
+fn compile_short(
+    em: &mut Emitter,
+    op: BoolOp,
+    end: BlockIdx,
+    more: bool,
+    value: &Expr,
+) -> Result<(), CodegenError>
+    requires below { end.0 < 0xffff_ffff }
+    ensures goes { (k : Next) → Goes result (k (state em.new)) (short (rest em.old).opts.optimize op end.0 more (expr_tree value.now) k (state em.old)) }
+    ensures same { Same result (rest em.new) (rest em.old) }
+{
+    compile_expression(em, value)?;
+    if more {
+        emit!(em, keeping_jump(deciding(op)) => end);
+    }
+    Ok(())
+}
+
+/// The truth at which a value decides.
+pub(crate) fn deciding(op: BoolOp) -> bool
+    ensures { result ≡ deciding op }
+{
+    match op {
+        BoolOp::And => false,
+        BoolOp::Or => true,
+    }
+}
+
+/// The jump that keeps a value where its truth is this.
+fn keeping_jump(truth: bool) -> Instruction
+    ensures { result ≡ keeping_jump truth }
+{
+    if truth {
+        Instruction::JumpIfTrueOrPop
+    } else {
+        Instruction::JumpIfFalseOrPop
+    }
+}
+
+/// The jump that takes a value off where it tests its truth.
+pub(crate) fn testing_jump(truth: bool) -> Instruction
+    ensures { result ≡ testing_jump truth }
+{
+    if truth {
+        Instruction::JumpIfTrue
+    } else {
+        Instruction::JumpIfFalse
+    }
+}
+
+/// Emits the code that jumps to a block where the truth of an expression is the condition, and else goes on. Neither leaves
+/// a value. The target is a block that was made.
+///
+/// # Errors
+/// The first compile fault of the expression, or OutOfMemory.
+pub fn compile_jump_if(
+    em: &mut Emitter,
+    expr: &Expr,
+    condition: bool,
+    target: BlockIdx,
+) -> Result<(), CodegenError>
+    requires { target.0 < 0xffff_ffff }
+    ensures goes { (k : Next) → Goes result (k (state em.new)) (emission_of_test (rest em.old).opts.optimize (expr_tree expr.now) condition target.0 k (state em.old)) }
+    ensures same { Same result (rest em.new) (rest em.old) }
+{
+    let jump = JumpIf {
+        truth: condition,
+        block: target,
+    };
+    compile_test(em, expr, &jump)
+}
+
+/// Emits an expression as a test.
+#[cycle(code)]
+#[tactic(auto, using(py_tree::proofs::View::trees, crate::proofs::Steps::steps))]
+pub(crate) fn compile_test(em: &mut Emitter, expr: &Expr, jump: &JumpIf) -> Result<(), CodegenError>
+    requires below { jump.now.block.0 < 0xffff_ffff }
+    ensures goes { (k : Next) → Goes result (k (state em.new)) (emission_of_test (rest em.old).opts.optimize (expr_tree expr.now) jump.now.truth jump.now.block.0 k (state em.old)) }
+    ensures same { Same result (rest em.new) (rest em.old) }
+{
+    match expr {
+        Expr::BoolOp(e) => compile_bool_test(em, e, jump),
+        Expr::UnaryOp(e) => compile_unary_test(em, e, jump),
+        _ => compile_truth(em, expr, jump),
+    }
+}
+
+/// Emits a unary operation as a test. That of `not` turns the test of its operand.
+#[cycle(code)]
+#[tactic(auto, using(py_tree::proofs::View::trees, crate::proofs::Steps::steps))]
+fn compile_unary_test(em: &mut Emitter, e: &ExprUnaryOp, jump: &JumpIf) -> Result<(), CodegenError>
+    requires below { jump.now.block.0 < 0xffff_ffff }
+    ensures goes { (k : Next) → Goes result (k (state em.new)) (emission_of_test (rest em.old).opts.optimize (unary_op_tree e.now) jump.now.truth jump.now.block.0 k (state em.old)) }
+    ensures same { Same result (rest em.new) (rest em.old) }
+{
+    match e.op {
+        UnaryOp::Not => {
+            let turned = JumpIf {
+                truth: !jump.truth,
+                block: jump.block,
+            };
+            compile_test(em, &e.operand, &turned)
+        }
+        UnaryOp::Invert => compile_unary_truth(em, e, jump),
+        UnaryOp::UAdd => compile_unary_truth(em, e, jump),
+        UnaryOp::USub => compile_unary_truth(em, e, jump),
+    }
+}
+
+/// Emits a unary operation, and the jump that tests its truth.
+#[cycle(code)]
+fn compile_unary_truth(em: &mut Emitter, e: &ExprUnaryOp, jump: &JumpIf) -> Result<(), CodegenError>
+    requires below { jump.now.block.0 < 0xffff_ffff }
+    ensures goes { (k : Next) → Goes result (k (state em.new)) (emission (rest em.old).opts.optimize (unary_op_tree e.now) (jumping (testing_jump jump.now.truth) jump.now.block.0 k) (state em.old)) }
+    ensures same { Same result (rest em.new) (rest em.old) }
+{
+    compile_unary_op(em, e)?;
+    emit!(em, testing_jump(jump.truth) => jump.block);
+    Ok(())
+}
+
+/// Emits a value, and the jump that tests its truth.
+#[cycle(code)]
+fn compile_truth(em: &mut Emitter, expr: &Expr, jump: &JumpIf) -> Result<(), CodegenError>
+    requires below { jump.now.block.0 < 0xffff_ffff }
+    ensures goes { (k : Next) → Goes result (k (state em.new)) (emission (rest em.old).opts.optimize (expr_tree expr.now) (jumping (testing_jump jump.now.truth) jump.now.block.0 k) (state em.old)) }
+    ensures same { Same result (rest em.new) (rest em.old) }
+{
+    compile_expression(em, expr)?;
+    emit!(em, testing_jump(jump.truth) => jump.block);
+    Ok(())
+}
+
+/// Emits `and` or `or` as a test.
+#[cycle(code)]
+fn compile_bool_test(em: &mut Emitter, e: &ExprBoolOp, jump: &JumpIf) -> Result<(), CodegenError>
+    requires below { jump.now.block.0 < 0xffff_ffff }
+    ensures goes { (k : Next) → Goes result (k (state em.new)) (bool_test e.now.op (all_emissions (rest em.old).opts.optimize (exprs expr_tree e.now.values)) jump.now.truth jump.now.block.0 k (state em.old)) }
+    ensures same { Same result (rest em.new) (rest em.old) }
+{
+    let values = e.values.as_slice();
+    if values.is_empty() {
+        refuse!(em, CodegenErrorType::MalformedTree(Malformed::NoOperand));
+    }
+    compile_some_test(em, deciding(e.op), jump, values)
+}
+
+/// Emits values as tests, each but the last of which decides at a truth.
+#[cycle(code)]
+fn compile_some_test(
+    em: &mut Emitter,
+    deciding: bool,
+    jump: &JumpIf,
+    values: &[Expr],
+) -> Result<(), CodegenError>
+    requires below { jump.now.block.0 < 0xffff_ffff }
+    ensures goes { (k : Next) → Goes result (k (state em.new)) (some_test deciding jump.now.truth (all_emissions (rest em.old).opts.optimize (exprs expr_tree values.now)) jump.now.block.0 k (state em.old)) }
+    ensures same { Same result (rest em.new) (rest em.old) }
+{
+    if jump.truth == deciding {
+        return compile_tests(em, jump, jump, values);
+    }
+    compile_past_tests(em, deciding, jump, values)
+}
+
+/// Emits values as tests, where one that decides goes past the others.
+#[cycle(code)]
+#[tactic(auto, using(crate::proofs::Steps::steps))]
+fn compile_past_tests(
+    em: &mut Emitter,
+    deciding: bool,
+    jump: &JumpIf,
+    values: &[Expr],
+) -> Result<(), CodegenError>
+    requires below { jump.now.block.0 < 0xffff_ffff }
+    ensures goes { (k : Next) → Goes result (k (state em.new)) (past_tests deciding jump.now.truth (all_emissions (rest em.old).opts.optimize (exprs expr_tree values.now)) jump.now.block.0 k (state em.old)) }
+    ensures same { Same result (rest em.new) (rest em.old) }
+{
+    let end = em.new_block()?;
+    let stop = JumpIf {
+        truth: deciding,
+        block: end,
+    };
+    compile_tests(em, &stop, jump, values)?;
+    em.switch_to_block(end);
+    Ok(())
+}
+
+/// Emits tests, where all but the last jump as `stop` says.
+#[cycle(code)]
+fn compile_tests(
+    em: &mut Emitter,
+    stop: &JumpIf,
+    last: &JumpIf,
+    values: &[Expr],
+) -> Result<(), CodegenError>
+    requires stop { stop.now.block.0 < 0xffff_ffff }
+    requires last { last.now.block.0 < 0xffff_ffff }
+    ensures goes { (k : Next) → Goes result (k (state em.new)) (tests stop.now.truth stop.now.block.0 last.now.truth last.now.block.0 (all_emissions (rest em.old).opts.optimize (exprs expr_tree values.now)) k (state em.old)) }
+    ensures same { Same result (rest em.new) (rest em.old) }
+{
+    for (i, value) in values.iter().enumerate() {
+        let jump = either(i + 1 < values.len(), stop, last);
+        compile_test(em, value, jump)?;
+    }
+    Ok(())
+}
+
+/// The first where more tests follow, else the last.
+fn either<'a>(more: bool, stop: &'a JumpIf, last: &'a JumpIf) -> &'a JumpIf
+    ensures { result.now ≡ (if more then stop.now else last.now) }
+{
+    if more { stop } else { last }
+}

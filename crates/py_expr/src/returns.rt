@@ -1,0 +1,86 @@
+//! The returns of values.
+ghost use Rattle.std.specs.Prelude.{ℕ};
+ghost use Rattle.py_tree.specs.View.{constant_tree, expr_tree, exprs, joined_str_tree, name_tree};
+ghost use Rattle.py_meaning.specs.Texts.{texts_of};
+ghost use Rattle.py_meaning.specs.Emission.{Next, all_emissions, emission, emission_of_return, joined_return, values, emit as emitting};
+ghost use Rattle.py_emit.specs.States.{Goes, Same, rest, state};
+
+use crate::expressions::compile_expression;
+use crate::texts::{compile_parts, copied_constant, whole_text};
+use py_bytecode::{ConstantData, Instruction};
+use py_emit::{Emitter, NameUsage, debug_constant, emit, is_debug};
+use py_meaning::CodegenError;
+use py_tree::{Expr, ExprConstant, ExprJoinedStr, ExprName};
+
+/// Emits the code that returns an expression's value: a constant by one instruction.
+#[tactic(auto, using(py_tree::proofs::View::trees, crate::proofs::Steps::steps))]
+pub fn compile_return(em: &mut Emitter, expr: &Expr) -> Result<(), CodegenError>
+    ensures goes { (k : Next) → Goes result (k (state em.new)) (emission_of_return (rest em.old).opts.optimize (expr_tree expr.now) k (state em.old)) }
+    ensures same { Same result (rest em.new) (rest em.old) }
+{
+    match expr {
+        Expr::JoinedStr(e) => return_joined_str(em, e),
+        Expr::Constant(e) => return_constant(em, e),
+        Expr::Name(e) => return_name(em, e),
+        _ => return_value(em, expr),
+    }
+}
+
+/// Emits a value and its return.
+#[tactic(auto, using(crate::proofs::Steps::steps))]
+fn return_value(em: &mut Emitter, expr: &Expr) -> Result<(), CodegenError>
+    ensures goes { (k : Next) → Goes result (k (state em.new)) (emission (rest em.old).opts.optimize (expr_tree expr.now) (emitting Instruction.ReturnValue 0 k) (state em.old)) }
+    ensures same { Same result (rest em.new) (rest em.old) }
+{
+    compile_expression(em, expr)?;
+    emit!(em, Instruction::ReturnValue);
+    Ok(())
+}
+
+#[tactic(auto, using(crate::proofs::Steps::steps))]
+fn return_constant(em: &mut Emitter, e: &ExprConstant) -> Result<(), CodegenError>
+    ensures goes { (l : ℕ) (k : Next) → Goes result (k (state em.new)) (emission_of_return l (constant_tree e.now) k (state em.old)) }
+    ensures same { Same result (rest em.new) (rest em.old) }
+{
+    em.set_location(e.location);
+    let value = copied_constant(em, &e.value)?;
+    em.return_const(value)
+}
+
+#[tactic(auto, using(crate::proofs::Steps::steps))]
+fn return_joined_str(em: &mut Emitter, e: &ExprJoinedStr) -> Result<(), CodegenError>
+    ensures goes { (k : Next) → Goes result (k (state em.new)) (emission_of_return (rest em.old).opts.optimize (joined_str_tree e.now) k (state em.old)) }
+    ensures same { Same result (rest em.new) (rest em.old) }
+{
+    em.set_location(e.location);
+    return_joined(em, e.values.as_slice())
+}
+
+/// Emits the code that returns the parts of an f-string joined: one text by one instruction.
+#[tactic(auto, using(py_bytecode::proofs::View::views))]
+fn return_joined(em: &mut Emitter, parts: &[Expr]) -> Result<(), CodegenError>
+    ensures goes { (k : Next) → Goes result (k (state em.new)) (joined_return (texts_of (exprs expr_tree parts.now)) (values (all_emissions (rest em.old).opts.optimize (exprs expr_tree parts.now))) k (state em.old)) }
+    ensures same { Same result (rest em.new) (rest em.old) }
+{
+    if let Some(value) = whole_text(em, parts)? {
+        return em.return_const(ConstantData::Str { value });
+    }
+    compile_parts(em, parts)?;
+    emit!(em, Instruction::ReturnValue);
+    Ok(())
+}
+
+#[tactic(auto, using(crate::proofs::Steps::steps))]
+fn return_name(em: &mut Emitter, e: &ExprName) -> Result<(), CodegenError>
+    ensures goes { (k : Next) → Goes result (k (state em.new)) (emission_of_return (rest em.old).opts.optimize (name_tree e.now) k (state em.old)) }
+    ensures same { Same result (rest em.new) (rest em.old) }
+{
+    em.set_location(e.location);
+    if is_debug(e.id.as_str()) {
+        let opts = em.opts();
+        return em.return_const(debug_constant(opts));
+    }
+    em.compile_name(NameUsage::Load, e.id.as_str())?;
+    emit!(em, Instruction::ReturnValue);
+    Ok(())
+}

@@ -1,0 +1,278 @@
+//! Targets: the code that stores to them or deletes them. A target is not entered: what is wrong with it stands where the code
+//! before it leaves off.
+ghost use Rattle.std.specs.Prelude.{◌≡◌, ◌<◌, ◌≢◌, ℕ, length};
+ghost use Rattle.py_tree.specs.View.{attribute_tree, expr_tree, exprs, named_expr_tree, subscript_tree};
+ghost use Rattle.py_tree.specs.PythonName.{python_name};
+ghost use Rattle.py_meaning.specs.Elements.{after_star, bare, before_star, stars};
+ghost use Rattle.py_meaning.specs.Emission.{Next, Refused, all_stores, deletion_name, emission, emission_of_delete, emission_of_deletes, emission_of_store, emit_name, in_turn, lone_star, refuse, stores, unless_debug, unpack, unpack_starred, emit as emitting};
+ghost use Rattle.py_emit.specs.States.{Goes, Same, rest, state};
+ghost use Rattle.py_expr.specs.Targets.{bare_of, unpacking};
+
+use crate::elements::is_star;
+use crate::expressions::compile_expression;
+use py_bytecode::Instruction;
+use py_emit::{Emitter, NameUsage, emit, is_debug, refuse};
+use py_meaning::{CodegenError, CodegenErrorType};
+use py_tree::{Expr, ExprAttribute, ExprNamedExpr, ExprSubscript, SourceLocation};
+
+/// The most targets that stand on one side of a star.
+const MOST_ASIDE: usize = 255;
+
+/// Emits the code that stores the value that lies there to an expression.
+///
+/// # Errors
+/// The first compile fault of the expression as a target, or OutOfMemory.
+#[cycle(code)]
+#[tactic(auto, using(py_tree::proofs::View::trees))]
+pub fn compile_store(em: &mut Emitter, target: &Expr) -> Result<(), CodegenError>
+    ensures goes { (k : Next) → Goes result (k (state em.new)) (emission_of_store (rest em.old).opts.optimize (expr_tree target.now) k (state em.old)) }
+    ensures same { Same result (rest em.new) (rest em.old) }
+{
+    match target {
+        Expr::Name(e) => em.compile_name(NameUsage::Store, e.id.as_str()),
+        Expr::Attribute(e) => compile_attribute_change(
+            em,
+            e,
+            Instruction::StoreAttr,
+            "cannot assign to __debug__",
+        ),
+        Expr::Subscript(e) => compile_subscript_change(em, e, Instruction::StoreSubscript),
+        Expr::List(e) => compile_unpack(em, e.location, e.elts.as_slice()),
+        Expr::Tuple(e) => compile_unpack(em, e.location, e.elts.as_slice()),
+        Expr::Starred(_) => refuse_lone_star(em),
+        _ => refuse_store(em, target),
+    }
+}
+
+/// Emits an object and what changes an attribute of it, or leaves with the text where the attribute is `__debug__`.
+#[cycle(code)]
+fn compile_attribute_change(
+    em: &mut Emitter,
+    e: &ExprAttribute,
+    instr: Instruction,
+    text: &str,
+) -> Result<(), CodegenError>
+    ensures goes { (k : Next) → Goes result (k (state em.new)) (unless_debug text.now e.now.attr (λ j. emission (rest em.old).opts.optimize (expr_tree e.now.value.value) (emit_name instr e.now.attr j)) k (state em.old)) }
+    ensures same { Same result (rest em.new) (rest em.old) }
+{
+    if is_debug(e.attr.as_str()) {
+        return Err(em.syntax_error(text));
+    }
+    compile_expression(em, &e.value)?;
+    em.emit_name(instr, e.attr.as_str())
+}
+
+/// Emits an object, a subscript of it and what changes that.
+#[cycle(code)]
+fn compile_subscript_change(
+    em: &mut Emitter,
+    e: &ExprSubscript,
+    instr: Instruction,
+) -> Result<(), CodegenError>
+    ensures goes { (k : Next) → Goes result (k (state em.new)) (emission (rest em.old).opts.optimize (expr_tree e.now.value.value) (emission (rest em.old).opts.optimize (expr_tree e.now.slice.value) (emitting instr 0 k)) (state em.old)) }
+    ensures same { Same result (rest em.new) (rest em.old) }
+{
+    compile_expression(em, &e.value)?;
+    compile_expression(em, &e.slice)?;
+    emit!(em, instr);
+    Ok(())
+}
+
+/// Emits the code that unpacks a value to targets of a list that stands there.
+#[cycle(code)]
+fn compile_unpack(
+    em: &mut Emitter,
+    location: SourceLocation,
+    elts: &[Expr],
+) -> Result<(), CodegenError>
+    ensures goes { (k : Next) → Goes result (k (state em.new)) (unpack location (all_stores (rest em.old).opts.optimize (exprs expr_tree elts.now)) k (state em.old)) }
+    ensures same { Same result (rest em.new) (rest em.old) }
+{
+    emit_unpack(em, location, elts)?;
+    compile_stores(em, elts)
+}
+
+/// Emits what unpacks a value to as many targets, or with a star to those around it and a list of the others.
+fn emit_unpack(
+    em: &mut Emitter,
+    location: SourceLocation,
+    elts: &[Expr],
+) -> Result<(), CodegenError>
+    ensures goes { (l : ℕ) (k : Next) → Goes result (k (state em.new)) (unpacking location (all_stores l (exprs expr_tree elts.now)) k (state em.old)) }
+    ensures same { Same result (rest em.new) (rest em.old) }
+{
+    let starred = star_count(elts);
+    if starred == 0 {
+        return em.emit_count(Instruction::UnpackSequence, elts.len());
+    }
+    emit_starred_unpack(em, location, elts, starred)
+}
+
+/// Emits what unpacks a value around a star, or leaves where too many targets stand aside, or several are starred.
+fn emit_starred_unpack(
+    em: &mut Emitter,
+    location: SourceLocation,
+    elts: &[Expr],
+    starred: usize,
+) -> Result<(), CodegenError>
+    requires some { starred ≢ 0 }
+    requires counted { (l : ℕ) → starred ≡ stars (all_stores l (exprs expr_tree elts.now)) }
+    ensures goes { (l : ℕ) (k : Next) → Goes result (k (state em.new)) (unpack_starred location (all_stores l (exprs expr_tree elts.now)) k (state em.old)) }
+    ensures same { Same result (rest em.new) (rest em.old) }
+{
+    let before = before_star(elts);
+    let after = elts.len() - before - 1;
+    if before > MOST_ASIDE || after > MOST_ASIDE {
+        em.set_location(location);
+        refuse!(em, CodegenErrorType::TooManyStarUnpack);
+    }
+    if starred > 1 {
+        refuse!(em, CodegenErrorType::MultipleStarArgs);
+    }
+    em.emit_arg(Instruction::UnpackEx, (before + 256 * after) as u32)
+}
+
+/// How many targets are starred.
+fn star_count(elts: &[Expr]) -> usize
+    ensures { (l : ℕ) → result ≡ stars (all_stores l (exprs expr_tree elts.now)) }
+{
+    let mut count = 0;
+    for elt in elts {
+        if is_star(elt) {
+            count += 1;
+        }
+    }
+    count
+}
+
+/// How many targets stand before the first that is starred.
+fn before_star(elts: &[Expr]) -> usize
+    ensures { (l : ℕ) → result ≡ before_star (all_stores l (exprs expr_tree elts.now)) }
+{
+    let mut count = 0;
+    for elt in elts {
+        if is_star(elt) {
+            return count;
+        }
+        count += 1;
+    }
+    count
+}
+
+/// Emits the code that stores to each target in turn.
+#[cycle(code)]
+fn compile_stores(em: &mut Emitter, elts: &[Expr]) -> Result<(), CodegenError>
+    ensures goes { (k : Next) → Goes result (k (state em.new)) (in_turn (bare (all_stores (rest em.old).opts.optimize (exprs expr_tree elts.now))) k (state em.old)) }
+    ensures same { Same result (rest em.new) (rest em.old) }
+{
+    for elt in elts {
+        compile_element_store(em, elt)?;
+    }
+    Ok(())
+}
+
+/// Emits the code that stores to one of several targets. A starred one takes a list.
+#[cycle(code)]
+#[tactic(auto, using(py_tree::proofs::View::trees))]
+fn compile_element_store(em: &mut Emitter, elt: &Expr) -> Result<(), CodegenError>
+    ensures goes { (k : Next) → Goes result (k (state em.new)) (bare_of (stores (rest em.old).opts.optimize (expr_tree elt.now)).element k (state em.old)) }
+    ensures same { Same result (rest em.new) (rest em.old) }
+{
+    match elt {
+        Expr::Starred(e) => compile_store(em, &e.value),
+        _ => compile_store(em, elt),
+    }
+}
+
+/// Refuses a starred target that is no element.
+fn refuse_lone_star(em: &mut Emitter) -> Result<(), CodegenError>
+    ensures goes { (k : Next) → Goes result (k (state em.new)) (refuse (CodegenErrorType.SyntaxError lone_star) (state em.old)) }
+    ensures same { Same result (rest em.new) (rest em.old) }
+{
+    Err(em.syntax_error("starred assignment target must be in a list or tuple"))
+}
+
+/// Refuses an expression that is no target.
+#[tactic(auto, using(crate::proofs::Steps::steps))]
+pub fn refuse_store(em: &mut Emitter, target: &Expr) -> Result<(), CodegenError>
+    ensures goes { (k : Next) → Goes result (k (state em.new)) (refuse (CodegenErrorType.Assign (python_name (expr_tree target.now))) (state em.old)) }
+    ensures same { Same result (rest em.new) (rest em.old) }
+{
+    let name = em.text(target.python_name())?;
+    refuse!(em, CodegenErrorType::Assign(name));
+}
+
+/// Emits the code that deletes an expression, a list or a tuple element by element.
+///
+/// # Errors
+/// The first compile fault of the expression as what is deleted, or OutOfMemory.
+#[cycle(deletions)]
+#[tactic(auto, using(py_tree::proofs::View::trees))]
+pub fn compile_delete(em: &mut Emitter, target: &Expr) -> Result<(), CodegenError>
+    ensures goes { (k : Next) → Goes result (k (state em.new)) (emission_of_delete (rest em.old).opts.optimize (expr_tree target.now) k (state em.old)) }
+    ensures same { Same result (rest em.new) (rest em.old) }
+{
+    match target {
+        Expr::Name(e) => em.compile_name(NameUsage::Delete, e.id.as_str()),
+        Expr::Attribute(e) => compile_attribute_change(
+            em,
+            e,
+            Instruction::DeleteAttr,
+            "cannot delete __debug__",
+        ),
+        Expr::Subscript(e) => compile_subscript_change(em, e, Instruction::DeleteSubscript),
+        Expr::List(e) => compile_deletes(em, e.elts.as_slice()),
+        Expr::Tuple(e) => compile_deletes(em, e.elts.as_slice()),
+        _ => refuse_delete(em, target),
+    }
+}
+
+/// Emits the code that deletes each target in turn.
+///
+/// # Errors
+/// The first compile fault of the targets as what is deleted, or OutOfMemory.
+#[cycle(deletions)]
+pub fn compile_deletes(em: &mut Emitter, targets: &[Expr]) -> Result<(), CodegenError>
+    ensures goes { (k : Next) → Goes result (k (state em.new)) (emission_of_deletes (rest em.old).opts.optimize (exprs expr_tree targets.now) k (state em.old)) }
+    ensures same { Same result (rest em.new) (rest em.old) }
+{
+    for target in targets {
+        compile_delete(em, target)?;
+    }
+    Ok(())
+}
+
+/// Refuses an expression that cannot be deleted.
+#[tactic(auto, using(crate::proofs::Steps::steps))]
+fn refuse_delete(em: &mut Emitter, target: &Expr) -> Result<(), CodegenError>
+    ensures goes { (k : Next) → Goes result (k (state em.new)) (refuse (CodegenErrorType.Delete (deletion_name (expr_tree target.now))) (state em.old)) }
+    ensures same { Same result (rest em.new) (rest em.old) }
+{
+    let name = em.text(deletion_name(target))?;
+    refuse!(em, CodegenErrorType::Delete(name));
+}
+
+/// What a message calls an expression that cannot be deleted.
+#[tactic(auto, using(py_tree::proofs::View::trees))]
+fn deletion_name(target: &Expr) -> &'static str
+    ensures { result.now ≡ deletion_name (expr_tree target.now) }
+{
+    match target {
+        Expr::BinOp(_) => "expression",
+        Expr::UnaryOp(_) => "expression",
+        _ => target.python_name(),
+    }
+}
+
+/// Emits a value that is stored and kept.
+#[cycle(code)]
+#[tactic(auto, using(crate::proofs::Steps::steps))]
+pub(crate) fn compile_named_expr(em: &mut Emitter, e: &ExprNamedExpr) -> Result<(), CodegenError>
+    ensures goes { (k : Next) → Goes result (k (state em.new)) (emission (rest em.old).opts.optimize (named_expr_tree e.now) k (state em.old)) }
+    ensures same { Same result (rest em.new) (rest em.old) }
+{
+    em.set_location(e.location);
+    compile_expression(em, &e.value)?;
+    emit!(em, Instruction::Duplicate);
+    compile_store(em, &e.target)
+}
