@@ -1,6 +1,6 @@
 -- What an emission adds: steps that read as the code of the node's form, in all tables that begin with those so far.
 use Rattle.std.proofs.Common.{◌≡◌, ℕ, ◌+◌, ◌<◌, ◌≤◌, ◌^◌, List, [], ◌∷◌, ◌++◌, false, Option, Some, None, refl, sym, ap, ◌∙◌, arith, append_assoc, append-nil}
-use Rattle.py_tree.specs.declared.location.SourceLocation.{SourceLocation}
+use Rattle.py_base.specs.declared.location.SourceLocation.{SourceLocation}
 use Rattle.py_bytecode.specs.declared.instruction.Instruction.{Instruction}
 use Rattle.py_bytecode.specs.Objects as const
 use Rattle.py_bytecode.specs.Objects.{Const, Object, codes_in}
@@ -8,7 +8,6 @@ use Rattle.py_bytecode.specs.Machine.{Instr}
 use Rattle.py_bytecode.specs.Decode.{Tables, instr_of}
 use Rattle.py_walks.specs.Flat.{is_jump}
 use Rattle.py_meaning.specs.Code.{Item, Do, Label}
-use Rattle.py_meaning.specs.Walks.{rise}
 use Rattle.py_meaning.specs.Emission.{Step, Put, Begin, State, located}
 
 -- tables that begin with those of a state
@@ -23,7 +22,6 @@ pub record Reads (t : Tables) (o : Instruction) (n : ℕ) (to : Option ℕ) (i :
   pub fits : n < 2 ^ 32
   pub is : instr_of t to o n ≡ Some i
   pub aims : is_jump o ≡ false → to ≡ None
-  pub low : rise i ≤ 2
 
 abbrev pub StepReads : Tables → Step → Item Object → Type 0
 StepReads t (Put o n to at) (Do i) = Reads t o n to i

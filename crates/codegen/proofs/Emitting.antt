@@ -1,8 +1,8 @@
 -- What each step of an emission adds.
-use Rattle.std.proofs.Common.{◌≡◌, ℕ, zero, suc, ◌+◌, ◌<◌, ◌≤◌, ◌^◌, List, [], ◌∷◌, ◌++◌, length, Bool, true, false, Some, None, refl, sym, ap, ◌∙◌, subst, arith, rules, append-nil, append_assoc}
+use Rattle.std.proofs.Common.{◌≡◌, ℕ, zero, suc, ◌+◌, ◌<◌, ◌^◌, List, [], ◌∷◌, ◌++◌, length, Bool, true, false, Some, None, refl, sym, ap, ◌∙◌, subst, arith, rules, append-nil, append_assoc}
 use Rattle.std.specs.List.{list_any}
 use Rattle.std.specs.Prelude.{nat_lt, slice_get, if◌then◌else◌}
-use Rattle.py_tree.specs.declared.location.SourceLocation.{SourceLocation}
+use Rattle.py_base.specs.declared.location.SourceLocation.{SourceLocation}
 use Rattle.py_bytecode.specs.declared.instruction.Instruction.{Instruction}
 use Rattle.py_bytecode.specs.Objects as const
 use Rattle.py_bytecode.specs.Objects.{Const, Object, codes_in}
@@ -13,9 +13,7 @@ use Rattle.py_bytecode.specs.Decode.{Tables, instr_of, value_of}
 use Rattle.py_bytecode.proofs.Joining.{get_left}
 use Rattle.py_walks.specs.Flat.{is_jump}
 use Rattle.py_meaning.specs.Code.{Item, Do, Label}
-use Rattle.py_meaning.specs.Walks.{rise}
 use Rattle.py_meaning.specs.Emission.{Step, Put, Begin, State, Done, TooWide, Next, with_step, with_block, with_name, with_constant, located, emit, jump, begin, new_block, move}
-use Rattle.py_meaning.specs.declared.errors.CodegenErrorType.{CodegenErrorType}
 use Rattle.codegen.proofs.Adding.{Begins, StepReads, Inside, Adds, adds_join, adds_nothing, adds_located, codes_join}
 
 -- an emission comes to a state with these items more, from which what follows comes to its end
@@ -91,20 +89,20 @@ emits i n k s o e =
     record { fits = search (rules, p.0); goes_on = p.1 }
 
 -- an instruction that reads so in all tables that begin with those so far
-pub emit_adds : (i : Instruction) (n : ℕ) (x : Instr Object ℕ) → rise x ≤ 2 → (k : Next) (s o : State) → ((t : Tables) → Begins s t → instr_of t None i n ≡ Some x) → emit i n k s ≡ Done o → Comes k s o (Do x ∷ []) 0
-emit_adds i n x low k s o is e =
+pub emit_adds : (i : Instruction) (n : ℕ) (x : Instr Object ℕ) → (k : Next) (s o : State) → ((t : Tables) → Begins s t → instr_of t None i n ≡ Some x) → emit i n k s ≡ Done o → Comes k s o (Do x ∷ []) 0
+emit_adds i n x k s o is e =
     let p = emits i n k s o e in
     record {
       reached = with_step (Put i n None s.location) s;
-      adds = adds_step (Put i n None s.location) s (Do x) (λ t b. record { fits = p.fits; is = is t b; aims = λ z. refl; low = low }) tt;
+      adds = adds_step (Put i n None s.location) s (Do x) (λ t b. record { fits = p.fits; is = is t b; aims = λ z. refl }) tt;
       goes_on = p.goes_on;
     }
 
-pub jump_adds : (i : Instruction) (b : ℕ) (x : Instr Object ℕ) → is_jump i ≡ true → rise x ≤ 2 → ((t : Tables) → instr_of t (Some b) i 0 ≡ Some x) → (k : Next) (s o : State) → b < s.blocks → jump i b k s ≡ Done o → Comes k s o (Do x ∷ []) 0
+pub jump_adds : (i : Instruction) (b : ℕ) (x : Instr Object ℕ) → is_jump i ≡ true → ((t : Tables) → instr_of t (Some b) i 0 ≡ Some x) → (k : Next) (s o : State) → b < s.blocks → jump i b k s ≡ Done o → Comes k s o (Do x ∷ []) 0
 unfolding jump
-jump_adds i b x j low is k s o lt e = record {
+jump_adds i b x j is k s o lt e = record {
   reached = with_step (Put i 0 (Some b) s.location) s;
-  adds = adds_step (Put i 0 (Some b) s.location) s (Do x) (λ t h. record { fits = omega arith; is = is t; aims = λ z. absurd (cc (j, z)); low = low }) lt;
+  adds = adds_step (Put i 0 (Some b) s.location) s (Do x) (λ t h. record { fits = omega arith; is = is t; aims = λ z. absurd (cc (j, z)) }) lt;
   goes_on = e;
 }
 

@@ -1,172 +1,156 @@
 -- The emission of a tree with no wrong shapes ends as its faults say.
-use Rattle.std.proofs.Common.{◌∙◌, ◌≡◌, ℕ, List, [], ◌∷◌, ◌++◌, Bool, true, false, Option, Some, None, refl, sym, subst, append-nil}
-use Rattle.std.specs.Prelude.{if◌then◌else◌}
+use Rattle.std.proofs.Common.{◌∙◌, ◌≡◌, ℕ, List, [], ◌∷◌, ◌++◌, Bool, true, false, Option, Some, None, codes, refl}
+use Rattle.std.specs.Prelude.{nat_eq, if◌then◌else◌}
 use Rattle.py_tree.specs.Tree as tree
-use Rattle.py_tree.specs.Valid.{expr_shapes, stmt_shapes, stmts_shapes, shapes}
-use Rattle.py_tree.specs.declared.location.SourceLocation.{SourceLocation}
+use Rattle.py_tree.specs.Valid.{when, count, expr_shapes, exprs_shapes, opt_expr_shapes, stmt_shapes, stmts_shapes, shapes}
+use Rattle.py_base.specs.declared.location.SourceLocation.{SourceLocation}
 use Rattle.py_tree.specs.declared.modules.Mode.{Mode}
+use Rattle.py_base.specs.declared.shapes.Malformed.TheVariants as shape
 use Rattle.py_bytecode.specs.declared.instruction.Instruction.{Instruction}
 use Rattle.py_bytecode.specs.declared.instruction.Instruction.TheVariants as op
 use Rattle.py_bytecode.specs.Objects as const
-use Rattle.py_meaning.specs.Faults.{Fault, only_in_loop, stmt_faults, stmts_faults, compile_faults}
-use Rattle.py_meaning.specs.Table.{constant_of, debug_constant, is_debug}
+use Rattle.py_meaning.specs.Ends.{last_of, parts_entered, expr_end, ends_of, deletes_end}
+use Rattle.py_meaning.specs.Faults.{Fault, fault_at, only_in_loop, joined_faults, expr_faults, all_faults, stmt_faults, stmts_faults, compile_faults}
+use Rattle.py_meaning.specs.Faults as fault
+use Rattle.py_meaning.specs.Texts.{texts_of, first_text, unless_text, after_doc, doc_of}
+use Rattle.py_meaning.specs.Table.{constant_of, debug_constant, is_debug, annotated}
 use Rattle.py_meaning.specs.declared.errors.CodegenErrorType.{CodegenErrorType}
 use Rattle.py_meaning.specs.declared.errors.CodegenErrorType.TheVariants as error
-use Rattle.py_meaning.specs.Emission.{State, Outcome, Done, Refused, Next, LoopBlocks, emit, emit_name, emit_constant, jump, begin, new_block, move, none, only, choice, nothing, emission, emission_of_test, leave_loop, emission_of_stmt, emission_of_stmts, emission_of_return, emitted}
+use Rattle.py_meaning.specs.Emission.{State, Outcome, Done, Refused, Next, LoopBlocks, emit, emit_name, emit_constant, jump, begin, new_block, values, none, only, choice, nothing, all_emissions, leave_loop, emission_of_stmt, emission_of_stmts, emission_of_doc, emission_of_setup, joined_return, emission_of_return, emitted}
 use Rattle.codegen.proofs.StmtAdds.{held}
-use Rattle.codegen.proofs.Refusing.{fault_at, Ends, Wide, Stops, GoesOn, ends_then, ends_last, ends_moved, ends_new, refusal_stands, Passes, passes_then, emit_passes, jump_passes, begin_passes, name_passes, constant_passes, both_none, expr_passes}
+use Rattle.codegen.proofs.Refusing.{Ends, Wide, Stops, GoesOn, EndsAs, Passes, then_ends, last_ends, nothing_passes, emit_passes, count_passes, jump_passes, begin_passes, name_passes, constant_passes, refusal_ends, moved_ends, new_ends, ended_ends, if_ends}
+use Rattle.codegen.proofs.RefusingTests.{AllEnding, turn_ends, choice_ends}
+use Rattle.codegen.proofs.RefusingExprs.{both_none, expr_ends, exprs_end}
+use Rattle.codegen.proofs.RefusingChanges.{deletions_end, assign_ends, augment_ends, annotated_ends}
 
 -- a break or a continue
-leave_ends : (at : SourceLocation) (i : Instruction) (to : LoopBlocks → ℕ) (e : CodegenErrorType) (x : Option LoopBlocks) (k : Next) (s : State) → Ends k (only_in_loop (held x) e at) (move at (leave_loop i to e x k) s)
-leave_ends at i to e None k s = refusal_stands at e k s
-leave_ends at i to e (Some loops) k s = ends_moved at (jump i (to loops) k) k [] s (λ r. jump_passes i (to loops) k r)
+leave_ends : (p : SourceLocation) (i : Instruction) (to : LoopBlocks → ℕ) (e : CodegenErrorType) (x : Option LoopBlocks) → EndsAs (leave_loop i to e x) p p (only_in_loop (held x) e p)
+leave_ends p i to e None = refusal_ends e []
+leave_ends p i to e (Some loops) = jump_passes i (to loops)
+
+-- one body, where the test holds
+only_ends : {test : (truth : Bool) → (block : ℕ) → Next → Next} {body : Next → Next} {p m q : SourceLocation} {fs gs : List Fault} → ((c : Bool) (to : ℕ) → EndsAs (test c to) p m fs) → EndsAs body m q gs → EndsAs (only test body) p q (fs ++ gs)
+only_ends {test = test} {body = body} t x = ended_ends (λ end k. test false end (body k)) (λ end. then_ends (t false end) x)
+
+-- one body, or one of two
+parts_end : {test : (truth : Bool) → (block : ℕ) → Next → Next} {body : Next → Next} {p m n q : SourceLocation} {fs gs : List Fault} (l : ℕ) (x : Option LoopBlocks) (orelse : tree.Stmts) → ((c : Bool) (to : ℕ) → EndsAs (test c to) p m fs) → EndsAs body m n gs → EndsAs (emission_of_stmts l x orelse) n q (stmts_faults (held x) orelse) → EndsAs (λ k. if none orelse then only test body k else choice test body (emission_of_stmts l x orelse) k) p q (fs ++ gs ++ stmts_faults (held x) orelse)
+parts_end l x tree.no_stmts t y z = then_ends (only_ends t y) z
+parts_end l x (tree.more_stmts s ss) t y z = choice_ends t y z
+
+-- a loop
+while_ends : {test : (truth : Bool) → (block : ℕ) → Next → Next} {body : LoopBlocks → Next → Next} {orelse : Next → Next} {p m n q : SourceLocation} {fs gs hs : List Fault} → ((c : Bool) (to : ℕ) → EndsAs (test c to) p m fs) → ((x : LoopBlocks) → EndsAs (body x) m n gs) → EndsAs orelse n q hs → EndsAs (λ k. new_block (λ start. new_block (λ other. new_block (λ end. emit op.SetupLoop 0 (begin start (test false other (body (record { on_break = end; on_continue = start }) (jump op.Jump start (begin other (emit op.PopBlock 0 (orelse (begin end k)))))))))))) p q (fs ++ gs ++ hs)
+while_ends {test = test} {body = body} {orelse = orelse} t x y =
+    let all : ℕ → ℕ → ℕ → Next → Next = λ start other end k. emit op.SetupLoop 0 (begin start (test false other (body (record { on_break = end; on_continue = start }) (jump op.Jump start (begin other (emit op.PopBlock 0 (orelse k))))))) in
+    new_ends (λ start k. new_block (λ other. new_block (λ end. all start other end (begin end k)))) (λ start.
+    new_ends (λ other k. new_block (λ end. all start other end (begin end k))) (λ other.
+    ended_ends (all start other) (λ end.
+    let tested = then_ends (then_ends (emit_passes op.SetupLoop 0) (begin_passes start)) (t false other) in
+    let turned = last_ends (then_ends tested (x (record { on_break = end; on_continue = start }))) (jump_passes op.Jump start) in
+    then_ends (last_ends (last_ends turned (begin_passes other)) (emit_passes op.PopBlock 0)) y)))
 
 module _ (l : ℕ) where
-  abbrev StmtEnds : tree.Stmt → Type 0
-  StmtEnds t = (x : Option LoopBlocks) (k : Next) (s : State) → Ends k (stmt_faults (held x) t) (emission_of_stmt l x t k s)
+  -- a statement ends as its faults say, in a loop or not, and goes on from some place
+  record StmtEnds (t : tree.Stmt) (p : SourceLocation) : Type 0 where
+    place : SourceLocation
+    ends : (x : Option LoopBlocks) → EndsAs (emission_of_stmt l x t) p place (stmt_faults (held x) t)
 
-  abbrev StmtsEnd : tree.Stmts → Type 0
-  StmtsEnd ts = (x : Option LoopBlocks) (k : Next) (s : State) → Ends k (stmts_faults (held x) ts) (emission_of_stmts l x ts k s)
-
-  abbrev TestPasses : tree.Expr → Type 0
-  TestPasses t = (c : Bool) (to : ℕ) → Passes (emission_of_test l t c to)
-
-  -- one body, where the test holds
-  only_ends : (t : tree.Expr) (body : tree.Stmts) → TestPasses t → StmtsEnd body → (x : Option LoopBlocks) (k : Next) (s : State) → Ends k (stmts_faults (held x) body) (only (emission_of_test l t) (emission_of_stmts l x body) k s)
-  only_ends t body ht hb x k s =
-      let fs = stmts_faults (held x) body in
-      let inner : ℕ → Next = λ end. emission_of_stmts l x body (begin end k) in
-      ends_new (λ end. emission_of_test l t false end (inner end)) k fs s (λ end r1.
-      ends_then k (inner end) [] fs (emission_of_test l t false end (inner end) r1) (ht false end (inner end) r1) (λ r2.
-      ends_last k (begin end k) fs (inner end r2) (hb x (begin end k) r2) (λ r3. begin_passes end k r3)))
-
-  -- one of two bodies
-  choice_ends : (t : tree.Expr) (body orelse : tree.Stmts) → TestPasses t → StmtsEnd body → StmtsEnd orelse → (x : Option LoopBlocks) (k : Next) (s : State) → Ends k (stmts_faults (held x) body ++ stmts_faults (held x) orelse) (choice (emission_of_test l t) (emission_of_stmts l x body) (emission_of_stmts l x orelse) k s)
-  choice_ends t body orelse ht hb ho x k s =
-      let fs = stmts_faults (held x) body in
-      let gs = stmts_faults (held x) orelse in
-      let fifth : ℕ → Next = λ end. emission_of_stmts l x orelse (begin end k) in
-      let third : ℕ → ℕ → Next = λ out end. jump op.Jump end (begin out (fifth end)) in
-      let second : ℕ → ℕ → Next = λ out end. emission_of_stmts l x body (third out end) in
-      ends_new (λ out. new_block (λ end. emission_of_test l t false out (second out end))) k (fs ++ gs) s (λ out r1.
-      ends_new (λ end. emission_of_test l t false out (second out end)) k (fs ++ gs) r1 (λ end r2.
-      ends_then k (second out end) [] (fs ++ gs) (emission_of_test l t false out (second out end) r2) (ht false out (second out end) r2) (λ r3.
-      ends_then k (third out end) fs gs (second out end r3) (hb x (third out end) r3) (λ r4.
-      ends_then k (begin out (fifth end)) [] gs (third out end r4) (jump_passes op.Jump end (begin out (fifth end)) r4) (λ r5.
-      ends_then k (fifth end) [] gs (begin out (fifth end) r5) (begin_passes out (fifth end) r5) (λ r6.
-      ends_last k (begin end k) gs (fifth end r6) (ho x (begin end k) r6) (λ r7. begin_passes end k r7)))))))
-
-  -- a part with no statements has no faults
-  none_faultless : (b : Bool) (ts : tree.Stmts) → none ts ≡ true → stmts_faults b ts ≡ []
-  none_faultless b tree.no_stmts e = refl
-  none_faultless b (tree.more_stmts t ts) e = absurd cc
-
-  -- two parts, or one where the second has no faults
-  one_ends : (b : Bool) (fs gs : List Fault) (v w k : Next) (s : State) → (b ≡ true → gs ≡ []) → Ends k fs (v s) → Ends k (fs ++ gs) (w s) → Ends k (fs ++ gs) ((if b then v else w) s)
-  one_ends true fs gs v w k s h x y = subst (λ g. Ends k (fs ++ g) (v s)) (sym (h refl)) (subst (λ f. Ends k f (v s)) (sym (append-nil fs)) x)
-  one_ends false fs gs v w k s h x y = y
-
-  if_ends : (at : SourceLocation) (t : tree.Expr) (body orelse : tree.Stmts) → TestPasses t → StmtsEnd body → StmtsEnd orelse → StmtEnds (tree.If at t body orelse)
-  if_ends at t body orelse ht hb ho x k s =
-      let fs = stmts_faults (held x) body in
-      let gs = stmts_faults (held x) orelse in
-      let one : Next = only (emission_of_test l t) (emission_of_stmts l x body) k in
-      let two : Next = choice (emission_of_test l t) (emission_of_stmts l x body) (emission_of_stmts l x orelse) k in
-      ends_moved at (if none orelse then one else two) k (fs ++ gs) s (λ r.
-      one_ends (none orelse) fs gs one two k r (none_faultless (held x) orelse) (only_ends t body ht hb x k r) (choice_ends t body orelse ht hb ho x k r))
-
-  while_ends : (at : SourceLocation) (t : tree.Expr) (body orelse : tree.Stmts) → TestPasses t → StmtsEnd body → StmtsEnd orelse → StmtEnds (tree.While at t body orelse)
-  while_ends at t body orelse ht hb ho x k s =
-      let fs = stmts_faults true body in
-      let gs = stmts_faults (held x) orelse in
-      let own : ℕ → ℕ → LoopBlocks = λ start end. record { on_break = end; on_continue = start } in
-      let eighth : ℕ → Next = λ end. emission_of_stmts l x orelse (begin end k) in
-      let seventh : ℕ → Next = λ end. emit op.PopBlock 0 (eighth end) in
-      let sixth : ℕ → ℕ → Next = λ out end. begin out (seventh end) in
-      let fifth : ℕ → ℕ → ℕ → Next = λ start out end. jump op.Jump start (sixth out end) in
-      let fourth : ℕ → ℕ → ℕ → Next = λ start out end. emission_of_stmts l (Some (own start end)) body (fifth start out end) in
-      let third : ℕ → ℕ → ℕ → Next = λ start out end. emission_of_test l t false out (fourth start out end) in
-      let second : ℕ → ℕ → ℕ → Next = λ start out end. begin start (third start out end) in
-      let first : ℕ → ℕ → ℕ → Next = λ start out end. emit op.SetupLoop 0 (second start out end) in
-      ends_moved at (new_block (λ start. new_block (λ out. new_block (λ end. first start out end)))) k (fs ++ gs) s (λ r0.
-      ends_new (λ start. new_block (λ out. new_block (λ end. first start out end))) k (fs ++ gs) r0 (λ start r1.
-      ends_new (λ out. new_block (λ end. first start out end)) k (fs ++ gs) r1 (λ out r2.
-      ends_new (λ end. first start out end) k (fs ++ gs) r2 (λ end r3.
-      ends_then k (second start out end) [] (fs ++ gs) (first start out end r3) (emit_passes op.SetupLoop 0 (second start out end) r3) (λ r4.
-      ends_then k (third start out end) [] (fs ++ gs) (second start out end r4) (begin_passes start (third start out end) r4) (λ r5.
-      ends_then k (fourth start out end) [] (fs ++ gs) (third start out end r5) (ht false out (fourth start out end) r5) (λ r6.
-      ends_then k (fifth start out end) fs gs (fourth start out end r6) (hb (Some (own start end)) (fifth start out end) r6) (λ r7.
-      ends_then k (sixth out end) [] gs (fifth start out end r7) (jump_passes op.Jump start (sixth out end) r7) (λ r8.
-      ends_then k (seventh end) [] gs (sixth out end r8) (begin_passes out (seventh end) r8) (λ r9.
-      ends_then k (eighth end) [] gs (seventh end r9) (emit_passes op.PopBlock 0 (eighth end) r9) (λ r10.
-      ends_last k (begin end k) gs (eighth end r10) (ho x (begin end k) r10) (λ r11. begin_passes end k r11))))))))))))
-
-  value_ends : (at : SourceLocation) (v : tree.Expr) → expr_shapes v ≡ [] → StmtEnds (tree.StmtExpr at v)
-  value_ends at v h x k s = ends_moved at (emission l v (emit op.Pop 0 k)) k [] s (λ r. passes_then (emission l v) (emit op.Pop 0) (expr_passes l v h).value (emit_passes op.Pop 0) k r)
+  record StmtsEnd (ts : tree.Stmts) (p : SourceLocation) : Type 0 where
+    place : SourceLocation
+    ends : (x : Option LoopBlocks) → EndsAs (emission_of_stmts l x ts) p place (stmts_faults (held x) ts)
 
   mutual
-    pub stmt_ends : (t : tree.Stmt) → stmt_shapes t ≡ [] → StmtEnds t
-    stmt_ends (tree.If at t body orelse) h =
-        let p = both_none (expr_shapes t ++ stmts_shapes body) (stmts_shapes orelse) h in
-        let q = both_none (expr_shapes t) (stmts_shapes body) p.0 in
-        if_ends at t body orelse (expr_passes l t q.0).test (stmts_end body q.1) (stmts_end orelse p.1)
-    stmt_ends (tree.While at t body orelse) h =
-        let p = both_none (expr_shapes t ++ stmts_shapes body) (stmts_shapes orelse) h in
-        let q = both_none (expr_shapes t) (stmts_shapes body) p.0 in
-        while_ends at t body orelse (expr_passes l t q.0).test (stmts_end body q.1) (stmts_end orelse p.1)
-    stmt_ends (tree.StmtExpr at v) h = value_ends at v h
-    stmt_ends (tree.Break at) h = λ x k s. leave_ends at op.Break (λ y. y.on_break) error.InvalidBreak x k s
-    stmt_ends (tree.Continue at) h = λ x k s. leave_ends at op.Continue (λ y. y.on_continue) error.InvalidContinue x k s
-    stmt_ends (tree.Pass at) h = λ x k s. ends_moved at k k [] s (λ r. GoesOn r refl refl)
+    stmt_ends : (p : SourceLocation) (t : tree.Stmt) → stmt_shapes t ≡ [] → StmtEnds t p
+    stmt_ends p (tree.Delete at targets) h = record { place = deletes_end at targets; ends = λ x. moved_ends at (deletions_end l at targets h) }
+    stmt_ends p (tree.Assign at targets value) h =
+        let s = both_none (when (nat_eq (count targets) 0) shape.NoTarget ++ exprs_shapes targets) (expr_shapes value) h in
+        let t = both_none (when (nat_eq (count targets) 0) shape.NoTarget) (exprs_shapes targets) s.0 in
+        let y = assign_ends l (expr_end value) targets t.0 t.1 in
+        record { place = y.place; ends = λ x. moved_ends at (then_ends ((expr_ends l value s.1).value at) y.ends) }
+    stmt_ends p (tree.AugAssign at target o value) h =
+        let s = both_none (expr_shapes target) (expr_shapes value) h in
+        let y = augment_ends l at target o value s.0 s.1 in
+        record { place = y.place; ends = λ x. moved_ends at y.ends }
+    stmt_ends p (tree.AnnAssign at target annotation value simple) h =
+        let s = both_none (expr_shapes target ++ expr_shapes annotation) (opt_expr_shapes value) h in
+        let t = both_none (expr_shapes target) (expr_shapes annotation) s.0 in
+        let y = annotated_ends l at target annotation value t.0 t.1 s.1 in
+        record { place = y.place; ends = λ x. moved_ends at y.ends }
+    stmt_ends p (tree.If at t body orelse) h =
+        let s = both_none (expr_shapes t ++ stmts_shapes body) (stmts_shapes orelse) h in
+        let q = both_none (expr_shapes t) (stmts_shapes body) s.0 in
+        let y = stmts_end (expr_end t) body q.1 in
+        let z = stmts_end y.place orelse s.1 in
+        record { place = z.place; ends = λ x. moved_ends at (parts_end l x orelse ((expr_ends l t q.0).test at) (y.ends x) (z.ends x)) }
+    stmt_ends p (tree.While at t body orelse) h =
+        let s = both_none (expr_shapes t ++ stmts_shapes body) (stmts_shapes orelse) h in
+        let q = both_none (expr_shapes t) (stmts_shapes body) s.0 in
+        let y = stmts_end (expr_end t) body q.1 in
+        let z = stmts_end y.place orelse s.1 in
+        record { place = z.place; ends = λ x. moved_ends at (while_ends ((expr_ends l t q.0).test at) (λ own. y.ends (Some own)) (z.ends x)) }
+    stmt_ends p (tree.StmtExpr at v) h = record { place = expr_end v; ends = λ x. moved_ends at (last_ends ((expr_ends l v h).value at) (emit_passes op.Pop 0)) }
+    stmt_ends p (tree.Break at) h = record { place = at; ends = λ x. moved_ends at (leave_ends at op.Break (λ y. y.on_break) error.InvalidBreak x) }
+    stmt_ends p (tree.Continue at) h = record { place = at; ends = λ x. moved_ends at (leave_ends at op.Continue (λ y. y.on_continue) error.InvalidContinue x) }
+    stmt_ends p (tree.Pass at) h = record { place = at; ends = λ x. moved_ends at nothing_passes }
 
-    pub stmts_end : (ts : tree.Stmts) → stmts_shapes ts ≡ [] → StmtsEnd ts
-    stmts_end tree.no_stmts h = λ x k s. GoesOn s refl refl
-    stmts_end (tree.more_stmts t ts) h = λ x k s.
-        let p = both_none (stmt_shapes t) (stmts_shapes ts) h in
-        let rest : Next = emission_of_stmts l x ts k in
-        ends_then k rest (stmt_faults (held x) t) (stmts_faults (held x) ts) (emission_of_stmt l x t rest s) (stmt_ends t p.0 x rest s) (λ r. stmts_end ts p.1 x k r)
+    stmts_end : (p : SourceLocation) (ts : tree.Stmts) → stmts_shapes ts ≡ [] → StmtsEnd ts p
+    stmts_end p tree.no_stmts h = record { place = p; ends = λ x. nothing_passes }
+    stmts_end p (tree.more_stmts t ts) h =
+        let s = both_none (stmt_shapes t) (stmts_shapes ts) h in
+        let y = stmt_ends p t s.0 in
+        let z = stmts_end y.place ts s.1 in
+        record { place = z.place; ends = λ x. then_ends (y.ends x) (z.ends x) }
 
-  -- what returns a value
-  valued : (e : tree.Expr) → expr_shapes e ≡ [] → Passes (λ k. emission l e (emit op.ReturnValue 0 k))
-  valued e h = passes_then (emission l e) (emit op.ReturnValue 0) (expr_passes l e h).value (emit_passes op.ReturnValue 0)
+  named : {p : SourceLocation} (x : List ℕ) → Passes (λ k. if is_debug x then emit_constant op.ReturnConst (debug_constant l) k else emit_name op.LoadNameAny x (emit op.ReturnValue 0 k)) p
+  named x = if_ends (is_debug x) (constant_passes op.ReturnConst (debug_constant l)) (then_ends (name_passes op.LoadNameAny x) (emit_passes op.ReturnValue 0))
 
-  named : (b : Bool) (x : List ℕ) → Passes (λ k. if b then emit_constant op.ReturnConst (debug_constant l) k else emit_name op.LoadNameAny x (emit op.ReturnValue 0 k))
-  named true x = constant_passes op.ReturnConst (debug_constant l)
-  named false x = passes_then (emit_name op.LoadNameAny x) (emit op.ReturnValue 0) (name_passes op.LoadNameAny x) (emit_passes op.ReturnValue 0)
+  text_returned : (p : SourceLocation) (text : Option (List ℕ)) (es : tree.Exprs) → AllEnding l es → EndsAs (joined_return text (values (all_emissions l es))) p (last_of p (parts_entered text (ends_of es))) (joined_faults text (fault.values (all_faults es)))
+  text_returned p (Some text) es x = constant_passes op.ReturnConst (const.str text)
+  text_returned p None es x = last_ends (last_ends (turn_ends l p es x) (count_passes op.BuildString _)) (emit_passes op.ReturnValue 0)
 
-  return_passes : (e : tree.Expr) → expr_shapes e ≡ [] → Passes (emission_of_return l e)
-  return_passes (tree.Constant at v) h = λ k s. ends_moved at (emit_constant op.ReturnConst (constant_of v) k) k [] s (λ r. constant_passes op.ReturnConst (constant_of v) k r)
-  return_passes (tree.Name at x) h = λ k s. ends_moved at _ k [] s (λ r. named (is_debug x) x k r)
-  return_passes (tree.BoolOp at o values) h = valued (tree.BoolOp at o values) h
-  return_passes (tree.BinOp at left o right) h = valued (tree.BinOp at left o right) h
-  return_passes (tree.UnaryOp at o operand) h = valued (tree.UnaryOp at o operand) h
-  return_passes (tree.IfExp at t body orelse) h = valued (tree.IfExp at t body orelse) h
-  return_passes (tree.Compare at left ops others) h = valued (tree.Compare at left ops others) h
-  return_passes (tree.Call at func args) h = valued (tree.Call at func args) h
+  return_ends : (p : SourceLocation) (e : tree.Expr) → expr_shapes e ≡ [] → EndsAs (emission_of_return l e) p (expr_end e) (expr_faults e)
+  return_ends p (tree.Constant at v) h = moved_ends at (constant_passes op.ReturnConst (constant_of v))
+  return_ends p (tree.JoinedStr at parts) h = moved_ends at (text_returned at (texts_of parts) parts (exprs_end l parts h))
+  return_ends p (tree.Name at x) h = moved_ends at (named x)
+  return_ends p other h = last_ends ((expr_ends l other h).value p) (emit_passes op.ReturnValue 0)
 
-  tree_ends : (t : tree.Mod) (m : Mode) → shapes t m ≡ [] → Ends Done (compile_faults t) (emitted t l)
+  -- a docstring and what it leaves, and room for annotations
+  doc_passes : {p : SourceLocation} (text : Option (List ℕ)) → Passes (emission_of_doc text) p
+  doc_passes None = nothing_passes
+  doc_passes (Some text) = then_ends (constant_passes op.LoadConst (const.str text)) (name_passes op.StoreGlobal (codes "__doc__"))
+
+  setup_passes : {p : SourceLocation} (b : Bool) → Passes (emission_of_setup b) p
+  setup_passes false = nothing_passes
+  setup_passes true = emit_passes op.SetupAnnotation 0
+
+  left_shapes : (text : Option (List ℕ)) (ts : tree.Stmts) → stmts_shapes ts ≡ [] → stmts_shapes (unless_text text ts) ≡ []
+  left_shapes None ts h = h
+  left_shapes (Some text) tree.no_stmts h = h
+  left_shapes (Some text) (tree.more_stmts t ts) h = (both_none (stmt_shapes t) (stmts_shapes ts) h).1
+
+  tree_ends : (t : tree.Mod) (m : Mode) → shapes t m ≡ [] → (q : SourceLocation) × Ends Done (compile_faults t) q (emitted t l)
   tree_ends (tree.Module body) m h =
-      let last : Next = emit_constant op.ReturnConst const.none Done in
-      ends_last Done last (stmts_faults false body) (emission_of_stmts l None body last nothing) (stmts_end body h None last nothing) (λ r. constant_passes op.ReturnConst const.none Done r)
-  tree_ends (tree.Expression e) m h = return_passes e h Done nothing
+      let y = stmts_end nothing.location (after_doc body) (left_shapes (first_text body) body h) in
+      let all = then_ends (doc_passes (doc_of l body)) (then_ends (setup_passes (annotated (after_doc body))) (last_ends (y.ends None) (constant_passes op.ReturnConst const.none))) in
+      (y.place, all.ends Done nothing refl)
+  tree_ends (tree.Expression e) m h = (expr_end e, (return_ends nothing.location e h).ends Done nothing refl)
 
-refused_by : (fs : List Fault) (o : Outcome) (e : CodegenErrorType) (at : Option SourceLocation) → Ends Done fs o → o ≡ Refused e at → (rest : List Fault) × (fs ≡ record { error = e; location = at } ∷ rest)
-refused_by fs o e at (Wide p) q = absurd cc
-refused_by fs o e at (Stops d there rest p r) q =
+refused_by : (q : SourceLocation) (fs : List Fault) (o : Outcome) (e : CodegenErrorType) (at : Option SourceLocation) → Ends Done fs q o → o ≡ Refused e at → (rest : List Fault) × (fs ≡ record { error = e; location = at } ∷ rest)
+refused_by q fs o e at (Wide p) r = absurd cc
+refused_by q fs o e at (Stops d there rest p f) r =
     let same : d ≡ e = cc in
     let place : Some there ≡ at = cc in
-    (rest, r ∙ (λ i. record { error = same i; location = place i } ∷ rest))
-refused_by fs o e at (GoesOn r p z) q = absurd cc
+    (rest, f ∙ (λ i. record { error = same i; location = place i } ∷ rest))
+refused_by q fs o e at (GoesOn t p d f) r = absurd cc
 
-done_by : (fs : List Fault) (o : Outcome) (r : State) → Ends Done fs o → o ≡ Done r → fs ≡ []
-done_by fs o r (Wide p) q = absurd cc
-done_by fs o r (Stops d there rest p z) q = absurd cc
-done_by fs o r (GoesOn t p z) q = z
+done_by : (q : SourceLocation) (fs : List Fault) (o : Outcome) (r : State) → Ends Done fs q o → o ≡ Done r → fs ≡ []
+done_by q fs o r (Wide p) d = absurd cc
+done_by q fs o r (Stops e there rest p f) d = absurd cc
+done_by q fs o r (GoesOn t p g f) d = f
 
 -- a refusal is the first fault
 pub refusal_heads : (t : tree.Mod) (m : Mode) (l : ℕ) (e : CodegenErrorType) (at : Option SourceLocation) → shapes t m ≡ [] → emitted t l ≡ Refused e at → (rest : List Fault) × (compile_faults t ≡ record { error = e; location = at } ∷ rest)
-refusal_heads t m l e at h q = refused_by (compile_faults t) (emitted t l) e at (tree_ends l t m h) q
+refusal_heads t m l e at h r = let y = tree_ends l t m h in refused_by y.0 (compile_faults t) (emitted t l) e at y.1 r
 
 -- what is emitted to its end has none
 pub done_faultless : (t : tree.Mod) (m : Mode) (l : ℕ) (r : State) → shapes t m ≡ [] → emitted t l ≡ Done r → compile_faults t ≡ []
-done_faultless t m l r h q = done_by (compile_faults t) (emitted t l) r (tree_ends l t m h) q
+done_faultless t m l r h d = let y = tree_ends l t m h in done_by y.0 (compile_faults t) (emitted t l) r y.1 d

@@ -1,34 +1,35 @@
 -- The emission of an expression adds the code of its form, as a value and as a test.
-use Rattle.std.proofs.Common.{◌≡◌, ◌≢◌, ◌⊎◌, inl, inr, ℕ, suc, ◌+◌, ◌<◌, List, [], ◌∷◌, ◌++◌, length, Bool, true, false, Some, refl, sym, ap, ◌∙◌, subst, arith, rules}
-use Rattle.std.specs.Prelude.{nat_eq, nat_lt, if◌then◌else◌}
+use Rattle.std.proofs.Common.{◌≡◌, ℕ, List, [], Bool, true, false, Some, None, refl}
+use Rattle.std.specs.Prelude.{if◌then◌else◌}
 use Rattle.py_tree.specs.Literal as literal
 use Rattle.py_tree.specs.Literal.{Literal}
+use Rattle.py_tree.specs.PythonName.{python_name}
 use Rattle.py_tree.specs.Tree as tree
-use Rattle.py_tree.specs.declared.location.SourceLocation.{SourceLocation}
-use Rattle.py_tree.specs.declared.operators.BoolOp.{BoolOp}
-use Rattle.py_tree.specs.declared.operators.BoolOp.TheVariants.{And, Or}
-use Rattle.py_tree.specs.declared.operators.CmpOp.{CmpOp}
-use Rattle.py_tree.specs.declared.operators.UnaryOp.{UnaryOp}
-use Rattle.py_tree.specs.declared.operators.UnaryOp.TheVariants as unary
-use Rattle.py_tree.specs.declared.shapes.Malformed.TheVariants as shape
+use Rattle.py_base.specs.declared.location.SourceLocation.{SourceLocation}
 use Rattle.py_bytecode.specs.declared.instruction.Instruction.TheVariants as op
+use Rattle.py_bytecode.specs.Objects as const
 use Rattle.py_bytecode.specs.Objects.{Object}
-use Rattle.py_bytecode.specs.Values.{Operation, Constant, flip}
-use Rattle.py_bytecode.specs.Machine.{Instr, Operate, Rotate2, Rotate3, Pop, Duplicate, Jump, JumpIf, JumpIfOrPop}
+use Rattle.py_bytecode.specs.Values.{Constant, operation, Bare}
 use Rattle.py_bytecode.specs.Decode.{value_of}
-use Rattle.py_meaning.specs.Form.{Interp, Scope, MkScope, VForm, VConst, VLoad, VOp, VChoice, VMore, VNone, Resolved, SForm}
-use Rattle.py_meaning.specs.Code.{Item, Do, Label, count as form_count, labels_v, labels_vs, labels_t, labels_ts, labels_ss, labels_ls, code_v, code_vs, code_t, code_ts, code_ss, code_ls, link_code}
+use Rattle.py_meaning.specs.Form.{Interp, Scope, MkScope, VForm, VConst, VLoad, VOp, VAt, VMore, VNone, Resolved, SForm, GStore, GPut, GDrop}
 use Rattle.py_meaning.specs.Agree.{exactly}
+use Rattle.py_meaning.specs.Elements.{pairs}
+use Rattle.py_meaning.specs.Texts.{texts_of}
 use Rattle.py_meaning.specs.Table as table
-use Rattle.py_meaning.specs.Table.{ExprForms, no_operand, parts_of, shorts_of, part_test, tests_of, bool_forms, unary_forms, links_of, compare_form, expr_forms, all_forms, deciding, unary_operation, comparison_operation, binary, binary_case, call, constant_of, count, debug_constant, is_debug}
+use Rattle.py_meaning.specs.Table.{expr_forms, all_forms, opt_form, opt_forms, keyword_forms, target_forms, all_targets, binary, binary_case, conversion_case, counted, constant_of, debug_constant, is_debug, name_form}
 use Rattle.py_meaning.specs.Meaning.{outer_head}
-use Rattle.py_meaning.specs.declared.errors.CodegenErrorType.{CodegenErrorType}
 use Rattle.py_meaning.specs.declared.errors.CodegenErrorType.TheVariants as error
 use Rattle.py_meaning.specs.Emission as emitting
-use Rattle.py_meaning.specs.Emission.{State, Outcome, Done, Next, Emissions, refuse, emit, emit_call, emit_name, emit_constant, jump, begin, new_block, move, keeping_jump, testing_jump, in_turn, shorts, bool_value, tests, bool_test, some_test, bool_emissions, unary_value, unary_emissions, emission_of_comparison, emission_of_link, links, chain, comparisons, emission_of_compare, choice, emissions, all_emissions}
+use Rattle.py_meaning.specs.Emission.{Next, refuse, emit, emit_name, emit_constant, move, emission_of_name, emissions, all_emissions, opt_emission, opt_emissions, keyword_emissions, stores, all_stores, no_assignment, lone_star}
 use Rattle.py_emit.proofs.States.{never_refused}
-use Rattle.codegen.proofs.Emitting.{Comes, comes_as, comes_then, comes_more, comes_nothing, comes_moved, comes_new, emit_adds, jump_adds, begin_adds}
-use Rattle.codegen.proofs.Instructions.{binary_adds, unary_adds, comparison_adds, call_adds, name_adds, constant_adds, testing_adds, keeping_adds}
+use Rattle.codegen.proofs.Emitting.{comes_moved}
+use Rattle.codegen.proofs.Instructions.{binary_adds, conversion_adds, name_adds, local_adds, attribute_adds, attribute_put_adds, subscript_adds, subscript_put_adds, constant_adds, list_builds, list_unpacks, set_builds, set_unpacks, tuple_builds, tuple_unpacks}
+use Rattle.codegen.proofs.FormAdds.{ValueAdds, OptionAdds, AddsForms, AllAddForms, AllOptionsAdd, truth_adds, tested_adds, moved_adds, value_or_adds, more_parts, no_parts, one_adds, two_add, all_values_add, all_elements_add}
+use Rattle.codegen.proofs.OperatorAdds.{bool_adds, unary_forms_add, compare_adds, choice_adds}
+use Rattle.codegen.proofs.DisplayAdds.{display_adds}
+use Rattle.codegen.proofs.CallAdds.{KeywordsAdd, call_form_adds}
+use Rattle.codegen.proofs.TargetAdds.{TargetAdds, AddsTarget, StoresAdd, plain_adds, refused_adds, unless_debug_adds, put_adds, keep_adds, unpack_to_adds}
+use Rattle.codegen.proofs.DictAdds.{pairs_add, dict_adds, slice_adds, joined_adds}
 
 -- the outermost scope as its code sees it, whatever its children are
 abbrev pub outer : (Scope → Object) → SForm → Interp Object
@@ -37,284 +38,116 @@ outer c f = exactly c (MkScope outer_head f)
 pub literal_value : (v : Literal) → value_of (constant_of v) ≡ Constant (constant_of v)
 literal_value literal.None = refl
 literal_value (literal.Bool b) = refl
+literal_value (literal.Str text) = refl
+literal_value (literal.Bytes bytes) = refl
 literal_value (literal.Int z) = refl
+literal_value (literal.Tuple values) = refl
 literal_value literal.Ellipsis = refl
 
-as_many : (l : ℕ) (es : tree.Exprs) → form_count (parts_of (all_forms l es)) ≡ count es
-as_many l tree.no_exprs = refl
-as_many l (tree.more_exprs e es) = ap suc (as_many l es)
-
--- what is emitted adds the code of the forms
-pub record AddsForms (i : Interp Object) (e : Emissions) (f : ExprForms) : Type 0 where
-  pub value : (n : ℕ) (k : Next) (s o : State) → n ≡ s.blocks → e.value k s ≡ Done o → Comes k s o (code_v i f.value n) (labels_v f.value)
-  pub test : (c : Bool) (to n : ℕ) (k : Next) (s o : State) → n ≡ s.blocks → to < s.blocks → e.test c to k s ≡ Done o → Comes k s o (code_t i f.test c to n) (labels_t f.test c)
-
-abbrev pub AllAddForms : Interp Object → List Emissions → List ExprForms → Type 0
-AllAddForms i [] [] = Unit {0}
-AllAddForms i [] (f ∷ fs) = ⊥
-AllAddForms i (e ∷ es) [] = ⊥
-AllAddForms i (e ∷ es) (f ∷ fs) = AddsForms i e f × AllAddForms i es fs
-
--- what pushes a value adds the code of a form
-abbrev ValueAdds : Interp Object → (Next → Next) → VForm → Type 0
-ValueAdds i v f = (n : ℕ) (k : Next) (s o : State) → n ≡ s.blocks → v k s ≡ Done o → Comes k s o (code_v i f n) (labels_v f)
-
--- one instruction is added
-abbrev StepAdds : (Next → Next) → Instr Object ℕ → Type 0
-StepAdds v x = (k : Next) (s o : State) → v k s ≡ Done o → Comes k s o (Do x ∷ []) 0
-
-module _ (i : Interp Object) where
-  tested_adds : (v : Next → Next) (f : VForm) → ValueAdds i v f → AddsForms i (emitting.tested v) (table.tested f)
-  tested_adds v f h = record {
-    value = h;
-    test = λ c to n k s o b lt e.
-        comes_as k s o (code_v i f n ++ Do (JumpIf c to) ∷ []) (code_v i f n ++ Do (JumpIf c to) ∷ []) (labels_v f + 0) (labels_v f) refl (omega arith)
-        (comes_then k (jump (testing_jump c) to k) s o (code_v i f n) (Do (JumpIf c to) ∷ []) (labels_v f) 0 (h n (jump (testing_jump c) to k) s o b e) (λ r q g. testing_adds c to k r o (omega (arith, q, lt)) g));
-  }
-
-  moved_adds : (at : SourceLocation) (v : Next → Next) (f : VForm) → ValueAdds i v f → ValueAdds i (λ k. move at (v k)) f
-  moved_adds at v f h n k s o b e = comes_moved at (v k) k s o (code_v i f n) (labels_v f) e (λ r q g. h n k r o (b ∙ sym q) g)
-
-  values_add : (es : List Emissions) (fs : List ExprForms) → AllAddForms i es fs → (n : ℕ) (k : Next) (s o : State) → n ≡ s.blocks → in_turn es k s ≡ Done o → Comes k s o (code_vs i (parts_of fs) n) (labels_vs (parts_of fs))
-  values_add [] [] a n k s o b e = comes_nothing k s o e
-  values_add [] (f ∷ fs) a n k s o b e = absurd a
-  values_add (x ∷ es) [] a n k s o b e = absurd a
-  values_add (x ∷ es) (f ∷ fs) a n k s o b e =
-      comes_then k (in_turn es k) s o (code_v i f.value n) (code_vs i (parts_of fs) (n + labels_v f.value)) (labels_v f.value) (labels_vs (parts_of fs)) (a.0.value n (in_turn es k) s o b e) (λ r q g. values_add es fs a.1 (n + labels_v f.value) k r o (omega (arith, b, q)) g)
-
-  -- parts, and an operation on them
-  operation_adds : (x : Operation) (step : Next → Next) (es : List Emissions) (fs : List ExprForms) → AllAddForms i es fs → StepAdds step (Operate x (form_count (parts_of fs)) (Some 1)) → ValueAdds i (λ k. in_turn es (step k)) (VOp x (parts_of fs))
-  operation_adds x step es fs a h n k s o b e =
-      comes_as k s o (code_v i (VOp x (parts_of fs)) n) (code_v i (VOp x (parts_of fs)) n) (labels_vs (parts_of fs) + 0) (labels_vs (parts_of fs)) refl (omega arith)
-      (comes_then k (step k) s o (code_vs i (parts_of fs) n) (Do (Operate x (form_count (parts_of fs)) (Some 1)) ∷ []) (labels_vs (parts_of fs)) 0 (values_add es fs a n (step k) s o b e) (λ r q g. h k r o g))
-
-  -- `and` and `or`
-  shorts_add : (d : BoolOp) (end : ℕ) (x : Emissions) (f : ExprForms) (es : List Emissions) (fs : List ExprForms) → AddsForms i x f → AllAddForms i es fs → (n : ℕ) (k : Next) (s o : State) → n ≡ s.blocks → end < s.blocks → shorts d end (x ∷ es) k s ≡ Done o → Comes k s o (code_ss i (shorts_of f fs) (deciding d) end n) (labels_ss (shorts_of f fs))
-  shorts_add d end x f [] [] h a n k s o b lt e = h.value n k s o b e
-  shorts_add d end x f [] (g ∷ gs) h a n k s o b lt e = absurd a
-  shorts_add d end x f (y ∷ ys) [] h a n k s o b lt e = absurd a
-  shorts_add d end x f (y ∷ ys) (g ∷ gs) h a n k s o b lt e =
-      let last : Next = shorts d end (y ∷ ys) k in
-      let step : Next = jump (keeping_jump (deciding d)) end last in
-      let rest = code_ss i (shorts_of g gs) (deciding d) end (n + labels_v f.value) in
-      comes_then k step s o (code_v i f.value n) (Do (JumpIfOrPop (deciding d) end) ∷ rest) (labels_v f.value) (labels_ss (shorts_of g gs)) (h.value n step s o b e) (λ r q u.
-      comes_more k last r o (Do (JumpIfOrPop (deciding d) end)) rest (labels_ss (shorts_of g gs)) (keeping_adds (deciding d) end last r o (omega (arith, q, lt)) u) (λ t p v.
-      shorts_add d end y g ys gs a.0 a.1 (n + labels_v f.value) k t o (omega (arith, b, q, p)) (omega (arith, lt, q, p)) v))
-
-  abbrev turned : BoolOp → Bool → Bool
-  turned And c = c
-  turned Or c = flip c
-
-  part_adds : (d : BoolOp) (x : Emissions) (f : ExprForms) → AddsForms i x f → (c : Bool) (to n : ℕ) (k : Next) (s o : State) → n ≡ s.blocks → to < s.blocks → x.test c to k s ≡ Done o → Comes k s o (code_t i (part_test d f.test) (turned d c) to n) (labels_t (part_test d f.test) (turned d c))
-  part_adds And x f h c to n k s o b lt e = h.test c to n k s o b lt e
-  part_adds Or x f h true to n k s o b lt e = h.test true to n k s o b lt e
-  part_adds Or x f h false to n k s o b lt e = h.test false to n k s o b lt e
-
-  stop_adds : (d : BoolOp) (x : Emissions) (f : ExprForms) → AddsForms i x f → (to n : ℕ) (k : Next) (s o : State) → n ≡ s.blocks → to < s.blocks → x.test (deciding d) to k s ≡ Done o → Comes k s o (code_t i (part_test d f.test) false to n) (labels_t (part_test d f.test) false)
-  stop_adds And x f h to n k s o b lt e = h.test false to n k s o b lt e
-  stop_adds Or x f h to n k s o b lt e = h.test true to n k s o b lt e
-
-  tests_add : (d : BoolOp) (out : ℕ) (c : Bool) (to : ℕ) (x : Emissions) (f : ExprForms) (es : List Emissions) (fs : List ExprForms) → AddsForms i x f → AllAddForms i es fs → (n : ℕ) (k : Next) (s o : State) → n ≡ s.blocks → out < s.blocks → to < s.blocks → tests (deciding d) out c to (x ∷ es) k s ≡ Done o → Comes k s o (code_ts i (tests_of d f fs) (turned d c) to out n) (labels_ts (tests_of d f fs) (turned d c))
-  tests_add d out c to x f [] [] h a n k s o b lt le e = part_adds d x f h c to n k s o b le e
-  tests_add d out c to x f [] (g ∷ gs) h a n k s o b lt le e = absurd a
-  tests_add d out c to x f (y ∷ ys) [] h a n k s o b lt le e = absurd a
-  tests_add d out c to x f (y ∷ ys) (g ∷ gs) h a n k s o b lt le e =
-      let m = labels_t (part_test d f.test) false in
-      let rest : Next = tests (deciding d) out c to (y ∷ ys) k in
-      comes_then k rest s o (code_t i (part_test d f.test) false out n) (code_ts i (tests_of d g gs) (turned d c) to out (n + m)) m (labels_ts (tests_of d g gs) (turned d c)) (stop_adds d x f h out n rest s o b lt e) (λ r q u.
-      tests_add d out c to y g ys gs a.0 a.1 (n + m) k r o (omega (arith, b, q)) (omega (arith, lt, q)) (omega (arith, le, q)) u)
-
-  bool_value_adds : (d : BoolOp) (x : Emissions) (f : ExprForms) (es : List Emissions) (fs : List ExprForms) → AddsForms i x f → AllAddForms i es fs → (n : ℕ) (k : Next) (s o : State) → n ≡ s.blocks → new_block (λ end. shorts d end (x ∷ es) (begin end k)) s ≡ Done o → Comes k s o (code_ss i (shorts_of f fs) (deciding d) n (1 + n) ++ Label n ∷ []) (1 + labels_ss (shorts_of f fs))
-  bool_value_adds d x f es fs h a n k s o b e =
-      let m = labels_ss (shorts_of f fs) in
-      let code = code_ss i (shorts_of f fs) (deciding d) n (1 + n) in
-      comes_as k s o (code ++ Label n ∷ []) (code ++ Label n ∷ []) (suc (m + 0)) (1 + m) refl (omega arith)
-      (comes_new (λ end. shorts d end (x ∷ es) (begin end k)) k s o (code ++ Label n ∷ []) (m + 0) n b e (λ r q u.
-      comes_then k (begin n k) r o code (Label n ∷ []) m 0 (shorts_add d n x f es fs h a (1 + n) (begin n k) r o (sym q) (omega (arith, q)) u) (λ t p v. begin_adds n k t o (omega (arith, p, q)) v)))
-
-  -- the tests where a value that decides goes past the others
-  past_adds : (d : BoolOp) (c : Bool) (to : ℕ) (x : Emissions) (f : ExprForms) (es : List Emissions) (fs : List ExprForms) → AddsForms i x f → AllAddForms i es fs → (n : ℕ) (k : Next) (s o : State) → n ≡ s.blocks → to < s.blocks → new_block (λ end. tests (deciding d) end c to (x ∷ es) (begin end k)) s ≡ Done o → Comes k s o (code_ts i (tests_of d f fs) (turned d c) to n (1 + n) ++ Label n ∷ []) (1 + labels_ts (tests_of d f fs) (turned d c))
-  past_adds d c to x f es fs h a n k s o b lt e =
-      let m = labels_ts (tests_of d f fs) (turned d c) in
-      let code = code_ts i (tests_of d f fs) (turned d c) to n (1 + n) in
-      comes_as k s o (code ++ Label n ∷ []) (code ++ Label n ∷ []) (suc (m + 0)) (1 + m) refl (omega arith)
-      (comes_new (λ end. tests (deciding d) end c to (x ∷ es) (begin end k)) k s o (code ++ Label n ∷ []) (m + 0) n b e (λ r q u.
-      comes_then k (begin n k) r o code (Label n ∷ []) m 0 (tests_add d n c to x f es fs h a (1 + n) (begin n k) r o (sym q) (omega (arith, q)) (omega (arith, q, b, lt)) u) (λ t p v. begin_adds n k t o (omega (arith, p, q)) v)))
-
-  bool_test_adds : (at : SourceLocation) (d : BoolOp) (x : Emissions) (f : ExprForms) (es : List Emissions) (fs : List ExprForms) → AddsForms i x f → AllAddForms i es fs → (c : Bool) (to n : ℕ) (k : Next) (s o : State) → n ≡ s.blocks → to < s.blocks → some_test (deciding d) c (x ∷ es) to k s ≡ Done o → Comes k s o (code_t i (bool_forms at d (f ∷ fs)).test c to n) (labels_t (bool_forms at d (f ∷ fs)).test c)
-  bool_test_adds at And x f es fs h a false to n k s o b lt e = tests_add And to false to x f es fs h a n k s o b lt lt e
-  bool_test_adds at And x f es fs h a true to n k s o b lt e = past_adds And true to x f es fs h a n k s o b lt e
-  bool_test_adds at Or x f es fs h a true to n k s o b lt e = tests_add Or to true to x f es fs h a n k s o b lt lt e
-  bool_test_adds at Or x f es fs h a false to n k s o b lt e = past_adds Or false to x f es fs h a n k s o b lt e
-
-  -- there is a value
-  pub some_only : (b : Bool) (k : Next) (e : CodegenErrorType) (s o : State) → (if b then refuse e else k) s ≡ Done o → (b ≡ false) × (k s ≡ Done o)
-  some_only true k e s o h = absurd (never_refused e s o h)
-  some_only false k e s o h = (refl, h)
-
-  bool_adds : (at : SourceLocation) (d : BoolOp) (es : List Emissions) (fs : List ExprForms) → AllAddForms i es fs → AddsForms i (bool_emissions at d es) (bool_forms at d fs)
-  bool_adds at d [] [] a = record {
-    value = λ n k s o b e. comes_moved at (refuse (error.MalformedTree shape.NoOperand)) k s o _ _ e (λ r q g. absurd (never_refused _ r o g));
-    test = λ c to n k s o b lt e. absurd (never_refused _ s o e);
-  }
-  bool_adds at d [] (f ∷ fs) a = absurd a
-  bool_adds at d (x ∷ es) [] a = absurd a
-  bool_adds at d (x ∷ es) (f ∷ fs) a = record {
-    value = λ n k s o b e. comes_moved at (bool_value d (x ∷ es) k) k s o _ _ e (λ r q g. bool_value_adds d x f es fs a.0 a.1 n k r o (b ∙ sym q) (some_only (nat_eq (length (x ∷ es)) 0) (new_block (λ end. shorts d end (x ∷ es) (begin end k))) (error.MalformedTree shape.NoOperand) r o g).1);
-    test = λ c to n k s o b lt e. bool_test_adds at d x f es fs a.0 a.1 c to n k s o b lt (some_only (nat_eq (length (x ∷ es)) 0) (some_test (deciding d) c (x ∷ es) to k) (error.MalformedTree shape.NoOperand) s o e).1;
-  }
-
-  unary_value_adds : (at : SourceLocation) (u : UnaryOp) (x : Emissions) (f : ExprForms) → AddsForms i x f → ValueAdds i (unary_value at u x) (unary_forms at u f).value
-  unary_value_adds at u x f h = moved_adds at (λ k. x.value (emit op.UnaryOperation (table.unary_case u) k)) (VOp (unary_operation u) (VMore f.value VNone)) (operation_adds (unary_operation u) (emit op.UnaryOperation (table.unary_case u)) (x ∷ []) (f ∷ []) (h, tt) (unary_adds u))
-
-  not_adds : (at : SourceLocation) (u : UnaryOp) (x : Emissions) (f : ExprForms) → AddsForms i x f → AddsForms i (unary_emissions at u x) (unary_forms at u f)
-  not_adds at unary.Not x f h = record { value = unary_value_adds at unary.Not x f h; test = λ c to n k s o b lt e. h.test (flip c) to n k s o b lt e }
-  not_adds at unary.Invert x f h = record { value = unary_value_adds at unary.Invert x f h; test = (tested_adds (unary_value at unary.Invert x) (unary_forms at unary.Invert f).value (unary_value_adds at unary.Invert x f h)).test }
-  not_adds at unary.UAdd x f h = record { value = unary_value_adds at unary.UAdd x f h; test = (tested_adds (unary_value at unary.UAdd x) (unary_forms at unary.UAdd f).value (unary_value_adds at unary.UAdd x f h)).test }
-  not_adds at unary.USub x f h = record { value = unary_value_adds at unary.USub x f h; test = (tested_adds (unary_value at unary.USub x) (unary_forms at unary.USub f).value (unary_value_adds at unary.USub x f h)).test }
-
-  -- comparisons
-  link_adds : (c : CmpOp) (out : ℕ) (k : Next) (s o : State) → out < s.blocks → emission_of_link c out k s ≡ Done o → Comes k s o (link_code (comparison_operation c) out) 0
-  link_adds c out k s o lt e =
-      let last : Next = jump op.JumpIfFalseOrPop out k in
-      let third : Next = emission_of_comparison c last in
-      let second : Next = emit op.Rotate3 0 third in
-      comes_more k second s o (Do Duplicate) _ 0 (emit_adds op.Duplicate 0 Duplicate (omega arith) second s o (λ t h. refl) e) (λ r q u.
-      comes_more k third r o (Do Rotate3) _ 0 (emit_adds op.Rotate3 0 Rotate3 (omega arith) third r o (λ t h. refl) u) (λ r2 q2 u2.
-      comes_more k last r2 o (Do (Operate (comparison_operation c) 2 (Some 1))) _ 0 (comparison_adds c last r2 o u2) (λ r3 q3 u3.
-      keeping_adds false out k r3 o (omega (arith, lt, q, q2, q3)) u3)))
-
-  last_adds : (c : CmpOp) (x : Emissions) (f : ExprForms) → AddsForms i x f → (n : ℕ) (k : Next) (s o : State) → n ≡ s.blocks → x.value (emission_of_comparison c k) s ≡ Done o → Comes k s o (code_v i f.value n ++ Do (Operate (comparison_operation c) 2 (Some 1)) ∷ []) (labels_v f.value)
-  last_adds c x f h n k s o b e =
-      comes_as k s o _ (code_v i f.value n ++ Do (Operate (comparison_operation c) 2 (Some 1)) ∷ []) (labels_v f.value + 0) (labels_v f.value) refl (omega arith)
-      (comes_then k (emission_of_comparison c k) s o (code_v i f.value n) (Do (Operate (comparison_operation c) 2 (Some 1)) ∷ []) (labels_v f.value) 0 (h.value n (emission_of_comparison c k) s o b e) (λ r q u. comparison_adds c k r o u))
-
-  -- a value, its comparison, and the further ones
-  links_add : (out : ℕ) (c : CmpOp) (ops : List CmpOp) (x : Emissions) (f : ExprForms) (es : List Emissions) (fs : List ExprForms) → length ops ≡ length es → AddsForms i x f → AllAddForms i es fs → (n : ℕ) (k : Next) (s o : State) → n ≡ s.blocks → out < s.blocks → links out (c ∷ ops) (x ∷ es) k s ≡ Done o → Comes k s o (code_ls i (links_of c f.value ops fs) out n) (labels_ls (links_of c f.value ops fs))
-  links_add out c [] x f es fs z h a n k s o b lt e = last_adds c x f h n k s o b e
-  links_add out c (p ∷ ops) x f [] fs z h a n k s o b lt e = absurd (omega (arith, z))
-  links_add out c (p ∷ ops) x f (y ∷ ys) [] z h a n k s o b lt e = absurd a
-  links_add out c (p ∷ ops) x f (y ∷ ys) (g ∷ gs) z h a n k s o b lt e =
-      let after : Next = links out (p ∷ ops) (y ∷ ys) k in
-      let link : Next = emission_of_link c out after in
-      let m = labels_v f.value in
-      let rest = code_ls i (links_of p g.value ops gs) out (n + m) in
-      comes_then k link s o (code_v i f.value n) (link_code (comparison_operation c) out ++ rest) m (labels_ls (links_of p g.value ops gs)) (h.value n link s o b e) (λ r q u.
-      comes_as k r o (link_code (comparison_operation c) out ++ rest) (link_code (comparison_operation c) out ++ rest) (0 + labels_ls (links_of p g.value ops gs)) (labels_ls (links_of p g.value ops gs)) refl (omega arith)
-      (comes_then k after r o (link_code (comparison_operation c) out) rest 0 (labels_ls (links_of p g.value ops gs)) (link_adds c out after r o (omega (arith, lt, q)) u) (λ t w v.
-      links_add out p ops y g ys gs (omega (arith, z)) a.0 a.1 (n + m) k t o (omega (arith, b, q, w)) (omega (arith, lt, q, w)) v)))
-
-  -- what a chain ends with
-  chain_end : (end out : ℕ) (k : Next) (s o : State) → end < s.blocks → out < s.blocks → jump op.Jump end (begin out (emit op.Rotate2 0 (emit op.Pop 0 (begin end k)))) s ≡ Done o → Comes k s o (Do (Jump end) ∷ Label out ∷ Do Rotate2 ∷ Do Pop ∷ Label end ∷ []) 0
-  chain_end end out k s o le lt e =
-      let last : Next = begin end k in
-      let third : Next = emit op.Pop 0 last in
-      let second : Next = emit op.Rotate2 0 third in
-      let first : Next = begin out second in
-      comes_more k first s o (Do (Jump end)) _ 0 (jump_adds op.Jump end (Jump end) refl (omega arith) (λ t. refl) first s o le e) (λ r q u.
-      comes_more k second r o (Label out) _ 0 (begin_adds out second r o (omega (arith, lt, q)) u) (λ r2 q2 u2.
-      comes_more k third r2 o (Do Rotate2) _ 0 (emit_adds op.Rotate2 0 Rotate2 (omega arith) third r2 o (λ t h. refl) u2) (λ r3 q3 u3.
-      comes_more k last r3 o (Do Pop) _ 0 (emit_adds op.Pop 0 Pop (omega arith) last r3 o (λ t h. refl) u3) (λ r4 q4 u4.
-      begin_adds end k r4 o (omega (arith, le, q, q2, q3, q4)) u4))))
-
-  chain_adds : (x : Emissions) (f : ExprForms) (c p : CmpOp) (ops : List CmpOp) (y z : Emissions) (g h : ExprForms) (es : List Emissions) (fs : List ExprForms) → length ops ≡ length es → AddsForms i x f → AddsForms i y g → AddsForms i z h → AllAddForms i es fs → ValueAdds i (chain x.value (c ∷ p ∷ ops) (y ∷ z ∷ es)) (compare_form f.value (c ∷ p ∷ ops) (g ∷ h ∷ fs))
-  chain_adds x f c p ops y z g h es fs even hx hy hz a n k s o b e =
-      let lf = labels_v f.value in
-      let lg = labels_v g.value in
-      let ls = links_of p h.value ops fs in
-      let start = code_v i f.value (2 + n) in
-      let first = code_v i g.value (2 + n + lf) in
-      let link = link_code {K = Object} (comparison_operation c) n in
-      let more = code_ls i ls n (2 + n + lf + lg) in
-      let tail : List (Item Object) = Do (Jump (1 + n)) ∷ Label n ∷ Do Rotate2 ∷ Do Pop ∷ Label (1 + n) ∷ [] in
-      let after : Next = jump op.Jump (1 + n) (begin n (emit op.Rotate2 0 (emit op.Pop 0 (begin (1 + n) k)))) in
-      let linked : ℕ → Next → Next = λ out u. links out (c ∷ p ∷ ops) (y ∷ z ∷ es) u in
-      comes_as k s o (start ++ ((first ++ (link ++ more)) ++ tail)) (start ++ ((first ++ (link ++ more)) ++ tail)) (suc (suc (lf + ((lg + labels_ls ls) + 0)))) (2 + lf + lg + labels_ls ls) refl (omega arith)
-      (comes_new (λ out. new_block (λ end. x.value (linked out (jump op.Jump end (begin out (emit op.Rotate2 0 (emit op.Pop 0 (begin end k)))))))) k s o _ _ n b e (λ r1 q1 u1.
-      comes_new (λ end. x.value (linked n (jump op.Jump end (begin n (emit op.Rotate2 0 (emit op.Pop 0 (begin end k))))))) k r1 o _ _ (1 + n) (sym q1) u1 (λ r2 q2 u2.
-      comes_then k (linked n after) r2 o start ((first ++ (link ++ more)) ++ tail) lf ((lg + labels_ls ls) + 0) (hx.value (2 + n) (linked n after) r2 o (omega (arith, q2)) u2) (λ r3 q3 u3.
-      comes_then k after r3 o (first ++ (link ++ more)) tail (lg + labels_ls ls) 0 (links_add n c (p ∷ ops) y g (z ∷ es) (h ∷ fs) (omega (arith, even)) hy (hz, a) (2 + n + lf) after r3 o (omega (arith, q2, q3)) (omega (arith, q2, q3)) u3) (λ r4 q4 u4.
-      chain_end (1 + n) n k r4 o (omega (arith, q2, q3, q4)) (omega (arith, q2, q3, q4)) u4)))))
-
-  -- one comparison, or more
-  many_only : (b : Bool) (j k : Next) (s o : State) → (if b then j else k) s ≡ Done o → ((b ≡ true) × (j s ≡ Done o)) ⊎ ((b ≡ false) × (k s ≡ Done o))
-  many_only true j k s o h = inl (refl, h)
-  many_only false j k s o h = inr (refl, h)
-
-  -- there is an operator, and a comparator for each
-  pub even_only : (b c : Bool) (k : Next) (e d : CodegenErrorType) (s o : State) → (if b then refuse e else (if c then k else refuse d)) s ≡ Done o → (b ≡ false) × (c ≡ true) × (k s ≡ Done o)
-  even_only true c k e d s o h = absurd (never_refused e s o h)
-  even_only false true k e d s o h = (refl, refl, h)
-  even_only false false k e d s o h = absurd (never_refused d s o h)
-
-  compared_adds : (x : Emissions) (f : ExprForms) (ops : List CmpOp) (es : List Emissions) (fs : List ExprForms) → length ops ≢ 0 → length ops ≡ length es → AddsForms i x f → AllAddForms i es fs → ValueAdds i (comparisons x.value ops es) (compare_form f.value ops fs)
-  compared_adds x f [] es fs some even h a n k s o b e = absurd (some refl)
-  compared_adds x f (c ∷ ops) [] fs some even h a n k s o b e = absurd (omega (arith, even))
-  compared_adds x f (c ∷ ops) (y ∷ es) [] some even h a n k s o b e = absurd a
-  compared_adds x f (c ∷ []) (y ∷ []) (g ∷ []) some even h a n k s o b e =
-      elim (many_only (nat_lt 1 (length (c ∷ []))) (chain x.value (c ∷ []) (y ∷ []) k) (x.value (y.value (emission_of_comparison c k))) s o e) [
-        | inl m ↦ absurd (let z : 1 < length (c ∷ []) = search (rules, m.0) in omega (arith, z))
-        | inr m ↦ operation_adds (comparison_operation c) (emission_of_comparison c) (x ∷ y ∷ []) (f ∷ g ∷ []) (h, (a.0, tt)) (comparison_adds c) n k s o b m.1
-      ]
-  compared_adds x f (c ∷ []) (y ∷ []) (g ∷ j ∷ gs) some even h a n k s o b e = absurd a.1
-  compared_adds x f (c ∷ []) (y ∷ z ∷ es) (g ∷ gs) some even h a n k s o b e = absurd (omega (arith, even))
-  compared_adds x f (c ∷ p ∷ ops) (y ∷ []) (g ∷ gs) some even h a n k s o b e = absurd (omega (arith, even))
-  compared_adds x f (c ∷ p ∷ ops) (y ∷ z ∷ es) (g ∷ []) some even h a n k s o b e = absurd a.1
-  compared_adds x f (c ∷ p ∷ ops) (y ∷ z ∷ es) (g ∷ j ∷ gs) some even h a n k s o b e =
-      elim (many_only (nat_lt 1 (length (c ∷ p ∷ ops))) (chain x.value (c ∷ p ∷ ops) (y ∷ z ∷ es) k) (x.value (in_turn (y ∷ z ∷ es) (emission_of_comparison c k))) s o e) [
-        | inl m ↦ chain_adds x f c p ops y z g j es gs (omega (arith, even)) h a.0 a.1.0 a.1.1 n k s o b m.1
-        | inr m ↦ absurd (let n : ¬ (1 < length (c ∷ p ∷ ops)) = search (rules, m.0) in n (omega arith))
-      ]
-
-  compare_adds : (x : Emissions) (f : ExprForms) (ops : List CmpOp) (es : List Emissions) (fs : List ExprForms) → AddsForms i x f → AllAddForms i es fs → ValueAdds i (emission_of_compare x.value ops es) (compare_form f.value ops fs)
-  compare_adds x f ops es fs h a n k s o b e =
-      let r = even_only (nat_eq (length ops) 0) (nat_eq (length ops) (length es)) (comparisons x.value ops es k) (error.MalformedTree shape.NoOperand) (error.MalformedTree shape.UnevenLists) s o e in
-      compared_adds x f ops es fs (search (rules, r.0)) (search (rules, r.1)) h a n k s o b r.2
-
-  choice_adds : (t x y : Emissions) (u f g : ExprForms) → AddsForms i t u → AddsForms i x f → AddsForms i y g → ValueAdds i (choice t.test x.value y.value) (VChoice u.test f.value g.value)
-  choice_adds t x y u f g ht hx hy n k s o b e =
-      let lt = labels_t u.test false in
-      let lf = labels_v f.value in
-      let lg = labels_v g.value in
-      let test = code_t i u.test false n (2 + n) in
-      let body = code_v i f.value (2 + n + lt) in
-      let orelse = code_v i g.value (2 + n + lt + lf) in
-      let last : Next = begin (1 + n) k in
-      let fifth : Next = y.value last in
-      let fourth : Next = begin n fifth in
-      let third : Next = jump op.Jump (1 + n) fourth in
-      let second : Next = x.value third in
-      comes_as k s o (test ++ (body ++ (Do (Jump (1 + n)) ∷ Label n ∷ (orelse ++ Label (1 + n) ∷ [])))) (test ++ (body ++ (Do (Jump (1 + n)) ∷ Label n ∷ (orelse ++ Label (1 + n) ∷ [])))) (suc (suc (lt + (lf + (lg + 0))))) (2 + lt + lf + lg) refl (omega arith)
-      (comes_new (λ other. new_block (λ end. t.test false other (x.value (jump op.Jump end (begin other (y.value (begin end k))))))) k s o _ _ n b e (λ r1 q1 u1.
-      comes_new (λ end. t.test false n (x.value (jump op.Jump end (begin n (y.value (begin end k)))))) k r1 o _ _ (1 + n) (sym q1) u1 (λ r2 q2 u2.
-      comes_then k second r2 o test (body ++ (Do (Jump (1 + n)) ∷ Label n ∷ (orelse ++ Label (1 + n) ∷ []))) lt (lf + (lg + 0)) (ht.test false n (2 + n) second r2 o (omega (arith, q2)) (omega (arith, q2)) u2) (λ r3 q3 u3.
-      comes_then k third r3 o body (Do (Jump (1 + n)) ∷ Label n ∷ (orelse ++ Label (1 + n) ∷ [])) lf (lg + 0) (hx.value (2 + n + lt) third r3 o (omega (arith, q2, q3)) u3) (λ r4 q4 u4.
-      comes_more k fourth r4 o (Do (Jump (1 + n))) (Label n ∷ (orelse ++ Label (1 + n) ∷ [])) (lg + 0) (jump_adds op.Jump (1 + n) (Jump (1 + n)) refl (omega arith) (λ z. refl) fourth r4 o (omega (arith, q2, q3, q4)) u4) (λ r5 q5 u5.
-      comes_more k fifth r5 o (Label n) (orelse ++ Label (1 + n) ∷ []) (lg + 0) (begin_adds n fifth r5 o (omega (arith, q2, q3, q4, q5)) u5) (λ r6 q6 u6.
-      comes_then k last r6 o orelse (Label (1 + n) ∷ []) lg 0 (hy.value (2 + n + lt + lf) last r6 o (omega (arith, q2, q3, q4, q5, q6)) u6) (λ r7 q7 u7.
-      begin_adds (1 + n) k r7 o (omega (arith, q2, q3, q4, q5, q6, q7)) u7))))))))
-
 module _ (c : Scope → Object) (f : SForm) (l : ℕ) where
-  named : (b : Bool) (x : List ℕ) → ValueAdds (outer c f) (λ k. if b then emit_constant op.LoadConst (debug_constant l) k else emit_name op.LoadNameAny x k) (if b then VConst (debug_constant l) else VLoad Resolved x)
+  abbrev within : Interp Object
+  within = outer c f
+
+  -- a value, from where it stands
+  value_adds : (at : SourceLocation) (v : Next → Next) (g : VForm) → ValueAdds within v g → AddsForms within (emitting.tested (λ k. move at (v k))) (table.tested (VAt at g))
+  value_adds at v g h = tested_adds within (λ k. move at (v k)) (VAt at g) (moved_adds within at v g h)
+
+  named : (b : Bool) (x : List ℕ) → ValueAdds within (λ k. if b then emit_constant op.LoadConst (debug_constant l) k else emit_name op.LoadNameAny x k) (if b then VConst (debug_constant l) else VLoad Resolved x)
   named true x n k s o b e = constant_adds (debug_constant l) refl k s o e
   named false x n k s o b e = name_adds x k s o e
 
+  pub name_value_adds : (x : List ℕ) → ValueAdds (outer c f) (emission_of_name l x) (name_form l x)
+  name_value_adds x = named (is_debug x) x
+
+  -- an attribute is called as a method of its value
+  attribute_forms_add : (at : SourceLocation) (value : tree.Expr) (x : List ℕ) → AddsForms within (emissions l value) (expr_forms l value) → AddsForms within (emissions l (tree.Attribute at value x)) (expr_forms l (tree.Attribute at value x))
+  attribute_forms_add at value x h =
+      let v : Next → Next = (emissions l value).value in
+      let g = (expr_forms l value).value in
+      let own = moved_adds within at (λ k. v (emit_name op.LoadAttr x k)) (VOp (table.named op.LoadAttr x) (VMore g VNone)) (one_adds within (table.named op.LoadAttr x) v (emit_name op.LoadAttr x) g h.value (attribute_adds x)) in
+      record { value = own; test = truth_adds within (λ k. move at (v (emit_name op.LoadAttr x k))) (VAt at (VOp (table.named op.LoadAttr x) (VMore g VNone))) own; element = own; callee = (refl, h.value) }
+
+  -- a starred value is refused but among elements
+  starred_adds : (at : SourceLocation) (value : tree.Expr) → AddsForms within (emissions l value) (expr_forms l value) → AddsForms within (emissions l (tree.Starred at value)) (expr_forms l (tree.Starred at value))
+  starred_adds at value h =
+      let g = (expr_forms l value).value in
+      let own : ValueAdds within (λ k. move at (refuse error.InvalidStarExpr)) (VAt at g) = λ n k s o b e. comes_moved at (refuse error.InvalidStarExpr) k s o _ _ e (λ r q u. absurd (never_refused _ r o u)) in
+      record { value = own; test = truth_adds within (λ k. move at (refuse error.InvalidStarExpr)) (VAt at g) own; element = h.value; callee = own }
+
+  -- a value is stored under a name
+  name_store_adds : (x : List ℕ) → TargetAdds within (emit_name op.StoreLocal x) (GStore Resolved x)
+  name_store_adds x n k s o b e = local_adds x k s o e
+
+  attribute_store_adds : (x : List ℕ) (v : Next → Next) (g : VForm) → ValueAdds within v g → TargetAdds within (λ k. v (emit_name op.StoreAttr x k)) (GPut (table.named op.StoreAttr x) (VMore g VNone))
+  attribute_store_adds x v g h = put_adds within (table.named op.StoreAttr x) v (emit_name op.StoreAttr x) (VMore g VNone) (more_parts within v (λ k. k) g VNone h (no_parts within)) (attribute_put_adds x)
+
+  subscript_store_adds : (v w : Next → Next) (g h : VForm) → ValueAdds within v g → ValueAdds within w h → TargetAdds within (λ k. v (w (emit op.StoreSubscript 0 k))) (GPut (operation op.StoreSubscript Bare) (VMore g (VMore h VNone)))
+  subscript_store_adds v w g h a b = put_adds within (operation op.StoreSubscript Bare) (λ k. v (w k)) (emit op.StoreSubscript 0) (VMore g (VMore h VNone)) (more_parts within v w g (VMore h VNone) a (more_parts within w (λ k. k) h VNone b (no_parts within))) subscript_put_adds
+
   mutual
     pub expr_adds : (t : tree.Expr) → AddsForms (outer c f) (emissions l t) (expr_forms l t)
-    expr_adds (tree.BoolOp at o values) = bool_adds (outer c f) at o (all_emissions l values) (all_forms l values) (exprs_add values)
+    expr_adds (tree.BoolOp at o operands) = bool_adds within at o (all_emissions l operands) (all_forms l operands) (exprs_add operands)
+    expr_adds (tree.NamedExpr at target value) =
+        value_adds at _ _ (keep_adds within (emissions l value).value (stores l target).alone (expr_forms l value).value (target_forms l target).alone (expr_adds value).value (target_adds target).alone)
     expr_adds (tree.BinOp at left o right) =
-        tested_adds (outer c f) _ _ (moved_adds (outer c f) at _ (VOp (binary o) (parts_of (expr_forms l left ∷ expr_forms l right ∷ []))) (operation_adds (outer c f) (binary o) (emit op.BinaryOperation (binary_case o)) (emissions l left ∷ emissions l right ∷ []) (expr_forms l left ∷ expr_forms l right ∷ []) (expr_adds left, (expr_adds right, tt)) (binary_adds o)))
-    expr_adds (tree.UnaryOp at o operand) = not_adds (outer c f) at o (emissions l operand) (expr_forms l operand) (expr_adds operand)
+        value_adds at _ _ (two_add within (binary o) (emissions l left).value (emissions l right).value (emit op.BinaryOperation (binary_case o)) (expr_forms l left).value (expr_forms l right).value (expr_adds left).value (expr_adds right).value (binary_adds o))
+    expr_adds (tree.UnaryOp at o operand) = unary_forms_add within at o (emissions l operand) (expr_forms l operand) (expr_adds operand)
     expr_adds (tree.IfExp at t body orelse) =
-        tested_adds (outer c f) _ _ (moved_adds (outer c f) at _ (VChoice (expr_forms l t).test (expr_forms l body).value (expr_forms l orelse).value) (choice_adds (outer c f) (emissions l t) (emissions l body) (emissions l orelse) (expr_forms l t) (expr_forms l body) (expr_forms l orelse) (expr_adds t) (expr_adds body) (expr_adds orelse)))
+        value_adds at _ _ (choice_adds within (emissions l t) (emissions l body) (emissions l orelse) (expr_forms l t) (expr_forms l body) (expr_forms l orelse) (expr_adds t) (expr_adds body) (expr_adds orelse))
+    expr_adds (tree.Dict at keys others) =
+        let ks = opt_emissions l keys in
+        let js = opt_forms l keys in
+        let vs = emitting.values (all_emissions l others) in
+        let fs = table.values (all_forms l others) in
+        value_adds at _ _ (dict_adds within (pairs ks vs) (pairs js fs) (pairs_add within ks js vs fs (opts_add keys) (all_values_add within (all_emissions l others) (all_forms l others) (exprs_add others))))
+    expr_adds (tree.Set at elts) = value_adds at _ _ (display_adds within op.BuildSet op.BuildSetUnpack set_builds set_unpacks _ _ (all_elements_add within (all_emissions l elts) (all_forms l elts) (exprs_add elts)))
     expr_adds (tree.Compare at left ops others) =
-        tested_adds (outer c f) _ _ (moved_adds (outer c f) at _ (compare_form (expr_forms l left).value ops (all_forms l others)) (compare_adds (outer c f) (emissions l left) (expr_forms l left) ops (all_emissions l others) (all_forms l others) (expr_adds left) (exprs_add others)))
-    expr_adds (tree.Call at func args) =
-        let as_counted : ◌≡◌ {A = ℕ} (suc (count args)) (form_count (parts_of (expr_forms l func ∷ all_forms l args))) = ap suc (sym (as_many l args)) in
-        tested_adds (outer c f) _ _ (moved_adds (outer c f) at _ (VOp (call (count args)) (parts_of (expr_forms l func ∷ all_forms l args))) (operation_adds (outer c f) (call (count args)) (emit_call (count args)) (emissions l func ∷ all_emissions l args) (expr_forms l func ∷ all_forms l args) (expr_adds func, exprs_add args) (subst (λ z. StepAdds (emit_call (count args)) (Operate (call (count args)) z (Some 1))) as_counted (call_adds (count args)))))
-    expr_adds (tree.Constant at v) = tested_adds (outer c f) _ _ (moved_adds (outer c f) at _ (VConst (constant_of v)) (λ n k s o b e. constant_adds (constant_of v) (literal_value v) k s o e))
-    expr_adds (tree.Name at x) = tested_adds (outer c f) _ _ (moved_adds (outer c f) at _ (table.name_form l x) (named (is_debug x) x))
+        value_adds at _ _ (compare_adds within (emissions l left) (expr_forms l left) ops (all_emissions l others) (all_forms l others) (expr_adds left) (exprs_add others))
+    expr_adds (tree.Call at func args keywords) =
+        value_adds at _ _ (call_form_adds within (emissions l func).callee (expr_forms l func).callee _ _ (keyword_emissions l keywords) (keyword_forms l keywords) (expr_adds func).callee (all_elements_add within (all_emissions l args) (all_forms l args) (exprs_add args)) (keywords_add keywords))
+    expr_adds (tree.FormattedValue at value d spec) =
+        let v = emitting.value_or (const.str []) (opt_emission l spec) in
+        let g = table.value_or (const.str []) (opt_form l spec) in
+        value_adds at _ _ (two_add within (counted op.FormatValue (conversion_case d)) v (emissions l value).value (emit op.FormatValue (conversion_case d)) g (expr_forms l value).value (value_or_adds within (const.str []) refl (opt_emission l spec) (opt_form l spec) (opt_adds spec)) (expr_adds value).value (conversion_adds d))
+    expr_adds (tree.JoinedStr at parts) = value_adds at _ _ (joined_adds within (texts_of parts) _ _ (all_values_add within (all_emissions l parts) (all_forms l parts) (exprs_add parts)))
+    expr_adds (tree.Constant at v) = value_adds at _ _ (λ n k s o b e. constant_adds (constant_of v) (literal_value v) k s o e)
+    expr_adds (tree.Attribute at value x) = attribute_forms_add at value x (expr_adds value)
+    expr_adds (tree.Subscript at value slice) =
+        value_adds at _ _ (two_add within (operation op.Subscript Bare) (emissions l value).value (emissions l slice).value (emit op.Subscript 0) (expr_forms l value).value (expr_forms l slice).value (expr_adds value).value (expr_adds slice).value subscript_adds)
+    expr_adds (tree.Starred at value) = starred_adds at value (expr_adds value)
+    expr_adds (tree.Name at x) = value_adds at _ (name_form l x) (name_value_adds x)
+    expr_adds (tree.List at elts) = value_adds at _ _ (display_adds within op.BuildList op.BuildListUnpack list_builds list_unpacks _ _ (all_elements_add within (all_emissions l elts) (all_forms l elts) (exprs_add elts)))
+    expr_adds (tree.Tuple at elts) = value_adds at _ _ (display_adds within op.BuildTuple op.BuildTupleUnpack tuple_builds tuple_unpacks _ _ (all_elements_add within (all_emissions l elts) (all_forms l elts) (exprs_add elts)))
+    expr_adds (tree.Slice at lower upper step) = value_adds at _ _ (slice_adds within (opt_emission l lower) (opt_emission l upper) (opt_emission l step) (opt_form l lower) (opt_form l upper) (opt_form l step) (opt_adds lower) (opt_adds upper) (opt_adds step))
 
     pub exprs_add : (ts : tree.Exprs) → AllAddForms (outer c f) (all_emissions l ts) (all_forms l ts)
     exprs_add tree.no_exprs = tt
     exprs_add (tree.more_exprs t ts) = (expr_adds t, exprs_add ts)
+
+    opt_adds : (t : tree.OptExpr) → OptionAdds within (opt_emission l t) (opt_form l t)
+    opt_adds tree.no_expr = tt
+    opt_adds (tree.some_expr t) = (expr_adds t).value
+
+    opts_add : (ts : tree.OptExprs) → AllOptionsAdd within (opt_emissions l ts) (opt_forms l ts)
+    opts_add tree.no_opts = tt
+    opts_add (tree.more_opts t ts) = (opt_adds t, opts_add ts)
+
+    keywords_add : (ks : tree.Keywords) → KeywordsAdd within (keyword_emissions l ks) (keyword_forms l ks)
+    keywords_add tree.no_keywords = tt
+    keywords_add (tree.more_keywords None t ks) = ((expr_adds t).value, keywords_add ks)
+    keywords_add (tree.more_keywords (Some name) t ks) = ((refl, (expr_adds t).value), keywords_add ks)
+
+    pub target_adds : (t : tree.Expr) → AddsTarget (outer c f) (stores l t) (target_forms l t)
+    target_adds (tree.Name at x) = plain_adds within _ _ (unless_debug_adds within no_assignment x (emit_name op.StoreLocal x) (GStore Resolved x) (name_store_adds x))
+    target_adds (tree.Attribute at value x) =
+        plain_adds within _ _ (unless_debug_adds within no_assignment x (λ k. (emissions l value).value (emit_name op.StoreAttr x k)) (GPut (table.named op.StoreAttr x) (VMore (expr_forms l value).value VNone)) (attribute_store_adds x (emissions l value).value (expr_forms l value).value (expr_adds value).value))
+    target_adds (tree.Subscript at value slice) =
+        plain_adds within _ _ (subscript_store_adds (emissions l value).value (emissions l slice).value (expr_forms l value).value (expr_forms l slice).value (expr_adds value).value (expr_adds slice).value)
+    target_adds (tree.List at elts) = plain_adds within _ _ (unpack_to_adds within at (all_stores l elts) (all_targets l elts) (targets_add elts))
+    target_adds (tree.Tuple at elts) = plain_adds within _ _ (unpack_to_adds within at (all_stores l elts) (all_targets l elts) (targets_add elts))
+    target_adds (tree.Starred at value) = record { alone = refused_adds within (error.SyntaxError lone_star) GDrop; element = (target_adds value).alone }
+    target_adds other = plain_adds within _ _ (refused_adds within (error.Assign (python_name other)) GDrop)
+
+    targets_add : (ts : tree.Exprs) → StoresAdd within (all_stores l ts) (all_targets l ts)
+    targets_add tree.no_exprs = tt
+    targets_add (tree.more_exprs t ts) = ((target_adds t).element, targets_add ts)

@@ -5,9 +5,9 @@ use Rattle.py_tree.specs.Tree as tree
 use Rattle.py_tree.specs.Nesting.{nesting}
 use Rattle.py_tree.specs.Size.{size_of}
 use Rattle.py_tree.specs.Valid.{shapes, first}
-use Rattle.py_tree.specs.declared.location.LocatedError.{LocatedError}
+use Rattle.py_base.specs.declared.location.LocatedError.{LocatedError}
 use Rattle.py_tree.specs.declared.modules.Mode.{Mode}
-use Rattle.py_tree.specs.declared.shapes.Malformed.{Malformed}
+use Rattle.py_base.specs.declared.shapes.Malformed.{Malformed}
 use Rattle.py_bytecode.specs.declared.code.CodeObject.{CodeObject}
 use Rattle.py_meaning.specs.Emission.{Outcome, Done, TooWide, Refused, emitted}
 use Rattle.py_meaning.specs.Faults.{Fault, faults, whole, too_deep, too_large, malformed, compile_faults}

@@ -3,7 +3,7 @@ use Rattle.std.proofs.Common.{◌≡◌, ◌<◌, ◌^◌, ℕ, List, Result, Ok
 use Rattle.py_tree.specs.Tree as tree
 use Rattle.py_tree.specs.Size.{size_of}
 use Rattle.py_tree.specs.declared.modules.Mode.TheVariants.{Exec}
-use Rattle.py_tree.specs.declared.location.LocatedError.{LocatedError}
+use Rattle.py_base.specs.declared.location.LocatedError.{LocatedError}
 use Rattle.py_bytecode.specs.declared.code.CodeObject.{CodeObject}
 use Rattle.py_ir.specs.Final.{IsFinal}
 use Rattle.py_meaning.specs.Emission.{Done, Outcome, emission_of_mod, emitted, nothing}

@@ -19,7 +19,7 @@ use Rattle.py_ir.specs.Refusals.{TooLong, Refused}
 use Rattle.py_ir.proofs.Unique.{not_broken, no_blocks}
 use Rattle.py_meaning.specs.Form.{Scope, MkScope, SForm}
 use Rattle.py_meaning.specs.Agree.{form_of}
-use Rattle.py_meaning.specs.Code.{Item, size, labels, body_code}
+use Rattle.py_meaning.specs.Code.{Item, labels, body_code}
 use Rattle.py_meaning.specs.Meaning.{outer_head, body}
 use Rattle.py_meaning.specs.Looped.{Looped}
 use Rattle.py_meaning.specs.Emission.{State, Done, emitted}
@@ -31,7 +31,7 @@ use Rattle.py_emit.specs.States.{Head, IsUnrefused}
 use Rattle.py_emit.specs.Steps.{steps_in}
 use Rattle.codegen.proofs.Adding.{Begins, AllRead, AllInside}
 use Rattle.codegen.proofs.ExprAdds.{outer}
-use Rattle.codegen.proofs.Numbers.{low_rises}
+use Rattle.codegen.proofs.Burden.{burden, burden_is}
 use Rattle.codegen.proofs.ProgramSizes.{body_small}
 use Rattle.codegen.proofs.Programs.{tree_adds}
 use Rattle.codegen.proofs.Refuted.{target_inside, jump_has_target, other_has_none, no_prefix_given, operand_inside, few_enough, laid_along}
@@ -46,7 +46,7 @@ pub record Read (t : Tables) (bs : List Blk) (f : SForm) : Type 0 where
   pub inside : AllInside (length bs) (steps_in bs)
   pub blocks : length bs ≡ 1 + labels f
   pub looped : Looped false f
-  pub few : size (body_code (outer no_child f) f) < 2 ^ 24
+  pub small : burden (body_code (outer no_child f) f) < 2 ^ 25
 
 module _ (t : Tables) (level : ℕ) (bs : List Blk) (f : SForm) (r : Read t bs f) (cs : List ℕ) (chain : IsChain bs cs) where
   abbrev items : List (Item Object)
@@ -60,9 +60,9 @@ module _ (t : Tables) (level : ℕ) (bs : List Blk) (f : SForm) (r : Read t bs f
       let l = laid_along t level bs items r.reads r.inside cs chain in
       let long = length-map bs coded_block in
       let q = r.blocks in
-      let low = low_rises t (steps_in bs) items r.reads in
-      let few = r.few in
-      laid_is_sound no_child (MkScope outer_head f) t (coded_blocks bs) l.place l.laid l.ends (omega (arith, long, q)) r.looped (2 ^ 32) (omega (arith, low, few))
+      let small = r.small in
+      let both = burden_is items in
+      laid_is_sound no_child (MkScope outer_head f) t (coded_blocks bs) l.place l.laid l.ends (omega (arith, long, q)) r.looped (2 ^ 32) (omega (arith, small, both))
 
   only_memory : (e : FinalizeError) → ¬ TooLong (lens_of t) → refusals.Holds t level bs e → e ≡ FinalizeError.OutOfMemory
   only_memory FinalizeError.NoBlocks short h = absurd (no_blocks bs cs chain h)
@@ -77,7 +77,7 @@ module _ (t : Tables) (level : ℕ) (bs : List Blk) (f : SForm) (r : Read t bs f
   only_memory (FinalizeError.UnevenHeights b p) short h = absurd (sound.even (Of b h.index) h.holds)
   only_memory (FinalizeError.HeightOutOfRange b p) short h = absurd (sound.within (Of b h.index) h.holds)
   only_memory (FinalizeError.BlockMismatch b p) short h = absurd (sound.matched (Of b h.index) h.holds)
-  only_memory FinalizeError.TooManyUnits short h = absurd (few_enough t level bs items r.reads r.inside (let few = r.few in omega (arith, few)) h)
+  only_memory FinalizeError.TooManyUnits short h = absurd (few_enough t level bs items r.reads r.inside (let small = r.small in let both = burden_is items in omega (arith, small, both)) h)
   only_memory FinalizeError.OutOfMemory short h = refl
 
 -- what holds an emission begins with its tables
@@ -95,7 +95,7 @@ emitted_reads t m l o info head e small h =
       inside = subst (λ n. AllInside n (steps_in (map plain info.blocks))) (sym long) (subst (AllInside o.blocks) (sym same) a.adds.inside);
       blocks = long ∙ a.adds.blocks_are;
       looped = a.looped;
-      few = omega (arith, s, small);
+      small = omega (arith, s, small);
     }
 
 -- what holds an emission is refused for want of memory alone

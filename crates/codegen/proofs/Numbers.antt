@@ -1,5 +1,5 @@
--- What numbers there are in a code that is read from the blocks of a chain: as many instructions as are left of the blocks, or more, and each raises the stack by two at most.
-use Rattle.std.proofs.Common.{◌≡◌, ℕ, zero, suc, ◌*◌, ◌≤◌, List, [], ◌∷◌, ◌++◌, length, map, Bool, true, false, Option, Some, None, refl, ap, ◌∙◌, subst, arith}
+-- A code that is read from the blocks of a chain has as many instructions as are left of the blocks, or more.
+use Rattle.std.proofs.Common.{◌≡◌, ℕ, zero, suc, ◌≤◌, List, [], ◌∷◌, ◌++◌, length, map, Bool, true, false, Option, Some, None, refl, ap, ◌∙◌, subst, arith}
 use Rattle.std.specs.Prelude.{if◌then◌else◌}
 use Rattle.std.proofs.lemmas.List.{length-append}
 use Rattle.py_bytecode.specs.Table.{row_of}
@@ -8,22 +8,12 @@ use Rattle.py_bytecode.specs.Decode.{Tables}
 use Rattle.py_walks.specs.declared.info.InstructionInfo.{InstructionInfo}
 use Rattle.py_ir.specs.Chain.{Blk, blk, cut, body, flat}
 use Rattle.py_meaning.specs.Code.{Item, Do, Label, size}
-use Rattle.py_meaning.specs.Walks.{rises}
-use Rattle.py_meaning.specs.Emission.{Step, Put, Begin}
+use Rattle.py_meaning.specs.Emission.{Step}
 use Rattle.py_meaning.proofs.Moves.{size-append}
 use Rattle.py_emit.specs.Steps.{step_of, onwards, steps_from}
 use Rattle.codegen.proofs.Adding.{AllRead}
 use Rattle.py_emit.proofs.Chains.{Leads}
 use Rattle.codegen.proofs.Laying.{Parted, parted}
-
-pub low_rises : (t : Tables) (xs : List Step) (items : List (Item Object)) → AllRead t xs items → rises items ≤ 2 * size items
-low_rises t [] [] r = omega arith
-low_rises t [] (i ∷ items) r = absurd r
-low_rises t (x ∷ xs) [] r = absurd r
-low_rises t (Put o n to at ∷ xs) (Do i ∷ items) r = let a = r.0.low in let b = low_rises t xs items r.1 in omega (arith, a, b)
-low_rises t (Put o n to at ∷ xs) (Label l ∷ items) r = absurd r.0
-low_rises t (Begin b ∷ xs) (Do i ∷ items) r = absurd r.0
-low_rises t (Begin b ∷ xs) (Label l ∷ items) r = low_rises t xs items r.1
 
 read_size : (t : Tables) (xs : List InstructionInfo) (items : List (Item Object)) → AllRead t (map step_of xs) items → length xs ≡ size items
 read_size t [] [] r = refl

@@ -1,142 +1,157 @@
--- How many instructions the code of a tree has: at most four for each unit of the tree's size.
-use Rattle.std.proofs.Common.{ℕ, suc, ◌+◌, ◌*◌, ◌≤◌, List, [], ◌∷◌, ◌++◌, length, Bool, true, false, arith}
+-- What the code of an expression weighs, as a value, as a test and as a target: at most eight for each unit of its size.
+use Rattle.std.proofs.Common.{ℕ, ◌+◌, ◌≤◌, List, [], ◌∷◌, Bool, true, false, Option, Some, None, arith}
 use Rattle.std.specs.Prelude.{if◌then◌else◌}
 use Rattle.py_tree.specs.Tree as tree
-use Rattle.py_tree.specs.declared.location.SourceLocation.{SourceLocation}
-use Rattle.py_tree.specs.declared.operators.BoolOp.{BoolOp}
-use Rattle.py_tree.specs.declared.operators.BoolOp.TheVariants.{And, Or}
-use Rattle.py_tree.specs.declared.operators.CmpOp.{CmpOp}
-use Rattle.py_tree.specs.declared.operators.UnaryOp.{UnaryOp}
-use Rattle.py_tree.specs.declared.operators.UnaryOp.TheVariants as unary
-use Rattle.py_tree.specs.Size.{expr_size, exprs_size}
+use Rattle.py_base.specs.declared.location.SourceLocation.{SourceLocation}
+use Rattle.py_tree.specs.Size.{expr_size, exprs_size, opt_expr_size, key_size, keys_size, keywords_size}
+use Rattle.py_bytecode.specs.declared.instruction.Instruction.{Instruction}
+use Rattle.py_bytecode.specs.declared.instruction.Instruction.TheVariants as op
+use Rattle.py_bytecode.specs.Objects as const
 use Rattle.py_bytecode.specs.Objects.{Object}
-use Rattle.py_bytecode.specs.Values.{Operation, flip}
-use Rattle.py_bytecode.specs.Machine.{Instr}
-use Rattle.py_meaning.specs.Form.{Interp, VForm, VConst, VLoad, VOp, VChoice, Resolved}
-use Rattle.py_meaning.specs.Code.{Item, Do, size, labels_v, labels_t, code_v, code_vs, code_ss, code_ls, code_t, code_ts}
-use Rattle.py_meaning.specs.Table.{ExprForms, tested, parts_of, shorts_of, part_test, tests_of, bool_forms, unary_forms, unary_operation, links_of, compare_form, comparison_operation, deciding, binary, call, count, debug_constant, is_debug, expr_forms, all_forms}
-use Rattle.py_meaning.proofs.Moves.{size-append}
+use Rattle.py_bytecode.specs.Values.{Bare, operation}
+use Rattle.py_meaning.specs.Form.{Interp, VForm, VConst, VLoad, VOp, VNone, VMore, VAt, VKeep, GPut, Resolved}
+use Rattle.py_meaning.specs.Texts.{texts_of}
+use Rattle.py_meaning.specs.Code.{labels_v}
+use Rattle.py_meaning.specs.Table.{ExprForms, tested, values, elements, parts_of, conversion_case, counted, named, binary, display, value_or, debug_constant, is_debug, unpacked_to, expr_forms, all_forms, opt_form, opt_forms, keyword_forms, target_forms, all_targets}
+use Rattle.codegen.proofs.Burden.{burden-append}
+use Rattle.codegen.proofs.Together.{Together, Possible, OneElement}
+use Rattle.codegen.proofs.Small.{FormSmall, TargetSmall, Small, SmallTarget, tested_small, plain_small, values_small, elements_small, one_small, two_small}
+use Rattle.codegen.proofs.SmallOperators.{bool_small, unary_small, compare_small, choice_small}
+use Rattle.codegen.proofs.SmallDisplays.{display_small, dict_small, value_or_small, slice_small, joined_small}
+use Rattle.codegen.proofs.SmallCalls.{KeywordSmall, call_small}
+use Rattle.codegen.proofs.SmallTargets.{store_small, drop_small, put_one_small, put_two_small, unpack_small, keep_small}
 
--- few instructions for an expression of such a size, as a value and as a test
-pub record Small (i : Interp Object) (f : ExprForms) (s : ℕ) : Type 0 where
-  pub value : (n : ℕ) → suc (size (code_v i f.value n)) ≤ 4 * s
-  pub test : (c : Bool) (to n : ℕ) → size (code_t i f.test c to n) ≤ 4 * s
-
--- few for all of these together
-abbrev pub AllSmall : Interp Object → List ExprForms → ℕ → Type 0
-AllSmall i [] s = Unit {0}
-AllSmall i (f ∷ fs) s = (a : ℕ) × (b : ℕ) × Small i f a × AllSmall i fs b × (a + b ≤ s)
+-- no expression is without a size
+pub expr_some : (t : tree.Expr) → 1 ≤ expr_size t
+expr_some (tree.BoolOp at o es) = omega arith
+expr_some (tree.NamedExpr at x y) = omega arith
+expr_some (tree.BinOp at x o y) = omega arith
+expr_some (tree.UnaryOp at o x) = omega arith
+expr_some (tree.IfExp at x y z) = omega arith
+expr_some (tree.Dict at ks es) = omega arith
+expr_some (tree.Set at es) = omega arith
+expr_some (tree.Compare at x os es) = omega arith
+expr_some (tree.Call at x es ks) = omega arith
+expr_some (tree.FormattedValue at x c o) = omega arith
+expr_some (tree.JoinedStr at es) = omega arith
+expr_some (tree.Constant at v) = omega arith
+expr_some (tree.Attribute at x n) = omega arith
+expr_some (tree.Subscript at x y) = omega arith
+expr_some (tree.Starred at x) = omega arith
+expr_some (tree.Name at n) = omega arith
+expr_some (tree.List at es) = omega arith
+expr_some (tree.Tuple at es) = omega arith
+expr_some (tree.Slice at x y z) = omega arith
 
 module _ (i : Interp Object) where
-  one_more : (a : List (Item Object)) (x : Instr Object ℕ) (m : ℕ) → suc (size a) ≤ m → size (a ++ Do x ∷ []) ≤ m
-  one_more a x m h = simp size-append (omega (arith, h))
-
-  tested_small : (f : VForm) (s : ℕ) → ((n : ℕ) → suc (size (code_v i f n)) ≤ 4 * s) → Small i (tested f) s
-  tested_small f s h = record { value = h; test = λ c to n. one_more (code_v i f n) _ (4 * s) (h n) }
-
-  parts_small : (fs : List ExprForms) (s : ℕ) → AllSmall i fs s → (n : ℕ) → size (code_vs i (parts_of fs) n) ≤ 4 * s
-  parts_small [] s h n = omega arith
-  parts_small (f ∷ fs) s h n =
-      let a = h.2.value n in
-      let b = parts_small fs h.1 h.3 (n + labels_v f.value) in
-      let c = h.4 in
-      simp size-append (omega (arith, a, b, c))
-
-  -- an operation on parts
-  operation_small : (o : Operation) (fs : List ExprForms) (s : ℕ) → AllSmall i fs s → (n : ℕ) → suc (size (code_v i (VOp o (parts_of fs)) n)) ≤ 4 * (s + 1)
-  operation_small o fs s h n = let a = parts_small fs s h n in simp size-append (omega (arith, a))
-
-  -- `and` and `or`
-  shorts_small : (d : Bool) (end : ℕ) (f : ExprForms) (fs : List ExprForms) (a s : ℕ) → Small i f a → AllSmall i fs s → (n : ℕ) → suc (size (code_ss i (shorts_of f fs) d end n)) ≤ 4 * (a + s)
-  shorts_small d end f [] a s x h n = let p = x.value n in omega (arith, p)
-  shorts_small d end f (g ∷ gs) a s x h n =
-      let p = x.value n in
-      let q = shorts_small d end g gs h.0 h.1 h.2 h.3 (n + labels_v f.value) in
-      let c = h.4 in
-      simp size-append (omega (arith, p, q, c))
-
-  part_small : (o : BoolOp) (f : ExprForms) (a : ℕ) → Small i f a → (c : Bool) (to n : ℕ) → size (code_t i (part_test o f.test) c to n) ≤ 4 * a
-  part_small And f a x c to n = x.test c to n
-  part_small Or f a x c to n = x.test (flip c) to n
-
-  tests_small : (o : BoolOp) (f : ExprForms) (fs : List ExprForms) (a s : ℕ) → Small i f a → AllSmall i fs s → (c : Bool) (to out n : ℕ) → size (code_ts i (tests_of o f fs) c to out n) ≤ 4 * (a + s)
-  tests_small o f [] a s x h c to out n = let p = part_small o f a x c to n in omega (arith, p)
-  tests_small o f (g ∷ gs) a s x h c to out n =
-      let p = part_small o f a x false out n in
-      let q = tests_small o g gs h.0 h.1 h.2 h.3 c to out (n + labels_t (part_test o f.test) false) in
-      let e = h.4 in
-      simp size-append (omega (arith, p, q, e))
-
-  whole_small : (o : BoolOp) (f : ExprForms) (fs : List ExprForms) (a s : ℕ) → Small i f a → AllSmall i fs s → (at : SourceLocation) (c : Bool) (to n : ℕ) → size (code_t i (bool_forms at o (f ∷ fs)).test c to n) ≤ 4 * (a + s)
-  whole_small And f fs a s x h at false to n = tests_small And f fs a s x h false to to n
-  whole_small And f fs a s x h at true to n = let q = tests_small And f fs a s x h true to n (1 + n) in simp size-append (omega (arith, q))
-  whole_small Or f fs a s x h at true to n = tests_small Or f fs a s x h false to to n
-  whole_small Or f fs a s x h at false to n = let p = tests_small Or f fs a s x h true to n (1 + n) in simp size-append (omega (arith, p))
-
-  bool_small : (at : SourceLocation) (o : BoolOp) (fs : List ExprForms) (s : ℕ) → AllSmall i fs s → Small i (bool_forms at o fs) (s + 1)
-  bool_small at o [] s h = record { value = λ n. omega arith; test = λ c to n. omega arith }
-  bool_small at o (f ∷ fs) s h = record {
-    value = λ n. let p = shorts_small (deciding o) n f fs h.0 h.1 h.2 h.3 (1 + n) in let e = h.4 in simp size-append (omega (arith, p, e));
-    test = λ c to n. let p = whole_small o f fs h.0 h.1 h.2 h.3 at c to n in let e = h.4 in omega (arith, p, e);
-  }
-
-  unary_small : (at : SourceLocation) (o : UnaryOp) (f : ExprForms) (s : ℕ) → Small i f s → Small i (unary_forms at o f) (s + 1)
-  unary_small at unary.Not f s x = record { value = operation_small (unary_operation unary.Not) (f ∷ []) s (s, 0, x, tt, omega arith); test = λ c to n. let p = x.test (flip c) to n in omega (arith, p) }
-  unary_small at unary.Invert f s x = tested_small (unary_forms at unary.Invert f).value (s + 1) (operation_small (unary_operation unary.Invert) (f ∷ []) s (s, 0, x, tt, omega arith))
-  unary_small at unary.UAdd f s x = tested_small (unary_forms at unary.UAdd f).value (s + 1) (operation_small (unary_operation unary.UAdd) (f ∷ []) s (s, 0, x, tt, omega arith))
-  unary_small at unary.USub f s x = tested_small (unary_forms at unary.USub f).value (s + 1) (operation_small (unary_operation unary.USub) (f ∷ []) s (s, 0, x, tt, omega arith))
-
-  -- comparisons
-  links_small : (out : ℕ) (c : CmpOp) (ops : List CmpOp) (f : ExprForms) (fs : List ExprForms) (a s : ℕ) → Small i f a → AllSmall i fs s → (n : ℕ) → size (code_ls i (links_of c f.value ops fs) out n) ≤ 4 * (a + s + length ops)
-  links_small out c [] f fs a s x h n = let p = x.value n in simp size-append (omega (arith, p))
-  links_small out c (p ∷ ops) f [] a s x h n = let q = x.value n in simp size-append (omega (arith, q))
-  links_small out c (p ∷ ops) f (g ∷ gs) a s x h n =
-      let q = x.value n in
-      let r = links_small out p ops g gs h.0 h.1 h.2 h.3 (n + labels_v f.value) in
-      let e = h.4 in
-      simp size-append (omega (arith, q, r, e))
-
-  compare_small : (f : ExprForms) (ops : List CmpOp) (fs : List ExprForms) (a s : ℕ) → Small i f a → AllSmall i fs s → (n : ℕ) → suc (size (code_v i (compare_form f.value ops fs) n)) ≤ 4 * (a + length ops + s + 1)
-  compare_small f [] fs a s x h n = omega arith
-  compare_small f (c ∷ ops) [] a s x h n = omega arith
-  compare_small f (c ∷ []) (g ∷ gs) a s x h n =
-      let p = operation_small (comparison_operation c) (f ∷ g ∷ []) (a + s) (a, h.0, x, (h.0, 0, h.2, tt, omega arith), (let e = h.4 in omega (arith, e))) n in
-      omega (arith, p)
-  compare_small f (c ∷ p ∷ ops) (g ∷ []) a s x h n = omega arith
-  compare_small f (c ∷ p ∷ ops) (g ∷ j ∷ gs) a s x h n =
-      let q = x.value (2 + n) in
-      let r = h.2.value (2 + n + labels_v f.value) in
-      let u = links_small n p ops j gs h.3.0 h.3.1 h.3.2 h.3.3 (2 + n + labels_v f.value + labels_v g.value) in
-      let e = h.4 in
-      let d = h.3.4 in
-      simp size-append (omega (arith, q, r, u, e, d))
-
-  choice_small : (t f g : ExprForms) (a b s : ℕ) → Small i t a → Small i f b → Small i g s → (n : ℕ) → suc (size (code_v i (VChoice t.test f.value g.value) n)) ≤ 4 * (a + b + s + 1)
-  choice_small t f g a b s x y z n =
-      let p = x.test false n (2 + n) in
-      let q = y.value (2 + n + labels_t t.test false) in
-      let r = z.value (2 + n + labels_t t.test false + labels_v f.value) in
-      simp size-append (omega (arith, p, q, r))
-
-  named_small : (l : ℕ) (b : Bool) (x : List ℕ) (n : ℕ) → suc (size (code_v i (if b then VConst (debug_constant l) else VLoad Resolved x) n)) ≤ 4 * 2
+  pub named_small : (l : ℕ) (b : Bool) (x : List ℕ) → FormSmall i (if b then VConst (debug_constant l) else VLoad Resolved x) 2
   named_small l true x n = omega arith
   named_small l false x n = omega arith
 
+  -- a value that is formatted, after what says how
+  formatted_small : (o : ℕ) (spec : Option VForm) (f : VForm) (a b : ℕ) → Possible (FormSmall i) spec b → FormSmall i f a → FormSmall i (VOp (counted op.FormatValue o) (VMore (value_or (const.str []) spec) (VMore f VNone))) (a + b + 1)
+  formatted_small o spec f a b x y n =
+      let p = value_or_small i (const.str []) spec b x n in
+      let q = y (n + labels_v (value_or (const.str []) spec)) in
+      simp burden-append (omega (arith, p, q))
+
+  attribute_small : (f : VForm) (name : List ℕ) (a : ℕ) → FormSmall i f a → FormSmall i (VOp (named op.LoadAttr name) (VMore f VNone)) (a + 2)
+  attribute_small f name a x n = let p = one_small i (named op.LoadAttr name) f a x n in omega (arith, p)
+
+  displayed_small : (at : SourceLocation) (build unpack : Instruction) (fs : List ExprForms) (s : ℕ) → Together (Small i) fs s → Small i (tested (VAt at (display build unpack (elements fs)))) (s + 1)
+  displayed_small at build unpack fs s h = tested_small i (VAt at (display build unpack (elements fs))) (s + 1) (display_small i build unpack (elements fs) s (elements_small i fs s h))
+
   mutual
     pub expr_small : (l : ℕ) (t : tree.Expr) → Small i (expr_forms l t) (expr_size t)
-    expr_small l (tree.BoolOp at o values) = bool_small at o (all_forms l values) (exprs_size values) (exprs_small l values)
+    expr_small l (tree.BoolOp at o operands) = bool_small i at o (all_forms l operands) (exprs_size operands) (exprs_small l operands)
+    expr_small l (tree.NamedExpr at target value) =
+        let f = (expr_forms l value).value in
+        let t = (target_forms l target).alone in
+        let kept = keep_small i f t (expr_size value) (expr_size target) (expr_small l value).value (target_small l target).alone in
+        tested_small i (VAt at (VKeep f None t)) (expr_size target + expr_size value + 1) (λ n. let p = kept n in omega (arith, p))
     expr_small l (tree.BinOp at left o right) =
-        tested_small _ _ (operation_small (binary o) (expr_forms l left ∷ expr_forms l right ∷ []) (expr_size left + expr_size right) (expr_size left, expr_size right, expr_small l left, (expr_size right, 0, expr_small l right, tt, omega arith), omega arith))
-    expr_small l (tree.UnaryOp at o operand) = unary_small at o (expr_forms l operand) (expr_size operand) (expr_small l operand)
+        tested_small i _ _ (two_small i (binary o) (expr_forms l left).value (expr_forms l right).value (expr_size left) (expr_size right) (expr_small l left).value (expr_small l right).value)
+    expr_small l (tree.UnaryOp at o operand) = unary_small i at o (expr_forms l operand) (expr_size operand) (expr_small l operand)
     expr_small l (tree.IfExp at t body orelse) =
-        tested_small _ _ (choice_small (expr_forms l t) (expr_forms l body) (expr_forms l orelse) (expr_size t) (expr_size body) (expr_size orelse) (expr_small l t) (expr_small l body) (expr_small l orelse))
+        tested_small i _ _ (choice_small i (expr_forms l t) (expr_forms l body) (expr_forms l orelse) (expr_size t) (expr_size body) (expr_size orelse) (expr_small l t) (expr_small l body) (expr_small l orelse))
+    expr_small l (tree.Dict at keys others) =
+        tested_small i _ _ (dict_small i (opt_forms l keys) (values (all_forms l others)) (keys_size keys) (exprs_size others) (keys_small l keys) (values_small i (all_forms l others) (exprs_size others) (exprs_small l others)))
+    expr_small l (tree.Set at elts) = displayed_small at op.BuildSet op.BuildSetUnpack (all_forms l elts) (exprs_size elts) (exprs_small l elts)
     expr_small l (tree.Compare at left ops others) =
-        tested_small _ _ (compare_small (expr_forms l left) ops (all_forms l others) (expr_size left) (exprs_size others) (expr_small l left) (exprs_small l others))
-    expr_small l (tree.Call at func args) =
-        tested_small _ _ (operation_small (call (count args)) (expr_forms l func ∷ all_forms l args) (expr_size func + exprs_size args) (expr_size func, exprs_size args, expr_small l func, exprs_small l args, omega arith))
-    expr_small l (tree.Constant at v) = tested_small _ _ (λ n. omega arith)
-    expr_small l (tree.Name at x) = tested_small _ _ (named_small l (is_debug x) x)
+        tested_small i _ _ (compare_small i (expr_forms l left) ops (all_forms l others) (expr_size left) (exprs_size others) (expr_small l left) (exprs_small l others))
+    expr_small l (tree.Call at func args keywords) =
+        let places = elements_small i (all_forms l args) (exprs_size args) (exprs_small l args) in
+        tested_small i _ _ (call_small i (expr_forms l func).callee (elements (all_forms l args)) (keyword_forms l keywords) (expr_size func) (exprs_size args) (keywords_size keywords) (expr_small l func).callee places (keywords_small l keywords))
+    expr_small l (tree.FormattedValue at value c spec) =
+        tested_small i _ _ (formatted_small (conversion_case c) (opt_form l spec) (expr_forms l value).value (expr_size value) (opt_expr_size spec) (opt_small l spec) (expr_small l value).value)
+    expr_small l (tree.JoinedStr at parts) =
+        tested_small i _ _ (joined_small i (texts_of parts) (values (all_forms l parts)) (exprs_size parts) (values_small i (all_forms l parts) (exprs_size parts) (exprs_small l parts)))
+    expr_small l (tree.Constant at v) = tested_small i _ _ (λ n. omega arith)
+    expr_small l (tree.Attribute at value attr) =
+        let x = expr_small l value in
+        let s = expr_size value in
+        let whole = attribute_small (expr_forms l value).value attr s x.value in
+        let y = tested_small i (VAt at (VOp (named op.LoadAttr attr) (VMore (expr_forms l value).value VNone))) (s + 2) whole in
+        record { value = whole; test = y.test; element = whole; callee = λ n. let p = x.value n in omega (arith, p) }
+    expr_small l (tree.Subscript at value slice) =
+        tested_small i _ _ (two_small i (operation op.Subscript Bare) (expr_forms l value).value (expr_forms l slice).value (expr_size value) (expr_size slice) (expr_small l value).value (expr_small l slice).value)
+    expr_small l (tree.Starred at value) =
+        let x = expr_small l value in
+        let f = (expr_forms l value).value in
+        let s = expr_size value in
+        let more : FormSmall i f (s + 1) = λ n. let p = x.value n in omega (arith, p) in
+        let y = tested_small i (VAt at f) (s + 1) more in
+        record { value = more; test = y.test; element = more; callee = more }
+    expr_small l (tree.Name at x) = tested_small i _ _ (named_small l (is_debug x) x)
+    expr_small l (tree.List at elts) = displayed_small at op.BuildList op.BuildListUnpack (all_forms l elts) (exprs_size elts) (exprs_small l elts)
+    expr_small l (tree.Tuple at elts) = displayed_small at op.BuildTuple op.BuildTupleUnpack (all_forms l elts) (exprs_size elts) (exprs_small l elts)
+    expr_small l (tree.Slice at lower upper step) =
+        tested_small i _ _ (slice_small i (opt_form l lower) (opt_form l upper) (opt_form l step) (opt_expr_size lower) (opt_expr_size upper) (opt_expr_size step) (opt_small l lower) (opt_small l upper) (opt_small l step))
 
-    pub exprs_small : (l : ℕ) (ts : tree.Exprs) → AllSmall i (all_forms l ts) (exprs_size ts)
+    pub exprs_small : (l : ℕ) (ts : tree.Exprs) → Together (Small i) (all_forms l ts) (exprs_size ts)
     exprs_small l tree.no_exprs = tt
     exprs_small l (tree.more_exprs t ts) = (expr_size t, exprs_size ts, expr_small l t, exprs_small l ts, omega arith)
+
+    opt_small : (l : ℕ) (o : tree.OptExpr) → Possible (FormSmall i) (opt_form l o) (opt_expr_size o)
+    opt_small l tree.no_expr = tt
+    opt_small l (tree.some_expr t) = (expr_small l t).value
+
+    -- a key that is missing needs nothing
+    key_small : (l : ℕ) (o : tree.OptExpr) → Possible (FormSmall i) (opt_form l o) (key_size o)
+    key_small l tree.no_expr = tt
+    key_small l (tree.some_expr t) = (expr_small l t).value
+
+    keys_small : (l : ℕ) (os : tree.OptExprs) → Together (Possible (FormSmall i)) (opt_forms l os) (keys_size os)
+    keys_small l tree.no_opts = tt
+    keys_small l (tree.more_opts o os) = (key_size o, keys_size os, key_small l o, keys_small l os, omega arith)
+
+    keywords_small : (l : ℕ) (ks : tree.Keywords) → Together (KeywordSmall i) (keyword_forms l ks) (keywords_size ks)
+    keywords_small l tree.no_keywords = tt
+    keywords_small l (tree.more_keywords None t ks) =
+        let x = (expr_small l t).value in
+        (expr_size t + 1, keywords_size ks, (λ n. let p = x n in omega (arith, p)), keywords_small l ks, omega arith)
+    keywords_small l (tree.more_keywords (Some name) t ks) =
+        let x = (expr_small l t).value in
+        (1 + expr_size t + 1, keywords_size ks, (λ n. let p = x n in omega (arith, p)), keywords_small l ks, omega arith)
+
+    pub target_small : (l : ℕ) (t : tree.Expr) → SmallTarget i (target_forms l t) (expr_size t)
+    target_small l (tree.Name at x) = store_small i x 2 (omega arith)
+    target_small l (tree.Attribute at value attr) =
+        let f = (expr_forms l value).value in
+        let put = put_one_small i (named op.StoreAttr attr) f (expr_size value) (expr_small l value).value in
+        plain_small i (GPut (named op.StoreAttr attr) (parts_of (f ∷ []))) (expr_size value + 2) (λ n. let p = put n in omega (arith, p))
+    target_small l (tree.Subscript at value slice) =
+        let f = (expr_forms l value).value in
+        let g = (expr_forms l slice).value in
+        let put = put_two_small i (operation op.StoreSubscript Bare) f g (expr_size value) (expr_size slice) (expr_small l value).value (expr_small l slice).value in
+        plain_small i (GPut (operation op.StoreSubscript Bare) (parts_of (f ∷ g ∷ []))) (expr_size value + expr_size slice + 1) put
+    target_small l (tree.List at elts) = plain_small i (unpacked_to (all_targets l elts)) (exprs_size elts + 1) (unpack_small i (all_targets l elts) (exprs_size elts) (targets_small l elts))
+    target_small l (tree.Tuple at elts) = plain_small i (unpacked_to (all_targets l elts)) (exprs_size elts + 1) (unpack_small i (all_targets l elts) (exprs_size elts) (targets_small l elts))
+    target_small l (tree.Starred at value) =
+        let x = (target_small l value).alone in
+        record { alone = (drop_small i (expr_size value + 1) (omega arith)).alone; element = λ n. let p = x n in omega (arith, p) }
+    target_small l other = drop_small i (expr_size other) (expr_some other)
+
+    targets_small : (l : ℕ) (ts : tree.Exprs) → Together (OneElement (TargetSmall i) (TargetSmall i)) (all_targets l ts) (exprs_size ts)
+    targets_small l tree.no_exprs = tt
+    targets_small l (tree.more_exprs t ts) = (expr_size t, exprs_size ts, (target_small l t).element, targets_small l ts, omega arith)

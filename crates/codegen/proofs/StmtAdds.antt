@@ -1,21 +1,25 @@
 -- The emission of a statement adds the code of its form, and a program's that of its scope.
 use Rattle.std.proofs.Common.{◌≡◌, ℕ, suc, ◌+◌, ◌<◌, List, [], ◌∷◌, ◌++◌, Bool, true, false, Option, Some, None, refl, sym, ◌∙◌, subst, arith}
 use Rattle.py_tree.specs.Tree as tree
-use Rattle.py_tree.specs.declared.location.SourceLocation.{SourceLocation}
+use Rattle.py_base.specs.declared.location.SourceLocation.{SourceLocation}
+use Rattle.py_tree.specs.declared.operators.Operator.{Operator}
 use Rattle.py_bytecode.specs.declared.instruction.Instruction.TheVariants as op
 use Rattle.py_bytecode.specs.Objects.{Object}
-use Rattle.py_bytecode.specs.Machine.{Pop, Jump, SetupLoop, PopBlock, Break, Continue}
-use Rattle.py_meaning.specs.Form.{Scope, SForm, SBreak, SContinue}
+use Rattle.py_bytecode.specs.Machine.{Jump, SetupLoop, PopBlock, Break, Continue}
+use Rattle.py_meaning.specs.Form.{Scope, SForm, SThen, SInto, SBreak, SContinue, GDrop}
 use Rattle.py_meaning.specs.Fit.{Loops}
-use Rattle.py_meaning.specs.Code.{Item, Do, Label, labels_v, labels_t, labels, code_v, code_t, code}
+use Rattle.py_meaning.specs.Code.{Item, Do, Label, labels_t, labels, code_t, code}
 use Rattle.py_meaning.specs.Looped.{Looped}
-use Rattle.py_meaning.specs.Table.{stmt_form, stmts_form, expr_form, test_form}
-use Rattle.py_meaning.specs.Emission.{LoopBlocks, State, Done, Next, emit, jump, begin, with_block, located, new_block, move, emission, emission_of_test, leave_loop, emission_of_stmt, emission_of_stmts}
+use Rattle.py_meaning.specs.Table.{stmt_form, stmts_form, expr_form, test_form, target_form, removals, assign_form, augment_form, declared_form, annotation_target}
+use Rattle.py_meaning.specs.Emission.{LoopBlocks, State, Done, Next, emit, jump, begin, with_block, located, new_block, move, emission, emission_of_test, emission_of_deletes, emission_of_assign, emission_of_augment, emission_of_declared, emission_of_annotation, leave_loop, emission_of_stmt, emission_of_stmts}
 use Rattle.py_meaning.specs.declared.errors.CodegenErrorType.{CodegenErrorType}
 use Rattle.py_meaning.specs.declared.errors.CodegenErrorType.TheVariants as error
 use Rattle.py_emit.proofs.States.{never_refused}
 use Rattle.codegen.proofs.Emitting.{Comes, comes_as, comes_then, comes_nothing, comes_moved, comes_new, emit_adds, jump_adds, begin_adds}
+use Rattle.codegen.proofs.TargetAdds.{drop_adds}
 use Rattle.codegen.proofs.ExprAdds.{outer, expr_adds}
+use Rattle.codegen.proofs.AssignAdds.{ActAdds, into_adds, deletes_add, assign_adds, augmented_adds, annotated_adds}
+use Rattle.codegen.proofs.Unlooped.{Unlooped, removals_unlooped, assign_unlooped, augment_unlooped, declared_unlooped}
 
 abbrev pub held : Option LoopBlocks → Bool
 held None = false
@@ -38,14 +42,14 @@ pub record Follows (k : Next) (s o : State) (is : List (Item Object)) (m : ℕ) 
 follows_as : (k : Next) (s o : State) (is js : List (Item Object)) (m n : ℕ) (P : Type 0) → is ≡ js → m ≡ n → Follows k s o is m P → Follows k s o js n P
 follows_as k s o is js m n P e f x = record { comes = comes_as k s o is js m n e f x.comes; holds = x.holds }
 
-follows_then : (k a : Next) (s o : State) (is js : List (Item Object)) (m n : ℕ) (P : Type 0) → (c : Comes a s o is m) → ((r : State) → r.blocks ≡ s.blocks + m → a r ≡ Done o → Follows k r o js n P) → Follows k s o (is ++ js) (m + n) P
+pub follows_then : (k a : Next) (s o : State) (is js : List (Item Object)) (m n : ℕ) (P : Type 0) → (c : Comes a s o is m) → ((r : State) → r.blocks ≡ s.blocks + m → a r ≡ Done o → Follows k r o js n P) → Follows k s o (is ++ js) (m + n) P
 follows_then k a s o is js m n P c next = record { comes = comes_then k a s o is js m n c (λ r q e. (next r q e).comes); holds = (next c.reached c.adds.blocks_are c.goes_on).holds }
 
 follows_more : (k a : Next) (s o : State) (i : Item Object) (js : List (Item Object)) (n : ℕ) (P : Type 0) → Comes a s o (i ∷ []) 0 → ((r : State) → r.blocks ≡ s.blocks → a r ≡ Done o → Follows k r o js n P) → Follows k s o (i ∷ js) n P
 follows_more k a s o i js n P c next = follows_as k s o (i ∷ js) (i ∷ js) (0 + n) n P refl (omega arith) (follows_then k a s o (i ∷ []) js 0 n P c (λ r q e. next r (omega (arith, q)) e))
 
 -- and then what comes alone
-follows_after : (k a : Next) (s o : State) (is js : List (Item Object)) (m n : ℕ) (P : Type 0) → Follows a s o is m P → ((r : State) → r.blocks ≡ s.blocks + m → a r ≡ Done o → Comes k r o js n) → Follows k s o (is ++ js) (m + n) P
+pub follows_after : (k a : Next) (s o : State) (is js : List (Item Object)) (m n : ℕ) (P : Type 0) → Follows a s o is m P → ((r : State) → r.blocks ≡ s.blocks + m → a r ≡ Done o → Comes k r o js n) → Follows k s o (is ++ js) (m + n) P
 follows_after k a s o is js m n P c next = record { comes = comes_then k a s o is js m n c.comes next; holds = c.holds }
 
 follows_both : (k a : Next) (s o : State) (is js : List (Item Object)) (m n : ℕ) (P Q : Type 0) → Follows a s o is m P → ((r : State) → r.blocks ≡ s.blocks + m → a r ≡ Done o → Follows k r o js n Q) → Follows k s o (is ++ js) (m + n) (P × Q)
@@ -71,11 +75,11 @@ loop_more (Some x) b m n h g = (h.0, g x.on_break h.1, g x.on_continue h.2)
 module _ (c : Scope → Object) (f : SForm) (l : ℕ) where
   break_adds : (x : Option LoopBlocks) (b : Loops) (e : CodegenErrorType) (k : Next) (s o : State) → InLoop x b s.blocks → leave_loop op.Break (λ y. y.on_break) e x k s ≡ Done o → Follows k s o (Do (Break b.on_break) ∷ []) 0 (Looped (held x) SBreak)
   break_adds None b e k s o h g = absurd (never_refused e s o g)
-  break_adds (Some x) b e k s o h g = record { comes = jump_adds op.Break b.on_break (Break b.on_break) refl (omega arith) (λ t. refl) k s o (subst (λ (z : Loops). z.on_break < s.blocks) h.0 h.1) (subst (λ (z : Loops). jump op.Break z.on_break k s ≡ Done o) h.0 g); holds = tt }
+  break_adds (Some x) b e k s o h g = record { comes = jump_adds op.Break b.on_break (Break b.on_break) refl (λ t. refl) k s o (subst (λ (z : Loops). z.on_break < s.blocks) h.0 h.1) (subst (λ (z : Loops). jump op.Break z.on_break k s ≡ Done o) h.0 g); holds = tt }
 
   continue_adds : (x : Option LoopBlocks) (b : Loops) (e : CodegenErrorType) (k : Next) (s o : State) → InLoop x b s.blocks → leave_loop op.Continue (λ y. y.on_continue) e x k s ≡ Done o → Follows k s o (Do (Continue b.on_continue) ∷ []) 0 (Looped (held x) SContinue)
   continue_adds None b e k s o h g = absurd (never_refused e s o g)
-  continue_adds (Some x) b e k s o h g = record { comes = jump_adds op.Continue b.on_continue (Continue b.on_continue) refl (omega arith) (λ t. refl) k s o (subst (λ (z : Loops). z.on_continue < s.blocks) h.0 h.2) (subst (λ (z : Loops). jump op.Continue z.on_continue k s ≡ Done o) h.0 g); holds = tt }
+  continue_adds (Some x) b e k s o h g = record { comes = jump_adds op.Continue b.on_continue (Continue b.on_continue) refl (λ t. refl) k s o (subst (λ (z : Loops). z.on_continue < s.blocks) h.0 h.2) (subst (λ (z : Loops). jump op.Continue z.on_continue k s ≡ Done o) h.0 g); holds = tt }
 
   -- what statements add
   abbrev StmtAdds : tree.Stmt → Type 0
@@ -123,7 +127,7 @@ module _ (c : Scope → Object) (f : SForm) (l : ℕ) where
       follows_new (λ end. emission_of_test l t false n (emission_of_stmts l x body (jump op.Jump end (begin n (emission_of_stmts l x orelse (begin end k)))))) k r1 o _ _ (1 + n) (P × Q) (sym q1) e1 (λ r2 q2 e2.
       follows_then k second r2 o test (inner ++ tail) lt (lb + (lo + 0)) (P × Q) ((expr_adds c f l t).test false n (2 + n) second r2 o (omega (arith, q2)) (omega (arith, q2)) e2) (λ r3 q3 e3.
       follows_both k third r3 o inner tail lb (lo + 0) P Q (h x b (2 + n + lt) third r3 o (omega (arith, q2, q3)) (loop_more x b n (2 + n + lt) w (λ z u. omega (arith, u))) e3) (λ r4 q4 e4.
-      follows_more k fourth r4 o (Do (Jump (1 + n))) (Label n ∷ (other ++ Label (1 + n) ∷ [])) (lo + 0) Q (jump_adds op.Jump (1 + n) (Jump (1 + n)) refl (omega arith) (λ z. refl) fourth r4 o (omega (arith, q2, q3, q4)) e4) (λ r5 q5 e5.
+      follows_more k fourth r4 o (Do (Jump (1 + n))) (Label n ∷ (other ++ Label (1 + n) ∷ [])) (lo + 0) Q (jump_adds op.Jump (1 + n) (Jump (1 + n)) refl (λ z. refl) fourth r4 o (omega (arith, q2, q3, q4)) e4) (λ r5 q5 e5.
       follows_more k fifth r5 o (Label n) (other ++ Label (1 + n) ∷ []) (lo + 0) Q (begin_adds n fifth r5 o (omega (arith, q2, q3, q4, q5)) e5) (λ r6 q6 e6.
       follows_after k last r6 o other (Label (1 + n) ∷ []) lo 0 Q (g x b (2 + n + lt + lb) last r6 o (omega (arith, q2, q3, q4, q5, q6)) (loop_more x b n (2 + n + lt + lb) w (λ z u. omega (arith, u))) e6) (λ r7 q7 e7.
       begin_adds (1 + n) k r7 o (omega (arith, q2, q3, q4, q5, q6, q7)) e7)))))))))
@@ -155,30 +159,43 @@ module _ (c : Scope → Object) (f : SForm) (l : ℕ) where
       follows_new (λ start. new_block (λ out. new_block (λ end. rest start out end))) k r0 o _ _ n (P × Q) (q ∙ sym q0) e0 (λ r1 q1 e1.
       follows_new (λ out. new_block (λ end. rest n out end)) k r1 o _ _ (1 + n) (P × Q) (sym q1) e1 (λ r2 q2 e2.
       follows_new (λ end. rest n (1 + n) end) k r2 o _ _ (2 + n) (P × Q) (omega (arith, q2)) e2 (λ r3 q3 e3.
-      follows_more k second r3 o (Do SetupLoop) (Label n ∷ (test ++ (inner ++ tail))) (lt + (lb + (lo + 0))) (P × Q) (emit_adds op.SetupLoop 0 SetupLoop (omega arith) second r3 o (λ z y. refl) e3) (λ r4 q4 e4.
+      follows_more k second r3 o (Do SetupLoop) (Label n ∷ (test ++ (inner ++ tail))) (lt + (lb + (lo + 0))) (P × Q) (emit_adds op.SetupLoop 0 SetupLoop second r3 o (λ z y. refl) e3) (λ r4 q4 e4.
       follows_more k third r4 o (Label n) (test ++ (inner ++ tail)) (lt + (lb + (lo + 0))) (P × Q) (begin_adds n third r4 o (omega (arith, q3, q4)) e4) (λ r5 q5 e5.
       follows_then k fourth r5 o test (inner ++ tail) lt (lb + (lo + 0)) (P × Q) ((expr_adds c f l t).test false (1 + n) (3 + n) fourth r5 o (omega (arith, q3, q4, q5)) (omega (arith, q3, q4, q5)) e5) (λ r6 q6 e6.
       follows_both k fifth r6 o inner tail lb (lo + 0) P Q (h (Some own) (labels_in own) (3 + n + lt) fifth r6 o (omega (arith, q3, q4, q5, q6)) (refl, omega arith, omega arith) e6) (λ r7 q7 e7.
-      follows_more k sixth r7 o (Do (Jump n)) (Label (1 + n) ∷ Do PopBlock ∷ end_items) (lo + 0) Q (jump_adds op.Jump n (Jump n) refl (omega arith) (λ z. refl) sixth r7 o (omega (arith, q3, q4, q5, q6, q7)) e7) (λ r8 q8 e8.
+      follows_more k sixth r7 o (Do (Jump n)) (Label (1 + n) ∷ Do PopBlock ∷ end_items) (lo + 0) Q (jump_adds op.Jump n (Jump n) refl (λ z. refl) sixth r7 o (omega (arith, q3, q4, q5, q6, q7)) e7) (λ r8 q8 e8.
       follows_more k seventh r8 o (Label (1 + n)) (Do PopBlock ∷ end_items) (lo + 0) Q (begin_adds (1 + n) seventh r8 o (omega (arith, q3, q4, q5, q6, q7, q8)) e8) (λ r9 q9 e9.
-      follows_more k eighth r9 o (Do PopBlock) end_items (lo + 0) Q (emit_adds op.PopBlock 0 PopBlock (omega arith) eighth r9 o (λ z y. refl) e9) (λ r10 q10 e10.
+      follows_more k eighth r9 o (Do PopBlock) end_items (lo + 0) Q (emit_adds op.PopBlock 0 PopBlock eighth r9 o (λ z y. refl) e9) (λ r10 q10 e10.
       follows_after k last r10 o other (Label (2 + n) ∷ []) lo 0 Q (g x b (3 + n + lt + lb) last r10 o (omega (arith, q3, q4, q5, q6, q7, q8, q9, q10)) (loop_more x b n (3 + n + lt + lb) w (λ z u. omega (arith, u))) e10) (λ r11 q11 e11.
       begin_adds (2 + n) k r11 o (omega (arith, q3, q4, q5, q6, q7, q8, q9, q10, q11)) e11)))))))))))))
 
+  -- what leaves no loop, from where it stands
+  act_adds : (at : SourceLocation) (v : Next → Next) (g : SForm) → ActAdds (outer c f) v g → Unlooped g → (x : Option LoopBlocks) (b : Loops) (n : ℕ) (k : Next) (s o : State) → n ≡ s.blocks → move at (v k) s ≡ Done o → Follows k s o (code (outer c f) g b n) (labels g) (Looped (held x) g)
+  act_adds at v g h u x b n k s o q e = record { comes = comes_moved at (v k) k s o _ _ e (λ r p w. h b n k r o (q ∙ sym p) w); holds = u (held x) }
+
   value_adds : (at : SourceLocation) (v : tree.Expr) → StmtAdds (tree.StmtExpr at v)
   value_adds at v x b n k s o q w e =
-      let m = labels_v (expr_form l v) in
-      let first = code_v (outer c f) (expr_form l v) n in
-      let step : Next = emit op.Pop 0 k in
-      record {
-        comes =
-            comes_moved at (emission l v step) k s o (first ++ Do Pop ∷ []) (m + 0) e (λ r p g.
-            comes_then k step r o first (Do Pop ∷ []) m 0 ((expr_adds c f l v).value n step r o (q ∙ sym p) g) (λ z y u. emit_adds op.Pop 0 Pop (omega arith) k z o (λ t h. refl) u));
-        holds = tt;
-      }
+      act_adds at (λ j. emission l v (emit op.Pop 0 j)) (SInto (expr_form l v) GDrop) (into_adds (outer c f) (emission l v) (emit op.Pop 0) (expr_form l v) GDrop (expr_adds c f l v).value (drop_adds (outer c f))) (λ z. tt) x b n k s o q e
+
+  delete_adds : (at : SourceLocation) (ts : tree.Exprs) → StmtAdds (tree.Delete at ts)
+  delete_adds at ts x b n k s o q w e = act_adds at (emission_of_deletes l ts) (removals l ts) (deletes_add c f l ts) (removals_unlooped l ts) x b n k s o q e
+
+  assign_stmt_adds : (at : SourceLocation) (ts : tree.Exprs) (v : tree.Expr) → StmtAdds (tree.Assign at ts v)
+  assign_stmt_adds at ts v x b n k s o q w e = act_adds at (λ j. emission l v (emission_of_assign l ts j)) (assign_form l (expr_form l v) ts) (assign_adds c f l v ts) (assign_unlooped l (expr_form l v) ts) x b n k s o q e
+
+  augment_stmt_adds : (at : SourceLocation) (t : tree.Expr) (d : Operator) (v : tree.Expr) → StmtAdds (tree.AugAssign at t d v)
+  augment_stmt_adds at t d v x b n k s o q w e = act_adds at (emission_of_augment l t d (emission l v)) (augment_form l t d (expr_form l v)) (augmented_adds c f l t d v) (augment_unlooped l t d (expr_form l v)) x b n k s o q e
+
+  annotated_stmt_adds : (at : SourceLocation) (t annotation : tree.Expr) (v : tree.OptExpr) (simple : Bool) → StmtAdds (tree.AnnAssign at t annotation v simple)
+  annotated_stmt_adds at t annotation v simple x b n k s o q w e =
+      act_adds at (λ j. emission_of_declared l t v (emission l annotation (emission_of_annotation t j))) (SThen (declared_form l (target_form l t) v) (SInto (expr_form l annotation) (annotation_target t))) (annotated_adds c f l t annotation v) (λ z. (declared_unlooped l (target_form l t) v z, tt)) x b n k s o q e
 
   mutual
     pub stmt_adds : (t : tree.Stmt) → StmtAdds t
+    stmt_adds (tree.Delete at ts) = delete_adds at ts
+    stmt_adds (tree.Assign at ts v) = assign_stmt_adds at ts v
+    stmt_adds (tree.AugAssign at t d v) = augment_stmt_adds at t d v
+    stmt_adds (tree.AnnAssign at t annotation v simple) = annotated_stmt_adds at t annotation v simple
     stmt_adds (tree.If at t body tree.no_stmts) = if_adds at t body (stmts_add body)
     stmt_adds (tree.If at t body (tree.more_stmts d ds)) = else_adds at t body d ds (stmts_add body) (stmts_add (tree.more_stmts d ds))
     stmt_adds (tree.While at t body orelse) = while_adds at t body orelse (stmts_add body) (stmts_add orelse)

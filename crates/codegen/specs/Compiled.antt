@@ -10,7 +10,7 @@ use Rattle.py_meaning.specs.Faults.{Fault}
 use Rattle.py_meaning.specs.Emission.{Outcome, Refused}
 use Rattle.py_meaning.specs.declared.errors.CodegenErrorType.{CodegenErrorType}
 use Rattle.py_meaning.specs.declared.errors.CodegenErrorType.TheVariants as error
-use Rattle.py_tree.specs.declared.location.LocatedError.{LocatedError}
+use Rattle.py_base.specs.declared.location.LocatedError.{LocatedError}
 
 -- how high the stack is
 abbrev pub stack_height : {K P : Type 0} → Config K P → ℕ

@@ -2,23 +2,23 @@
 
 ghost use Rattle.std.specs.Prelude.{◌≡◌, [], ◌<◌, ◌^◌, None, IfOk, IfErr, OnOk};
 ghost use Rattle.py_tree.specs.Size.{size_of};
-ghost use Rattle.py_tree.specs.View.{mod_tree, stmt_tree, stmts};
+ghost use Rattle.py_tree.specs.View.{mod_tree};
 ghost use Rattle.py_bytecode.specs.View.{object};
 ghost use Rattle.py_meaning.specs.Agreement.{Agree, AgreeFull};
-ghost use Rattle.py_meaning.specs.Emission.{Done, emission_of_mod, emission_of_program, emitted};
+ghost use Rattle.py_meaning.specs.Emission.{Done, emission_of_mod, emitted};
 ghost use Rattle.py_meaning.specs.Faults.{faults};
 ghost use Rattle.py_meaning.specs.Meaning.{body};
 ghost use Rattle.codegen.specs.Compiled.{AlwaysEnds, IsFirst, IsRefused, NoHigher};
 ghost use Rattle.py_emit.specs.Emitted.{IsEmitted};
 ghost use Rattle.py_emit.specs.States.{AreMade, Goes, Same, loop_blocks, rest, state};
 
-use crate::statements::compile_statements;
-use py_bytecode::{CodeObject, ConstantData};
+use crate::program::emit_program;
+use py_bytecode::CodeObject;
 pub use py_emit::CompileOpts;
 use py_emit::Emitter;
 use py_expr::compile_return;
 use py_meaning::{CodegenError, CodegenErrorType};
-use py_tree::{LocatedError, Mod, Mode, Stmt, Text, TreeLimit, depth_of_tree, size_of_tree, valid};
+use py_tree::{LocatedError, Mod, Mode, Text, TreeLimit, depth_of_tree, size_of_tree, valid};
 use std::alloc::Global;
 
 /// The nesting that no accepted tree reaches.
@@ -97,19 +97,7 @@ fn emit_mod(em: &mut Emitter, ast: &Mod) -> Result<(), CodegenError>
     ensures same { Same result (rest em.new) (rest em.old) }
 {
     match ast {
-        Mod::Module(m) => emit_program(em, m.body.as_slice()),
+        Mod::Module(m) => emit_program(em, &m.body),
         Mod::Expression(m) => compile_return(em, &m.body),
     }
-}
-
-/// Emits the statements of a file, and the return of None.
-#[tactic(auto, using(py_bytecode::proofs::View::views))]
-fn emit_program(em: &mut Emitter, ast: &[Stmt]) -> Result<(), CodegenError>
-    requires loops { AreMade (rest em.old).context.loop_blocks }
-    requires outside { loop_blocks (rest em.old).context.loop_blocks ≡ None }
-    ensures goes { Goes result (Done (state em.new)) (emission_of_program (rest em.old).opts.optimize (stmts stmt_tree ast.now) (state em.old)) }
-    ensures same { Same result (rest em.new) (rest em.old) }
-{
-    compile_statements(em, ast)?;
-    em.return_const(ConstantData::None)
 }

@@ -4,6 +4,9 @@ ghost use Rattle.py_tree.specs.View.{break_tree, continue_tree, expr_tree, if_tr
 ghost use Rattle.py_meaning.specs.Emission.{LoopBlocks as Loops, Next, choice, emission_of_stmt, emission_of_stmts, emission_of_test, only};
 ghost use Rattle.py_emit.specs.States.{AreMade, Goes, Same, loop_blocks, rest, state};
 
+use crate::assignments::{
+    compile_ann_assign, compile_assign, compile_aug_assign, compile_delete_statement,
+};
 use py_bytecode::Instruction;
 use py_emit::{EmitContext, Emitter, emit, refuse};
 use py_expr::{compile_expression, compile_jump_if};
@@ -32,6 +35,10 @@ fn compile_statement(em: &mut Emitter, statement: &Stmt) -> Result<(), CodegenEr
     ensures same { Same result (rest em.new) (rest em.old) }
 {
     match statement {
+        Stmt::Delete(s) => compile_delete_statement(em, s),
+        Stmt::Assign(s) => compile_assign(em, s),
+        Stmt::AugAssign(s) => compile_aug_assign(em, s),
+        Stmt::AnnAssign(s) => compile_ann_assign(em, s),
         Stmt::If(s) => compile_if(em, s),
         Stmt::While(s) => compile_while(em, s),
         Stmt::Expr(s) => compile_expr_statement(em, s),

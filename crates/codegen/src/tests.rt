@@ -3,9 +3,9 @@ use crate::error::CodegenError;
 use py_bytecode::{CodeObject, listing};
 use py_tree::{
     BoolOp, CmpOp, Constant, Expr, ExprBinOp, ExprBoolOp, ExprCall, ExprCompare, ExprConstant,
-    ExprIfExp, ExprName, ExprUnaryOp, List, Mod, ModExpression, ModModule, Mode, OneIndexed,
-    Operator, SourceLocation, Stmt, StmtBreak, StmtExpr, StmtIf, StmtPass, StmtWhile, Text,
-    UnaryOp,
+    ExprIfExp, ExprName, ExprStarred, ExprTuple, ExprUnaryOp, List, Mod, ModExpression, ModModule,
+    Mode, OneIndexed, Operator, SourceLocation, Stmt, StmtAssign, StmtBreak, StmtDelete, StmtExpr,
+    StmtIf, StmtPass, StmtWhile, Text, UnaryOp,
 };
 use std::alloc::Global;
 use std::test::Fail;
@@ -48,6 +48,7 @@ fn call(alloc: Global) -> Result<Expr, Fail> {
         location: at(1),
         func: Box::new(alloc, name(alloc, 1, "f")?)?,
         args: List::from_vec(vec![in alloc; sum]?),
+        keywords: List::new(alloc),
     }))
 }
 
@@ -59,6 +60,7 @@ fn called(alloc: Global, calls: u32) -> Result<Expr, Fail> {
             location: at(1),
             func: Box::new(alloc, value)?,
             args: List::new(alloc),
+            keywords: List::new(alloc),
         });
     }
     Ok(value)
@@ -229,6 +231,7 @@ fn called_with_many(alloc: Global) -> Result<Expr, Fail> {
         location: at(1),
         func: Box::new(alloc, name(alloc, 1, "f")?)?,
         args: List::from_vec(args),
+        keywords: List::new(alloc),
     }))
 }
 
@@ -396,6 +399,81 @@ fn a_far_jump_takes_two_units(rt: HostRuntime) -> Result<(), Fail> {
         text.as_str()
             .ends_with("256 1:1 Pop\n257 1:1 ReturnConst 0 None\n")
     );
+    Ok(())
+}
+
+/// `if c:` over 126 statements `x`, which take two units each, and `del x`.
+#[test]
+fn the_furthest_jump_of_one_unit(rt: HostRuntime) -> Result<(), Fail> {
+    let alloc = rt.alloc();
+    let mut values = Vec::new(alloc);
+    for _ in 0..126 {
+        values.push(name(alloc, 1, "x")?)?;
+    }
+    let mut body = statements(alloc, values)?;
+    body.push(Stmt::Delete(StmtDelete {
+        location: at(1),
+        targets: List::from_vec(vec![in alloc; name(alloc, 1, "x")?]?),
+    }))?;
+    let statement = if_only(alloc, name(alloc, 4, "c")?, body)?;
+    let tree = module(vec![in alloc; statement]?);
+    let code = compiled(alloc, &tree, Mode::Exec, 0)??;
+    assert_eq!(rt; code.instructions.len(), 256);
+    let text = listing(alloc, &code)?;
+    assert!(rt; text.as_str().contains("\n1 1:4 JumpIfFalse 255 to 255\n"));
+    assert!(rt;
+        text.as_str()
+            .ends_with("254 1:1 DeleteLocal 1 'x'\n255 1:1 ReturnConst 0 None\n")
+    );
+    Ok(())
+}
+
+/// So many names `a` and `*b` in one tuple, to which `c` is assigned.
+fn starred_assignment(alloc: Global, count: u32) -> Result<Mod, Fail> {
+    let mut elts = Vec::new(alloc);
+    for _ in 0..count {
+        elts.push(name(alloc, 1, "a")?)?;
+    }
+    elts.push(Expr::Starred(ExprStarred {
+        location: at(2),
+        value: Box::new(alloc, name(alloc, 3, "b")?)?,
+    }))?;
+    let target = Expr::Tuple(ExprTuple {
+        location: at(1),
+        elts: List::from_vec(elts),
+    });
+    let statement = Stmt::Assign(StmtAssign {
+        location: at(1),
+        targets: List::from_vec(vec![in alloc; target]?),
+        value: Box::new(alloc, name(alloc, 7, "c")?)?,
+    });
+    Ok(module(vec![in alloc; statement]?))
+}
+
+#[test]
+fn unpacks_at_most_255_targets_before_a_star(rt: HostRuntime) -> Result<(), Fail> {
+    let alloc = rt.alloc();
+    let code = compiled(alloc, &starred_assignment(alloc, 255)?, Mode::Exec, 0)??;
+    assert_eq!(rt; code.instructions.len(), 259);
+    let text = listing(alloc, &code)?;
+    assert!(rt;
+        text.as_str().contains(
+            "\n0 1:7 LoadNameAny 0 'c'\n1 1:7 UnpackEx 255\n2 1:7 StoreLocal 1 'a'\n"
+        )
+    );
+    assert!(rt;
+        text.as_str()
+            .ends_with("257 1:7 StoreLocal 2 'b'\n258 1:7 ReturnConst 0 None\n")
+    );
+    let refused = compiled(alloc, &starred_assignment(alloc, 256)?, Mode::Exec, 0)?.err();
+    let Some(error) = refused else {
+        return Ok(assert!(rt; false, "it was compiled"));
+    };
+    assert_eq!(rt;
+        format!(in alloc; "{}", error.error)?.as_str(),
+        "too many expressions in star-unpacking assignment"
+    );
+    assert_eq!(rt; error.location, Some(at(1)));
     Ok(())
 }
 

@@ -1,7 +1,7 @@
 use Rattle.std.proofs.Common.{◌≡◌, Result, Ok, Err, IfOk, IfErr, IsErrAnd, sym, ap, ◌∙◌, subst}
 use Rattle.std.proofs.lemmas.Result.{err_from_is_err_and}
 use Rattle.py_tree.specs.View.{mod_tree}
-use Rattle.py_tree.specs.declared.location.LocatedError.{LocatedError}
+use Rattle.py_base.specs.declared.location.LocatedError.{LocatedError}
 use Rattle.py_bytecode.specs.declared.code.CodeObject.{CodeObject}
 use Rattle.py_ir.specs.Final.{IsFinal}
 use Rattle.py_meaning.specs.Emission.{Done, emitted}

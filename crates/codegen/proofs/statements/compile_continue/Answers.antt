@@ -1,5 +1,5 @@
 use Rattle.std.proofs.Common.{◌≡◌, None, ◌∙◌, ap, sym}
-use Rattle.py_tree.specs.declared.location.LocatedError.{LocatedError}
+use Rattle.py_base.specs.declared.location.LocatedError.{LocatedError}
 use Rattle.py_bytecode.specs.declared.instruction.Instruction.TheVariants as op
 use Rattle.py_meaning.specs.Emission.{leave_loop, located}
 use Rattle.py_meaning.specs.declared.errors.CodegenErrorType.{CodegenErrorType}

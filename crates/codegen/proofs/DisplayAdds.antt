@@ -1,0 +1,39 @@
+-- The emission of a display adds the code of its form.
+use Rattle.std.proofs.Common.{◌≡◌, ℕ, List, [], length, Some, sym, subst}
+use Rattle.py_bytecode.specs.declared.instruction.Instruction.{Instruction}
+use Rattle.py_bytecode.specs.declared.instruction.Instruction.TheVariants as op
+use Rattle.py_bytecode.specs.Objects.{Object}
+use Rattle.py_bytecode.specs.Machine.{Operate}
+use Rattle.py_meaning.specs.Form.{Interp, VForm}
+use Rattle.py_meaning.specs.Code.{count as form_count}
+use Rattle.py_meaning.specs.Elements.{Element, starred, bare, groups}
+use Rattle.py_meaning.specs.Table as table
+use Rattle.py_meaning.specs.Table.{parts_of, counted}
+use Rattle.py_meaning.specs.Emission as emitting
+use Rattle.py_meaning.specs.Emission.{Next, emit_count, in_turn}
+use Rattle.codegen.proofs.Pairwise.{same_length, same_starred, bare_alike, groups_alike}
+use Rattle.codegen.proofs.Instructions.{Builds, tuple_builds}
+use Rattle.codegen.proofs.FormAdds.{ValueAdds, StepAdds, AllValuesAdd, AllElementsAdd, as_many, either_adds, values_add, operation_adds}
+
+-- what is built of so many values as there are forms
+pub builds_as : (x : Instruction) → Builds x → (n : ℕ) (fs : List VForm) → n ≡ length fs → StepAdds (emit_count x n) (Operate (counted x (length fs)) (form_count (parts_of fs)) (Some 1))
+builds_as x builds n fs few =
+    let step : StepAdds (emit_count x n) (Operate (counted x (length fs)) (length fs) (Some 1)) = subst (λ m. StepAdds (emit_count x n) (Operate (counted x m) m (Some 1))) few (builds n) in
+    subst (λ m. StepAdds (emit_count x n) (Operate (counted x (length fs)) m (Some 1))) (sym (as_many fs)) step
+
+module _ (i : Interp Object) where
+  -- values, and what is built of them
+  pub built_adds : (x : Instruction) → Builds x → (vs : List (Next → Next)) (fs : List VForm) → AllValuesAdd i vs fs → ValueAdds i (emitting.built x vs) (table.built x fs)
+  built_adds x builds vs fs a =
+      operation_adds i (counted x (length fs)) (in_turn vs) (emit_count x (length vs)) (parts_of fs) (values_add i vs fs a) (builds_as x builds (length vs) fs (same_length (ValueAdds i) vs fs a))
+
+  -- a tuple of each run of plain elements, and the starred values
+  pub groups_add : (es : List (Element (Next → Next) (Next → Next))) (fs : List (Element VForm VForm)) → AllElementsAdd i es fs → AllValuesAdd i (groups (emitting.built op.BuildTuple) [] es) (groups (table.built op.BuildTuple) [] fs)
+  groups_add es fs a = groups_alike (ValueAdds i) (ValueAdds i) (emitting.built op.BuildTuple) (table.built op.BuildTuple) (built_adds op.BuildTuple tuple_builds) es fs [] [] tt a
+
+  unpacked_adds : (x : Instruction) → Builds x → (es : List (Element (Next → Next) (Next → Next))) (fs : List (Element VForm VForm)) → AllElementsAdd i es fs → ValueAdds i (emitting.unpacked x es) (table.unpacked x fs)
+  unpacked_adds x builds es fs a = built_adds x builds (groups (emitting.built op.BuildTuple) [] es) (groups (table.built op.BuildTuple) [] fs) (groups_add es fs a)
+
+  pub display_adds : (build unpack : Instruction) → Builds build → Builds unpack → (es : List (Element (Next → Next) (Next → Next))) (fs : List (Element VForm VForm)) → AllElementsAdd i es fs → ValueAdds i (emitting.display build unpack es) (table.display build unpack fs)
+  display_adds build unpack builds unpacks es fs a =
+      either_adds i (starred es) (starred fs) (emitting.unpacked unpack es) (emitting.built build (bare es)) (table.unpacked unpack fs) (table.built build (bare fs)) (same_starred (ValueAdds i) (ValueAdds i) es fs a) (unpacked_adds unpack unpacks es fs a) (built_adds build builds (bare es) (bare fs) (bare_alike (ValueAdds i) es fs a))

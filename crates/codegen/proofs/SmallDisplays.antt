@@ -1,0 +1,131 @@
+-- What displays, slices and joined texts weigh.
+use Rattle.std.proofs.Common.{ℕ, ◌+◌, ◌*◌, ◌≤◌, List, [], ◌∷◌, ◌++◌, length, Bool, true, false, Option, Some, None, arith}
+use Rattle.std.specs.Prelude.{if◌then◌else◌}
+use Rattle.py_bytecode.specs.declared.instruction.Instruction.{Instruction}
+use Rattle.py_bytecode.specs.declared.instruction.Instruction.TheVariants as op
+use Rattle.py_bytecode.specs.Objects as const
+use Rattle.py_bytecode.specs.Objects.{Const, Object}
+use Rattle.py_bytecode.specs.Values.{Bare, operation}
+use Rattle.py_meaning.specs.Elements.{Element, Single, Spread, starred, bare, grouped, groups, pairs, keyed, unkeyed, sides}
+use Rattle.py_meaning.specs.Form.{Interp, VForm, VOp, VNone, VMore}
+use Rattle.py_meaning.specs.Code.{labels_v, code_v, code_vs}
+use Rattle.py_meaning.specs.Table.{counted, parts_of, built, unpacked, display, updated, dict_form, value_or, slice_form, joined_form}
+use Rattle.codegen.proofs.Burden.{burden, burden-append}
+use Rattle.codegen.proofs.Together.{Together, Possible, OneElement, push_together, bare_together}
+use Rattle.codegen.proofs.Small.{FormSmall, parts_small, operation_small}
+
+module _ (i : Interp Object) where
+  abbrev pub PartsSmall : List VForm → ℕ → Type 0
+  PartsSmall fs s = (n : ℕ) → burden (code_vs i (parts_of fs) n) ≤ 8 * s
+
+  -- runs of elements, each of which is made one value that its first element pays for
+  module _ {B : Type 0} (made_of : List B → VForm) (P : B → ℕ → Type 0) (made_small : (x : B) (xs : List B) (r : ℕ) → Together P (x ∷ xs) r → (n : ℕ) → burden (code_v i (made_of (x ∷ xs)) n) ≤ 8 * r) where
+    grouped_small : (run : List B) (rest : List VForm) (r s : ℕ) → Together P run r → PartsSmall rest s → PartsSmall (grouped made_of run ++ rest) (r + s)
+    grouped_small [] rest r s x h n = let p = h n in omega (arith, p)
+    grouped_small (y ∷ ys) rest r s x h n =
+        let p = made_small y ys r x n in
+        let q = h (n + labels_v (made_of (y ∷ ys))) in
+        simp burden-append (omega (arith, p, q))
+
+    last_small : (run : List B) (r : ℕ) → Together P run r → PartsSmall (grouped made_of run) r
+    last_small [] r x n = omega arith
+    last_small (y ∷ ys) r x n = let p = made_small y ys r x n in simp burden-append (omega (arith, p))
+
+    spread_small : (f : VForm) (rest : List VForm) (a s : ℕ) → FormSmall i f a → PartsSmall rest s → PartsSmall (f ∷ rest) (a + s)
+    spread_small f rest a s x h n =
+        let p = x n in
+        let q = h (n + labels_v f) in
+        simp burden-append (omega (arith, p, q))
+
+    pub groups_small : (run : List B) (es : List (Element B VForm)) (r s : ℕ) → Together P run r → Together (OneElement P (FormSmall i)) es s → PartsSmall (groups made_of run es) (r + s)
+    groups_small run [] r s x h n = let p = last_small run r x n in omega (arith, p)
+    groups_small run (Single y ∷ es) r s x h n =
+        let p = groups_small (run ++ y ∷ []) es (r + h.0) h.1 (push_together P run y r h.0 x h.2) h.3 n in
+        let e = h.4 in
+        omega (arith, p, e)
+    groups_small run (Spread f ∷ es) r s x h n =
+        let rest = spread_small f (groups made_of [] es) h.0 h.1 h.2 (λ m. let q = groups_small [] es 0 h.1 tt h.3 m in omega (arith, q)) in
+        let p = grouped_small run (f ∷ groups made_of [] es) r (h.0 + h.1) x rest n in
+        let e = h.4 in
+        omega (arith, p, e)
+
+  abbrev pub ElementsSmall : List (Element VForm VForm) → ℕ → Type 0
+  ElementsSmall es s = Together (OneElement (FormSmall i) (FormSmall i)) es s
+
+  tuple_small : (f : VForm) (fs : List VForm) (r : ℕ) → Together (FormSmall i) (f ∷ fs) r → (n : ℕ) → burden (code_v i (built op.BuildTuple (f ∷ fs)) n) ≤ 8 * r
+  tuple_small f fs r x n = let p = parts_small i (f ∷ fs) r x n in simp burden-append (omega (arith, simp burden-append at p))
+
+  unpacked_small : (gather : Instruction) (es : List (Element VForm VForm)) (s : ℕ) → ElementsSmall es s → (n : ℕ) → burden (code_v i (unpacked gather es) n) ≤ 8 * s + 2
+  unpacked_small gather es s h n = let p = groups_small (built op.BuildTuple) (FormSmall i) tuple_small [] es 0 s tt h n in simp burden-append (omega (arith, p))
+
+  -- all the elements in one value
+  pub gathered_small : (b : Bool) (build gather : Instruction) (es : List (Element VForm VForm)) (s : ℕ) → ElementsSmall es s → (n : ℕ) → burden (code_v i (if b then unpacked gather es else built build (bare es)) n) ≤ 8 * s + 2
+  gathered_small true build gather es s h n = unpacked_small gather es s h n
+  gathered_small false build gather es s h n = let p = parts_small i (bare es) s (bare_together (FormSmall i) es s h) n in simp burden-append (omega (arith, p))
+
+  pub display_small : (build gather : Instruction) (es : List (Element VForm VForm)) (s : ℕ) → ElementsSmall es s → FormSmall i (display build gather es) (s + 1)
+  display_small build gather es s h n = let p = gathered_small (starred es) build gather es s h n in omega (arith, p)
+
+  -- dict displays
+  record Parted (ps : List (Option VForm × VForm)) (s : ℕ) : Type 0 where
+    with_key : ℕ
+    without : ℕ
+    keyed_small : Together (FormSmall i) (sides (keyed ps)) with_key
+    unkeyed_small : Together (FormSmall i) (unkeyed ps) without
+    within : with_key + without ≤ s
+
+  parted : (ks : List (Option VForm)) (vs : List VForm) (a b : ℕ) → Together (Possible (FormSmall i)) ks a → Together (FormSmall i) vs b → Parted (pairs ks vs) (a + b)
+  parted [] vs a b x y = record { with_key = 0; without = 0; keyed_small = tt; unkeyed_small = tt; within = omega arith }
+  parted (k ∷ ks) [] a b x y = record { with_key = 0; without = 0; keyed_small = tt; unkeyed_small = tt; within = omega arith }
+  parted (None ∷ ks) (v ∷ vs) a b x y =
+      let p = parted ks vs x.1 y.1 x.3 y.3 in
+      record { with_key = p.with_key; without = y.0 + p.without; keyed_small = p.keyed_small; unkeyed_small = (y.0, p.without, y.2, p.unkeyed_small, omega arith); within = (let e = p.within in let c = x.4 in let d = y.4 in omega (arith, e, c, d)) }
+  parted (Some k ∷ ks) (v ∷ vs) a b x y =
+      let p = parted ks vs x.1 y.1 x.3 y.3 in
+      record {
+        with_key = x.0 + (y.0 + p.with_key);
+        without = p.without;
+        keyed_small = (x.0, y.0 + p.with_key, x.2, (y.0, p.with_key, y.2, p.keyed_small, omega arith), omega arith);
+        unkeyed_small = p.unkeyed_small;
+        within = (let e = p.within in let c = x.4 in let d = y.4 in omega (arith, e, c, d));
+      }
+
+  updated_small : (map : VForm) (m : ℕ) (fs : List VForm) (s : ℕ) → ((n : ℕ) → burden (code_v i map n) ≤ m) → Together (FormSmall i) fs s → (n : ℕ) → burden (code_v i (updated map fs) n) ≤ m + 8 * s
+  updated_small map m [] s h x n = let p = h n in omega (arith, p)
+  updated_small map m (f ∷ fs) s h x n =
+      let more : VForm = VOp (operation op.DictUpdate Bare) (VMore map (VMore f VNone)) in
+      let one : (n : ℕ) → burden (code_v i more n) ≤ m + 8 * x.0 = λ n. let p = h n in let q = x.2 (n + labels_v map) in simp burden-append (omega (arith, p, q)) in
+      let p = updated_small more (m + 8 * x.0) fs x.1 one x.3 n in
+      let e = x.4 in
+      omega (arith, p, e)
+
+  pub dict_small : (ks : List (Option VForm)) (vs : List VForm) (a b : ℕ) → Together (Possible (FormSmall i)) ks a → Together (FormSmall i) vs b → FormSmall i (dict_form (pairs ks vs)) (a + b + 1)
+  dict_small ks vs a b x y n =
+      let p = parted ks vs a b x y in
+      let ps = pairs ks vs in
+      let map : VForm = VOp (counted op.BuildMap (length (keyed ps))) (parts_of (sides (keyed ps))) in
+      let one : (n : ℕ) → burden (code_v i map n) ≤ 8 * p.with_key + 2 = λ n. let q = parts_small i (sides (keyed ps)) p.with_key p.keyed_small n in simp burden-append (omega (arith, q)) in
+      let q = updated_small map (8 * p.with_key + 2) (unkeyed ps) p.without one p.unkeyed_small n in
+      let e = p.within in
+      omega (arith, q, e)
+
+  -- slices
+  pub value_or_small : (c : Const) (f : Option VForm) (s : ℕ) → Possible (FormSmall i) f s → (n : ℕ) → burden (code_v i (value_or c f) n) ≤ 8 * s + 2
+  value_or_small c None s h n = omega arith
+  value_or_small c (Some f) s h n = let p = h n in omega (arith, p)
+
+  pub slice_small : (lower upper step : Option VForm) (a b s : ℕ) → Possible (FormSmall i) lower a → Possible (FormSmall i) upper b → Possible (FormSmall i) step s → FormSmall i (slice_form lower upper step) (a + b + s + 1)
+  slice_small lower upper None a b s x y z n =
+      let p = value_or_small const.none lower a x n in
+      let q = value_or_small const.none upper b y (n + labels_v (value_or const.none lower)) in
+      simp burden-append (omega (arith, p, q))
+  slice_small lower upper (Some step) a b s x y z n =
+      let p = value_or_small const.none lower a x n in
+      let q = value_or_small const.none upper b y (n + labels_v (value_or const.none lower)) in
+      let r = z (n + labels_v (value_or const.none lower) + labels_v (value_or const.none upper)) in
+      simp burden-append (omega (arith, p, q, r))
+
+  -- one text, or the values
+  pub joined_small : (text : Option (List ℕ)) (fs : List VForm) (s : ℕ) → Together (FormSmall i) fs s → FormSmall i (joined_form text fs) (s + 1)
+  joined_small None fs s h n = operation_small i (counted op.BuildString (length fs)) fs s h n
+  joined_small (Some text) fs s h n = omega arith

@@ -1,0 +1,43 @@
+//! Annotated assignments.
+ghost use Rattle.std.specs.Prelude.{◌≡◌, ◌≤◌, drop, length};
+ghost use Rattle.py_tree.specs.View.{stmt_tree, stmts};
+ghost use Rattle.py_meaning.specs.Table.{annotated, annotates};
+
+use crate::docs::statements_from;
+use py_tree::{Stmt, Stmts};
+
+/// Whether an annotated assignment stands among the statements of a body from a place on, or in the bodies of their choices
+/// and loops. The place is at most the length of the body.
+pub fn find_ann(body: &Stmts, from: usize) -> bool
+    requires { from ≤ length body.now }
+    ensures { result ≡ annotated (stmts stmt_tree (drop from body.now)) }
+{
+    has_annotation(statements_from(body, from))
+}
+
+/// Whether an annotated assignment stands among these statements.
+#[cycle(annotations)]
+#[tactic(auto, using(py_tree::proofs::View::trees))]
+fn has_annotation(body: &[Stmt]) -> bool
+    ensures { result ≡ annotated (stmts stmt_tree body.now) }
+{
+    for statement in body {
+        if annotates(statement) {
+            return true;
+        }
+    }
+    false
+}
+
+#[cycle(annotations)]
+#[tactic(auto, using(py_tree::proofs::View::trees))]
+fn annotates(statement: &Stmt) -> bool
+    ensures { result ≡ annotates (stmt_tree statement.now) }
+{
+    match statement {
+        Stmt::AnnAssign(_) => true,
+        Stmt::While(s) => has_annotation(s.body.as_slice()) || has_annotation(s.orelse.as_slice()),
+        Stmt::If(s) => has_annotation(s.body.as_slice()) || has_annotation(s.orelse.as_slice()),
+        _ => false,
+    }
+}
