@@ -3,8 +3,8 @@ use Rattle.std.proofs.Common.{◌≡◌, ◌<◌, ℕ, List, [], ◌∷◌, leng
 use Rattle.serde_json.specs.View.{view, items_view}
 use Rattle.serde_json.specs.declared.value.Value.{Value}
 use Rattle.pyc.specs.declared.rows.error.RowsError.TheVariants.{WrongRow}
-use Rattle.pyc.specs.Fields.{one, two, three, four, five}
-use Rattle.pyc.specs.Forms.{word_form}
+use Rattle.pyc.specs.Fields.{one, two, three, four, five, six}
+use Rattle.pyc.specs.ConstantForms.{word_form}
 use Rattle.py_tree.specs.declared.expressions.Constant.{Constant}
 
 pub not_one : (n : ℕ) (vs : List Value) → (length vs ≡ 1 → ⊥) → one n (items_view vs) ≡ Err (WrongRow n)
@@ -60,6 +60,27 @@ are_five n (u ∷ v ∷ w ∷ []) a b c d e l p q r s t = absurd (omega (arith, 
 are_five n (u ∷ v ∷ w ∷ x ∷ []) a b c d e l p q r s t = absurd (omega (arith, l))
 are_five n (u ∷ v ∷ w ∷ x ∷ y ∷ []) a b c d e l p q r s t = rw (p, q, r, s, t) refl
 are_five n (u ∷ v ∷ w ∷ x ∷ y ∷ z ∷ vs) a b c d e l p q r s t = absurd (omega (arith, l))
+
+pub not_six : (n : ℕ) (vs : List Value) → (length vs ≡ 6 → ⊥) → six n (items_view vs) ≡ Err (WrongRow n)
+not_six n [] h = refl
+not_six n (a ∷ []) h = refl
+not_six n (a ∷ b ∷ []) h = refl
+not_six n (a ∷ b ∷ c ∷ []) h = refl
+not_six n (a ∷ b ∷ c ∷ d ∷ []) h = refl
+not_six n (a ∷ b ∷ c ∷ d ∷ e ∷ []) h = refl
+not_six n (a ∷ b ∷ c ∷ d ∷ e ∷ f ∷ []) h = absurd (h refl)
+not_six n (a ∷ b ∷ c ∷ d ∷ e ∷ f ∷ g ∷ vs) h = refl
+
+pub are_six : (n : ℕ) (vs : List Value) (a b c d e f : Value) → length vs ≡ 6 → a ≡ get_or vs 0 a → b ≡ get_or vs 1 b → c ≡ get_or vs 2 c → d ≡ get_or vs 3 d → e ≡ get_or vs 4 e → f ≡ get_or vs 5 f
+    → six n (items_view vs) ≡ Ok (view a, view b, view c, view d, view e, view f)
+are_six n [] a b c d e f l p q r s t u = absurd (omega (arith, l))
+are_six n (v ∷ []) a b c d e f l p q r s t u = absurd (omega (arith, l))
+are_six n (v ∷ w ∷ []) a b c d e f l p q r s t u = absurd (omega (arith, l))
+are_six n (v ∷ w ∷ x ∷ []) a b c d e f l p q r s t u = absurd (omega (arith, l))
+are_six n (v ∷ w ∷ x ∷ y ∷ []) a b c d e f l p q r s t u = absurd (omega (arith, l))
+are_six n (v ∷ w ∷ x ∷ y ∷ z ∷ []) a b c d e f l p q r s t u = absurd (omega (arith, l))
+are_six n (v ∷ w ∷ x ∷ y ∷ z ∷ o ∷ []) a b c d e f l p q r s t u = rw (p, q, r, s, t, u) refl
+are_six n (v ∷ w ∷ x ∷ y ∷ z ∷ o ∷ m ∷ vs) a b c d e f l p q r s t u = absurd (omega (arith, l))
 
 pub some_field : (value : Constant) (n : ℕ) (vs : List Value) → 0 < length vs → word_form value n (items_view vs) ≡ Err (WrongRow n)
 some_field value n [] h = absurd (omega arith)

@@ -4,7 +4,9 @@ pub mod Ends
 pub mod Feeds
 pub mod FewRows
 pub mod Jsons
+pub mod Keywords
 pub mod Numerals
+pub mod Optionals
 pub mod Pieces
 pub mod Sofar
 pub mod Takes

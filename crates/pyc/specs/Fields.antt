@@ -1,8 +1,8 @@
 -- The fields of rows.
-use Rattle.std.specs.Prelude.{ℕ, ◌^◌, ◌&&◌, nat_lt, List, [], ◌∷◌, Option, Some, None, option_and_then, Result, Ok, Err, if◌then◌else◌}
+use Rattle.std.specs.Prelude.{ℕ, ◌^◌, Bool, ◌&&◌, nat_lt, List, [], ◌∷◌, Option, Some, None, option_and_then, is_some, Result, Ok, Err, if◌then◌else◌}
 use Rattle.serde_json.specs.Data.{Data, Items, no_items, item}
-use Rattle.serde_json.specs.Find.{as_array, as_number, as_str, as_u64}
-use Rattle.py_tree.specs.declared.location.SourceLocation.{SourceLocation}
+use Rattle.serde_json.specs.Find.{as_array, as_bool, as_null, as_number, as_str, as_u64}
+use Rattle.py_base.specs.declared.location.SourceLocation.{SourceLocation}
 use Rattle.pyc.specs.declared.rows.error.RowsError.{RowsError}
 use Rattle.pyc.specs.declared.rows.error.RowsError.TheVariants.{WrongRow}
 use Rattle.pyc.specs.Gives.{or_fault, ◌>>=◌}
@@ -28,6 +28,10 @@ four n fields = Err (WrongRow n)
 abbrev pub five : ℕ → Items → Result (Data × Data × Data × Data × Data) RowsError
 five n (item a (item b (item c (item d (item e no_items))))) = Ok (a, b, c, d, e)
 five n fields = Err (WrongRow n)
+
+abbrev pub six : ℕ → Items → Result (Data × Data × Data × Data × Data × Data) RowsError
+six n (item a (item b (item c (item d (item e (item f no_items)))))) = Ok (a, b, c, d, e, f)
+six n fields = Err (WrongRow n)
 
 -- ---- one field
 
@@ -63,5 +67,24 @@ numbers_in n (item d ds) = number_at n d >>= λ k. numbers_in n ds >>= λ ks. Ok
 abbrev pub numbers_at : ℕ → Data → Result (List ℕ) RowsError
 numbers_at n d = or_fault (WrongRow n) (as_array d) >>= numbers_in n
 
+-- the number of a row, or null
+abbrev pub optional_at : ℕ → Data → Result (Option ℕ) RowsError
+optional_at n d = if is_some (as_null d) then Ok None else (number_at n d >>= λ k. Ok (Some k))
+
+abbrev pub optionals_in : ℕ → Items → Result (List (Option ℕ)) RowsError
+optionals_in n no_items = Ok []
+optionals_in n (item d ds) = optional_at n d >>= λ k. optionals_in n ds >>= λ ks. Ok (k ∷ ks)
+
+-- the numbers of some rows, and nulls
+abbrev pub optionals_at : ℕ → Data → Result (List (Option ℕ)) RowsError
+optionals_at n d = or_fault (WrongRow n) (as_array d) >>= optionals_in n
+
 abbrev pub text_at : ℕ → Data → Result (List ℕ) RowsError
 text_at n d = or_fault (WrongRow n) (as_str d)
+
+-- a text, or null
+abbrev pub optional_text_at : ℕ → Data → Result (Option (List ℕ)) RowsError
+optional_text_at n d = if is_some (as_null d) then Ok None else (text_at n d >>= λ s. Ok (Some s))
+
+abbrev pub boolean_at : ℕ → Data → Result Bool RowsError
+boolean_at n d = or_fault (WrongRow n) (as_bool d)

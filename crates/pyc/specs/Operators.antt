@@ -11,6 +11,8 @@ use Rattle.py_tree.specs.declared.operators.UnaryOp.{UnaryOp}
 use Rattle.py_tree.specs.declared.operators.UnaryOp.TheVariants as unary
 use Rattle.py_tree.specs.declared.operators.CmpOp.{CmpOp}
 use Rattle.py_tree.specs.declared.operators.CmpOp.TheVariants as comparing
+use Rattle.py_tree.specs.declared.operators.ConversionFlag.{ConversionFlag}
+use Rattle.py_tree.specs.declared.operators.ConversionFlag.TheVariants as converting
 use Rattle.pyc.specs.declared.rows.error.RowsError.{RowsError}
 use Rattle.pyc.specs.declared.rows.error.RowsError.TheVariants.{WrongRow}
 use Rattle.pyc.specs.Gives.{or_fault, ◌>>=◌}
@@ -75,3 +77,13 @@ comparisons_in n (item d ds) = comparison_at n d >>= λ o. comparisons_in n ds >
 -- the operators of a comparison, in their order
 abbrev pub comparisons_at : ℕ → Data → Result (List CmpOp) RowsError
 comparisons_at n d = or_fault (WrongRow n) (as_array d) >>= comparisons_in n
+
+abbrev pub conversion_of : List ℕ → Option ConversionFlag
+conversion_of word =
+    if bytes_eq word (codes "None") then Some converting.None else
+    (if bytes_eq word (codes "Str") then Some converting.Str else
+    (if bytes_eq word (codes "Ascii") then Some converting.Ascii else
+    (if bytes_eq word (codes "Repr") then Some converting.Repr else None)))
+
+abbrev pub conversion_at : ℕ → Data → Result ConversionFlag RowsError
+conversion_at n d = or_fault (WrongRow n) (option_and_then conversion_of (as_str d))

@@ -6,12 +6,13 @@ use Rattle.py_tree.specs.Tree as tree
 use Rattle.pyc.specs.declared.rows.error.RowsError.{RowsError}
 use Rattle.pyc.specs.declared.rows.error.RowsError.TheVariants.{LaterRow, WrongKind, TooDeep, NoMod, NotNamed}
 use Rattle.pyc.specs.declared.rows.forms.Part.{Part}
-use Rattle.pyc.specs.Forms.{form_at, parts_of}
+use Rattle.pyc.specs.Forms.{form_at}
+use Rattle.pyc.specs.Parts.{parts_of}
 use Rattle.pyc.specs.Gives.{or_fault, where_holds, ◌>>=◌}
 use Rattle.pyc.specs.JsonRows.{json_of, rows_in}
 use Rattle.pyc.specs.Kinds.{built_from}
 use Rattle.pyc.specs.Nodes.{node_of}
-use Rattle.pyc.specs.Slots.{Node, Mod, Stmt, Expr, Constant, Slot, sort_of, all_earlier, all_fit, deepest}
+use Rattle.pyc.specs.Slots.{Node, Mod, Stmt, Expr, Constant, Keyword, Slot, sort_of, all_earlier, all_fit, deepest}
 
 -- the rows that row n names are earlier ones, and of the kinds that its fields take
 abbrev pub checked : ℕ → List Part → List Slot → Result (Unit {0}) RowsError
@@ -38,6 +39,7 @@ mod_in (Mod m) = Some m
 mod_in (Stmt s) = None
 mod_in (Expr e) = None
 mod_in (Constant c) = None
+mod_in (Keyword k) = None
 
 abbrev pub mod_of : Option Slot → Result tree.Mod RowsError
 mod_of None = Err NoMod

@@ -1,73 +1,8 @@
-//! Choices and loops: small programs with what a run writes over their rows. The tables are made by
-//! tools/choice_tables.py.
+//! Choices and loops: small programs with what a run
+//! writes over their rows. The file is made by tools/source_tables.py.
 
-use crate::engine::run;
-use crate::memory::{MemSink, MemSource};
-use crate::report::Status;
-use py_tree::{List, Text};
-use std::alloc::{AllocError, Global};
-use std::process::Abort;
+use crate::examples::{Example, check};
 use std::test::Fail;
-
-/// A program, and what a run writes over its rows.
-struct Choice {
-    source: &'static str,
-    mode: &'static str,
-    level: &'static str,
-    rows: &'static str,
-    want: &'static str,
-}
-
-/// How a run ended, and what it wrote on both sinks.
-#[derive(Drop)]
-struct Ending {
-    status: Status,
-    out: MemSink,
-    err: MemSink,
-}
-
-fn words(alloc: Global, choice: &Choice) -> Result<List<Text>, AllocError> {
-    let mut words = Vec::new(alloc);
-    for word in [choice.mode, choice.level, "m.py"] {
-        words.push(Text::from_string(String::from_str(alloc, word)?))?;
-    }
-    Ok(List::from_vec(words))
-}
-
-/// A sink that takes all.
-fn sink(alloc: Global) -> Result<MemSink, AllocError> {
-    let room = List::from_vec(vec![in alloc; 0u8; 4096]?);
-    Ok(MemSink::new(room, 64, List::new(alloc)))
-}
-
-fn written(alloc: Global, choice: &Choice) -> Result<Ending, AllocError> {
-    let words = words(alloc, choice)?;
-    let rows = List::from_vec(Vec::from_slice(alloc, choice.rows.as_bytes())?);
-    let mut source = MemSource::new(rows, 512, List::new(alloc));
-    let mut out = sink(alloc)?;
-    let mut err = sink(alloc)?;
-    let status = run(alloc, &words, &mut source, &mut out, &mut err).status;
-    Ok(Ending { status, out, err })
-}
-
-/// A listing is written by a run that is done, and a line by one that is refused.
-fn check(rt: &impl Abort, alloc: Global, choices: &[Choice]) -> Result<(), AllocError> {
-    for choice in choices {
-        let end = written(alloc, choice)?;
-        let out = end.out.bytes();
-        let err = end.err.bytes();
-        let is_listing = choice.want.starts_with("code ");
-        let (status, text, other) = if is_listing {
-            (Status::Done, out, err)
-        } else {
-            (Status::Refused, err, out)
-        };
-        assert_eq!(rt; text, choice.want.as_bytes(), "{}", choice.source);
-        assert_eq!(rt; other, b"".as_slice(), "{}", choice.source);
-        assert_eq!(rt; end.status, status, "{}", choice.source);
-    }
-    Ok(())
-}
 
 #[test]
 fn branches(rt: HostRuntime) -> Result<(), Fail> {
@@ -109,8 +44,8 @@ fn conditionals(rt: HostRuntime) -> Result<(), Fail> {
     Ok(check(&rt, rt.alloc(), &CONDITIONALS)?)
 }
 
-const BRANCHES: [Choice; 6] = [
-    Choice {
+const BRANCHES: [Example; 6] = [
+    Example {
         source: "if a: pass",
         mode: "exec",
         level: "0",
@@ -122,7 +57,7 @@ const BRANCHES: [Choice; 6] = [
             1 1:4 JumpIfFalse 2 to 2\n\
             2 1:7 ReturnConst 0 None\n",
     },
-    Choice {
+    Example {
         source: "if a: b\nelse: c",
         mode: "exec",
         level: "1",
@@ -139,7 +74,7 @@ const BRANCHES: [Choice; 6] = [
             6 2:7 Pop\n\
             7 2:7 ReturnConst 0 None\n",
     },
-    Choice {
+    Example {
         source: "if a: b\nelif c: d\nelif e: f\nelse: g",
         mode: "exec",
         level: "2",
@@ -166,7 +101,7 @@ const BRANCHES: [Choice; 6] = [
             16 4:7 Pop\n\
             17 4:7 ReturnConst 0 None\n",
     },
-    Choice {
+    Example {
         source: "if a:\n if b: c\n else: d\nelse:\n if e: pass",
         mode: "exec",
         level: "0",
@@ -188,7 +123,7 @@ const BRANCHES: [Choice; 6] = [
             11 5:5 JumpIfFalse 12 to 12\n\
             12 5:8 ReturnConst 0 None\n",
     },
-    Choice {
+    Example {
         source: "pass\npass",
         mode: "exec",
         level: "1",
@@ -197,7 +132,7 @@ const BRANCHES: [Choice; 6] = [
             constants: None\n\
             0 2:1 ReturnConst 0 None\n",
     },
-    Choice {
+    Example {
         source: "if b if a else c: d",
         mode: "exec",
         level: "2",
@@ -217,8 +152,8 @@ const BRANCHES: [Choice; 6] = [
     },
 ];
 
-const TESTS: [Choice; 8] = [
-    Choice {
+const TESTS: [Example; 8] = [
+    Example {
         source: "if not a: b\nelse: pass\nc",
         mode: "exec",
         level: "0",
@@ -235,7 +170,7 @@ const TESTS: [Choice; 8] = [
             6 3:1 Pop\n\
             7 3:1 ReturnConst 0 None\n",
     },
-    Choice {
+    Example {
         source: "if a and b: c",
         mode: "exec",
         level: "1",
@@ -251,7 +186,7 @@ const TESTS: [Choice; 8] = [
             5 1:13 Pop\n\
             6 1:13 ReturnConst 0 None\n",
     },
-    Choice {
+    Example {
         source: "if a or b: c\nelse: d",
         mode: "exec",
         level: "2",
@@ -270,7 +205,7 @@ const TESTS: [Choice; 8] = [
             8 2:7 Pop\n\
             9 2:7 ReturnConst 0 None\n",
     },
-    Choice {
+    Example {
         source: "if not (a and b or c): d",
         mode: "exec",
         level: "0",
@@ -288,7 +223,7 @@ const TESTS: [Choice; 8] = [
             7 1:24 Pop\n\
             8 1:24 ReturnConst 0 None\n",
     },
-    Choice {
+    Example {
         source: "if a and (b or not c) and d: e\nelse: f",
         mode: "exec",
         level: "1",
@@ -311,7 +246,7 @@ const TESTS: [Choice; 8] = [
             12 2:7 Pop\n\
             13 2:7 ReturnConst 0 None\n",
     },
-    Choice {
+    Example {
         source: "if not (not a or b) and c: pass",
         mode: "exec",
         level: "2",
@@ -327,7 +262,7 @@ const TESTS: [Choice; 8] = [
             5 1:25 JumpIfFalse 6 to 6\n\
             6 1:28 ReturnConst 0 None\n",
     },
-    Choice {
+    Example {
         source: "if a < b <= c != d: e\nelse: f",
         mode: "exec",
         level: "0",
@@ -359,7 +294,7 @@ const TESTS: [Choice; 8] = [
             21 2:7 Pop\n\
             22 2:7 ReturnConst 0 None\n",
     },
-    Choice {
+    Example {
         source: "if (a and b) < c or -d: e",
         mode: "exec",
         level: "1",
@@ -382,8 +317,8 @@ const TESTS: [Choice; 8] = [
     },
 ];
 
-const LOOPS: [Choice; 8] = [
-    Choice {
+const LOOPS: [Example; 8] = [
+    Example {
         source: "while a: pass",
         mode: "exec",
         level: "0",
@@ -398,7 +333,7 @@ const LOOPS: [Choice; 8] = [
             4 1:10 PopBlock\n\
             5 1:10 ReturnConst 0 None\n",
     },
-    Choice {
+    Example {
         source: "while a: b\nelse: c",
         mode: "exec",
         level: "1",
@@ -417,7 +352,7 @@ const LOOPS: [Choice; 8] = [
             8 2:7 Pop\n\
             9 2:7 ReturnConst 0 None\n",
     },
-    Choice {
+    Example {
         source: "while a:\n if b: break\n c\nelse: d",
         mode: "exec",
         level: "2",
@@ -439,7 +374,7 @@ const LOOPS: [Choice; 8] = [
             11 4:7 Pop\n\
             12 4:7 ReturnConst 0 None\n",
     },
-    Choice {
+    Example {
         source: "while a:\n if b: continue\n c\nelse: d",
         mode: "exec",
         level: "0",
@@ -461,7 +396,7 @@ const LOOPS: [Choice; 8] = [
             11 4:7 Pop\n\
             12 4:7 ReturnConst 0 None\n",
     },
-    Choice {
+    Example {
         source: "while a: break",
         mode: "exec",
         level: "1",
@@ -476,7 +411,7 @@ const LOOPS: [Choice; 8] = [
             4 1:10 PopBlock\n\
             5 1:10 ReturnConst 0 None\n",
     },
-    Choice {
+    Example {
         source: "while a:\n continue\n b",
         mode: "exec",
         level: "2",
@@ -491,7 +426,7 @@ const LOOPS: [Choice; 8] = [
             4 3:2 PopBlock\n\
             5 3:2 ReturnConst 0 None\n",
     },
-    Choice {
+    Example {
         source: "while a < b < c: d",
         mode: "exec",
         level: "0",
@@ -518,7 +453,7 @@ const LOOPS: [Choice; 8] = [
             16 1:18 PopBlock\n\
             17 1:18 ReturnConst 0 None\n",
     },
-    Choice {
+    Example {
         source: "while __debug__:\n if not __debug__: break",
         mode: "exec",
         level: "1",
@@ -537,8 +472,8 @@ const LOOPS: [Choice; 8] = [
     },
 ];
 
-const LOOPS_WITHIN: [Choice; 6] = [
-    Choice {
+const LOOPS_WITHIN: [Example; 6] = [
+    Example {
         source: "while a:\n while b:\n  if c: break\n  if d: continue\n else: break\n e",
         mode: "exec",
         level: "0",
@@ -567,7 +502,7 @@ const LOOPS_WITHIN: [Choice; 6] = [
             18 6:2 PopBlock\n\
             19 6:2 ReturnConst 0 None\n",
     },
-    Choice {
+    Example {
         source: "while a:\n while b: pass\n else: continue\n c\nelse: d",
         mode: "exec",
         level: "1",
@@ -592,7 +527,7 @@ const LOOPS_WITHIN: [Choice; 6] = [
             14 5:7 Pop\n\
             15 5:7 ReturnConst 0 None\n",
     },
-    Choice {
+    Example {
         source: "while not a or b:\n if c:\n  d\n  break\n  e\n else: continue\nelse: f",
         mode: "exec",
         level: "2",
@@ -617,7 +552,7 @@ const LOOPS_WITHIN: [Choice; 6] = [
             14 7:7 Pop\n\
             15 7:7 ReturnConst 0 None\n",
     },
-    Choice {
+    Example {
         source: "while True:\n if a == 1: pass\n elif b: break\n else: continue",
         mode: "exec",
         level: "0",
@@ -642,7 +577,7 @@ const LOOPS_WITHIN: [Choice; 6] = [
             14 4:8 PopBlock\n\
             15 4:8 ReturnConst 2 None\n",
     },
-    Choice {
+    Example {
         source: "if a:\n while b:\n  if c: break\nelse:\n while d: pass\ne",
         mode: "exec",
         level: "1",
@@ -670,7 +605,7 @@ const LOOPS_WITHIN: [Choice; 6] = [
             17 6:1 Pop\n\
             18 6:1 ReturnConst 0 None\n",
     },
-    Choice {
+    Example {
         source: "while a:\n break\n while b: continue\nelse: pass\nc",
         mode: "exec",
         level: "2",
@@ -694,36 +629,36 @@ const LOOPS_WITHIN: [Choice; 6] = [
     },
 ];
 
-const FAULTS: [Choice; 5] = [
-    Choice {
+const FAULTS: [Example; 5] = [
+    Example {
         source: "break",
         mode: "exec",
         level: "0",
         rows: r#"[["Break",1,1],["Module",[0]]]"#,
         want: "1:1 'break' outside loop\n",
     },
-    Choice {
+    Example {
         source: "while a: b\nelse:\n continue",
         mode: "exec",
         level: "1",
         rows: r#"[["Name",1,7,"a"],["Name",1,10,"b"],["Expr",1,10,1],["Continue",3,2],["While",1,1,0,[2],[3]],["Module",[4]]]"#,
         want: "3:2 'continue' outside loop\n",
     },
-    Choice {
+    Example {
         source: "if a:\n b\n if c: break",
         mode: "exec",
         level: "2",
         rows: r#"[["Name",1,4,"a"],["Name",2,2,"b"],["Expr",2,2,1],["Name",3,5,"c"],["Break",3,8],["If",3,2,3,[4],[]],["If",1,1,0,[2,5],[]],["Module",[6]]]"#,
         want: "3:8 'break' outside loop\n",
     },
-    Choice {
+    Example {
         source: "while a: pass\nif b: pass\nelse: continue",
         mode: "exec",
         level: "0",
         rows: r#"[["Name",1,7,"a"],["Pass",1,10],["While",1,1,0,[1],[]],["Name",2,4,"b"],["Pass",2,7],["Continue",3,7],["If",2,1,3,[4],[5]],["Module",[2,6]]]"#,
         want: "3:7 'continue' outside loop\n",
     },
-    Choice {
+    Example {
         source: "while a:\n while b: pass\n else: break\nelse:\n if c: break",
         mode: "exec",
         level: "1",
@@ -732,8 +667,8 @@ const FAULTS: [Choice; 5] = [
     },
 ];
 
-const TRUTHS: [Choice; 8] = [
-    Choice {
+const TRUTHS: [Example; 8] = [
+    Example {
         source: "a and b and c",
         mode: "eval",
         level: "0",
@@ -747,7 +682,7 @@ const TRUTHS: [Choice; 8] = [
             4 1:13 LoadNameAny 2 'c'\n\
             5 1:13 ReturnValue\n",
     },
-    Choice {
+    Example {
         source: "a or b or c",
         mode: "eval",
         level: "1",
@@ -761,7 +696,7 @@ const TRUTHS: [Choice; 8] = [
             4 1:11 LoadNameAny 2 'c'\n\
             5 1:11 ReturnValue\n",
     },
-    Choice {
+    Example {
         source: "a and b or not c and d",
         mode: "eval",
         level: "2",
@@ -778,7 +713,7 @@ const TRUTHS: [Choice; 8] = [
             7 1:22 LoadNameAny 3 'd'\n\
             8 1:22 ReturnValue\n",
     },
-    Choice {
+    Example {
         source: "not not a",
         mode: "eval",
         level: "0",
@@ -790,7 +725,7 @@ const TRUTHS: [Choice; 8] = [
             2 1:9 UnaryOperation 2 Not\n\
             3 1:9 ReturnValue\n",
     },
-    Choice {
+    Example {
         source: "(a or b) and (c or d)",
         mode: "eval",
         level: "1",
@@ -806,7 +741,7 @@ const TRUTHS: [Choice; 8] = [
             6 1:20 LoadNameAny 3 'd'\n\
             7 1:20 ReturnValue\n",
     },
-    Choice {
+    Example {
         source: "__debug__ and a",
         mode: "eval",
         level: "2",
@@ -819,7 +754,7 @@ const TRUTHS: [Choice; 8] = [
             2 1:15 LoadNameAny 0 'a'\n\
             3 1:15 ReturnValue\n",
     },
-    Choice {
+    Example {
         source: "-a + ~b - +c",
         mode: "eval",
         level: "0",
@@ -836,7 +771,7 @@ const TRUTHS: [Choice; 8] = [
             7 1:12 BinaryOperation 1 Subtract\n\
             8 1:12 ReturnValue\n",
     },
-    Choice {
+    Example {
         source: "~(not a)",
         mode: "eval",
         level: "1",
@@ -850,8 +785,8 @@ const TRUTHS: [Choice; 8] = [
     },
 ];
 
-const COMPARISONS: [Choice; 8] = [
-    Choice {
+const COMPARISONS: [Example; 8] = [
+    Example {
         source: "a == b",
         mode: "eval",
         level: "0",
@@ -863,7 +798,7 @@ const COMPARISONS: [Choice; 8] = [
             2 1:6 CompareOperation 3 Equal\n\
             3 1:6 ReturnValue\n",
     },
-    Choice {
+    Example {
         source: "a != b < c",
         mode: "eval",
         level: "1",
@@ -883,7 +818,7 @@ const COMPARISONS: [Choice; 8] = [
             10 1:10 Pop\n\
             11 1:10 ReturnValue\n",
     },
-    Choice {
+    Example {
         source: "a < b <= c > d >= e == f",
         mode: "eval",
         level: "2",
@@ -918,7 +853,7 @@ const COMPARISONS: [Choice; 8] = [
             25 1:24 Pop\n\
             26 1:24 ReturnValue\n",
     },
-    Choice {
+    Example {
         source: "a is b",
         mode: "eval",
         level: "0",
@@ -930,7 +865,7 @@ const COMPARISONS: [Choice; 8] = [
             2 1:6 TestOperation 2 Is\n\
             3 1:6 ReturnValue\n",
     },
-    Choice {
+    Example {
         source: "a is not b is c",
         mode: "eval",
         level: "1",
@@ -950,7 +885,7 @@ const COMPARISONS: [Choice; 8] = [
             10 1:15 Pop\n\
             11 1:15 ReturnValue\n",
     },
-    Choice {
+    Example {
         source: "a in b not in c",
         mode: "eval",
         level: "2",
@@ -970,7 +905,7 @@ const COMPARISONS: [Choice; 8] = [
             10 1:15 Pop\n\
             11 1:15 ReturnValue\n",
     },
-    Choice {
+    Example {
         source: "not a in b",
         mode: "eval",
         level: "0",
@@ -983,7 +918,7 @@ const COMPARISONS: [Choice; 8] = [
             3 1:10 UnaryOperation 2 Not\n\
             4 1:10 ReturnValue\n",
     },
-    Choice {
+    Example {
         source: "a < (b < c) < (d and e)",
         mode: "eval",
         level: "1",
@@ -1009,8 +944,8 @@ const COMPARISONS: [Choice; 8] = [
     },
 ];
 
-const CONDITIONALS: [Choice; 6] = [
-    Choice {
+const CONDITIONALS: [Example; 6] = [
+    Example {
         source: "a if b else c",
         mode: "eval",
         level: "0",
@@ -1024,7 +959,7 @@ const CONDITIONALS: [Choice; 6] = [
             4 1:13 LoadNameAny 2 'c'\n\
             5 1:13 ReturnValue\n",
     },
-    Choice {
+    Example {
         source: "a if b else c if d else e",
         mode: "eval",
         level: "1",
@@ -1042,7 +977,7 @@ const CONDITIONALS: [Choice; 6] = [
             8 1:25 LoadNameAny 4 'e'\n\
             9 1:25 ReturnValue\n",
     },
-    Choice {
+    Example {
         source: "(a if b else c) if d and not e else f",
         mode: "eval",
         level: "2",
@@ -1062,7 +997,7 @@ const CONDITIONALS: [Choice; 6] = [
             10 1:37 LoadNameAny 5 'f'\n\
             11 1:37 ReturnValue\n",
     },
-    Choice {
+    Example {
         source: "a if not (b or c) else d",
         mode: "eval",
         level: "0",
@@ -1078,7 +1013,7 @@ const CONDITIONALS: [Choice; 6] = [
             6 1:24 LoadNameAny 3 'd'\n\
             7 1:24 ReturnValue\n",
     },
-    Choice {
+    Example {
         source: "f(a and b, c < d, e if g else None) or ...",
         mode: "eval",
         level: "1",
@@ -1103,7 +1038,7 @@ const CONDITIONALS: [Choice; 6] = [
             14 1:40 LoadConst 1 Ellipsis\n\
             15 1:40 ReturnValue\n",
     },
-    Choice {
+    Example {
         source: "a if 1 < b < 2 else -1",
         mode: "eval",
         level: "2",

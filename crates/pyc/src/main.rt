@@ -5,7 +5,11 @@ mod buffer;
 #[cfg(test)]
 mod choices;
 mod clean;
+#[cfg(test)]
+mod displays;
 mod engine;
+#[cfg(test)]
+mod examples;
 mod lines;
 mod memory;
 mod preparing;
@@ -15,6 +19,8 @@ mod rows;
 mod sink;
 mod source;
 mod standard;
+#[cfg(test)]
+mod targets;
 #[cfg(test)]
 mod tests;
 mod words;

@@ -3,9 +3,15 @@ ghost use Rattle.py_tree.specs.View.{mod_tree};
 ghost use Rattle.pyc.specs.Gives.{Gives};
 ghost use Rattle.pyc.specs.Rows.{rows_tree};
 
+pub mod assignments;
+pub mod constant_forms;
+pub mod constants;
+pub mod displays;
 pub mod error;
+pub mod expr_forms;
 pub mod fields;
 pub mod forms;
+pub mod hexadecimal;
 pub mod integer;
 pub mod json_rows;
 pub mod kinds;
@@ -13,6 +19,9 @@ pub mod nodes;
 pub mod operators;
 pub mod parts;
 pub mod slots;
+pub mod stmt_forms;
+pub mod takes;
+pub mod values;
 pub mod whole;
 
 pub use error::RowsError;

@@ -88,6 +88,22 @@ fn says_what_is_wrong(rt: HostRuntime) -> Result<(), Fail> {
             "input: row 0: wrong form\n",
         ),
         (
+            "[[\"bytes\",\"0A\"],[\"Module\",[]]]",
+            "input: row 0: wrong form\n",
+        ),
+        (
+            "[[\"bytes\",\"0\"],[\"Module\",[]]]",
+            "input: row 0: wrong form\n",
+        ),
+        (
+            "[[\"Name\",1,1,\"a\"],[\"FormattedValue\",1,1,0,\"repr\",null]]",
+            "input: row 1: wrong form\n",
+        ),
+        (
+            "[[\"Name\",1,1,\"a\"],[\"Dict\",1,1,[null,0],[0]]]",
+            "input: row 1: named twice\n",
+        ),
+        (
             "[[\"int\",\"170141183460469231731687303715884105728\"]]",
             "input: row 0: integer too wide\n",
         ),
@@ -116,6 +132,18 @@ fn says_what_is_wrong(rt: HostRuntime) -> Result<(), Fail> {
             "input: row 1: wrong form\n",
         ),
         (
+            "[[\"Name\",1,1,\"f\"],[\"Keyword\",null,0],[\"Expr\",1,1,1]]",
+            "input: row 2: wrong kind\n",
+        ),
+        (
+            "[[\"Name\",1,1,\"f\"],[\"Keyword\",1,0]]",
+            "input: row 1: wrong form\n",
+        ),
+        (
+            "[[\"Name\",1,1,\"a\"],[\"Name\",1,4,\"b\"],[\"AnnAssign\",1,1,0,1,null,1]]",
+            "input: row 2: wrong form\n",
+        ),
+        (
             "[[\"Module\",[]],[\"Name\",1,1,\"f\"]]",
             "input: no module\n",
         ),
@@ -124,11 +152,11 @@ fn says_what_is_wrong(rt: HostRuntime) -> Result<(), Fail> {
             "input: row 1: not named\n",
         ),
         (
-            "[7,[\"Dict\",1,2,[],[]],[\"With\",3,4]]",
+            "[7,[\"Lambda\",1,2,[],[]],[\"With\",3,4]]",
             "1:2 RustPython does not implement this feature yet\n",
         ),
         (
-            "[[\"Dict\",1,0],[\"Module\",[]]]",
+            "[[\"Lambda\",1,0],[\"Module\",[]]]",
             "-:- RustPython does not implement this feature yet\n",
         ),
     ];

@@ -1,14 +1,16 @@
-ghost use Rattle.std.specs.Prelude.{◌≡◌};
 ghost use Rattle.serde_json.specs.View.{view, items_view};
 ghost use Rattle.pyc.specs.Gives.{Gives};
-ghost use Rattle.pyc.specs.Forms.{form_at, form_of_kind, module_form, expression_form, branches_form, statement_form, place_form, bool_op_form, bin_op_form, unary_op_form, if_exp_form, compare_form, call_form, constant_form, name_form, word_form, int_form};
+ghost use Rattle.pyc.specs.Forms.{form_at, form_of_kind, module_form, expression_form, keyword_form};
 
+use crate::rows::constant_forms::constant_row_form;
 use crate::rows::error::RowsError;
-use crate::rows::fields::{five, four, number, numbers, one, place, text, three, two, word};
-use crate::rows::integer::integer;
+use crate::rows::expr_forms::expr_form;
+use crate::rows::fields::{number, numbers, one, optional_text, two};
 use crate::rows::kinds::{Kind, kind_of};
-use crate::rows::operators::{bool_operator, comparisons, operator, unary_operator};
-use py_tree::{BoolOp, CmpOp, Constant, List, Operator, SourceLocation, Text, UnaryOp};
+use crate::rows::stmt_forms::stmt_form;
+use py_tree::{
+    BoolOp, CmpOp, Constant, ConversionFlag, List, Operator, SourceLocation, Text, UnaryOp,
+};
 use serde_json::Value;
 use std::alloc::Global;
 
@@ -17,21 +19,56 @@ use std::alloc::Global;
 pub enum Form {
     Module(List<u64>),
     Expression(u64),
+    Stmt(StmtForm),
+    Expr(ExprForm),
+    Keyword(Option<Text>, u64),
+    Constant(ConstantForm),
+}
+
+/// A statement as it is written.
+#[derive(Drop)]
+pub enum StmtForm {
+    Delete(SourceLocation, List<u64>),
+    Assign(SourceLocation, List<u64>, u64),
+    AugAssign(SourceLocation, u64, Operator, u64),
+    AnnAssign(SourceLocation, u64, u64, Option<u64>, bool),
     While(Branches),
     If(Branches),
     Expr(SourceLocation, u64),
     Pass(SourceLocation),
     Break(SourceLocation),
     Continue(SourceLocation),
+}
+
+/// An expression as it is written.
+#[derive(Drop)]
+pub enum ExprForm {
     BoolOp(SourceLocation, BoolOp, List<u64>),
+    NamedExpr(SourceLocation, u64, u64),
     BinOp(SourceLocation, u64, Operator, u64),
     UnaryOp(SourceLocation, UnaryOp, u64),
     IfExp(SourceLocation, u64, u64, u64),
+    Dict(SourceLocation, List<Option<u64>>, List<u64>),
+    Set(Elements),
     Compare(SourceLocation, u64, List<CmpOp>, List<u64>),
     Call(SourceLocation, u64, List<u64>, List<u64>),
+    FormattedValue(SourceLocation, u64, ConversionFlag, Option<u64>),
+    JoinedStr(Elements),
     Constant(SourceLocation, u64),
+    Attribute(SourceLocation, u64, Text),
+    Subscript(SourceLocation, u64, u64),
+    Starred(SourceLocation, u64),
     Name(SourceLocation, Text),
+    List(Elements),
+    Tuple(Elements),
+    Slice(SourceLocation, Option<u64>, Option<u64>, Option<u64>),
+}
+
+/// A constant as it is written.
+#[derive(Drop)]
+pub enum ConstantForm {
     Literal(Constant),
+    Tuple(List<u64>),
 }
 
 /// A test and the two bodies that hang on it.
@@ -41,6 +78,13 @@ pub struct Branches {
     pub test: u64,
     pub body: List<u64>,
     pub orelse: List<u64>,
+}
+
+/// The elements of a display, or the parts of an f-string.
+#[derive(Drop)]
+pub struct Elements {
+    pub location: SourceLocation,
+    pub elts: List<u64>,
 }
 
 /// What a row may be named as.
@@ -85,25 +129,10 @@ fn form_of_kind(alloc: Global, kind: Kind, fields: &[Value], row: u32) -> Result
     match kind {
         Kind::Module => module_form(alloc, fields, row),
         Kind::Expression => expression_form(fields, row),
-        Kind::While => Ok(Form::While(branches_form(alloc, fields, row)?)),
-        Kind::If => Ok(Form::If(branches_form(alloc, fields, row)?)),
-        Kind::Expr => statement_form(fields, row),
-        Kind::Pass => Ok(Form::Pass(place_form(fields, row)?)),
-        Kind::Break => Ok(Form::Break(place_form(fields, row)?)),
-        Kind::Continue => Ok(Form::Continue(place_form(fields, row)?)),
-        Kind::BoolOp => bool_op_form(alloc, fields, row),
-        Kind::BinOp => bin_op_form(fields, row),
-        Kind::UnaryOp => unary_op_form(fields, row),
-        Kind::IfExp => if_exp_form(fields, row),
-        Kind::Compare => compare_form(alloc, fields, row),
-        Kind::Call => call_form(alloc, fields, row),
-        Kind::Constant => constant_form(fields, row),
-        Kind::Name => name_form(alloc, fields, row),
-        Kind::None => word_form(Constant::None, fields, row),
-        Kind::True => word_form(Constant::Bool(true), fields, row),
-        Kind::False => word_form(Constant::Bool(false), fields, row),
-        Kind::Ellipsis => word_form(Constant::Ellipsis, fields, row),
-        Kind::Int => int_form(fields, row),
+        Kind::Stmt(kind) => Ok(Form::Stmt(stmt_form(alloc, kind, fields, row)?)),
+        Kind::Expr(kind) => Ok(Form::Expr(expr_form(alloc, kind, fields, row)?)),
+        Kind::Keyword => keyword_form(alloc, fields, row),
+        Kind::Constant(kind) => Ok(Form::Constant(constant_row_form(alloc, kind, fields, row)?)),
     }
 }
 
@@ -121,130 +150,9 @@ fn expression_form(fields: &[Value], row: u32) -> Result<Form, RowsError>
     Ok(Form::Expression(number(body, row)?))
 }
 
-fn branches_form(alloc: Global, fields: &[Value], row: u32) -> Result<Branches, RowsError>
-    ensures { Gives (λ x. x) result (branches_form row (items_view fields.now)) }
+fn keyword_form(alloc: Global, fields: &[Value], row: u32) -> Result<Form, RowsError>
+    ensures { Gives (λ x. x) result (keyword_form row (items_view fields.now)) }
 {
-    let (line, column, test, body, orelse) = five(fields, row)?;
-    Ok(Branches {
-        location: place(line, column, row)?,
-        test: number(test, row)?,
-        body: numbers(alloc, body, row)?,
-        orelse: numbers(alloc, orelse, row)?,
-    })
-}
-
-/// The location that is all that a row holds.
-fn place_form(fields: &[Value], row: u32) -> Result<SourceLocation, RowsError>
-    ensures { Gives (λ x. x) result (place_form row (items_view fields.now)) }
-{
-    let (line, column) = two(fields, row)?;
-    place(line, column, row)
-}
-
-fn statement_form(fields: &[Value], row: u32) -> Result<Form, RowsError>
-    ensures { Gives (λ x. x) result (statement_form row (items_view fields.now)) }
-{
-    let (line, column, value) = three(fields, row)?;
-    Ok(Form::Expr(place(line, column, row)?, number(value, row)?))
-}
-
-fn bool_op_form(alloc: Global, fields: &[Value], row: u32) -> Result<Form, RowsError>
-    ensures { Gives (λ x. x) result (bool_op_form row (items_view fields.now)) }
-{
-    let (line, column, op, values) = four(fields, row)?;
-    Ok(Form::BoolOp(
-        place(line, column, row)?,
-        bool_operator(op, row)?,
-        numbers(alloc, values, row)?,
-    ))
-}
-
-fn bin_op_form(fields: &[Value], row: u32) -> Result<Form, RowsError>
-    ensures { Gives (λ x. x) result (bin_op_form row (items_view fields.now)) }
-{
-    let (line, column, left, op, right) = five(fields, row)?;
-    Ok(Form::BinOp(
-        place(line, column, row)?,
-        number(left, row)?,
-        operator(op, row)?,
-        number(right, row)?,
-    ))
-}
-
-fn unary_op_form(fields: &[Value], row: u32) -> Result<Form, RowsError>
-    ensures { Gives (λ x. x) result (unary_op_form row (items_view fields.now)) }
-{
-    let (line, column, op, operand) = four(fields, row)?;
-    Ok(Form::UnaryOp(
-        place(line, column, row)?,
-        unary_operator(op, row)?,
-        number(operand, row)?,
-    ))
-}
-
-fn if_exp_form(fields: &[Value], row: u32) -> Result<Form, RowsError>
-    ensures { Gives (λ x. x) result (if_exp_form row (items_view fields.now)) }
-{
-    let (line, column, test, body, orelse) = five(fields, row)?;
-    Ok(Form::IfExp(
-        place(line, column, row)?,
-        number(test, row)?,
-        number(body, row)?,
-        number(orelse, row)?,
-    ))
-}
-
-fn compare_form(alloc: Global, fields: &[Value], row: u32) -> Result<Form, RowsError>
-    ensures { Gives (λ x. x) result (compare_form row (items_view fields.now)) }
-{
-    let (line, column, left, ops, comparators) = five(fields, row)?;
-    Ok(Form::Compare(
-        place(line, column, row)?,
-        number(left, row)?,
-        comparisons(alloc, ops, row)?,
-        numbers(alloc, comparators, row)?,
-    ))
-}
-
-fn call_form(alloc: Global, fields: &[Value], row: u32) -> Result<Form, RowsError>
-    ensures { Gives (λ x. x) result (call_form row (items_view fields.now)) }
-{
-    let (line, column, func, args, keywords) = five(fields, row)?;
-    Ok(Form::Call(
-        place(line, column, row)?,
-        number(func, row)?,
-        numbers(alloc, args, row)?,
-        numbers(alloc, keywords, row)?,
-    ))
-}
-
-fn constant_form(fields: &[Value], row: u32) -> Result<Form, RowsError>
-    ensures { Gives (λ x. x) result (constant_form row (items_view fields.now)) }
-{
-    let (line, column, value) = three(fields, row)?;
-    Ok(Form::Constant(place(line, column, row)?, number(value, row)?))
-}
-
-fn name_form(alloc: Global, fields: &[Value], row: u32) -> Result<Form, RowsError>
-    ensures { Gives (λ x. x) result (name_form row (items_view fields.now)) }
-{
-    let (line, column, id) = three(fields, row)?;
-    Ok(Form::Name(place(line, column, row)?, text(alloc, id, row)?))
-}
-
-fn word_form(value: Constant, fields: &[Value], row: u32) -> Result<Form, RowsError>
-    ensures { Gives (λ x. x) result (word_form value row (items_view fields.now)) }
-{
-    if fields.is_empty() {
-        Ok(Form::Literal(value))
-    } else {
-        Err(RowsError::WrongRow { row })
-    }
-}
-
-fn int_form(fields: &[Value], row: u32) -> Result<Form, RowsError>
-    ensures { Gives (λ x. x) result (int_form row (items_view fields.now)) }
-{
-    let digits = word(one(fields, row)?, row)?;
-    Ok(Form::Literal(Constant::Int(integer(digits, row)?)))
+    let (arg, value) = two(fields, row)?;
+    Ok(Form::Keyword(optional_text(alloc, arg, row)?, number(value, row)?))
 }

@@ -1,7 +1,7 @@
 ghost use Rattle.std.specs.Prelude.{◌≡◌, ◌<◌, ◌^◌, length};
 ghost use Rattle.serde_json.specs.View.{view, items_view};
 ghost use Rattle.pyc.specs.Gives.{Gives};
-ghost use Rattle.pyc.specs.Kinds.{kind_of, is_unbuilt_statement, is_unbuilt_expression, is_unbuilt_located_part, is_unbuilt_plain, unbuilt_kind, built, built_from, location_in};
+ghost use Rattle.pyc.specs.Kinds.{kind_of, statement_kind_of, expression_kind_of, constant_kind_of, other_kind_of, is_unbuilt_statement, is_unbuilt_expression, is_unbuilt_located_part, is_unbuilt_plain, unbuilt_kind, built, built_from, location_in};
 
 use crate::rows::error::RowsError;
 use crate::rows::fields::one_indexed;
@@ -13,53 +13,149 @@ use serde_json::Value;
 pub enum Kind {
     Module,
     Expression,
+    Stmt(StmtKind),
+    Expr(ExprKind),
+    Keyword,
+    Constant(ConstantKind),
+}
+
+/// A kind of statement.
+#[derive(Clone, Copy, Debug, PartialEq, Eq)]
+pub enum StmtKind {
+    Delete,
+    Assign,
+    AugAssign,
+    AnnAssign,
     While,
     If,
     Expr,
     Pass,
     Break,
     Continue,
+}
+
+/// A kind of expression.
+#[derive(Clone, Copy, Debug, PartialEq, Eq)]
+pub enum ExprKind {
     BoolOp,
+    NamedExpr,
     BinOp,
     UnaryOp,
     IfExp,
+    Dict,
+    Set,
     Compare,
     Call,
+    FormattedValue,
+    JoinedStr,
     Constant,
+    Attribute,
+    Subscript,
+    Starred,
     Name,
+    List,
+    Tuple,
+    Slice,
+}
+
+/// A kind of constant.
+#[derive(Clone, Copy, Debug, PartialEq, Eq)]
+pub enum ConstantKind {
     None,
     True,
     False,
     Ellipsis,
     Int,
+    Str,
+    Bytes,
+    Tuple,
 }
 
 /// The kind of a kind word. None exactly where the word is no kind that is built.
 pub fn kind_of(word: &str) -> Option<Kind>
     ensures { result ≡ kind_of word.now }
 {
+    if let Some(kind) = statement_kind_of(word) {
+        return Some(Kind::Stmt(kind));
+    }
+    if let Some(kind) = expression_kind_of(word) {
+        return Some(Kind::Expr(kind));
+    }
+    if let Some(kind) = constant_kind_of(word) {
+        return Some(Kind::Constant(kind));
+    }
+    other_kind_of(word)
+}
+
+fn statement_kind_of(word: &str) -> Option<StmtKind>
+    ensures { result ≡ statement_kind_of word.now }
+{
+    match word {
+        "Delete" => Some(StmtKind::Delete),
+        "Assign" => Some(StmtKind::Assign),
+        "AugAssign" => Some(StmtKind::AugAssign),
+        "AnnAssign" => Some(StmtKind::AnnAssign),
+        "While" => Some(StmtKind::While),
+        "If" => Some(StmtKind::If),
+        "Expr" => Some(StmtKind::Expr),
+        "Pass" => Some(StmtKind::Pass),
+        "Break" => Some(StmtKind::Break),
+        "Continue" => Some(StmtKind::Continue),
+        _ => None,
+    }
+}
+
+fn expression_kind_of(word: &str) -> Option<ExprKind>
+    ensures { result ≡ expression_kind_of word.now }
+{
+    match word {
+        "BoolOp" => Some(ExprKind::BoolOp),
+        "NamedExpr" => Some(ExprKind::NamedExpr),
+        "BinOp" => Some(ExprKind::BinOp),
+        "UnaryOp" => Some(ExprKind::UnaryOp),
+        "IfExp" => Some(ExprKind::IfExp),
+        "Dict" => Some(ExprKind::Dict),
+        "Set" => Some(ExprKind::Set),
+        "Compare" => Some(ExprKind::Compare),
+        "Call" => Some(ExprKind::Call),
+        "FormattedValue" => Some(ExprKind::FormattedValue),
+        "JoinedStr" => Some(ExprKind::JoinedStr),
+        "Constant" => Some(ExprKind::Constant),
+        "Attribute" => Some(ExprKind::Attribute),
+        "Subscript" => Some(ExprKind::Subscript),
+        "Starred" => Some(ExprKind::Starred),
+        "Name" => Some(ExprKind::Name),
+        "List" => Some(ExprKind::List),
+        "Tuple" => Some(ExprKind::Tuple),
+        "Slice" => Some(ExprKind::Slice),
+        _ => None,
+    }
+}
+
+fn constant_kind_of(word: &str) -> Option<ConstantKind>
+    ensures { result ≡ constant_kind_of word.now }
+{
+    match word {
+        "none" => Some(ConstantKind::None),
+        "true" => Some(ConstantKind::True),
+        "false" => Some(ConstantKind::False),
+        "ellipsis" => Some(ConstantKind::Ellipsis),
+        "int" => Some(ConstantKind::Int),
+        "str" => Some(ConstantKind::Str),
+        "bytes" => Some(ConstantKind::Bytes),
+        "tuple" => Some(ConstantKind::Tuple),
+        _ => None,
+    }
+}
+
+/// The kind of a program, or of a keyword.
+fn other_kind_of(word: &str) -> Option<Kind>
+    ensures { result ≡ other_kind_of word.now }
+{
     match word {
         "Module" => Some(Kind::Module),
         "Expression" => Some(Kind::Expression),
-        "While" => Some(Kind::While),
-        "If" => Some(Kind::If),
-        "Expr" => Some(Kind::Expr),
-        "Pass" => Some(Kind::Pass),
-        "Break" => Some(Kind::Break),
-        "Continue" => Some(Kind::Continue),
-        "BoolOp" => Some(Kind::BoolOp),
-        "BinOp" => Some(Kind::BinOp),
-        "UnaryOp" => Some(Kind::UnaryOp),
-        "IfExp" => Some(Kind::IfExp),
-        "Compare" => Some(Kind::Compare),
-        "Call" => Some(Kind::Call),
-        "Constant" => Some(Kind::Constant),
-        "Name" => Some(Kind::Name),
-        "none" => Some(Kind::None),
-        "true" => Some(Kind::True),
-        "false" => Some(Kind::False),
-        "ellipsis" => Some(Kind::Ellipsis),
-        "int" => Some(Kind::Int),
+        "Keyword" => Some(Kind::Keyword),
         _ => None,
     }
 }
@@ -74,11 +170,7 @@ fn is_unbuilt_statement(word: &str) -> bool
             | "AsyncFunctionDef"
             | "ClassDef"
             | "Return"
-            | "Delete"
-            | "Assign"
             | "TypeAlias"
-            | "AugAssign"
-            | "AnnAssign"
             | "For"
             | "AsyncFor"
             | "With"
@@ -101,25 +193,14 @@ fn is_unbuilt_expression(word: &str) -> bool
 {
     matches!(
         word,
-        "NamedExpr"
-            | "Lambda"
-            | "Dict"
-            | "Set"
-            | "List"
-            | "Tuple"
+        "Lambda"
             | "ListComp"
             | "SetComp"
             | "GeneratorExp"
             | "DictComp"
             | "Await"
             | "YieldFrom"
-            | "Starred"
             | "Yield"
-            | "FormattedValue"
-            | "JoinedStr"
-            | "Attribute"
-            | "Subscript"
-            | "Slice"
     )
 }
 
@@ -140,15 +221,11 @@ fn is_unbuilt_plain(word: &str) -> bool
             | "FunctionType"
             | "Arguments"
             | "ArgWithDefault"
-            | "Keyword"
             | "Alias"
             | "WithItem"
             | "ExceptHandler"
             | "Comprehension"
             | "MatchCase"
-            | "str"
-            | "bytes"
-            | "tuple"
     )
 }
 

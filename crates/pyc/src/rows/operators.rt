@@ -1,10 +1,10 @@
 ghost use Rattle.std.specs.Prelude.{◌≡◌};
 ghost use Rattle.serde_json.specs.View.{view};
 ghost use Rattle.pyc.specs.Gives.{Gives};
-ghost use Rattle.pyc.specs.Operators.{bool_operator_at, bool_operator_of, comparisons_at, comparison_at, comparison_of, operator_at, operator_of, unary_operator_at, unary_operator_of};
+ghost use Rattle.pyc.specs.Operators.{bool_operator_at, bool_operator_of, comparisons_at, comparison_at, comparison_of, conversion_at, conversion_of, operator_at, operator_of, unary_operator_at, unary_operator_of};
 
 use crate::rows::error::RowsError;
-use py_tree::{BoolOp, CmpOp, List, Operator, UnaryOp};
+use py_tree::{BoolOp, CmpOp, ConversionFlag, List, Operator, UnaryOp};
 use serde_json::Value;
 use std::alloc::Global;
 
@@ -121,4 +121,26 @@ pub fn comparisons(alloc: Global, value: &Value, row: u32) -> Result<List<CmpOp>
         found.push(comparison(entry, row)?)?;
     }
     Ok(List::from_vec(found))
+}
+
+/// The conversion of a `FormattedValue`.
+pub fn conversion(value: &Value, row: u32) -> Result<ConversionFlag, RowsError>
+    ensures { Gives (λ x. x) result (conversion_at row (view value.now)) }
+{
+    match value.as_str().and_then(conversion_of) {
+        Some(conversion) => Ok(conversion),
+        None => Err(RowsError::WrongRow { row }),
+    }
+}
+
+fn conversion_of(word: &str) -> Option<ConversionFlag>
+    ensures { result ≡ conversion_of word.now }
+{
+    match word {
+        "None" => Some(ConversionFlag::None),
+        "Str" => Some(ConversionFlag::Str),
+        "Ascii" => Some(ConversionFlag::Ascii),
+        "Repr" => Some(ConversionFlag::Repr),
+        _ => None,
+    }
 }

@@ -1,12 +1,11 @@
 ghost use Rattle.std.specs.Prelude.{◌≡◌, ◌<◌, ◌^◌, ◌+◌, All, map};
 ghost use Rattle.pyc.specs.Gives.{Gives};
-ghost use Rattle.pyc.specs.Forms.{each_part, parts_of};
 ghost use Rattle.pyc.specs.Slots.{all_earlier, all_fit, constant_in, deepest, depth_at, expr_in, fits, node_view, slot_view, sort_number, stmt_in, take_constant, take_expr, take_exprs, take_node, take_stmt, take_stmts};
 ghost use Rattle.py_tree.specs.View.{expr_tree, stmt_tree, literal_of};
 
 use crate::rows::error::RowsError;
 use crate::rows::forms::{Part, Sort};
-use py_tree::{Constant, Expr, Mod, Stmt};
+use py_tree::{Constant, Expr, Keyword, Mod, Stmt};
 
 /// What a row makes.
 #[derive(Drop)]
@@ -15,6 +14,7 @@ pub enum Node {
     Stmt(Stmt),
     Expr(Expr),
     Constant(Constant),
+    Keyword(Keyword),
 }
 
 /// A row that was read: what it may be named as, its nesting, and what it made, until a later row takes it.

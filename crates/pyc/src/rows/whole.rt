@@ -76,6 +76,7 @@ fn sort_of(node: &Node) -> Sort
         Node::Stmt(_) => Sort::Stmt,
         Node::Expr(_) => Sort::Expr,
         Node::Constant(_) => Sort::Constant,
+        Node::Keyword(_) => Sort::Keyword,
     }
 }
 

@@ -1,5 +1,5 @@
 use Rattle.std.proofs.Common.{◌≡◌, ◌++◌, drop}
-use Rattle.pyc.specs.Forms.{each_part}
+use Rattle.pyc.specs.Parts.{each_part}
 use Rattle.pyc.proofs.rows.parts.push_parts.Given as goal
 
 abbrev pub invariant-loop-number : goal.invariant-loop-number

@@ -1,0 +1,1193 @@
+//! Displays, f-strings, attributes, subscripts, calls, docstrings and constants: small programs with what a run
+//! writes over their rows. The file is made by tools/source_tables.py.
+
+use crate::examples::{Example, check};
+use std::test::Fail;
+
+#[test]
+fn sequences(rt: HostRuntime) -> Result<(), Fail> {
+    Ok(check(&rt, rt.alloc(), &SEQUENCES)?)
+}
+
+#[test]
+fn dicts(rt: HostRuntime) -> Result<(), Fail> {
+    Ok(check(&rt, rt.alloc(), &DICTS)?)
+}
+
+#[test]
+fn texts(rt: HostRuntime) -> Result<(), Fail> {
+    Ok(check(&rt, rt.alloc(), &TEXTS)?)
+}
+
+#[test]
+fn places(rt: HostRuntime) -> Result<(), Fail> {
+    Ok(check(&rt, rt.alloc(), &PLACES)?)
+}
+
+#[test]
+fn calls(rt: HostRuntime) -> Result<(), Fail> {
+    Ok(check(&rt, rt.alloc(), &CALLS)?)
+}
+
+#[test]
+fn constants(rt: HostRuntime) -> Result<(), Fail> {
+    Ok(check(&rt, rt.alloc(), &CONSTANTS)?)
+}
+
+#[test]
+fn docstrings(rt: HostRuntime) -> Result<(), Fail> {
+    Ok(check(&rt, rt.alloc(), &DOCSTRINGS)?)
+}
+
+#[test]
+fn lone_stars(rt: HostRuntime) -> Result<(), Fail> {
+    Ok(check(&rt, rt.alloc(), &LONE_STARS)?)
+}
+
+const SEQUENCES: [Example; 12] = [
+    Example {
+        source: "[]",
+        mode: "eval",
+        level: "0",
+        rows: r#"[["List",1,1,[]],["Expression",0]]"#,
+        want: "code '<module>' from 'm.py' line 1 flags 1 args 0 0 0 depth 1\n\
+            0 1:1 BuildList 0\n\
+            1 1:1 ReturnValue\n",
+    },
+    Example {
+        source: "()",
+        mode: "eval",
+        level: "1",
+        rows: r#"[["Tuple",1,1,[]],["Expression",0]]"#,
+        want: "code '<module>' from 'm.py' line 1 flags 1 args 0 0 0 depth 1\n\
+            0 1:1 BuildTuple 0\n\
+            1 1:1 ReturnValue\n",
+    },
+    Example {
+        source: "[a, b, c]",
+        mode: "eval",
+        level: "2",
+        rows: r#"[["Name",1,2,"a"],["Name",1,5,"b"],["Name",1,8,"c"],["List",1,1,[0,1,2]],["Expression",3]]"#,
+        want: "code '<module>' from 'm.py' line 1 flags 1 args 0 0 0 depth 3\n\
+            names: 'a', 'b', 'c'\n\
+            0 1:2 LoadNameAny 0 'a'\n\
+            1 1:5 LoadNameAny 1 'b'\n\
+            2 1:8 LoadNameAny 2 'c'\n\
+            3 1:8 BuildList 3\n\
+            4 1:8 ReturnValue\n",
+    },
+    Example {
+        source: "(a, (b, [c, ()]), {d})",
+        mode: "eval",
+        level: "0",
+        rows: r#"[["Name",1,2,"a"],["Name",1,6,"b"],["Name",1,10,"c"],["Tuple",1,13,[]],["List",1,9,[2,3]],["Tuple",1,5,[1,4]],["Name",1,20,"d"],["Set",1,19,[6]],["Tuple",1,1,[0,5,7]],["Expression",8]]"#,
+        want: "code '<module>' from 'm.py' line 1 flags 1 args 0 0 0 depth 4\n\
+            names: 'a', 'b', 'c', 'd'\n\
+            0 1:2 LoadNameAny 0 'a'\n\
+            1 1:6 LoadNameAny 1 'b'\n\
+            2 1:10 LoadNameAny 2 'c'\n\
+            3 1:13 BuildTuple 0\n\
+            4 1:13 BuildList 2\n\
+            5 1:13 BuildTuple 2\n\
+            6 1:20 LoadNameAny 3 'd'\n\
+            7 1:20 BuildSet 1\n\
+            8 1:20 BuildTuple 3\n\
+            9 1:20 ReturnValue\n",
+    },
+    Example {
+        source: "{a, b}",
+        mode: "eval",
+        level: "1",
+        rows: r#"[["Name",1,2,"a"],["Name",1,5,"b"],["Set",1,1,[0,1]],["Expression",2]]"#,
+        want: "code '<module>' from 'm.py' line 1 flags 1 args 0 0 0 depth 2\n\
+            names: 'a', 'b'\n\
+            0 1:2 LoadNameAny 0 'a'\n\
+            1 1:5 LoadNameAny 1 'b'\n\
+            2 1:5 BuildSet 2\n\
+            3 1:5 ReturnValue\n",
+    },
+    Example {
+        source: "[*a]",
+        mode: "eval",
+        level: "2",
+        rows: r#"[["Name",1,3,"a"],["Starred",1,2,0],["List",1,1,[1]],["Expression",2]]"#,
+        want: "code '<module>' from 'm.py' line 1 flags 1 args 0 0 0 depth 1\n\
+            names: 'a'\n\
+            0 1:3 LoadNameAny 0 'a'\n\
+            1 1:3 BuildListUnpack 1\n\
+            2 1:3 ReturnValue\n",
+    },
+    Example {
+        source: "(*a, *b)",
+        mode: "eval",
+        level: "0",
+        rows: r#"[["Name",1,3,"a"],["Starred",1,2,0],["Name",1,7,"b"],["Starred",1,6,2],["Tuple",1,1,[1,3]],["Expression",4]]"#,
+        want: "code '<module>' from 'm.py' line 1 flags 1 args 0 0 0 depth 2\n\
+            names: 'a', 'b'\n\
+            0 1:3 LoadNameAny 0 'a'\n\
+            1 1:7 LoadNameAny 1 'b'\n\
+            2 1:7 BuildTupleUnpack 2\n\
+            3 1:7 ReturnValue\n",
+    },
+    Example {
+        source: "{*a, b}",
+        mode: "eval",
+        level: "1",
+        rows: r#"[["Name",1,3,"a"],["Starred",1,2,0],["Name",1,6,"b"],["Set",1,1,[1,2]],["Expression",3]]"#,
+        want: "code '<module>' from 'm.py' line 1 flags 1 args 0 0 0 depth 2\n\
+            names: 'a', 'b'\n\
+            0 1:3 LoadNameAny 0 'a'\n\
+            1 1:6 LoadNameAny 1 'b'\n\
+            2 1:6 BuildTuple 1\n\
+            3 1:6 BuildSetUnpack 2\n\
+            4 1:6 ReturnValue\n",
+    },
+    Example {
+        source: "[a, b, *c, d, *e, *f, g, h]",
+        mode: "eval",
+        level: "2",
+        rows: r#"[["Name",1,2,"a"],["Name",1,5,"b"],["Name",1,9,"c"],["Starred",1,8,2],["Name",1,12,"d"],["Name",1,16,"e"],["Starred",1,15,5],["Name",1,20,"f"],["Starred",1,19,7],["Name",1,23,"g"],["Name",1,26,"h"],["List",1,1,[0,1,3,4,6,8,9,10]],["Expression",11]]"#,
+        want: "code '<module>' from 'm.py' line 1 flags 1 args 0 0 0 depth 7\n\
+            names: 'a', 'b', 'c', 'd', 'e', 'f', 'g', 'h'\n\
+            0 1:2 LoadNameAny 0 'a'\n\
+            1 1:5 LoadNameAny 1 'b'\n\
+            2 1:5 BuildTuple 2\n\
+            3 1:9 LoadNameAny 2 'c'\n\
+            4 1:12 LoadNameAny 3 'd'\n\
+            5 1:12 BuildTuple 1\n\
+            6 1:16 LoadNameAny 4 'e'\n\
+            7 1:20 LoadNameAny 5 'f'\n\
+            8 1:23 LoadNameAny 6 'g'\n\
+            9 1:26 LoadNameAny 7 'h'\n\
+            10 1:26 BuildTuple 2\n\
+            11 1:26 BuildListUnpack 6\n\
+            12 1:26 ReturnValue\n",
+    },
+    Example {
+        source: "(a, *(b, *c), [*d, e])",
+        mode: "eval",
+        level: "0",
+        rows: r#"[["Name",1,2,"a"],["Name",1,7,"b"],["Name",1,11,"c"],["Starred",1,10,2],["Tuple",1,6,[1,3]],["Starred",1,5,4],["Name",1,17,"d"],["Starred",1,16,6],["Name",1,20,"e"],["List",1,15,[7,8]],["Tuple",1,1,[0,5,9]],["Expression",10]]"#,
+        want: "code '<module>' from 'm.py' line 1 flags 1 args 0 0 0 depth 4\n\
+            names: 'a', 'b', 'c', 'd', 'e'\n\
+            0 1:2 LoadNameAny 0 'a'\n\
+            1 1:2 BuildTuple 1\n\
+            2 1:7 LoadNameAny 1 'b'\n\
+            3 1:7 BuildTuple 1\n\
+            4 1:11 LoadNameAny 2 'c'\n\
+            5 1:11 BuildTupleUnpack 2\n\
+            6 1:17 LoadNameAny 3 'd'\n\
+            7 1:20 LoadNameAny 4 'e'\n\
+            8 1:20 BuildTuple 1\n\
+            9 1:20 BuildListUnpack 2\n\
+            10 1:20 BuildTuple 1\n\
+            11 1:20 BuildTupleUnpack 3\n\
+            12 1:20 ReturnValue\n",
+    },
+    Example {
+        source: "[[a] if b else [*c], d and e]",
+        mode: "eval",
+        level: "1",
+        rows: r#"[["Name",1,9,"b"],["Name",1,3,"a"],["List",1,2,[1]],["Name",1,18,"c"],["Starred",1,17,3],["List",1,16,[4]],["IfExp",1,2,0,2,5],["Name",1,22,"d"],["Name",1,28,"e"],["BoolOp",1,22,"And",[7,8]],["List",1,1,[6,9]],["Expression",10]]"#,
+        want: "code '<module>' from 'm.py' line 1 flags 1 args 0 0 0 depth 2\n\
+            names: 'b', 'a', 'c', 'd', 'e'\n\
+            0 1:9 LoadNameAny 0 'b'\n\
+            1 1:9 JumpIfFalse 5 to 5\n\
+            2 1:3 LoadNameAny 1 'a'\n\
+            3 1:3 BuildList 1\n\
+            4 1:3 Jump 7 to 7\n\
+            5 1:18 LoadNameAny 2 'c'\n\
+            6 1:18 BuildListUnpack 1\n\
+            7 1:22 LoadNameAny 3 'd'\n\
+            8 1:22 JumpIfFalseOrPop 10 to 10\n\
+            9 1:28 LoadNameAny 4 'e'\n\
+            10 1:28 BuildList 2\n\
+            11 1:28 ReturnValue\n",
+    },
+    Example {
+        source: "set()",
+        mode: "eval",
+        level: "2",
+        rows: r#"[["Set",1,1,[]],["Expression",0]]"#,
+        want: "code '<module>' from 'm.py' line 1 flags 1 args 0 0 0 depth 1\n\
+            0 1:1 BuildSet 0\n\
+            1 1:1 ReturnValue\n",
+    },
+];
+
+const DICTS: [Example; 7] = [
+    Example {
+        source: "{}",
+        mode: "eval",
+        level: "0",
+        rows: r#"[["Dict",1,1,[],[]],["Expression",0]]"#,
+        want: "code '<module>' from 'm.py' line 1 flags 1 args 0 0 0 depth 1\n\
+            0 1:1 BuildMap 0\n\
+            1 1:1 ReturnValue\n",
+    },
+    Example {
+        source: "{a: b, 'c': d}",
+        mode: "eval",
+        level: "1",
+        rows: r#"[["Name",1,2,"a"],["str","c"],["Constant",1,8,1],["Name",1,5,"b"],["Name",1,13,"d"],["Dict",1,1,[0,2],[3,4]],["Expression",5]]"#,
+        want: "code '<module>' from 'm.py' line 1 flags 1 args 0 0 0 depth 4\n\
+            constants: 'c'\n\
+            names: 'a', 'b', 'd'\n\
+            0 1:2 LoadNameAny 0 'a'\n\
+            1 1:5 LoadNameAny 1 'b'\n\
+            2 1:8 LoadConst 0 'c'\n\
+            3 1:13 LoadNameAny 2 'd'\n\
+            4 1:13 BuildMap 2\n\
+            5 1:13 ReturnValue\n",
+    },
+    Example {
+        source: "{**a}",
+        mode: "eval",
+        level: "2",
+        rows: r#"[["Name",1,4,"a"],["Dict",1,1,[null],[0]],["Expression",1]]"#,
+        want: "code '<module>' from 'm.py' line 1 flags 1 args 0 0 0 depth 2\n\
+            names: 'a'\n\
+            0 1:1 BuildMap 0\n\
+            1 1:4 LoadNameAny 0 'a'\n\
+            2 1:4 DictUpdate\n\
+            3 1:4 ReturnValue\n",
+    },
+    Example {
+        source: "{**a, 'x': 1}",
+        mode: "eval",
+        level: "0",
+        rows: r#"[["str","x"],["Constant",1,7,0],["Name",1,4,"a"],["int","1"],["Constant",1,12,3],["Dict",1,1,[null,1],[2,4]],["Expression",5]]"#,
+        want: "code '<module>' from 'm.py' line 1 flags 1 args 0 0 0 depth 2\n\
+            constants: 'x', 1\n\
+            names: 'a'\n\
+            0 1:7 LoadConst 0 'x'\n\
+            1 1:12 LoadConst 1 1\n\
+            2 1:12 BuildMap 1\n\
+            3 1:4 LoadNameAny 0 'a'\n\
+            4 1:4 DictUpdate\n\
+            5 1:4 ReturnValue\n",
+    },
+    Example {
+        source: "{**a, 'x': 1, **b, c: d}",
+        mode: "eval",
+        level: "1",
+        rows: r#"[["str","x"],["Constant",1,7,0],["Name",1,20,"c"],["Name",1,4,"a"],["int","1"],["Constant",1,12,4],["Name",1,17,"b"],["Name",1,23,"d"],["Dict",1,1,[null,1,null,2],[3,5,6,7]],["Expression",8]]"#,
+        want: "code '<module>' from 'm.py' line 1 flags 1 args 0 0 0 depth 4\n\
+            constants: 'x', 1\n\
+            names: 'c', 'd', 'a', 'b'\n\
+            0 1:7 LoadConst 0 'x'\n\
+            1 1:12 LoadConst 1 1\n\
+            2 1:20 LoadNameAny 0 'c'\n\
+            3 1:23 LoadNameAny 1 'd'\n\
+            4 1:23 BuildMap 2\n\
+            5 1:4 LoadNameAny 2 'a'\n\
+            6 1:4 DictUpdate\n\
+            7 1:17 LoadNameAny 3 'b'\n\
+            8 1:17 DictUpdate\n\
+            9 1:17 ReturnValue\n",
+    },
+    Example {
+        source: "{a: {b: [c]}, **{d: e, **f}}",
+        mode: "eval",
+        level: "2",
+        rows: r#"[["Name",1,2,"a"],["Name",1,6,"b"],["Name",1,10,"c"],["List",1,9,[2]],["Dict",1,5,[1],[3]],["Name",1,18,"d"],["Name",1,21,"e"],["Name",1,26,"f"],["Dict",1,17,[5,null],[6,7]],["Dict",1,1,[0,null],[4,8]],["Expression",9]]"#,
+        want: "code '<module>' from 'm.py' line 1 flags 1 args 0 0 0 depth 3\n\
+            names: 'a', 'b', 'c', 'd', 'e', 'f'\n\
+            0 1:2 LoadNameAny 0 'a'\n\
+            1 1:6 LoadNameAny 1 'b'\n\
+            2 1:10 LoadNameAny 2 'c'\n\
+            3 1:10 BuildList 1\n\
+            4 1:10 BuildMap 1\n\
+            5 1:10 BuildMap 1\n\
+            6 1:18 LoadNameAny 3 'd'\n\
+            7 1:21 LoadNameAny 4 'e'\n\
+            8 1:21 BuildMap 1\n\
+            9 1:26 LoadNameAny 5 'f'\n\
+            10 1:26 DictUpdate\n\
+            11 1:26 DictUpdate\n\
+            12 1:26 ReturnValue\n",
+    },
+    Example {
+        source: "{**{}}[a] if {1: 2} else {a and b: not c}",
+        mode: "eval",
+        level: "0",
+        rows: r#"[["int","1"],["Constant",1,15,0],["int","2"],["Constant",1,18,2],["Dict",1,14,[1],[3]],["Dict",1,4,[],[]],["Dict",1,1,[null],[5]],["Name",1,8,"a"],["Subscript",1,1,6,7],["Name",1,27,"a"],["Name",1,33,"b"],["BoolOp",1,27,"And",[9,10]],["Name",1,40,"c"],["UnaryOp",1,36,"Not",12],["Dict",1,26,[11],[13]],["IfExp",1,1,4,8,14],["Expression",15]]"#,
+        want: "code '<module>' from 'm.py' line 1 flags 1 args 0 0 0 depth 2\n\
+            constants: 1, 2\n\
+            names: 'a', 'b', 'c'\n\
+            0 1:15 LoadConst 0 1\n\
+            1 1:18 LoadConst 1 2\n\
+            2 1:18 BuildMap 1\n\
+            3 1:18 JumpIfFalse 10 to 10\n\
+            4 1:1 BuildMap 0\n\
+            5 1:4 BuildMap 0\n\
+            6 1:4 DictUpdate\n\
+            7 1:8 LoadNameAny 0 'a'\n\
+            8 1:8 Subscript\n\
+            9 1:8 Jump 16 to 16\n\
+            10 1:27 LoadNameAny 0 'a'\n\
+            11 1:27 JumpIfFalseOrPop 13 to 13\n\
+            12 1:33 LoadNameAny 1 'b'\n\
+            13 1:40 LoadNameAny 2 'c'\n\
+            14 1:40 UnaryOperation 2 Not\n\
+            15 1:40 BuildMap 1\n\
+            16 1:40 ReturnValue\n",
+    },
+];
+
+const TEXTS: [Example; 10] = [
+    Example {
+        source: "f''",
+        mode: "eval",
+        level: "0",
+        rows: r#"[["JoinedStr",1,1,[]],["Expression",0]]"#,
+        want: "code '<module>' from 'm.py' line 1 flags 1 args 0 0 0 depth 0\n\
+            constants: ''\n\
+            0 1:1 ReturnConst 0 ''\n",
+    },
+    Example {
+        source: "f'a' 'b'",
+        mode: "eval",
+        level: "1",
+        rows: r#"[["str","ab"],["Constant",1,1,0],["JoinedStr",1,1,[1]],["Expression",2]]"#,
+        want: "code '<module>' from 'm.py' line 1 flags 1 args 0 0 0 depth 0\n\
+            constants: 'ab'\n\
+            0 1:1 ReturnConst 0 'ab'\n",
+    },
+    Example {
+        source: "f'{a}'",
+        mode: "eval",
+        level: "2",
+        rows: r#"[["Name",1,4,"a"],["FormattedValue",1,1,0,"None",null],["JoinedStr",1,1,[1]],["Expression",2]]"#,
+        want: "code '<module>' from 'm.py' line 1 flags 1 args 0 0 0 depth 2\n\
+            constants: ''\n\
+            names: 'a'\n\
+            0 1:1 LoadConst 0 ''\n\
+            1 1:4 LoadNameAny 0 'a'\n\
+            2 1:4 FormatValue 0 None\n\
+            3 1:4 BuildString 1\n\
+            4 1:4 ReturnValue\n",
+    },
+    Example {
+        source: "f'a{b}c{d}'",
+        mode: "eval",
+        level: "0",
+        rows: r#"[["str","a"],["Constant",1,1,0],["Name",1,5,"b"],["FormattedValue",1,1,2,"None",null],["str","c"],["Constant",1,1,4],["Name",1,9,"d"],["FormattedValue",1,1,6,"None",null],["JoinedStr",1,1,[1,3,5,7]],["Expression",8]]"#,
+        want: "code '<module>' from 'm.py' line 1 flags 1 args 0 0 0 depth 5\n\
+            constants: 'a', '', 'c'\n\
+            names: 'b', 'd'\n\
+            0 1:1 LoadConst 0 'a'\n\
+            1 1:1 LoadConst 1 ''\n\
+            2 1:5 LoadNameAny 0 'b'\n\
+            3 1:5 FormatValue 0 None\n\
+            4 1:1 LoadConst 2 'c'\n\
+            5 1:1 LoadConst 1 ''\n\
+            6 1:9 LoadNameAny 1 'd'\n\
+            7 1:9 FormatValue 0 None\n\
+            8 1:9 BuildString 4\n\
+            9 1:9 ReturnValue\n",
+    },
+    Example {
+        source: "f'{a!r}{b!s}{c!a}'",
+        mode: "eval",
+        level: "1",
+        rows: r#"[["Name",1,4,"a"],["FormattedValue",1,1,0,"Repr",null],["Name",1,9,"b"],["FormattedValue",1,1,2,"Str",null],["Name",1,14,"c"],["FormattedValue",1,1,4,"Ascii",null],["JoinedStr",1,1,[1,3,5]],["Expression",6]]"#,
+        want: "code '<module>' from 'm.py' line 1 flags 1 args 0 0 0 depth 4\n\
+            constants: ''\n\
+            names: 'a', 'b', 'c'\n\
+            0 1:1 LoadConst 0 ''\n\
+            1 1:4 LoadNameAny 0 'a'\n\
+            2 1:4 FormatValue 3 Repr\n\
+            3 1:1 LoadConst 0 ''\n\
+            4 1:9 LoadNameAny 1 'b'\n\
+            5 1:9 FormatValue 1 Str\n\
+            6 1:1 LoadConst 0 ''\n\
+            7 1:14 LoadNameAny 2 'c'\n\
+            8 1:14 FormatValue 2 Ascii\n\
+            9 1:14 BuildString 3\n\
+            10 1:14 ReturnValue\n",
+    },
+    Example {
+        source: "f'{a:>{b}}'",
+        mode: "eval",
+        level: "2",
+        rows: r#"[["Name",1,4,"a"],["str",">"],["Constant",1,1,1],["Name",1,8,"b"],["FormattedValue",1,1,3,"None",null],["JoinedStr",1,1,[2,4]],["FormattedValue",1,1,0,"None",5],["JoinedStr",1,1,[6]],["Expression",7]]"#,
+        want: "code '<module>' from 'm.py' line 1 flags 1 args 0 0 0 depth 3\n\
+            constants: '>', ''\n\
+            names: 'b', 'a'\n\
+            0 1:1 LoadConst 0 '>'\n\
+            1 1:1 LoadConst 1 ''\n\
+            2 1:8 LoadNameAny 0 'b'\n\
+            3 1:8 FormatValue 0 None\n\
+            4 1:8 BuildString 2\n\
+            5 1:4 LoadNameAny 1 'a'\n\
+            6 1:4 FormatValue 0 None\n\
+            7 1:4 BuildString 1\n\
+            8 1:4 ReturnValue\n",
+    },
+    Example {
+        source: "f'a{b!r:{c}.{d!s:e}}f'",
+        mode: "eval",
+        level: "0",
+        rows: r#"[["str","a"],["Constant",1,1,0],["Name",1,5,"b"],["Name",1,10,"c"],["FormattedValue",1,1,3,"None",null],["str","."],["Constant",1,1,5],["Name",1,14,"d"],["str","e"],["Constant",1,1,8],["JoinedStr",1,1,[9]],["FormattedValue",1,1,7,"Str",10],["JoinedStr",1,1,[4,6,11]],["FormattedValue",1,1,2,"Repr",12],["str","f"],["Constant",1,1,14],["JoinedStr",1,1,[1,13,15]],["Expression",16]]"#,
+        want: "code '<module>' from 'm.py' line 1 flags 1 args 0 0 0 depth 5\n\
+            constants: 'a', '', '.', 'e', 'f'\n\
+            names: 'c', 'd', 'b'\n\
+            0 1:1 LoadConst 0 'a'\n\
+            1 1:1 LoadConst 1 ''\n\
+            2 1:10 LoadNameAny 0 'c'\n\
+            3 1:10 FormatValue 0 None\n\
+            4 1:1 LoadConst 2 '.'\n\
+            5 1:1 LoadConst 3 'e'\n\
+            6 1:14 LoadNameAny 1 'd'\n\
+            7 1:14 FormatValue 1 Str\n\
+            8 1:14 BuildString 3\n\
+            9 1:5 LoadNameAny 2 'b'\n\
+            10 1:5 FormatValue 3 Repr\n\
+            11 1:1 LoadConst 4 'f'\n\
+            12 1:1 BuildString 3\n\
+            13 1:1 ReturnValue\n",
+    },
+    Example {
+        source: "f'{{}}' + f'{a[0].b(*c)}'",
+        mode: "eval",
+        level: "1",
+        rows: r#"[["str","{}"],["Constant",1,1,0],["JoinedStr",1,1,[1]],["Name",1,14,"a"],["int","0"],["Constant",1,16,4],["Subscript",1,14,3,5],["Attribute",1,14,6,"b"],["Name",1,22,"c"],["Starred",1,21,8],["Call",1,14,7,[9],[]],["FormattedValue",1,11,10,"None",null],["JoinedStr",1,11,[11]],["BinOp",1,1,2,"Add",12],["Expression",13]]"#,
+        want: "code '<module>' from 'm.py' line 1 flags 1 args 0 0 0 depth 6\n\
+            constants: '{}', '', 0\n\
+            names: 'a', 'b', 'c'\n\
+            0 1:1 LoadConst 0 '{}'\n\
+            1 1:11 LoadConst 1 ''\n\
+            2 1:14 LoadNameAny 0 'a'\n\
+            3 1:16 LoadConst 2 0\n\
+            4 1:16 Subscript\n\
+            5 1:16 LoadMethod 1 'b'\n\
+            6 1:22 LoadNameAny 2 'c'\n\
+            7 1:22 BuildTupleUnpack 1\n\
+            8 1:22 CallMethodEx 0\n\
+            9 1:22 FormatValue 0 None\n\
+            10 1:22 BuildString 1\n\
+            11 1:22 BinaryOperation 0 Add\n\
+            12 1:22 ReturnValue\n",
+    },
+    Example {
+        source: "f'a' within f''",
+        mode: "eval",
+        level: "2",
+        rows: r#"[["str","a"],["Constant",1,3,0],["JoinedStr",1,2,[1]],["str","b"],["Constant",1,5,3],["JoinedStr",1,1,[2,4]],["Expression",5]]"#,
+        want: "code '<module>' from 'm.py' line 1 flags 1 args 0 0 0 depth 0\n\
+            constants: 'ab'\n\
+            0 1:1 ReturnConst 0 'ab'\n",
+    },
+    Example {
+        source: "a within f''",
+        mode: "eval",
+        level: "0",
+        rows: r#"[["Name",1,3,"a"],["str","b"],["Constant",1,5,1],["JoinedStr",1,1,[0,2]],["Expression",3]]"#,
+        want: "code '<module>' from 'm.py' line 1 flags 1 args 0 0 0 depth 2\n\
+            constants: 'b'\n\
+            names: 'a'\n\
+            0 1:3 LoadNameAny 0 'a'\n\
+            1 1:5 LoadConst 0 'b'\n\
+            2 1:5 BuildString 2\n\
+            3 1:5 ReturnValue\n",
+    },
+];
+
+const PLACES: [Example; 12] = [
+    Example {
+        source: "a.b",
+        mode: "eval",
+        level: "0",
+        rows: r#"[["Name",1,1,"a"],["Attribute",1,1,0,"b"],["Expression",1]]"#,
+        want: "code '<module>' from 'm.py' line 1 flags 1 args 0 0 0 depth 1\n\
+            names: 'a', 'b'\n\
+            0 1:1 LoadNameAny 0 'a'\n\
+            1 1:1 LoadAttr 1 'b'\n\
+            2 1:1 ReturnValue\n",
+    },
+    Example {
+        source: "a.b.c",
+        mode: "eval",
+        level: "1",
+        rows: r#"[["Name",1,1,"a"],["Attribute",1,1,0,"b"],["Attribute",1,1,1,"c"],["Expression",2]]"#,
+        want: "code '<module>' from 'm.py' line 1 flags 1 args 0 0 0 depth 1\n\
+            names: 'a', 'b', 'c'\n\
+            0 1:1 LoadNameAny 0 'a'\n\
+            1 1:1 LoadAttr 1 'b'\n\
+            2 1:1 LoadAttr 2 'c'\n\
+            3 1:1 ReturnValue\n",
+    },
+    Example {
+        source: "a[b]",
+        mode: "eval",
+        level: "2",
+        rows: r#"[["Name",1,1,"a"],["Name",1,3,"b"],["Subscript",1,1,0,1],["Expression",2]]"#,
+        want: "code '<module>' from 'm.py' line 1 flags 1 args 0 0 0 depth 2\n\
+            names: 'a', 'b'\n\
+            0 1:1 LoadNameAny 0 'a'\n\
+            1 1:3 LoadNameAny 1 'b'\n\
+            2 1:3 Subscript\n\
+            3 1:3 ReturnValue\n",
+    },
+    Example {
+        source: "a[b].c[d, e]",
+        mode: "eval",
+        level: "0",
+        rows: r#"[["Name",1,1,"a"],["Name",1,3,"b"],["Subscript",1,1,0,1],["Attribute",1,1,2,"c"],["Name",1,8,"d"],["Name",1,11,"e"],["Tuple",1,8,[4,5]],["Subscript",1,1,3,6],["Expression",7]]"#,
+        want: "code '<module>' from 'm.py' line 1 flags 1 args 0 0 0 depth 3\n\
+            names: 'a', 'b', 'c', 'd', 'e'\n\
+            0 1:1 LoadNameAny 0 'a'\n\
+            1 1:3 LoadNameAny 1 'b'\n\
+            2 1:3 Subscript\n\
+            3 1:3 LoadAttr 2 'c'\n\
+            4 1:8 LoadNameAny 3 'd'\n\
+            5 1:11 LoadNameAny 4 'e'\n\
+            6 1:11 BuildTuple 2\n\
+            7 1:11 Subscript\n\
+            8 1:11 ReturnValue\n",
+    },
+    Example {
+        source: "'a'.b",
+        mode: "eval",
+        level: "1",
+        rows: r#"[["str","a"],["Constant",1,1,0],["Attribute",1,1,1,"b"],["Expression",2]]"#,
+        want: "code '<module>' from 'm.py' line 1 flags 1 args 0 0 0 depth 1\n\
+            constants: 'a'\n\
+            names: 'b'\n\
+            0 1:1 LoadConst 0 'a'\n\
+            1 1:1 LoadAttr 0 'b'\n\
+            2 1:1 ReturnValue\n",
+    },
+    Example {
+        source: "a[:]",
+        mode: "eval",
+        level: "2",
+        rows: r#"[["Name",1,1,"a"],["Slice",1,3,null,null,null],["Subscript",1,1,0,1],["Expression",2]]"#,
+        want: "code '<module>' from 'm.py' line 1 flags 1 args 0 0 0 depth 3\n\
+            constants: None\n\
+            names: 'a'\n\
+            0 1:1 LoadNameAny 0 'a'\n\
+            1 1:3 LoadConst 0 None\n\
+            2 1:3 LoadConst 0 None\n\
+            3 1:3 BuildSlice 0\n\
+            4 1:3 Subscript\n\
+            5 1:3 ReturnValue\n",
+    },
+    Example {
+        source: "a[b:]",
+        mode: "eval",
+        level: "0",
+        rows: r#"[["Name",1,1,"a"],["Name",1,3,"b"],["Slice",1,3,1,null,null],["Subscript",1,1,0,2],["Expression",3]]"#,
+        want: "code '<module>' from 'm.py' line 1 flags 1 args 0 0 0 depth 3\n\
+            constants: None\n\
+            names: 'a', 'b'\n\
+            0 1:1 LoadNameAny 0 'a'\n\
+            1 1:3 LoadNameAny 1 'b'\n\
+            2 1:3 LoadConst 0 None\n\
+            3 1:3 BuildSlice 0\n\
+            4 1:3 Subscript\n\
+            5 1:3 ReturnValue\n",
+    },
+    Example {
+        source: "a[:b]",
+        mode: "eval",
+        level: "1",
+        rows: r#"[["Name",1,1,"a"],["Name",1,4,"b"],["Slice",1,3,null,1,null],["Subscript",1,1,0,2],["Expression",3]]"#,
+        want: "code '<module>' from 'm.py' line 1 flags 1 args 0 0 0 depth 3\n\
+            constants: None\n\
+            names: 'a', 'b'\n\
+            0 1:1 LoadNameAny 0 'a'\n\
+            1 1:3 LoadConst 0 None\n\
+            2 1:4 LoadNameAny 1 'b'\n\
+            3 1:4 BuildSlice 0\n\
+            4 1:4 Subscript\n\
+            5 1:4 ReturnValue\n",
+    },
+    Example {
+        source: "a[b:c:d]",
+        mode: "eval",
+        level: "2",
+        rows: r#"[["Name",1,1,"a"],["Name",1,3,"b"],["Name",1,5,"c"],["Name",1,7,"d"],["Slice",1,3,1,2,3],["Subscript",1,1,0,4],["Expression",5]]"#,
+        want: "code '<module>' from 'm.py' line 1 flags 1 args 0 0 0 depth 4\n\
+            names: 'a', 'b', 'c', 'd'\n\
+            0 1:1 LoadNameAny 0 'a'\n\
+            1 1:3 LoadNameAny 1 'b'\n\
+            2 1:5 LoadNameAny 2 'c'\n\
+            3 1:7 LoadNameAny 3 'd'\n\
+            4 1:7 BuildSlice 1\n\
+            5 1:7 Subscript\n\
+            6 1:7 ReturnValue\n",
+    },
+    Example {
+        source: "a[::b]",
+        mode: "eval",
+        level: "0",
+        rows: r#"[["Name",1,1,"a"],["Name",1,5,"b"],["Slice",1,3,null,null,1],["Subscript",1,1,0,2],["Expression",3]]"#,
+        want: "code '<module>' from 'm.py' line 1 flags 1 args 0 0 0 depth 4\n\
+            constants: None\n\
+            names: 'a', 'b'\n\
+            0 1:1 LoadNameAny 0 'a'\n\
+            1 1:3 LoadConst 0 None\n\
+            2 1:3 LoadConst 0 None\n\
+            3 1:5 LoadNameAny 1 'b'\n\
+            4 1:5 BuildSlice 1\n\
+            5 1:5 Subscript\n\
+            6 1:5 ReturnValue\n",
+    },
+    Example {
+        source: "a[b:c, ::-1, d]",
+        mode: "eval",
+        level: "1",
+        rows: r#"[["Name",1,1,"a"],["Name",1,3,"b"],["Name",1,5,"c"],["Slice",1,3,1,2,null],["int","1"],["Constant",1,11,4],["UnaryOp",1,10,"USub",5],["Slice",1,8,null,null,6],["Name",1,14,"d"],["Tuple",1,3,[3,7,8]],["Subscript",1,1,0,9],["Expression",10]]"#,
+        want: "code '<module>' from 'm.py' line 1 flags 1 args 0 0 0 depth 5\n\
+            constants: None, 1\n\
+            names: 'a', 'b', 'c', 'd'\n\
+            0 1:1 LoadNameAny 0 'a'\n\
+            1 1:3 LoadNameAny 1 'b'\n\
+            2 1:5 LoadNameAny 2 'c'\n\
+            3 1:5 BuildSlice 0\n\
+            4 1:8 LoadConst 0 None\n\
+            5 1:8 LoadConst 0 None\n\
+            6 1:11 LoadConst 1 1\n\
+            7 1:11 UnaryOperation 1 Minus\n\
+            8 1:11 BuildSlice 1\n\
+            9 1:14 LoadNameAny 3 'd'\n\
+            10 1:14 BuildTuple 3\n\
+            11 1:14 Subscript\n\
+            12 1:14 ReturnValue\n",
+    },
+    Example {
+        source: "(a or b).c[d if e else f]",
+        mode: "eval",
+        level: "2",
+        rows: r#"[["Name",1,2,"a"],["Name",1,7,"b"],["BoolOp",1,2,"Or",[0,1]],["Attribute",1,1,2,"c"],["Name",1,17,"e"],["Name",1,12,"d"],["Name",1,24,"f"],["IfExp",1,12,4,5,6],["Subscript",1,1,3,7],["Expression",8]]"#,
+        want: "code '<module>' from 'm.py' line 1 flags 1 args 0 0 0 depth 2\n\
+            names: 'a', 'b', 'c', 'e', 'd', 'f'\n\
+            0 1:2 LoadNameAny 0 'a'\n\
+            1 1:2 JumpIfTrueOrPop 3 to 3\n\
+            2 1:7 LoadNameAny 1 'b'\n\
+            3 1:7 LoadAttr 2 'c'\n\
+            4 1:17 LoadNameAny 3 'e'\n\
+            5 1:17 JumpIfFalse 8 to 8\n\
+            6 1:12 LoadNameAny 4 'd'\n\
+            7 1:12 Jump 9 to 9\n\
+            8 1:24 LoadNameAny 5 'f'\n\
+            9 1:24 Subscript\n\
+            10 1:24 ReturnValue\n",
+    },
+];
+
+const CALLS: [Example; 11] = [
+    Example {
+        source: "a.b()",
+        mode: "eval",
+        level: "0",
+        rows: r#"[["Name",1,1,"a"],["Attribute",1,1,0,"b"],["Call",1,1,1,[],[]],["Expression",2]]"#,
+        want: "code '<module>' from 'm.py' line 1 flags 1 args 0 0 0 depth 3\n\
+            names: 'a', 'b'\n\
+            0 1:1 LoadNameAny 0 'a'\n\
+            1 1:1 LoadMethod 1 'b'\n\
+            2 1:1 CallMethodPositional 0\n\
+            3 1:1 ReturnValue\n",
+    },
+    Example {
+        source: "a.b(c, 1)",
+        mode: "eval",
+        level: "1",
+        rows: r#"[["Name",1,1,"a"],["Attribute",1,1,0,"b"],["Name",1,5,"c"],["int","1"],["Constant",1,8,3],["Call",1,1,1,[2,4],[]],["Expression",5]]"#,
+        want: "code '<module>' from 'm.py' line 1 flags 1 args 0 0 0 depth 5\n\
+            constants: 1\n\
+            names: 'a', 'b', 'c'\n\
+            0 1:1 LoadNameAny 0 'a'\n\
+            1 1:1 LoadMethod 1 'b'\n\
+            2 1:5 LoadNameAny 2 'c'\n\
+            3 1:8 LoadConst 0 1\n\
+            4 1:8 CallMethodPositional 2\n\
+            5 1:8 ReturnValue\n",
+    },
+    Example {
+        source: "a.b.c(d)(e).f(g)",
+        mode: "eval",
+        level: "2",
+        rows: r#"[["Name",1,1,"a"],["Attribute",1,1,0,"b"],["Attribute",1,1,1,"c"],["Name",1,7,"d"],["Call",1,1,2,[3],[]],["Name",1,10,"e"],["Call",1,1,4,[5],[]],["Attribute",1,1,6,"f"],["Name",1,15,"g"],["Call",1,1,7,[8],[]],["Expression",9]]"#,
+        want: "code '<module>' from 'm.py' line 1 flags 1 args 0 0 0 depth 4\n\
+            names: 'a', 'b', 'c', 'd', 'e', 'f', 'g'\n\
+            0 1:1 LoadNameAny 0 'a'\n\
+            1 1:1 LoadAttr 1 'b'\n\
+            2 1:1 LoadMethod 2 'c'\n\
+            3 1:7 LoadNameAny 3 'd'\n\
+            4 1:7 CallMethodPositional 1\n\
+            5 1:10 LoadNameAny 4 'e'\n\
+            6 1:10 CallFunctionPositional 1\n\
+            7 1:10 LoadMethod 5 'f'\n\
+            8 1:15 LoadNameAny 6 'g'\n\
+            9 1:15 CallMethodPositional 1\n\
+            10 1:15 ReturnValue\n",
+    },
+    Example {
+        source: "a(*b)",
+        mode: "eval",
+        level: "0",
+        rows: r#"[["Name",1,1,"a"],["Name",1,4,"b"],["Starred",1,3,1],["Call",1,1,0,[2],[]],["Expression",3]]"#,
+        want: "code '<module>' from 'm.py' line 1 flags 1 args 0 0 0 depth 2\n\
+            names: 'a', 'b'\n\
+            0 1:1 LoadNameAny 0 'a'\n\
+            1 1:4 LoadNameAny 1 'b'\n\
+            2 1:4 BuildTupleUnpack 1\n\
+            3 1:4 CallFunctionEx 0\n\
+            4 1:4 ReturnValue\n",
+    },
+    Example {
+        source: "a(b, c, *d, e)",
+        mode: "eval",
+        level: "1",
+        rows: r#"[["Name",1,1,"a"],["Name",1,3,"b"],["Name",1,6,"c"],["Name",1,10,"d"],["Starred",1,9,3],["Name",1,13,"e"],["Call",1,1,0,[1,2,4,5],[]],["Expression",6]]"#,
+        want: "code '<module>' from 'm.py' line 1 flags 1 args 0 0 0 depth 4\n\
+            names: 'a', 'b', 'c', 'd', 'e'\n\
+            0 1:1 LoadNameAny 0 'a'\n\
+            1 1:3 LoadNameAny 1 'b'\n\
+            2 1:6 LoadNameAny 2 'c'\n\
+            3 1:6 BuildTuple 2\n\
+            4 1:10 LoadNameAny 3 'd'\n\
+            5 1:13 LoadNameAny 4 'e'\n\
+            6 1:13 BuildTuple 1\n\
+            7 1:13 BuildTupleUnpack 3\n\
+            8 1:13 CallFunctionEx 0\n\
+            9 1:13 ReturnValue\n",
+    },
+    Example {
+        source: "a(*b, *c)",
+        mode: "eval",
+        level: "2",
+        rows: r#"[["Name",1,1,"a"],["Name",1,4,"b"],["Starred",1,3,1],["Name",1,8,"c"],["Starred",1,7,3],["Call",1,1,0,[2,4],[]],["Expression",5]]"#,
+        want: "code '<module>' from 'm.py' line 1 flags 1 args 0 0 0 depth 3\n\
+            names: 'a', 'b', 'c'\n\
+            0 1:1 LoadNameAny 0 'a'\n\
+            1 1:4 LoadNameAny 1 'b'\n\
+            2 1:8 LoadNameAny 2 'c'\n\
+            3 1:8 BuildTupleUnpack 2\n\
+            4 1:8 CallFunctionEx 0\n\
+            5 1:8 ReturnValue\n",
+    },
+    Example {
+        source: "a.b(*c)",
+        mode: "eval",
+        level: "0",
+        rows: r#"[["Name",1,1,"a"],["Attribute",1,1,0,"b"],["Name",1,6,"c"],["Starred",1,5,2],["Call",1,1,1,[3],[]],["Expression",4]]"#,
+        want: "code '<module>' from 'm.py' line 1 flags 1 args 0 0 0 depth 4\n\
+            names: 'a', 'b', 'c'\n\
+            0 1:1 LoadNameAny 0 'a'\n\
+            1 1:1 LoadMethod 1 'b'\n\
+            2 1:6 LoadNameAny 2 'c'\n\
+            3 1:6 BuildTupleUnpack 1\n\
+            4 1:6 CallMethodEx 0\n\
+            5 1:6 ReturnValue\n",
+    },
+    Example {
+        source: "a.b(c, *d, *e, f, g)",
+        mode: "eval",
+        level: "1",
+        rows: r#"[["Name",1,1,"a"],["Attribute",1,1,0,"b"],["Name",1,5,"c"],["Name",1,9,"d"],["Starred",1,8,3],["Name",1,13,"e"],["Starred",1,12,5],["Name",1,16,"f"],["Name",1,19,"g"],["Call",1,1,1,[2,4,6,7,8],[]],["Expression",9]]"#,
+        want: "code '<module>' from 'm.py' line 1 flags 1 args 0 0 0 depth 8\n\
+            names: 'a', 'b', 'c', 'd', 'e', 'f', 'g'\n\
+            0 1:1 LoadNameAny 0 'a'\n\
+            1 1:1 LoadMethod 1 'b'\n\
+            2 1:5 LoadNameAny 2 'c'\n\
+            3 1:5 BuildTuple 1\n\
+            4 1:9 LoadNameAny 3 'd'\n\
+            5 1:13 LoadNameAny 4 'e'\n\
+            6 1:16 LoadNameAny 5 'f'\n\
+            7 1:19 LoadNameAny 6 'g'\n\
+            8 1:19 BuildTuple 2\n\
+            9 1:19 BuildTupleUnpack 4\n\
+            10 1:19 CallMethodEx 0\n\
+            11 1:19 ReturnValue\n",
+    },
+    Example {
+        source: "a[b](*c[d:])",
+        mode: "eval",
+        level: "2",
+        rows: r#"[["Name",1,1,"a"],["Name",1,3,"b"],["Subscript",1,1,0,1],["Name",1,7,"c"],["Name",1,9,"d"],["Slice",1,9,4,null,null],["Subscript",1,7,3,5],["Starred",1,6,6],["Call",1,1,2,[7],[]],["Expression",8]]"#,
+        want: "code '<module>' from 'm.py' line 1 flags 1 args 0 0 0 depth 4\n\
+            constants: None\n\
+            names: 'a', 'b', 'c', 'd'\n\
+            0 1:1 LoadNameAny 0 'a'\n\
+            1 1:3 LoadNameAny 1 'b'\n\
+            2 1:3 Subscript\n\
+            3 1:7 LoadNameAny 2 'c'\n\
+            4 1:9 LoadNameAny 3 'd'\n\
+            5 1:9 LoadConst 0 None\n\
+            6 1:9 BuildSlice 0\n\
+            7 1:9 Subscript\n\
+            8 1:9 BuildTupleUnpack 1\n\
+            9 1:9 CallFunctionEx 0\n\
+            10 1:9 ReturnValue\n",
+    },
+    Example {
+        source: "(a.b)(f'{c}', [*d])",
+        mode: "eval",
+        level: "0",
+        rows: r#"[["Name",1,2,"a"],["Attribute",1,2,0,"b"],["Name",1,10,"c"],["FormattedValue",1,7,2,"None",null],["JoinedStr",1,7,[3]],["Name",1,17,"d"],["Starred",1,16,5],["List",1,15,[6]],["Call",1,1,1,[4,7],[]],["Expression",8]]"#,
+        want: "code '<module>' from 'm.py' line 1 flags 1 args 0 0 0 depth 5\n\
+            constants: ''\n\
+            names: 'a', 'b', 'c', 'd'\n\
+            0 1:2 LoadNameAny 0 'a'\n\
+            1 1:2 LoadMethod 1 'b'\n\
+            2 1:7 LoadConst 0 ''\n\
+            3 1:10 LoadNameAny 2 'c'\n\
+            4 1:10 FormatValue 0 None\n\
+            5 1:10 BuildString 1\n\
+            6 1:17 LoadNameAny 3 'd'\n\
+            7 1:17 BuildListUnpack 1\n\
+            8 1:17 CallMethodPositional 2\n\
+            9 1:17 ReturnValue\n",
+    },
+    Example {
+        source: "a.b if c.d(e) else f.g(*h)",
+        mode: "eval",
+        level: "1",
+        rows: r#"[["Name",1,8,"c"],["Attribute",1,8,0,"d"],["Name",1,12,"e"],["Call",1,8,1,[2],[]],["Name",1,1,"a"],["Attribute",1,1,4,"b"],["Name",1,20,"f"],["Attribute",1,20,6,"g"],["Name",1,25,"h"],["Starred",1,24,8],["Call",1,20,7,[9],[]],["IfExp",1,1,3,5,10],["Expression",11]]"#,
+        want: "code '<module>' from 'm.py' line 1 flags 1 args 0 0 0 depth 4\n\
+            names: 'c', 'd', 'e', 'a', 'b', 'f', 'g', 'h'\n\
+            0 1:8 LoadNameAny 0 'c'\n\
+            1 1:8 LoadMethod 1 'd'\n\
+            2 1:12 LoadNameAny 2 'e'\n\
+            3 1:12 CallMethodPositional 1\n\
+            4 1:12 JumpIfFalse 8 to 8\n\
+            5 1:1 LoadNameAny 3 'a'\n\
+            6 1:1 LoadAttr 4 'b'\n\
+            7 1:1 Jump 13 to 13\n\
+            8 1:20 LoadNameAny 5 'f'\n\
+            9 1:20 LoadMethod 6 'g'\n\
+            10 1:25 LoadNameAny 7 'h'\n\
+            11 1:25 BuildTupleUnpack 1\n\
+            12 1:25 CallMethodEx 0\n\
+            13 1:25 ReturnValue\n",
+    },
+];
+
+const CONSTANTS: [Example; 9] = [
+    Example {
+        source: "'a\\'\\\\b\\n\\x01\\xe9'",
+        mode: "eval",
+        level: "0",
+        rows: r#"[["str","a'\\b\n\u0001é"],["Constant",1,1,0],["Expression",1]]"#,
+        want: "code '<module>' from 'm.py' line 1 flags 1 args 0 0 0 depth 0\n\
+            constants: 'a\\'\\\\b\\x0a\\x01é'\n\
+            0 1:1 ReturnConst 0 'a\\'\\\\b\\x0a\\x01é'\n",
+    },
+    Example {
+        source: "''",
+        mode: "eval",
+        level: "1",
+        rows: r#"[["str",""],["Constant",1,1,0],["Expression",1]]"#,
+        want: "code '<module>' from 'm.py' line 1 flags 1 args 0 0 0 depth 0\n\
+            constants: ''\n\
+            0 1:1 ReturnConst 0 ''\n",
+    },
+    Example {
+        source: "b''",
+        mode: "eval",
+        level: "2",
+        rows: r#"[["bytes",""],["Constant",1,1,0],["Expression",1]]"#,
+        want: "code '<module>' from 'm.py' line 1 flags 1 args 0 0 0 depth 0\n\
+            constants: b''\n\
+            0 1:1 ReturnConst 0 b''\n",
+    },
+    Example {
+        source: "b'a\\'\\\\\\x00\\xff~'",
+        mode: "eval",
+        level: "0",
+        rows: r#"[["bytes","61275c00ff7e"],["Constant",1,1,0],["Expression",1]]"#,
+        want: "code '<module>' from 'm.py' line 1 flags 1 args 0 0 0 depth 0\n\
+            constants: b'a\\'\\\\\\x00\\xff~'\n\
+            0 1:1 ReturnConst 0 b'a\\'\\\\\\x00\\xff~'\n",
+    },
+    Example {
+        source: "('a', b'a', 1, True, None, ...)",
+        mode: "eval",
+        level: "1",
+        rows: r#"[["str","a"],["Constant",1,2,0],["bytes","61"],["Constant",1,7,2],["int","1"],["Constant",1,13,4],["true"],["Constant",1,16,6],["none"],["Constant",1,22,8],["ellipsis"],["Constant",1,28,10],["Tuple",1,1,[1,3,5,7,9,11]],["Expression",12]]"#,
+        want: "code '<module>' from 'm.py' line 1 flags 1 args 0 0 0 depth 6\n\
+            constants: 'a', b'a', 1, True, None, Ellipsis\n\
+            0 1:2 LoadConst 0 'a'\n\
+            1 1:7 LoadConst 1 b'a'\n\
+            2 1:13 LoadConst 2 1\n\
+            3 1:16 LoadConst 3 True\n\
+            4 1:22 LoadConst 4 None\n\
+            5 1:28 LoadConst 5 Ellipsis\n\
+            6 1:28 BuildTuple 6\n\
+            7 1:28 ReturnValue\n",
+    },
+    Example {
+        source: "() as a constant",
+        mode: "eval",
+        level: "2",
+        rows: r#"[["tuple",[]],["Constant",1,1,0],["Expression",1]]"#,
+        want: "code '<module>' from 'm.py' line 1 flags 1 args 0 0 0 depth 0\n\
+            constants: ()\n\
+            0 1:1 ReturnConst 0 ()\n",
+    },
+    Example {
+        source: "('a',) as a constant",
+        mode: "eval",
+        level: "0",
+        rows: r#"[["str","a"],["tuple",[0]],["Constant",1,1,1],["Expression",2]]"#,
+        want: "code '<module>' from 'm.py' line 1 flags 1 args 0 0 0 depth 0\n\
+            constants: ('a',)\n\
+            0 1:1 ReturnConst 0 ('a',)\n",
+    },
+    Example {
+        source: "tuples in a constant",
+        mode: "eval",
+        level: "1",
+        rows: r#"[["int","-007"],["none"],["bytes","00ff61"],["tuple",[1,2]],["true"],["ellipsis"],["tuple",[0,3,4,5]],["Constant",1,1,6],["Expression",7]]"#,
+        want: "code '<module>' from 'm.py' line 1 flags 1 args 0 0 0 depth 0\n\
+            constants: (-7, (None, b'\\x00\\xffa'), True, Ellipsis)\n\
+            0 1:1 ReturnConst 0 (-7, (None, b'\\x00\\xffa'), True, Ellipsis)\n",
+    },
+    Example {
+        source: "170141183460469231731687303715884105727",
+        mode: "eval",
+        level: "2",
+        rows: r#"[["int","170141183460469231731687303715884105727"],["Constant",1,1,0],["Expression",1]]"#,
+        want: "code '<module>' from 'm.py' line 1 flags 1 args 0 0 0 depth 0\n\
+            constants: 170141183460469231731687303715884105727\n\
+            0 1:1 ReturnConst 0 170141183460469231731687303715884105727\n",
+    },
+];
+
+const DOCSTRINGS: [Example; 14] = [
+    Example {
+        source: "'doc'\na",
+        mode: "exec",
+        level: "0",
+        rows: r#"[["str","doc"],["Constant",1,1,0],["Expr",1,1,1],["Name",2,1,"a"],["Expr",2,1,3],["Module",[2,4]]]"#,
+        want: "code '<module>' from 'm.py' line 1 flags 1 args 0 0 0 depth 1\n\
+            constants: 'doc', None\n\
+            names: '__doc__', 'a'\n\
+            0 1:1 LoadConst 0 'doc'\n\
+            1 1:1 StoreGlobal 0 '__doc__'\n\
+            2 2:1 LoadNameAny 1 'a'\n\
+            3 2:1 Pop\n\
+            4 2:1 ReturnConst 1 None\n",
+    },
+    Example {
+        source: "'doc'\na",
+        mode: "exec",
+        level: "1",
+        rows: r#"[["str","doc"],["Constant",1,1,0],["Expr",1,1,1],["Name",2,1,"a"],["Expr",2,1,3],["Module",[2,4]]]"#,
+        want: "code '<module>' from 'm.py' line 1 flags 1 args 0 0 0 depth 1\n\
+            constants: 'doc', None\n\
+            names: '__doc__', 'a'\n\
+            0 1:1 LoadConst 0 'doc'\n\
+            1 1:1 StoreGlobal 0 '__doc__'\n\
+            2 2:1 LoadNameAny 1 'a'\n\
+            3 2:1 Pop\n\
+            4 2:1 ReturnConst 1 None\n",
+    },
+    Example {
+        source: "'doc'\na",
+        mode: "exec",
+        level: "2",
+        rows: r#"[["str","doc"],["Constant",1,1,0],["Expr",1,1,1],["Name",2,1,"a"],["Expr",2,1,3],["Module",[2,4]]]"#,
+        want: "code '<module>' from 'm.py' line 1 flags 1 args 0 0 0 depth 1\n\
+            constants: None\n\
+            names: 'a'\n\
+            0 2:1 LoadNameAny 0 'a'\n\
+            1 2:1 Pop\n\
+            2 2:1 ReturnConst 0 None\n",
+    },
+    Example {
+        source: "'doc'",
+        mode: "exec",
+        level: "0",
+        rows: r#"[["str","doc"],["Constant",1,1,0],["Expr",1,1,1],["Module",[2]]]"#,
+        want: "code '<module>' from 'm.py' line 1 flags 1 args 0 0 0 depth 1\n\
+            constants: 'doc', None\n\
+            names: '__doc__'\n\
+            0 1:1 LoadConst 0 'doc'\n\
+            1 1:1 StoreGlobal 0 '__doc__'\n\
+            2 1:1 ReturnConst 1 None\n",
+    },
+    Example {
+        source: "'doc'",
+        mode: "exec",
+        level: "1",
+        rows: r#"[["str","doc"],["Constant",1,1,0],["Expr",1,1,1],["Module",[2]]]"#,
+        want: "code '<module>' from 'm.py' line 1 flags 1 args 0 0 0 depth 1\n\
+            constants: 'doc', None\n\
+            names: '__doc__'\n\
+            0 1:1 LoadConst 0 'doc'\n\
+            1 1:1 StoreGlobal 0 '__doc__'\n\
+            2 1:1 ReturnConst 1 None\n",
+    },
+    Example {
+        source: "'doc'",
+        mode: "exec",
+        level: "2",
+        rows: r#"[["str","doc"],["Constant",1,1,0],["Expr",1,1,1],["Module",[2]]]"#,
+        want: "code '<module>' from 'm.py' line 1 flags 1 args 0 0 0 depth 0\n\
+            constants: None\n\
+            0 1:1 ReturnConst 0 None\n",
+    },
+    Example {
+        source: "f'doc'",
+        mode: "exec",
+        level: "0",
+        rows: r#"[["str","doc"],["Constant",1,1,0],["JoinedStr",1,1,[1]],["Expr",1,1,2],["Module",[3]]]"#,
+        want: "code '<module>' from 'm.py' line 1 flags 1 args 0 0 0 depth 1\n\
+            constants: 'doc', None\n\
+            names: '__doc__'\n\
+            0 1:1 LoadConst 0 'doc'\n\
+            1 1:1 StoreGlobal 0 '__doc__'\n\
+            2 1:1 ReturnConst 1 None\n",
+    },
+    Example {
+        source: "f'doc'",
+        mode: "exec",
+        level: "1",
+        rows: r#"[["str","doc"],["Constant",1,1,0],["JoinedStr",1,1,[1]],["Expr",1,1,2],["Module",[3]]]"#,
+        want: "code '<module>' from 'm.py' line 1 flags 1 args 0 0 0 depth 1\n\
+            constants: 'doc', None\n\
+            names: '__doc__'\n\
+            0 1:1 LoadConst 0 'doc'\n\
+            1 1:1 StoreGlobal 0 '__doc__'\n\
+            2 1:1 ReturnConst 1 None\n",
+    },
+    Example {
+        source: "f'doc'",
+        mode: "exec",
+        level: "2",
+        rows: r#"[["str","doc"],["Constant",1,1,0],["JoinedStr",1,1,[1]],["Expr",1,1,2],["Module",[3]]]"#,
+        want: "code '<module>' from 'm.py' line 1 flags 1 args 0 0 0 depth 0\n\
+            constants: None\n\
+            0 1:1 ReturnConst 0 None\n",
+    },
+    Example {
+        source: "f'a' 'b'\na.b",
+        mode: "exec",
+        level: "0",
+        rows: r#"[["str","ab"],["Constant",1,1,0],["JoinedStr",1,1,[1]],["Expr",1,1,2],["Name",2,1,"a"],["Attribute",2,1,4,"b"],["Expr",2,1,5],["Module",[3,6]]]"#,
+        want: "code '<module>' from 'm.py' line 1 flags 1 args 0 0 0 depth 1\n\
+            constants: 'ab', None\n\
+            names: '__doc__', 'a', 'b'\n\
+            0 1:1 LoadConst 0 'ab'\n\
+            1 1:1 StoreGlobal 0 '__doc__'\n\
+            2 2:1 LoadNameAny 1 'a'\n\
+            3 2:1 LoadAttr 2 'b'\n\
+            4 2:1 Pop\n\
+            5 2:1 ReturnConst 1 None\n",
+    },
+    Example {
+        source: "f'{a}'",
+        mode: "exec",
+        level: "0",
+        rows: r#"[["Name",1,4,"a"],["FormattedValue",1,1,0,"None",null],["JoinedStr",1,1,[1]],["Expr",1,1,2],["Module",[3]]]"#,
+        want: "code '<module>' from 'm.py' line 1 flags 1 args 0 0 0 depth 2\n\
+            constants: '', None\n\
+            names: 'a'\n\
+            0 1:1 LoadConst 0 ''\n\
+            1 1:4 LoadNameAny 0 'a'\n\
+            2 1:4 FormatValue 0 None\n\
+            3 1:4 BuildString 1\n\
+            4 1:4 Pop\n\
+            5 1:4 ReturnConst 1 None\n",
+    },
+    Example {
+        source: "a\n'doc'",
+        mode: "exec",
+        level: "1",
+        rows: r#"[["Name",1,1,"a"],["Expr",1,1,0],["str","doc"],["Constant",2,1,2],["Expr",2,1,3],["Module",[1,4]]]"#,
+        want: "code '<module>' from 'm.py' line 1 flags 1 args 0 0 0 depth 1\n\
+            constants: 'doc', None\n\
+            names: 'a'\n\
+            0 1:1 LoadNameAny 0 'a'\n\
+            1 1:1 Pop\n\
+            2 2:1 LoadConst 0 'doc'\n\
+            3 2:1 Pop\n\
+            4 2:1 ReturnConst 1 None\n",
+    },
+    Example {
+        source: "'doc'\n'again'",
+        mode: "exec",
+        level: "2",
+        rows: r#"[["str","doc"],["Constant",1,1,0],["Expr",1,1,1],["str","again"],["Constant",2,1,3],["Expr",2,1,4],["Module",[2,5]]]"#,
+        want: "code '<module>' from 'm.py' line 1 flags 1 args 0 0 0 depth 1\n\
+            constants: 'again', None\n\
+            0 2:1 LoadConst 0 'again'\n\
+            1 2:1 Pop\n\
+            2 2:1 ReturnConst 1 None\n",
+    },
+    Example {
+        source: "b'doc'",
+        mode: "exec",
+        level: "0",
+        rows: r#"[["bytes","646f63"],["Constant",1,1,0],["Expr",1,1,1],["Module",[2]]]"#,
+        want: "code '<module>' from 'm.py' line 1 flags 1 args 0 0 0 depth 1\n\
+            constants: b'doc', None\n\
+            0 1:1 LoadConst 0 b'doc'\n\
+            1 1:1 Pop\n\
+            2 1:1 ReturnConst 1 None\n",
+    },
+];
+
+const LONE_STARS: [Example; 8] = [
+    Example {
+        source: "*a",
+        mode: "exec",
+        level: "0",
+        rows: r#"[["Name",1,2,"a"],["Starred",1,1,0],["Expr",1,1,1],["Module",[2]]]"#,
+        want: "1:1 cannot use starred expression here\n",
+    },
+    Example {
+        source: "a\nb.c[*d,]\n*e",
+        mode: "exec",
+        level: "1",
+        rows: r#"[["Name",1,1,"a"],["Expr",1,1,0],["Name",2,1,"b"],["Attribute",2,1,2,"c"],["Name",2,6,"d"],["Starred",2,5,4],["Tuple",2,5,[5]],["Subscript",2,1,3,6],["Expr",2,1,7],["Name",3,2,"e"],["Starred",3,1,9],["Expr",3,1,10],["Module",[1,8,11]]]"#,
+        want: "3:1 cannot use starred expression here\n",
+    },
+    Example {
+        source: "a[*b]",
+        mode: "exec",
+        level: "2",
+        rows: r#"[["Name",1,1,"a"],["Name",1,4,"b"],["Starred",1,3,1],["Subscript",1,1,0,2],["Expr",1,1,3],["Module",[4]]]"#,
+        want: "1:3 cannot use starred expression here\n",
+    },
+    Example {
+        source: "{*a: b}",
+        mode: "exec",
+        level: "0",
+        rows: r#"[["Name",1,3,"a"],["Starred",1,2,0],["Name",1,6,"b"],["Dict",1,1,[1],[2]],["Expr",1,1,3],["Module",[4]]]"#,
+        want: "1:2 cannot use starred expression here\n",
+    },
+    Example {
+        source: "if *a: pass",
+        mode: "exec",
+        level: "1",
+        rows: r#"[["Name",1,5,"a"],["Starred",1,4,0],["Pass",1,8],["If",1,1,1,[2],[]],["Module",[3]]]"#,
+        want: "1:4 cannot use starred expression here\n",
+    },
+    Example {
+        source: "[**a]",
+        mode: "exec",
+        level: "2",
+        rows: r#"[["Name",1,4,"a"],["Starred",1,3,0],["Starred",1,2,1],["List",1,1,[2]],["Expr",1,1,3],["Module",[4]]]"#,
+        want: "1:3 cannot use starred expression here\n",
+    },
+    Example {
+        source: "(*a).b(*c)",
+        mode: "exec",
+        level: "0",
+        rows: r#"[["Name",1,3,"a"],["Starred",1,2,0],["Attribute",1,1,1,"b"],["Name",1,9,"c"],["Starred",1,8,3],["Call",1,1,2,[4],[]],["Expr",1,1,5],["Module",[6]]]"#,
+        want: "1:2 cannot use starred expression here\n",
+    },
+    Example {
+        source: "f'{*a}'",
+        mode: "exec",
+        level: "1",
+        rows: r#"[["Name",1,5,"a"],["Starred",1,4,0],["FormattedValue",1,1,1,"None",null],["JoinedStr",1,1,[2]],["Expr",1,1,3],["Module",[4]]]"#,
+        want: "1:4 cannot use starred expression here\n",
+    },
+];

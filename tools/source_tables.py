@@ -1,0 +1,469 @@
+"""Writes a file of tests of crates/pyc/src: small programs, with what a run writes over their rows.
+
+usage: source_tables.py MODEL_FOLDER choices|displays|targets
+
+The text on standard output is the file choices.rt, displays.rt or targets.rt, before `rt fmt`.
+MODEL_FOLDER holds a Python model of the program (`pyc.py`) and a reader of Python sources (`py2rows.py`).
+Each source below gives one entry: the words of a run, the rows of the source, and what the model writes over them.
+The levels 0, 1 and 2 follow one another in each table, unless an entry names its own.
+A source that Python's parser does not read as the tree that is wanted is a pair: what it is called, and its rows.
+"""
+import json
+import sys
+sys.path.insert(0, sys.argv[1])
+import pyc
+from py2rows import rows_text, tree_of
+from tree import Node
+from tree import rows_of as rows_of_tree
+
+
+class At:
+    """A source at a level of its own."""
+
+    def __init__(self, level, source):
+        self.level = level
+        self.source = source
+
+
+def at_each(source):
+    """A source at each level."""
+    return [At(level, source) for level in "012"]
+
+
+def constant(name, rows):
+    """A name, and the rows of an expression that is the constant of the last row."""
+    last = len(rows) - 1
+    return rows_of(name, rows + [["Constant", 1, 1, last], ["Expression", last + 1]])
+
+
+def rows_of(name, rows):
+    """Rows by hand, under a name."""
+    return name, json.dumps(rows, separators=(",", ":"), ensure_ascii=False)
+
+
+def expression(source, before):
+    """The tree of an expression that stands behind so many characters."""
+    if source.startswith("*"):
+        return Node("Starred", (1, before + 1), {"value": expression(source[1:], before + 1)})
+    return tree_of("(" * before + source + ")" * before, "eval").body
+
+
+def put(at, name, tree):
+    """Puts a tree in the place of a name."""
+    if isinstance(at, list):
+        for node in at:
+            put(node, name, tree)
+    elif isinstance(at, Node):
+        if at.kind == "Name" and at.id == name:
+            at.kind, at.f = tree.kind, tree.f
+        put(list(at.f.values()), name, tree)
+        if at.kind == "AnnAssign" and at.target.kind != "Name":
+            at.f["simple"] = False
+
+
+def with_part(source, part):
+    """A source, a part of which is an expression that Python's parser does not take there."""
+    before = source.index(part)
+    name = "_" * len(part)
+    whole = tree_of(source.replace(part, name, 1))
+    put(whole, name, expression(part, before))
+    return rows_of(source, rows_of_tree(whole))
+
+
+CHOICES = {
+    "about": "Choices and loops",
+    "exec": {
+        "BRANCHES": [
+            "if a: pass",
+            "if a: b\nelse: c",
+            "if a: b\nelif c: d\nelif e: f\nelse: g",
+            "if a:\n if b: c\n else: d\nelse:\n if e: pass",
+            "pass\npass",
+            "if b if a else c: d",
+        ],
+        "TESTS": [
+            "if not a: b\nelse: pass\nc",
+            "if a and b: c",
+            "if a or b: c\nelse: d",
+            "if not (a and b or c): d",
+            "if a and (b or not c) and d: e\nelse: f",
+            "if not (not a or b) and c: pass",
+            "if a < b <= c != d: e\nelse: f",
+            "if (a and b) < c or -d: e",
+        ],
+        "LOOPS": [
+            "while a: pass",
+            "while a: b\nelse: c",
+            "while a:\n if b: break\n c\nelse: d",
+            "while a:\n if b: continue\n c\nelse: d",
+            "while a: break",
+            "while a:\n continue\n b",
+            "while a < b < c: d",
+            "while __debug__:\n if not __debug__: break",
+        ],
+        "LOOPS_WITHIN": [
+            "while a:\n while b:\n  if c: break\n  if d: continue\n else: break\n e",
+            "while a:\n while b: pass\n else: continue\n c\nelse: d",
+            "while not a or b:\n if c:\n  d\n  break\n  e\n else: continue\nelse: f",
+            "while True:\n if a == 1: pass\n elif b: break\n else: continue",
+            "if a:\n while b:\n  if c: break\nelse:\n while d: pass\ne",
+            "while a:\n break\n while b: continue\nelse: pass\nc",
+        ],
+        "FAULTS": [
+            "break",
+            "while a: b\nelse:\n continue",
+            "if a:\n b\n if c: break",
+            "while a: pass\nif b: pass\nelse: continue",
+            "while a:\n while b: pass\n else: break\nelse:\n if c: break",
+        ],
+    },
+    "eval": {
+        "TRUTHS": [
+            "a and b and c",
+            "a or b or c",
+            "a and b or not c and d",
+            "not not a",
+            "(a or b) and (c or d)",
+            "__debug__ and a",
+            "-a + ~b - +c",
+            "~(not a)",
+        ],
+        "COMPARISONS": [
+            "a == b",
+            "a != b < c",
+            "a < b <= c > d >= e == f",
+            "a is b",
+            "a is not b is c",
+            "a in b not in c",
+            "not a in b",
+            "a < (b < c) < (d and e)",
+        ],
+        "CONDITIONALS": [
+            "a if b else c",
+            "a if b else c if d else e",
+            "(a if b else c) if d and not e else f",
+            "a if not (b or c) else d",
+            "f(a and b, c < d, e if g else None) or ...",
+            "a if 1 < b < 2 else -1",
+        ],
+    },
+}
+
+DISPLAYS = {
+    "about": "Displays, f-strings, attributes, subscripts, calls, docstrings and constants",
+    "eval": {
+        "SEQUENCES": [
+            "[]",
+            "()",
+            "[a, b, c]",
+            "(a, (b, [c, ()]), {d})",
+            "{a, b}",
+            "[*a]",
+            "(*a, *b)",
+            "{*a, b}",
+            "[a, b, *c, d, *e, *f, g, h]",
+            "(a, *(b, *c), [*d, e])",
+            "[[a] if b else [*c], d and e]",
+            rows_of("set()", [["Set", 1, 1, []], ["Expression", 0]]),
+        ],
+        "DICTS": [
+            "{}",
+            "{a: b, 'c': d}",
+            "{**a}",
+            "{**a, 'x': 1}",
+            "{**a, 'x': 1, **b, c: d}",
+            "{a: {b: [c]}, **{d: e, **f}}",
+            "{**{}}[a] if {1: 2} else {a and b: not c}",
+        ],
+        "TEXTS": [
+            "f''",
+            "f'a' 'b'",
+            "f'{a}'",
+            "f'a{b}c{d}'",
+            "f'{a!r}{b!s}{c!a}'",
+            "f'{a:>{b}}'",
+            "f'a{b!r:{c}.{d!s:e}}f'",
+            "f'{{}}' + f'{a[0].b(*c)}'",
+            rows_of("f'a' within f''", [["str", "a"], ["Constant", 1, 3, 0], ["JoinedStr", 1, 2, [1]], ["str", "b"], ["Constant", 1, 5, 3], ["JoinedStr", 1, 1, [2, 4]], ["Expression", 5]]),
+            rows_of("a within f''", [["Name", 1, 3, "a"], ["str", "b"], ["Constant", 1, 5, 1], ["JoinedStr", 1, 1, [0, 2]], ["Expression", 3]]),
+        ],
+        "PLACES": [
+            "a.b",
+            "a.b.c",
+            "a[b]",
+            "a[b].c[d, e]",
+            "'a'.b",
+            "a[:]",
+            "a[b:]",
+            "a[:b]",
+            "a[b:c:d]",
+            "a[::b]",
+            "a[b:c, ::-1, d]",
+            "(a or b).c[d if e else f]",
+        ],
+        "CALLS": [
+            "a.b()",
+            "a.b(c, 1)",
+            "a.b.c(d)(e).f(g)",
+            "a(*b)",
+            "a(b, c, *d, e)",
+            "a(*b, *c)",
+            "a.b(*c)",
+            "a.b(c, *d, *e, f, g)",
+            "a[b](*c[d:])",
+            "(a.b)(f'{c}', [*d])",
+            "a.b if c.d(e) else f.g(*h)",
+        ],
+        "CONSTANTS": [
+            "'a\\'\\\\b\\n\\x01\\xe9'",
+            "''",
+            "b''",
+            "b'a\\'\\\\\\x00\\xff~'",
+            "('a', b'a', 1, True, None, ...)",
+            constant("() as a constant", [["tuple", []]]),
+            constant("('a',) as a constant", [["str", "a"], ["tuple", [0]]]),
+            constant("tuples in a constant", [["int", "-007"], ["none"], ["bytes", "00ff61"], ["tuple", [1, 2]], ["true"], ["ellipsis"], ["tuple", [0, 3, 4, 5]]]),
+            "170141183460469231731687303715884105727",
+        ],
+    },
+    "exec": {
+        "DOCSTRINGS": at_each("'doc'\na") + at_each("'doc'") + at_each("f'doc'") + [
+            At("0", "f'a' 'b'\na.b"),
+            At("0", "f'{a}'"),
+            At("1", "a\n'doc'"),
+            At("2", "'doc'\n'again'"),
+            At("0", "b'doc'"),
+        ],
+        "LONE_STARS": [
+            "*a",
+            "a\nb.c[*d,]\n*e",
+            rows_of("a[*b]", [["Name", 1, 1, "a"], ["Name", 1, 4, "b"], ["Starred", 1, 3, 1], ["Subscript", 1, 1, 0, 2], ["Expr", 1, 1, 3], ["Module", [4]]]),
+            rows_of("{*a: b}", [["Name", 1, 3, "a"], ["Starred", 1, 2, 0], ["Name", 1, 6, "b"], ["Dict", 1, 1, [1], [2]], ["Expr", 1, 1, 3], ["Module", [4]]]),
+            rows_of("if *a: pass", [["Name", 1, 5, "a"], ["Starred", 1, 4, 0], ["Pass", 1, 8], ["If", 1, 1, 1, [2], []], ["Module", [3]]]),
+            rows_of("[**a]", [["Name", 1, 4, "a"], ["Starred", 1, 3, 0], ["Starred", 1, 2, 1], ["List", 1, 1, [2]], ["Expr", 1, 1, 3], ["Module", [4]]]),
+            rows_of("(*a).b(*c)", [["Name", 1, 3, "a"], ["Starred", 1, 2, 0], ["Attribute", 1, 1, 1, "b"], ["Name", 1, 9, "c"], ["Starred", 1, 8, 3], ["Call", 1, 1, 2, [4], []], ["Expr", 1, 1, 5], ["Module", [6]]]),
+            rows_of("f'{*a}'", [["Name", 1, 5, "a"], ["Starred", 1, 4, 0], ["FormattedValue", 1, 1, 1, "None", None], ["JoinedStr", 1, 1, [2]], ["Expr", 1, 1, 3], ["Module", [4]]]),
+        ],
+    },
+}
+
+TARGETS = {
+    "about": "Assignments, annotations, deletions, named expressions and keywords",
+    "exec": {
+        "ASSIGNMENTS": [
+            "a = b = c",
+            "a[b:c] = d",
+            "a.b.c = d[e] = f = g",
+            "[a, b] = c = d, e",
+            "() = a\n[] = b",
+            "a, (b.c, [d, e[f]]) = g",
+            "a = b, c\nd = [e, *f]\na = d",
+            "a = not b\nif a: c = d and e",
+        ],
+        "STARS": [
+            "*a, = b",
+            "a, *b, c, d = e",
+            "[*a, b] = c",
+            "a, *(b, *c) = d",
+            "(*a.b, c[d]), *e = *f, g",
+        ],
+        "AUGMENTED": [
+            "a += b",
+            "a[b] += c",
+            "a[b] *= c",
+            "a[b].c @= d\na.b[c] -= e\na /= f",
+            "a[b:c] %= d if e else f",
+            "a **= b\na <<= c\na >>= d\na |= e\na ^= f\na &= g\na //= h",
+            "a(b).c += d, e",
+        ],
+        "ANNOTATIONS": [
+            "a: b",
+            "a: b = c",
+            "(a): b = c",
+            "a.b: c",
+            "a.b: c = d",
+            "a[b]: c = d",
+            "while a:\n b: c = d\n if e: break\nelse: f",
+            "if a: pass\nelif b: pass\nelse:\n c: d",
+            "while a:\n if b: pass\n else: c.d: e",
+            "'doc'\na: 'b'\nc = d",
+            "a = b\n__debug__[c]: d",
+            with_part("(a, *b): c = d", "(a, *b)"),
+            with_part("f(a): b", "f(a)"),
+        ],
+        "DELETIONS": [
+            "del a, b.c, d[e]",
+            "del a[b:c].d",
+            "del (a, [b.c, (d[e],)]), f",
+            "del ()\ndel []",
+            "if a: del b\nelse: del c.d",
+            rows_of("del", [["Delete", 1, 1, []], ["Module", [0]]]),
+        ],
+        "CONDITIONS": [
+            "if (a := b): c",
+            "while (a := b.c()) < d: e",
+            "if not (a := b) and (c := a): d = c",
+            "(a := b)",
+        ],
+        "DEBUG_FAULTS": [
+            "__debug__ = a",
+            "a = b.__debug__ = c",
+            "a, (b, __debug__) = c.d",
+            "__debug__ += a",
+            "a.__debug__ += b",
+            "__debug__: a = b",
+            "del a, __debug__",
+            "del [a.b, c.__debug__]",
+            "(__debug__ := a)",
+            "a(b, __debug__=c)",
+            "a.b(c=d, __debug__=e, f=g)",
+            "a(b[c], *d, e=f, __debug__=g)",
+        ],
+        "STAR_FAULTS": [
+            "a, *b, *c = d",
+            "*a, *b = c",
+            "a = b, [*c, d, *e] = f",
+            "*a = b",
+            "a = *b = c",
+            "a = *b",
+            "a += *b",
+            with_part("*a: b = c", "*a"),
+            with_part("*a += b", "*a"),
+            with_part("a, **b = c", "**b"),
+            ("256 targets before a star", rows_text(", ".join(["a"] * 256) + ", *b = c")),
+        ],
+        "ASSIGNMENT_FAULTS": [
+            with_part("f() = 1", "f()"),
+            with_part("f(a) = b", "f(a)"),
+            with_part("a, 1 = b", "1"),
+            with_part("a = 'b' = c", "'b'"),
+            with_part("f'{a}' = b", "f'{a}'"),
+            with_part("a + b = c", "a + b"),
+            with_part("[a, [b, *c()]] = d", "[a, [b, *c()]]"),
+            with_part("[a, ...] = b", "..."),
+            with_part("a if b else c = d", "a if b else c"),
+            with_part("{a: b} = c", "{a: b}"),
+            with_part("(a := b) = c", "(a := b)"),
+            with_part("(a() := b)", "a()"),
+            with_part("f(a): b = c", "f(a)"),
+            rows_of("assignment to nothing", [["Name", 1, 1, "a"], ["Assign", 1, 1, [], 0], ["Module", [1]]]),
+        ],
+        "CHANGE_FAULTS": [
+            with_part("del f(a)", "f(a)"),
+            with_part("del a+b", "a+b"),
+            with_part("del (a, b + c)", "(a, b + c)"),
+            with_part("del [a, *b]", "[a, *b]"),
+            with_part("del a, 1", "1"),
+            with_part("del f'{a}'", "f'{a}'"),
+            with_part("del a if b else c", "a if b else c"),
+            with_part("a, b += c", "a, b"),
+            with_part("[a] += b", "[a]"),
+            with_part("-a += b", "-a"),
+            with_part("True += *a", "True"),
+        ],
+    },
+    "eval": {
+        "NAMED": [
+            "(a := b)",
+            "(a := b) and c or (d := e)",
+            "[a := b, (c := d), e]",
+            "f(a := b, (c := d))[g := h]",
+            "(a := (b := c)) if (d := e) else f",
+            "f'{(a := b)}' < (c := d)",
+            with_part("(a.b := c)", "a.b"),
+            with_part("((a, *b) := c)", "(a, *b)"),
+        ],
+        "KEYWORDS": [
+            "f(a=b)",
+            "f(a, b=c, d=e)",
+            "f(*a, b=c)",
+            "f(a, *b, c, d=e, f=g)",
+            "f(**a)",
+            "f(a, **b)",
+            "f(a=b, **c)",
+            "f(**a, b=c)",
+            "f(**a, **b)",
+            "f(a, *b, c=d, **e, g=h, i=j, **k)",
+            "f(a=b, *c)",
+            "f(a=b if c else d)(e=f(g=h))",
+        ],
+        "METHODS": [
+            "a.b(c=d)",
+            "a.b(c, d, e=f, g=h)",
+            "a.b(*c, d=e)",
+            "a.b(**c)",
+            "a.b(c, *d, e=f, **g)",
+            "a.b.c(d=e).f(g, **h)",
+            "a[b].c(d=(e := f))",
+        ],
+        "NAME_FAULTS": [
+            "f(*a, b=c, __debug__=d)",
+            "f(a.b(__debug__=c), __debug__=d)",
+            "f(a, **b, __debug__=c)",
+            rows_of("f(''=a)", [["Name", 1, 1, "f"], ["Name", 1, 6, "a"], ["Keyword", "", 1], ["Call", 1, 1, 0, [], [2]], ["Expression", 3]]),
+            rows_of("f(a.b=c)", [["Name", 1, 1, "f"], ["Name", 1, 7, "c"], ["Keyword", "a.b", 1], ["Call", 1, 1, 0, [], [2]], ["Expression", 3]]),
+        ],
+    },
+}
+
+
+def lines_of(text):
+    """The lines of a text, as they stand in a literal."""
+    lines = text.replace("\\", "\\\\").replace('"', '\\"').split("\n")
+    while lines and not lines[-1]:
+        lines.pop()
+    return lines
+
+
+def listing(text):
+    """A text that ends in a line feed, each of its lines on a line."""
+    return '"' + "\\n\\\n            ".join(lines_of(text)) + '\\n"'
+
+
+def entry(source, mode, level):
+    if isinstance(source, At):
+        source, level = source.source, source.level
+    if isinstance(source, tuple):
+        source, rows = source
+    else:
+        rows = rows_text(source, mode)
+    assert '"#' not in rows
+    status, out, err, _ = pyc.run([mode, level, "m.py"], rows.encode())
+    assert status in (0, 1), (source, err)
+    print("    Example {")
+    print('        source: "' + "\\n".join(lines_of(source)) + '",')
+    print(f'        mode: "{mode}",')
+    print(f'        level: "{level}",')
+    print('        rows: r#"' + rows + '"#,')
+    print("        want: " + listing(out if status == 0 else err) + ",")
+    print("    },")
+
+
+def table(name, sources, mode):
+    print(f"\nconst {name}: [Example; {len(sources)}] = [")
+    for i, source in enumerate(sources):
+        entry(source, mode, "012"[i % 3])
+    print("];")
+
+
+def test(name):
+    print(f"""
+#[test]
+fn {name.lower()}(rt: HostRuntime) -> Result<(), Fail> {{
+    Ok(check(&rt, rt.alloc(), &{name})?)
+}}""")
+
+
+groups = {"choices": CHOICES, "displays": DISPLAYS, "targets": TARGETS}[sys.argv[2]]
+print(f"""//! {groups["about"]}: small programs with what a run
+//! writes over their rows. The file is made by tools/source_tables.py.
+
+use crate::examples::{{Example, check}};
+use std::test::Fail;""")
+modes = [(mode, groups[mode]) for mode in groups if mode != "about"]
+for mode, tables in modes:
+    for name in tables:
+        test(name)
+for mode, tables in modes:
+    for name, sources in tables.items():
+        table(name, sources, mode)
