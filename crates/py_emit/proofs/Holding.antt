@@ -68,7 +68,7 @@ along v w =
       steps = steps_are bs (length bs) 0 l.0 l.2 short;
     }
 
-blk_at : (blocks : List Block) (b : ℕ) → blk (map plain blocks) b ≡ plain (get_or blocks b empty_block)
+pub blk_at : (blocks : List Block) (b : ℕ) → blk (map plain blocks) b ≡ plain (get_or blocks b empty_block)
 blk_at [] b = refl
 blk_at (x ∷ blocks) zero = refl
 blk_at (x ∷ blocks) (suc b) = blk_at blocks b
@@ -95,7 +95,7 @@ leads_same bs ds same (c ∷ d ∷ cs) h = (same c ∙ h.0, leads_same bs ds sam
 number_cases : (a b : ℕ) → (a ≡ b) ⊎ (a ≢ b)
 number_cases a b = cases_eq a b
 
-tail_inside : (bound last c : ℕ) (cs : List ℕ) → Tails last c cs → ((k : ℕ) → k < length (c ∷ cs) → get_or (c ∷ cs) k 0 < bound) → last < bound
+pub tail_inside : (bound last c : ℕ) (cs : List ℕ) → Tails last c cs → ((k : ℕ) → k < length (c ∷ cs) → get_or (c ∷ cs) k 0 < bound) → last < bound
 tail_inside bound last c [] e h = subst (λ n. n < bound) e (h 0 (omega arith))
 tail_inside bound last c (d ∷ cs) e h = tail_inside bound last d cs e.1 (λ k l. h (suc k) (omega (arith, l)))
 

@@ -1,3 +1,4 @@
 pub mod Chains
 pub mod Holding
 pub mod States
+pub mod Taking

@@ -2,6 +2,7 @@
 use Rattle.std.specs.Prelude.{◌≡◌, ◌≢◌, ◌<◌, ℕ, List, [], length, map, codes, false, Option, Some, None, Result, Ok, Err}
 use Rattle.py_base.specs.declared.location.SourceLocation.{SourceLocation}
 use Rattle.py_base.specs.declared.location.LocatedError.{LocatedError}
+use Rattle.py_bytecode.specs.Equality.{text_eq, entered}
 use Rattle.py_bytecode.specs.View.{constant}
 use Rattle.py_walks.specs.declared.info.BlockIdx.{BlockIdx}
 use Rattle.py_ir.specs.declared.error.FinalizeError.{FinalizeError}
@@ -80,6 +81,10 @@ first_rest opts path = record { opts = opts; context = no_context; path = path; 
 
 abbrev pub with_context : EmitContext → Rest → Rest
 with_context context r = record { opts = r.opts; context = context; path = r.path; head = r.head }
+
+-- the name is entered among those of the code object's own
+unfoldable pub with_varname : List ℕ → Rest → Rest
+with_varname x r = record r { head = record r.head { varnames = entered text_eq r.head.varnames x } }
 
 -- what becomes a code object
 unfoldable pub info : Emitter → CodeInfo

@@ -1,5 +1,7 @@
 -- Blocks as the steps of an emission.
 use Rattle.std.specs.Prelude.{◌≡◌, ◌≢◌, ◌⊎◌, ◌<◌, ℕ, zero, suc, List, [], ◌∷◌, ◌++◌, length, map, Option, Some, None}
+use Rattle.py_base.specs.declared.location.SourceLocation.{SourceLocation}
+use Rattle.py_bytecode.specs.declared.instruction.Instruction.TheVariants as op
 use Rattle.py_walks.specs.declared.info.InstructionInfo.{InstructionInfo}
 use Rattle.py_ir.specs.Chain.{Blk, blk, block_number}
 use Rattle.py_meaning.specs.Emission.{Step, Put, Begin, State}
@@ -30,3 +32,28 @@ pub record IsOpen (b : ℕ) (s : State) : Type 0 where
   pub made : b < s.blocks
   pub later : b ≢ 0
   pub not_begun : ¬ Begun b s.steps
+
+-- a block begins at the last step, where there is one: the last block is empty
+abbrev pub EndsAtBegin : List Step → Type 0
+EndsAtBegin [] = Unit {0}
+EndsAtBegin (Put i n to at ∷ []) = ⊥
+EndsAtBegin (Begin b ∷ []) = Unit {0}
+EndsAtBegin (x ∷ y ∷ xs) = EndsAtBegin (y ∷ xs)
+
+-- a load of a constant becomes its return; what else stands last is followed by a return of the value on top
+abbrev pub closed : SourceLocation → Step → List Step
+closed at (Put op.LoadConst n to there) = Put op.ReturnConst n to there ∷ []
+closed at x = x ∷ Put op.ReturnValue 0 None at ∷ []
+
+abbrev pub returned : SourceLocation → List Step → List Step
+returned at [] = Put op.ReturnValue 0 None at ∷ []
+returned at (x ∷ []) = closed at x
+returned at (x ∷ y ∷ xs) = x ∷ returned at (y ∷ xs)
+
+-- the value on top is returned
+unfoldable pub with_return : State → State
+with_return s = record s { steps = returned s.location s.steps }
+
+-- the value on top is returned after this last step
+unfoldable pub with_closed : Step → State → State
+with_closed x s = record s { steps = s.steps ++ closed s.location x }

@@ -4,7 +4,7 @@ ghost use Rattle.py_ir.specs.Chain.{block_number};
 ghost use Rattle.py_ir.specs.Final.{IsFinal};
 ghost use Rattle.py_meaning.specs.Emission.{Begin, Next, Put, emit as emission_of, emit_count, jump as jumping, located, nothing, with_block, with_step};
 ghost use Rattle.py_emit.specs.States.{Goes, Same, IsFirst, IsStarved, IsUnrefused, first_rest, info, placed_error, rest, state, with_context};
-ghost use Rattle.py_emit.specs.Steps.{IsOpen};
+ghost use Rattle.py_emit.specs.Steps.{IsOpen, step_of};
 
 use crate::context::{CompileOpts, EmitContext};
 use crate::refusals::{has_short_tables, only_starved, starved};
@@ -119,7 +119,6 @@ impl Emitter {
     ///
     /// # Errors
     /// OutOfMemory alone.
-    #[tactic(auto, unfolding(crate::specs::States::rest))]
     pub fn emit(
         &mut self,
         instr: Instruction,
@@ -130,12 +129,24 @@ impl Emitter {
         ensures rest { OnOk result (rest self.new ≡ rest self.old) }
         ensures err { IfErr result (λ e. IsStarved e (rest self.old).path) }
     {
-        let info = InstructionInfo {
+        self.put(InstructionInfo {
             instr,
             arg,
             target,
             location: self.location,
-        };
+        })
+    }
+
+    /// Appends one instruction as it is, at its own location.
+    ///
+    /// # Errors
+    /// OutOfMemory alone.
+    #[tactic(auto, unfolding(crate::specs::States::rest))]
+    pub(crate) fn put(&mut self, info: InstructionInfo) -> Result<(), CodegenError>
+        ensures ok { OnOk result (state self.new ≡ with_step (step_of info) (state self.old)) }
+        ensures rest { OnOk result (rest self.new ≡ rest self.old) }
+        ensures err { IfErr result (λ e. IsStarved e (rest self.old).path) }
+    {
         match self.code.body.push(info) {
             Ok(()) => Ok(()),
             Err(_) => Err(self.error(CodegenErrorType::OutOfMemory)),

@@ -3,10 +3,13 @@
 
 mod context;
 mod emitter;
+mod endings;
 mod macros;
 mod names;
 mod refusals;
 mod tables;
+#[cfg(test)]
+mod tests;
 
 pub use context::{CompileOpts, EmitContext, NameUsage, ScopeHead};
 pub use emitter::Emitter;

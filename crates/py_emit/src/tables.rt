@@ -1,11 +1,13 @@
 //! The tables that operands name, and the instructions that name them.
-ghost use Rattle.std.specs.Prelude.{◌≡◌, IfOk, IfErr, OnOk};
+ghost use Rattle.std.specs.Prelude.{◌≡◌, ◌≢◌, true, false, IfOk, IfErr, OnOk};
 ghost use Rattle.py_bytecode.specs.Equality.{const_eq, text_eq};
 ghost use Rattle.py_bytecode.specs.View.{constant as constant_of};
-ghost use Rattle.py_meaning.specs.Emission.{Next, emit_constant, emit_name as emission_of_name, place_in, with_constant, with_name};
-ghost use Rattle.py_emit.specs.States.{Goes, Same, IsStarved, rest, state};
+ghost use Rattle.py_meaning.specs.Emission.{Next, Refused, emit_constant, emit_name as emission_of_name, no_assignment, place_in, refuse, with_constant, with_name};
+ghost use Rattle.py_meaning.specs.Table.{is_debug as named_debug};
+ghost use Rattle.py_emit.specs.States.{Goes, Same, IsStarved, rest, state, with_varname};
 
 use crate::emitter::Emitter;
+use crate::names::is_debug;
 use py_bytecode::{ConstantData, Instruction};
 use py_meaning::{CodegenError, CodegenErrorType};
 use py_tree::Text;
@@ -26,6 +28,30 @@ impl Emitter {
             return Err(self.error(CodegenErrorType::OutOfMemory));
         };
         match self.code.name_cache.insert_full(Text::from_string(copy)) {
+            Ok(place) => self.narrow(place),
+            Err(_) => Err(self.error(CodegenErrorType::OutOfMemory)),
+        }
+    }
+
+    /// The place of a name among those that the code object has of its own, where it is entered if it is new.
+    ///
+    /// # Errors
+    /// SyntaxError where the name is `__debug__`, at the present location, or OutOfMemory.
+    #[tactic(auto, unfolding(crate::specs::States::rest, crate::specs::States::with_varname))]
+    pub fn varname(&mut self, name: &str) -> Result<u32, CodegenError>
+        ensures place { IfOk result (λ place. place ≡ place_in text_eq (rest self.old).head.varnames name.now) }
+        ensures other { OnOk result (named_debug name.now ≡ false) }
+        ensures state { OnOk result (state self.new ≡ state self.old) }
+        ensures rest { OnOk result (rest self.new ≡ with_varname name.now (rest self.old)) }
+        ensures debug { IfErr result (λ e. e.error ≢ CodegenErrorType.OutOfMemory → named_debug name.now ≡ true) }
+        ensures err { IfErr result (λ e. e.error ≢ CodegenErrorType.OutOfMemory → refuse (CodegenErrorType.SyntaxError no_assignment) (state self.old) ≡ Refused e.error e.location) }
+        ensures path { IfErr result (λ e. e.source_path ≡ (rest self.old).path) }
+    {
+        if is_debug(name) {
+            return Err(self.syntax_error("cannot assign to __debug__"));
+        }
+        let copy = self.text(name)?;
+        match self.code.varname_cache.insert_full(copy) {
             Ok(place) => self.narrow(place),
             Err(_) => Err(self.error(CodegenErrorType::OutOfMemory)),
         }

@@ -1,6 +1,7 @@
 //! The code of expressions.
 #![tactic(auto)]
 
+mod awaits;
 mod calls;
 mod comparisons;
 mod conditions;
@@ -12,6 +13,7 @@ mod returns;
 mod targets;
 mod texts;
 
+pub use awaits::contains_await;
 pub use calls::{CallType, compile_call_inner, emit_call};
 pub use conditions::compile_jump_if;
 pub use expressions::{case_of, compile_expression};

@@ -111,8 +111,10 @@ impl FlatBlocks {
 
     /// Takes the last instruction of the current block away.
     pub fn pop(&mut self) -> Option<InstructionInfo>
+        ensures whole { IsWhole self.old }
         ensures last { result ≡ last_item self.old }
         ensures left { self.new ≡ popped self.old }
+        ensures kept { IsWhole self.new }
     {
         let current = self.spans[self.current.0 as usize];
         if current.first < current.after {

@@ -1,0 +1,43 @@
+-- Whether an await stands in an expression.
+use Rattle.std.specs.Prelude.{Bool, false, ◌||◌}
+use Rattle.py_tree.specs.Tree as tree
+
+-- no kind of node is an await yet
+abbrev mutual
+  pub awaits : tree.Expr → Bool
+  awaits (tree.BoolOp at op values) = any_awaits values
+  awaits (tree.NamedExpr at target value) = awaits target || awaits value
+  awaits (tree.BinOp at left op right) = awaits left || awaits right
+  awaits (tree.UnaryOp at op operand) = awaits operand
+  awaits (tree.IfExp at test body orelse) = awaits test || awaits body || awaits orelse
+  awaits (tree.Dict at keys values) = any_key_awaits keys || any_awaits values
+  awaits (tree.Set at elts) = any_awaits elts
+  awaits (tree.Compare at left ops comparators) = awaits left || any_awaits comparators
+  awaits (tree.Call at func args named) = awaits func || any_awaits args || any_keyword_awaits named
+  awaits (tree.FormattedValue at value conversion format_spec) = awaits value || part_awaits format_spec
+  awaits (tree.JoinedStr at values) = any_awaits values
+  awaits (tree.Constant at value) = false
+  awaits (tree.Attribute at value attr) = awaits value
+  awaits (tree.Subscript at value slice) = awaits value || awaits slice
+  awaits (tree.Starred at value) = awaits value
+  awaits (tree.Name at id) = false
+  awaits (tree.List at elts) = any_awaits elts
+  awaits (tree.Tuple at elts) = any_awaits elts
+  awaits (tree.Slice at lower upper step) = part_awaits lower || part_awaits upper || part_awaits step
+
+  pub any_awaits : tree.Exprs → Bool
+  any_awaits tree.no_exprs = false
+  any_awaits (tree.more_exprs e es) = awaits e || any_awaits es
+
+  -- a part that may be missing
+  pub part_awaits : tree.OptExpr → Bool
+  part_awaits tree.no_expr = false
+  part_awaits (tree.some_expr e) = awaits e
+
+  pub any_key_awaits : tree.OptExprs → Bool
+  any_key_awaits tree.no_opts = false
+  any_key_awaits (tree.more_opts o os) = part_awaits o || any_key_awaits os
+
+  pub any_keyword_awaits : tree.Keywords → Bool
+  any_keyword_awaits tree.no_keywords = false
+  any_keyword_awaits (tree.more_keywords arg value ks) = awaits value || any_keyword_awaits ks
