@@ -23,7 +23,8 @@ use Rattle.py_meaning.specs.Laws.{IsEnd}
 use Rattle.py_meaning.specs.Agree.{runs_code, form_of, exactly}
 use Rattle.py_meaning.specs.Agreement.{Agree, AgreeFull}
 use Rattle.py_meaning.specs.Meaning.{outer_head, body}
-use Rattle.py_meaning.specs.Emission.{State, Outcome, Done, TooWide, Refused, nothing, emitted}
+use Rattle.py_meaning.specs.Emitting.{State, Outcome, Done, TooWide, Refused, nothing}
+use Rattle.py_meaning.specs.Emission.{emitted}
 use Rattle.py_meaning.proofs.CodeObjects.{childless_agrees}
 use Rattle.py_meaning.proofs.LaidOut.{laid_runs}
 use Rattle.py_meaning.proofs.Laws.{scope_ends}

@@ -7,10 +7,11 @@ use Rattle.py_bytecode.specs.Machine.{Operate}
 use Rattle.py_meaning.specs.Form.{Interp, VForm}
 use Rattle.py_meaning.specs.Code.{count as form_count}
 use Rattle.py_meaning.specs.Elements.{Element, starred, bare, groups}
-use Rattle.py_meaning.specs.Table as table
-use Rattle.py_meaning.specs.Table.{parts_of, counted}
-use Rattle.py_meaning.specs.Emission as emitting
-use Rattle.py_meaning.specs.Emission.{Next, emit_count, in_turn}
+use Rattle.py_meaning.specs.TableParts as table
+use Rattle.py_meaning.specs.TableParts.{parts_of, counted}
+use Rattle.py_meaning.specs.EmissionParts as emitting
+use Rattle.py_meaning.specs.Emitting.{Next, emit_count}
+use Rattle.py_meaning.specs.EmissionParts.{in_turn}
 use Rattle.codegen.proofs.Pairwise.{same_length, same_starred, bare_alike, groups_alike}
 use Rattle.codegen.proofs.Instructions.{Builds, tuple_builds}
 use Rattle.codegen.proofs.FormAdds.{ValueAdds, StepAdds, AllValuesAdd, AllElementsAdd, as_many, either_adds, values_add, operation_adds}

@@ -10,10 +10,11 @@ use Rattle.py_bytecode.specs.Decode.{value_of}
 use Rattle.py_meaning.specs.Form.{Interp, VForm, VForms, VOp, VMore, VMethod, VNone, TForm}
 use Rattle.py_meaning.specs.Code.{Do, count as form_count, labels_v, labels_vs, labels_t, code_v, code_vs, code_t}
 use Rattle.py_meaning.specs.Elements.{Element, Callee, Function, Method}
-use Rattle.py_meaning.specs.Table as table
-use Rattle.py_meaning.specs.Table.{ExprForms, parts_of, is_debug}
-use Rattle.py_meaning.specs.Emission as emitting
-use Rattle.py_meaning.specs.Emission.{State, Done, Next, Emissions, emit_name, jump, move, refuse, testing_jump, unless_debug, in_turn}
+use Rattle.py_meaning.specs.TableParts as table
+use Rattle.py_meaning.specs.TableParts.{ExprForms, parts_of, is_debug}
+use Rattle.py_meaning.specs.EmissionParts as emitting
+use Rattle.py_meaning.specs.Emitting.{State, Done, Next, emit_name, jump, move, refuse}
+use Rattle.py_meaning.specs.EmissionParts.{Emissions, testing_jump, unless_debug, in_turn}
 use Rattle.py_meaning.specs.declared.errors.CodegenErrorType.TheVariants as error
 use Rattle.py_emit.proofs.States.{never_refused}
 use Rattle.codegen.proofs.Emitting.{Comes, comes_as, comes_then, comes_more, comes_nothing, comes_moved}

@@ -11,7 +11,7 @@ use Rattle.py_ir.specs.Chain.{Blk, blk, block_number, coded_item, coded_block, c
 use Rattle.py_meaning.specs.Code.{Item, Do, Label}
 use Rattle.py_meaning.specs.Blocks as blocks
 use Rattle.py_meaning.specs.Blocks.{IsItem, Laid, Ends}
-use Rattle.py_meaning.specs.Emission.{Step}
+use Rattle.py_meaning.specs.Emitting.{Step}
 use Rattle.py_meaning.proofs.Laying.{laid_then}
 use Rattle.py_emit.specs.Steps.{step_of, onwards, steps_from}
 use Rattle.codegen.proofs.Adding.{AllRead, Below, AllInside}

@@ -22,7 +22,8 @@ use Rattle.py_meaning.specs.Agree.{form_of}
 use Rattle.py_meaning.specs.Code.{Item, labels, body_code}
 use Rattle.py_meaning.specs.Meaning.{outer_head, body}
 use Rattle.py_meaning.specs.Looped.{Looped}
-use Rattle.py_meaning.specs.Emission.{State, Done, emitted}
+use Rattle.py_meaning.specs.Emitting.{State, Done}
+use Rattle.py_meaning.specs.Emission.{emitted}
 use Rattle.py_meaning.proofs.Assembly.{occurs}
 use Rattle.py_meaning.proofs.Labels.{placed_once}
 use Rattle.py_sound.proofs.Blocks.{laid_is_sound}

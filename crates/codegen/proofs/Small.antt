@@ -5,7 +5,7 @@ use Rattle.py_bytecode.specs.Values.{Operation}
 use Rattle.py_meaning.specs.Elements.{Callee, Function, Method}
 use Rattle.py_meaning.specs.Form.{Interp, VForm, VOp, Target}
 use Rattle.py_meaning.specs.Code.{labels_v, code_v, code_vs, code_t, code_g}
-use Rattle.py_meaning.specs.Table.{ExprForms, TargetForms, tested, plain_target, values, elements, parts_of}
+use Rattle.py_meaning.specs.TableParts.{ExprForms, TargetForms, tested, plain_target, values, elements, parts_of}
 use Rattle.codegen.proofs.Burden.{burden, burden-append}
 use Rattle.codegen.proofs.Together.{Together, OneElement}
 

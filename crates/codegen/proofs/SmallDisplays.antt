@@ -9,7 +9,7 @@ use Rattle.py_bytecode.specs.Values.{Bare, operation}
 use Rattle.py_meaning.specs.Elements.{Element, Single, Spread, starred, bare, grouped, groups, pairs, keyed, unkeyed, sides}
 use Rattle.py_meaning.specs.Form.{Interp, VForm, VOp, VNone, VMore}
 use Rattle.py_meaning.specs.Code.{labels_v, code_v, code_vs}
-use Rattle.py_meaning.specs.Table.{counted, parts_of, built, unpacked, display, updated, dict_form, value_or, slice_form, joined_form}
+use Rattle.py_meaning.specs.TableParts.{counted, parts_of, built, unpacked, display, updated, dict_form, value_or, slice_form, joined_form}
 use Rattle.codegen.proofs.Burden.{burden, burden-append}
 use Rattle.codegen.proofs.Together.{Together, Possible, OneElement, push_together, bare_together}
 use Rattle.codegen.proofs.Small.{FormSmall, parts_small, operation_small}

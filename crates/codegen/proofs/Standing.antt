@@ -10,7 +10,7 @@ use Rattle.py_bytecode.specs.Table.{row_of}
 use Rattle.py_walks.specs.declared.info.InstructionInfo.{InstructionInfo}
 use Rattle.py_ir.specs.Chain.{Blk, blk, cut, body}
 use Rattle.py_meaning.specs.Code.{Item, Do, Label}
-use Rattle.py_meaning.specs.Emission.{Step, Put, Begin}
+use Rattle.py_meaning.specs.Emitting.{Step, Put, Begin}
 use Rattle.py_meaning.proofs.Assembly.{occurs}
 use Rattle.py_emit.specs.Steps.{step_of, onwards, steps_from, Begun}
 use Rattle.codegen.proofs.Adding.{Reads, AllRead, Below, AllInside}

@@ -9,8 +9,9 @@ use Rattle.py_bytecode.specs.Machine.{Operate, Pop, Duplicate, Unpack}
 use Rattle.py_meaning.specs.Form.{Interp, VForm, VForms, VKeep, Target, GPut, GDrop, targets}
 use Rattle.py_meaning.specs.Code.{Do, count as form_count, labels_v, labels_vs, labels_g, labels_gs, code_v, code_vs, code_g, code_gs}
 use Rattle.py_meaning.specs.Elements.{Element, bare, stars, before_star, after_star}
-use Rattle.py_meaning.specs.Table.{TargetForms, plain_target, targets_of, unpacking, unpacked_to, counted}
-use Rattle.py_meaning.specs.Emission.{State, Done, Next, Stores, plain_store, emit, emit_count, move, refuse, in_turn, few_aside, unpack, unpack_starred, unless_debug}
+use Rattle.py_meaning.specs.TableParts.{TargetForms, plain_target, targets_of, unpacking, unpacked_to, counted}
+use Rattle.py_meaning.specs.Emitting.{State, Done, Next, emit, emit_count, move, refuse}
+use Rattle.py_meaning.specs.EmissionParts.{Stores, plain_store, in_turn, few_aside, unpack, unpack_starred, unless_debug}
 use Rattle.py_meaning.specs.declared.errors.CodegenErrorType.{CodegenErrorType}
 use Rattle.py_meaning.specs.declared.errors.CodegenErrorType.TheVariants as error
 use Rattle.py_emit.proofs.States.{never_refused}

@@ -7,7 +7,7 @@ use Rattle.py_bytecode.specs.Decode.{tables}
 use Rattle.py_bytecode.specs.Units.{fetch_unit, machine}
 use Rattle.py_meaning.specs.Laws.{IsEnd}
 use Rattle.py_meaning.specs.Faults.{Fault}
-use Rattle.py_meaning.specs.Emission.{Outcome, Refused}
+use Rattle.py_meaning.specs.Emitting.{Outcome, Refused}
 use Rattle.py_meaning.specs.declared.errors.CodegenErrorType.{CodegenErrorType}
 use Rattle.py_meaning.specs.declared.errors.CodegenErrorType.TheVariants as error
 use Rattle.py_base.specs.declared.location.LocatedError.{LocatedError}

@@ -1,7 +1,8 @@
 //! The code of a file.
 ghost use Rattle.std.specs.Prelude.{◌≡◌, ◌≤◌, None, Option as Optional, drop, length, IfOk};
 ghost use Rattle.py_tree.specs.View.{stmt_tree, stmts};
-ghost use Rattle.py_meaning.specs.Emission.{Done, Next, emission_of_doc, emission_of_program, emission_of_setup, emission_of_stmts, emit_constant};
+ghost use Rattle.py_meaning.specs.Emitting.{Done, Next, emit_constant};
+ghost use Rattle.py_meaning.specs.Emission.{emission_of_doc, emission_of_program, emission_of_setup, emission_of_stmts};
 ghost use Rattle.py_bytecode.specs.Objects.{none};
 ghost use Rattle.py_meaning.specs.Texts.{after_doc, doc_of};
 ghost use Rattle.py_emit.specs.States.{AreMade, Goes, Same, loop_blocks, rest, state};

@@ -1,7 +1,9 @@
 //! Statements.
 ghost use Rattle.std.specs.Prelude.{◌≡◌, ◌<◌, ℕ, Some, Option as Optional};
 ghost use Rattle.py_tree.specs.View.{break_tree, continue_tree, expr_tree, if_tree, pass_tree, stmt_expr_tree, stmt_tree, stmts, while_tree};
-ghost use Rattle.py_meaning.specs.Emission.{LoopBlocks as Loops, Next, choice, emission_of_stmt, emission_of_stmts, emission_of_test, only};
+ghost use Rattle.py_meaning.specs.Emitting.{LoopBlocks as Loops, Next};
+ghost use Rattle.py_meaning.specs.EmissionParts.{choice, only};
+ghost use Rattle.py_meaning.specs.Emission.{emission_of_stmt, emission_of_stmts, emission_of_test};
 ghost use Rattle.py_emit.specs.States.{AreMade, Goes, Same, loop_blocks, rest, state};
 
 use crate::assignments::{

@@ -5,7 +5,7 @@ use Rattle.py_bytecode.specs.View.{constant}
 use Rattle.py_ir.specs.declared.info.CodeInfo.{CodeInfo}
 use Rattle.py_ir.specs.Chain.{plain}
 use Rattle.py_ir.specs.Final.{IsFinal}
-use Rattle.py_meaning.specs.Emission.{State, Outcome, Done, TooWide, Refused}
+use Rattle.py_meaning.specs.Emitting.{State, Outcome, Done, TooWide, Refused}
 use Rattle.py_emit.specs.States.{Head, module_head}
 use Rattle.py_emit.specs.Steps.{steps_in}
 

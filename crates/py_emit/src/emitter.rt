@@ -2,7 +2,7 @@
 ghost use Rattle.std.specs.Prelude.{◌≡◌, ◌≢◌, ◌<◌, None, Some, IfOk, IfErr, OnOk};
 ghost use Rattle.py_ir.specs.Chain.{block_number};
 ghost use Rattle.py_ir.specs.Final.{IsFinal};
-ghost use Rattle.py_meaning.specs.Emission.{Begin, Next, Put, emit as emission_of, emit_count, jump as jumping, located, nothing, with_block, with_step};
+ghost use Rattle.py_meaning.specs.Emitting.{Begin, Next, Put, emit as emission_of, emit_count, jump as jumping, located, nothing, with_block, with_step};
 ghost use Rattle.py_emit.specs.States.{Goes, Same, IsFirst, IsStarved, IsUnrefused, first_rest, info, placed_error, rest, state, with_context};
 ghost use Rattle.py_emit.specs.Steps.{IsOpen, step_of};
 
@@ -90,7 +90,7 @@ impl Emitter {
     }
 
     /// What follows stands there in the source.
-    #[tactic(auto, unfolding(py_meaning::specs::Emission::located, crate::specs::States::rest))]
+    #[tactic(auto, unfolding(py_meaning::specs::Emitting::located, crate::specs::States::rest))]
     pub fn set_location(&mut self, location: SourceLocation)
         ensures state { state self.new ≡ located location (state self.old) }
         ensures rest { rest self.new ≡ rest self.old }
@@ -157,7 +157,7 @@ impl Emitter {
     ///
     /// # Errors
     /// OutOfMemory alone.
-    #[tactic(auto, unfolding(py_meaning::specs::Emission::emit))]
+    #[tactic(auto, unfolding(py_meaning::specs::Emitting::emit))]
     pub fn emit_arg(&mut self, instr: Instruction, arg: u32) -> Result<(), CodegenError>
         ensures goes { (k : Next) → Goes result (k (state self.new)) (emission_of instr arg k (state self.old)) }
         ensures same { Same result (rest self.new) (rest self.old) }
@@ -170,7 +170,7 @@ impl Emitter {
     ///
     /// # Errors
     /// OutOfMemory alone.
-    #[tactic(auto, unfolding(py_meaning::specs::Emission::emit_count))]
+    #[tactic(auto, unfolding(py_meaning::specs::Emitting::emit_count))]
     pub fn emit_count(&mut self, instr: Instruction, count: usize) -> Result<(), CodegenError>
         ensures goes { (k : Next) → Goes result (k (state self.new)) (emit_count instr count k (state self.old)) }
         ensures same { Same result (rest self.new) (rest self.old) }
@@ -185,7 +185,7 @@ impl Emitter {
     ///
     /// # Errors
     /// OutOfMemory alone.
-    #[tactic(auto, unfolding(py_meaning::specs::Emission::jump))]
+    #[tactic(auto, unfolding(py_meaning::specs::Emitting::jump))]
     pub fn emit_jump(&mut self, instr: Instruction, target: BlockIdx) -> Result<(), CodegenError>
         requires { target.0 < 0xffff_ffff }
         ensures goes { (k : Next) → Goes result (k (state self.new)) (jumping instr target.0 k (state self.old)) }

@@ -1,6 +1,6 @@
 //! The last instruction of a block, and the return of a value.
 ghost use Rattle.std.specs.Prelude.{◌≡◌, IfNone, IfSome, IfErr, OnOk};
-ghost use Rattle.py_meaning.specs.Emission.{with_step};
+ghost use Rattle.py_meaning.specs.Emitting.{with_step};
 ghost use Rattle.py_emit.specs.States.{IsStarved, rest, state};
 ghost use Rattle.py_emit.specs.Steps.{EndsAtBegin, step_of, with_closed, with_return};
 

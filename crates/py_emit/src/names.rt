@@ -1,8 +1,9 @@
 //! Accesses to names.
 ghost use Rattle.std.specs.Prelude.{◌≡◌, ◌≢◌, IfOk, IfErr, OnOk};
 ghost use Rattle.py_bytecode.specs.View.{constant};
-ghost use Rattle.py_meaning.specs.Emission.{Next, Refused, emission_of_name, emit_name, refuse, unless_debug};
-ghost use Rattle.py_meaning.specs.Table.{debug_constant as constant_debug, is_debug as named_debug};
+ghost use Rattle.py_meaning.specs.Emitting.{Next, Refused, emit_name, refuse};
+ghost use Rattle.py_meaning.specs.EmissionParts.{emission_of_name, unless_debug};
+ghost use Rattle.py_meaning.specs.TableParts.{debug_constant as constant_debug, is_debug as named_debug};
 ghost use Rattle.py_emit.specs.Access.{emission_of_access};
 ghost use Rattle.py_emit.specs.States.{Goes, IsStarved, Same, rest, state};
 
@@ -82,7 +83,7 @@ impl Emitter {
     }
 
     /// The SyntaxError with a text, or want of memory for it.
-    #[tactic(auto, unfolding(py_meaning::specs::Emission::refuse))]
+    #[tactic(auto, unfolding(py_meaning::specs::Emitting::refuse))]
     pub fn syntax_error(&mut self, text: &str) -> CodegenError
         ensures goes { result.error ≢ CodegenErrorType.OutOfMemory → refuse (CodegenErrorType.SyntaxError text.now) (state self.old) ≡ Refused result.error result.location }
         ensures path { result.source_path ≡ (rest self.old).path }

@@ -2,8 +2,9 @@
 ghost use Rattle.std.specs.Prelude.{◌≡◌, ◌≢◌, true, false, IfOk, IfErr, OnOk};
 ghost use Rattle.py_bytecode.specs.Equality.{const_eq, text_eq};
 ghost use Rattle.py_bytecode.specs.View.{constant as constant_of};
-ghost use Rattle.py_meaning.specs.Emission.{Next, Refused, emit_constant, emit_name as emission_of_name, no_assignment, place_in, refuse, with_constant, with_name};
-ghost use Rattle.py_meaning.specs.Table.{is_debug as named_debug};
+ghost use Rattle.py_meaning.specs.Emitting.{Next, Refused, emit_constant, emit_name as emission_of_name, place_in, refuse, with_constant, with_name};
+ghost use Rattle.py_meaning.specs.EmissionParts.{no_assignment};
+ghost use Rattle.py_meaning.specs.TableParts.{is_debug as named_debug};
 ghost use Rattle.py_emit.specs.States.{Goes, Same, IsStarved, rest, state, with_varname};
 
 use crate::emitter::Emitter;
@@ -17,7 +18,7 @@ impl Emitter {
     ///
     /// # Errors
     /// OutOfMemory alone.
-    #[tactic(auto, unfolding(py_meaning::specs::Emission::with_name, crate::specs::States::rest))]
+    #[tactic(auto, unfolding(py_meaning::specs::Emitting::with_name, crate::specs::States::rest))]
     pub fn name(&mut self, name: &str) -> Result<u32, CodegenError>
         ensures place { IfOk result (λ place. place ≡ place_in text_eq (state self.old).names name.now) }
         ensures next { OnOk result (state self.new ≡ with_name name.now (state self.old)) }
@@ -61,7 +62,7 @@ impl Emitter {
     ///
     /// # Errors
     /// OutOfMemory alone.
-    #[tactic(auto, unfolding(py_meaning::specs::Emission::with_constant, crate::specs::States::rest), using(py_bytecode::proofs::Entered::constants_entered, py_bytecode::proofs::Entered::constant_place))]
+    #[tactic(auto, unfolding(py_meaning::specs::Emitting::with_constant, crate::specs::States::rest), using(py_bytecode::proofs::Entered::constants_entered, py_bytecode::proofs::Entered::constant_place))]
     pub fn add_constant(&mut self, constant: ConstantData) -> Result<u32, CodegenError>
         ensures place { IfOk result (λ place. place ≡ place_in const_eq (state self.old).constants (constant_of constant)) }
         ensures next { OnOk result (state self.new ≡ with_constant (constant_of constant) (state self.old)) }
@@ -90,7 +91,7 @@ impl Emitter {
     ///
     /// # Errors
     /// OutOfMemory alone.
-    #[tactic(auto, unfolding(py_meaning::specs::Emission::emit_constant))]
+    #[tactic(auto, unfolding(py_meaning::specs::Emitting::emit_constant))]
     pub fn load_const(&mut self, constant: ConstantData) -> Result<(), CodegenError>
         ensures goes { (k : Next) → Goes result (k (state self.new)) (emit_constant Instruction.LoadConst (constant_of constant) k (state self.old)) }
         ensures same { Same result (rest self.new) (rest self.old) }
@@ -103,7 +104,7 @@ impl Emitter {
     ///
     /// # Errors
     /// OutOfMemory alone.
-    #[tactic(auto, unfolding(py_meaning::specs::Emission::emit_constant))]
+    #[tactic(auto, unfolding(py_meaning::specs::Emitting::emit_constant))]
     pub fn return_const(&mut self, constant: ConstantData) -> Result<(), CodegenError>
         ensures goes { (k : Next) → Goes result (k (state self.new)) (emit_constant Instruction.ReturnConst (constant_of constant) k (state self.old)) }
         ensures same { Same result (rest self.new) (rest self.old) }
@@ -116,7 +117,7 @@ impl Emitter {
     ///
     /// # Errors
     /// OutOfMemory alone.
-    #[tactic(auto, unfolding(py_meaning::specs::Emission::emit_name))]
+    #[tactic(auto, unfolding(py_meaning::specs::Emitting::emit_name))]
     pub fn emit_name(&mut self, instr: Instruction, name: &str) -> Result<(), CodegenError>
         ensures goes { (k : Next) → Goes result (k (state self.new)) (emission_of_name instr name.now k (state self.old)) }
         ensures same { Same result (rest self.new) (rest self.old) }

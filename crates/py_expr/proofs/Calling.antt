@@ -9,8 +9,10 @@ use Rattle.py_tree.specs.declared.expressions.KeywordOf.{KeywordOf}
 use Rattle.py_bytecode.specs.declared.instruction.Instruction.{Instruction}
 use Rattle.py_bytecode.specs.declared.instruction.Instruction.TheVariants as op
 use Rattle.py_meaning.specs.Elements.{Element, Single, Spread, Callee, Function, Method, bare, groups, starred}
-use Rattle.py_meaning.specs.Table.{any}
-use Rattle.py_meaning.specs.Emission.{Keywords, Next, State, all_emissions, built, call_by, checked, elements, emission, emission_of_call, emissions, emit_count, in_turn, joined_map, keyword_emissions, located, map_of, packed, packed_tuple, placed}
+use Rattle.py_meaning.specs.TableParts.{any}
+use Rattle.py_meaning.specs.Emitting.{Next, State, emit_count, located}
+use Rattle.py_meaning.specs.EmissionParts.{Keywords, built, call_by, checked, elements, emission_of_call, in_turn, joined_map, map_of, packed, packed_tuple, placed}
+use Rattle.py_meaning.specs.Emission.{all_emissions, emission, emissions, keyword_emissions}
 use Rattle.py_expr.specs.declared.calls.CallType.{CallType}
 use Rattle.py_expr.specs.declared.calls.CallType.TheVariants as call
 use Rattle.py_expr.specs.Calling.{argument_tuple, call_operand, called, callee_value, calling, function_call, is_method, keyworded, method_call, named_if_any, named_values, positional, taken, type_of}

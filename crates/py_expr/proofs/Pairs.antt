@@ -7,7 +7,9 @@ use Rattle.py_tree.specs.declared.expressions.Expr.{Expr}
 use Rattle.py_tree.specs.View.{expr_tree, opt_expr}
 use Rattle.py_bytecode.specs.declared.instruction.Instruction.TheVariants as op
 use Rattle.py_meaning.specs.Elements.{keyed, sides, unkeyed}
-use Rattle.py_meaning.specs.Emission.{Next, emission, emissions, emit, in_turn, opt_emission, updates}
+use Rattle.py_meaning.specs.Emitting.{Next, emit}
+use Rattle.py_meaning.specs.EmissionParts.{in_turn, updates}
+use Rattle.py_meaning.specs.Emission.{emission, emissions, opt_emission}
 use Rattle.py_expr.specs.Turns.{pairs_of}
 
 one_more : (i : ℕ) → suc i ≡ i + 1

@@ -4,12 +4,14 @@ use Rattle.std.specs.Bool.{IsTrue}
 use Rattle.std.specs.Prelude.{nat_eq}
 use Rattle.py_tree.specs.declared.expressions.Expr.{Expr}
 use Rattle.py_tree.specs.View.{expr_tree, exprs}
-use Rattle.py_meaning.specs.Table.{count}
+use Rattle.py_meaning.specs.TableParts.{count}
 use Rattle.py_base.specs.declared.location.SourceLocation.{SourceLocation}
 use Rattle.py_tree.specs.declared.statements.Stmt.{Stmt}
 use Rattle.py_tree.specs.View.{stmt_tree, stmts}
 use Rattle.py_meaning.specs.declared.errors.CodegenErrorType.{CodegenErrorType}
-use Rattle.py_meaning.specs.Emission.{Next, Refused, State, all_emissions, begin, located, move, new_block, none, refuse, with_block, with_step, Begin}
+use Rattle.py_meaning.specs.Emitting.{Next, Refused, State, begin, located, move, new_block, refuse, with_block, with_step, Begin}
+use Rattle.py_meaning.specs.EmissionParts.{none}
+use Rattle.py_meaning.specs.Emission.{all_emissions}
 
 pub move_goes : (at : SourceLocation) (k : Next) (s : State) → move at k s ≡ k (located at s)
 unfolding move

@@ -1,7 +1,9 @@
 //! Comparisons, one or a chain of them.
 ghost use Rattle.std.specs.Prelude.{◌≡◌, ◌<◌, length};
 ghost use Rattle.py_tree.specs.View.{compare_tree, expr_tree, exprs};
-ghost use Rattle.py_meaning.specs.Emission.{Next, all_emissions, chain, emission, emission_of_compare, emissions, emission_of_comparison, emission_of_link, in_turn, links, first_comparison, values, emit as emitting};
+ghost use Rattle.py_meaning.specs.Emitting.{Next, emit as emitting};
+ghost use Rattle.py_meaning.specs.EmissionParts.{chain, emission_of_compare, emission_of_comparison, emission_of_link, in_turn, links, first_comparison, values};
+ghost use Rattle.py_meaning.specs.Emission.{all_emissions, emission, emissions};
 ghost use Rattle.py_emit.specs.States.{Goes, Same, rest, state};
 ghost use Rattle.py_expr.specs.Turns.{linked};
 

@@ -1,8 +1,10 @@
 //! Tests, and the values of `and` and `or`.
 ghost use Rattle.std.specs.Prelude.{◌≡◌, ◌<◌, if◌then◌else◌};
 ghost use Rattle.py_tree.specs.View.{bool_op_tree, expr_tree, exprs, unary_op_tree};
-ghost use Rattle.py_meaning.specs.Table.{deciding};
-ghost use Rattle.py_meaning.specs.Emission.{Next, all_emissions, bool_test, bool_value, emission, emission_of_test, keeping_jump, past_tests, shorts, some_test, some_values, testing_jump, tests, values, jump as jumping};
+ghost use Rattle.py_meaning.specs.TableParts.{deciding};
+ghost use Rattle.py_meaning.specs.Emitting.{Next, jump as jumping};
+ghost use Rattle.py_meaning.specs.EmissionParts.{bool_test, bool_value, keeping_jump, past_tests, shorts, some_test, some_values, testing_jump, tests, values};
+ghost use Rattle.py_meaning.specs.Emission.{all_emissions, emission, emission_of_test};
 ghost use Rattle.py_emit.specs.States.{Goes, Same, rest, state};
 ghost use Rattle.py_expr.specs.Turns.{short};
 

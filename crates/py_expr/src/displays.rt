@@ -3,7 +3,9 @@ ghost use Rattle.std.specs.Prelude.{◌≡◌, ◌≤◌, ◌⊎◌, length, IfO
 ghost use Rattle.py_tree.specs.View.{dict_tree, expr_tree, exprs, list_tree, opt_box, opt_exprs, set_tree, slice_tree, tuple_tree};
 ghost use Rattle.py_bytecode.specs.Objects as object;
 ghost use Rattle.py_meaning.specs.Elements.{keyed, pairs, sides, unkeyed};
-ghost use Rattle.py_meaning.specs.Emission.{Next, all_emissions, display, elements, emission, in_turn, opt_emission, opt_emissions, slice_step, updates, value_or, values, emit as emitting};
+ghost use Rattle.py_meaning.specs.Emitting.{Next, emit as emitting};
+ghost use Rattle.py_meaning.specs.EmissionParts.{display, elements, in_turn, slice_step, updates, value_or, values};
+ghost use Rattle.py_meaning.specs.Emission.{all_emissions, emission, opt_emission, opt_emissions};
 ghost use Rattle.py_emit.specs.States.{Goes, Same, rest, state};
 
 use crate::elements::{compile_unpacked, has_star};

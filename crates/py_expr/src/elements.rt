@@ -2,7 +2,9 @@
 ghost use Rattle.std.specs.Prelude.{◌≡◌, ◌<◌, ℕ, [], length, IfOk};
 ghost use Rattle.py_tree.specs.View.{expr_tree, exprs};
 ghost use Rattle.py_meaning.specs.Elements.{groups, starred};
-ghost use Rattle.py_meaning.specs.Emission.{Next, all_emissions, built, elements, emissions, in_turn, stores, unpacked};
+ghost use Rattle.py_meaning.specs.Emitting.{Next};
+ghost use Rattle.py_meaning.specs.EmissionParts.{built, elements, in_turn, unpacked};
+ghost use Rattle.py_meaning.specs.Emission.{all_emissions, emissions, stores};
 ghost use Rattle.py_emit.specs.States.{Goes, Same, rest, state};
 ghost use Rattle.py_expr.specs.Turns.{is_spread, groups_by, element_behind, run_behind, runs, closed};
 

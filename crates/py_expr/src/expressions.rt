@@ -1,8 +1,9 @@
 //! The expressions that open no scope.
 ghost use Rattle.std.specs.Prelude.{◌≡◌};
 ghost use Rattle.py_tree.specs.View.{attribute_tree, bin_op_tree, expr_tree, exprs, if_exp_tree, name_tree, starred_tree, subscript_tree, unary_op_tree};
-ghost use Rattle.py_meaning.specs.Table.{binary_case, unary_case};
-ghost use Rattle.py_meaning.specs.Emission.{Next, emission, emission_of_exprs};
+ghost use Rattle.py_meaning.specs.TableParts.{binary_case, unary_case};
+ghost use Rattle.py_meaning.specs.Emitting.{Next};
+ghost use Rattle.py_meaning.specs.Emission.{emission, emission_of_exprs};
 ghost use Rattle.py_emit.specs.States.{Goes, Same, rest, state};
 
 use crate::calls::compile_call;

@@ -2,7 +2,9 @@
 ghost use Rattle.std.specs.Prelude.{ℕ};
 ghost use Rattle.py_tree.specs.View.{constant_tree, expr_tree, exprs, joined_str_tree, name_tree};
 ghost use Rattle.py_meaning.specs.Texts.{texts_of};
-ghost use Rattle.py_meaning.specs.Emission.{Next, all_emissions, emission, emission_of_return, joined_return, values, emit as emitting};
+ghost use Rattle.py_meaning.specs.Emitting.{Next, emit as emitting};
+ghost use Rattle.py_meaning.specs.EmissionParts.{values};
+ghost use Rattle.py_meaning.specs.Emission.{all_emissions, emission, emission_of_return, joined_return};
 ghost use Rattle.py_emit.specs.States.{Goes, Same, rest, state};
 
 use crate::expressions::compile_expression;

@@ -4,7 +4,9 @@ ghost use Rattle.std.specs.Prelude.{◌≡◌, ◌<◌, ◌≢◌, ℕ, length};
 ghost use Rattle.py_tree.specs.View.{attribute_tree, expr_tree, exprs, named_expr_tree, subscript_tree};
 ghost use Rattle.py_tree.specs.PythonName.{python_name};
 ghost use Rattle.py_meaning.specs.Elements.{after_star, bare, before_star, stars};
-ghost use Rattle.py_meaning.specs.Emission.{Next, Refused, all_stores, deletion_name, emission, emission_of_delete, emission_of_deletes, emission_of_store, emit_name, in_turn, lone_star, refuse, stores, unless_debug, unpack, unpack_starred, emit as emitting};
+ghost use Rattle.py_meaning.specs.Emitting.{Next, Refused, emit_name, refuse, emit as emitting};
+ghost use Rattle.py_meaning.specs.EmissionParts.{in_turn, lone_star, unless_debug, unpack, unpack_starred};
+ghost use Rattle.py_meaning.specs.Emission.{all_stores, deletion_name, emission, emission_of_delete, emission_of_deletes, emission_of_store, stores};
 ghost use Rattle.py_emit.specs.States.{Goes, Same, rest, state};
 ghost use Rattle.py_expr.specs.Targets.{bare_of, unpacking};
 

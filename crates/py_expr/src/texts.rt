@@ -4,8 +4,10 @@ ghost use Rattle.py_tree.specs.View.{constant_tree, expr_tree, exprs, formatted_
 ghost use Rattle.py_bytecode.specs.View.{constant};
 ghost use Rattle.py_bytecode.specs.Objects as object;
 ghost use Rattle.py_meaning.specs.Texts.{text_in, text_of, texts_of};
-ghost use Rattle.py_meaning.specs.Table.{constants_of, conversion_case, constant_of as literal_constant};
-ghost use Rattle.py_meaning.specs.Emission.{Next, all_emissions, built, emission, joined_value, opt_emission, value_or, values};
+ghost use Rattle.py_meaning.specs.TableParts.{constants_of, conversion_case, constant_of as literal_constant};
+ghost use Rattle.py_meaning.specs.Emitting.{Next};
+ghost use Rattle.py_meaning.specs.EmissionParts.{built, joined_value, value_or, values};
+ghost use Rattle.py_meaning.specs.Emission.{all_emissions, emission, opt_emission};
 ghost use Rattle.py_emit.specs.States.{Goes, IsStarved, Same, rest, state};
 ghost use Rattle.py_expr.specs.Appending.{Appended};
 

@@ -1,5 +1,5 @@
 -- The faults of a tree, the first of which decides.
-use Rattle.std.specs.Prelude.{ℕ, suc, ◌^◌, List, [], ◌∷◌, ◌++◌, Bool, true, false, not, Option, Some, None, nat_eq, nat_lt, if◌then◌else◌}
+use Rattle.std.specs.Prelude.{ℕ, ◌^◌, List, [], ◌∷◌, ◌++◌, Bool, true, false, not, Option, Some, None, nat_eq, nat_lt, if◌then◌else◌}
 use Rattle.py_tree.specs.Tree as tree
 use Rattle.py_tree.specs.Nesting.{nesting}
 use Rattle.py_tree.specs.PythonName.{python_name}
@@ -9,9 +9,10 @@ use Rattle.py_tree.specs.declared.modules.Mode.{Mode}
 use Rattle.py_base.specs.declared.shapes.Malformed.{Malformed}
 use Rattle.py_base.specs.declared.limits.TreeLimit.TheVariants as limit
 use Rattle.py_meaning.specs.Elements.{Element, Single, Spread, stars, pairs, keyed, unkeyed, sides}
-use Rattle.py_meaning.specs.Emission.{few_aside, lone_star, no_assignment, no_deletion, deletion_name}
+use Rattle.py_meaning.specs.EmissionParts.{few_aside, lone_star, no_assignment, no_deletion}
+use Rattle.py_meaning.specs.Emission.{deletion_name}
 use Rattle.py_meaning.specs.Ends.{args_end, delete_end, expr_end, store_end}
-use Rattle.py_meaning.specs.Table.{is_debug}
+use Rattle.py_meaning.specs.TableParts.{is_debug}
 use Rattle.py_meaning.specs.Texts.{after_doc, texts_of}
 use Rattle.py_meaning.specs.declared.errors.CodegenErrorType.TheVariants as error
 use Rattle.py_meaning.specs.declared.errors.CodegenErrorType.{CodegenErrorType}

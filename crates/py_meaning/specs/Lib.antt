@@ -14,7 +14,10 @@ pub mod Messages
 pub mod Elements
 pub mod Texts
 pub mod Ends
+pub mod TableParts
 pub mod Table
 pub mod Meaning
+pub mod Emitting
+pub mod EmissionParts
 pub mod Emission
 pub mod Faults

@@ -6,10 +6,12 @@ use Rattle.std.proofs.Common.{arith, rules, ◌≢◌, get_or, Bool, false, ◌<
 use Rattle.std.specs.Prelude.{nat_eq, nat_lt}
 use Rattle.py_bytecode.specs.declared.instruction.Instruction.TheVariants as op
 use Rattle.py_tree.specs.declared.operators.CmpOp.TheVariants as comparison
-use Rattle.py_meaning.specs.Table.{deciding}
+use Rattle.py_meaning.specs.TableParts.{deciding}
 use Rattle.py_tree.proofs.View.{tree_Constant}
 use Rattle.py_tree.specs.View.{expr_tree, exprs}
-use Rattle.py_meaning.specs.Emission.{Next, Refused, all_emissions, elements, emission, emission_of_test, emissions, emit, emit_count, in_turn, links, shorts, some_test, some_values, tests, updates, values}
+use Rattle.py_meaning.specs.Emitting.{Next, Refused, emit, emit_count}
+use Rattle.py_meaning.specs.EmissionParts.{elements, in_turn, links, shorts, some_test, some_values, tests, updates, values}
+use Rattle.py_meaning.specs.Emission.{all_emissions, emission, emission_of_test, emissions}
 use Rattle.py_meaning.specs.declared.errors.CodegenErrorType.TheVariants as error
 use Rattle.py_emit.specs.States.{Rest, rest, state}
 use Rattle.py_expr.specs.Calling.{callee_value, is_method}

@@ -3,7 +3,9 @@ use Rattle.std.proofs.Common.{arith, ◌≢◌, [], Err, refl, subst, ◌≡◌,
 use Rattle.py_tree.specs.View.{expr_tree, keywords}
 use Rattle.py_bytecode.specs.declared.instruction.Instruction.TheVariants as op
 use Rattle.py_meaning.specs.Elements.{groups}
-use Rattle.py_meaning.specs.Emission.{Keywords, Next, Refused, emit_count, keyword_emissions, map_of}
+use Rattle.py_meaning.specs.Emitting.{Next, Refused, emit_count}
+use Rattle.py_meaning.specs.EmissionParts.{Keywords, map_of}
+use Rattle.py_meaning.specs.Emission.{keyword_emissions}
 use Rattle.py_meaning.specs.declared.errors.CodegenErrorType.TheVariants as error
 use Rattle.py_emit.specs.States.{Rest, rest, state}
 use Rattle.py_expr.specs.Calling.{keyword_behind, keyword_emission, map_rest}

@@ -2,7 +2,9 @@
 use Rattle.std.proofs.Common.{arith, ◌≢◌, get_or, ◌<◌, Err, List, Option, subst, ◌≡◌, ◌+◌, ◌∙◌, ap, drop, length, sym}
 use Rattle.py_bytecode.specs.declared.instruction.Instruction.TheVariants as op
 use Rattle.py_tree.specs.View.{expr_tree}
-use Rattle.py_meaning.specs.Emission.{Next, Refused, emission, emit, in_turn, updates}
+use Rattle.py_meaning.specs.Emitting.{Next, Refused, emit}
+use Rattle.py_meaning.specs.EmissionParts.{in_turn, updates}
+use Rattle.py_meaning.specs.Emission.{emission}
 use Rattle.py_meaning.specs.declared.errors.CodegenErrorType.TheVariants as error
 use Rattle.py_emit.specs.States.{Rest, rest, state}
 use Rattle.py_expr.specs.Turns.{pairs_of}
