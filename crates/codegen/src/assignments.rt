@@ -112,7 +112,7 @@ fn augment_attribute(
     ensures same { Same result (rest em.new) (rest em.old) }
 {
     if is_debug(e.attr.as_str()) {
-        return Err(em.syntax_error("cannot assign to __debug__"));
+        refuse!(em, SyntaxError: "cannot assign to __debug__");
     }
     compile_expression(em, &e.value)?;
     emit!(em, Instruction::Duplicate);

@@ -11,7 +11,7 @@ use crate::annotations::find_ann;
 use crate::docs::{split_doc, statements_from};
 use crate::statements::compile_statements;
 use py_bytecode::{ConstantData, Instruction};
-use py_emit::{Emitter, emit};
+use py_emit::{Emitter, emit, refuse};
 use py_meaning::{CodegenError, CodegenErrorType};
 use py_tree::{Stmt, Stmts, Text};
 
@@ -51,7 +51,7 @@ fn emit_doc(em: &mut Emitter, body: &Stmts) -> Result<usize, CodegenError>
             store_doc(em, doc)?;
             Ok(from)
         }
-        Err(_) => Err(em.error(CodegenErrorType::OutOfMemory)),
+        Err(_) => refuse!(em, CodegenErrorType::OutOfMemory),
     }
 }
 

@@ -15,9 +15,13 @@ macro_rules! emit {
     };
 }
 
-/// Leaves with a fault at the present location.
+/// Leaves with a fault at the present location: `refuse!(em, CodegenErrorType::InvalidBreak)`, or with a SyntaxError by
+/// its text: `refuse!(em, SyntaxError: "cannot assign to __debug__")`.
 #[macro_export]
 macro_rules! refuse {
+    ($em:expr, SyntaxError: $text:expr) => {
+        return Err($em.syntax_error($text))
+    };
     ($em:expr, $error:expr) => {
         return Err($em.error($error))
     };

@@ -14,7 +14,7 @@ ghost use Rattle.py_expr.specs.Turns.{groups_by, run_behind, runs};
 use crate::expressions::compile_expression;
 use crate::texts::str_data;
 use py_bytecode::{ConstantData, Instruction};
-use py_emit::{Emitter, is_debug};
+use py_emit::{Emitter, is_debug, refuse};
 use py_meaning::{CodegenError, CodegenErrorType};
 use py_tree::{Keyword, List, Text};
 use std::alloc::{AllocError, Global};
@@ -57,7 +57,7 @@ fn check_name(em: &mut Emitter, name: &Text) -> Result<(), CodegenError>
     ensures same { Same result (rest em.new) (rest em.old) }
 {
     if is_debug(name.as_str()) {
-        return Err(em.syntax_error("cannot assign to __debug__"));
+        refuse!(em, SyntaxError: "cannot assign to __debug__");
     }
     Ok(())
 }
@@ -106,7 +106,7 @@ fn load_names(em: &mut Emitter, keywords: &[Keyword]) -> Result<(), CodegenError
 {
     match name_tuple(em.alloc(), keywords) {
         Ok(names) => em.load_const(names),
-        Err(_) => Err(em.error(CodegenErrorType::OutOfMemory)),
+        Err(_) => refuse!(em, CodegenErrorType::OutOfMemory),
     }
 }
 

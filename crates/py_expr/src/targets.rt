@@ -58,7 +58,7 @@ fn compile_attribute_change(
     ensures same { Same result (rest em.new) (rest em.old) }
 {
     if is_debug(e.attr.as_str()) {
-        return Err(em.syntax_error(text));
+        refuse!(em, SyntaxError: text);
     }
     compile_expression(em, &e.value)?;
     em.emit_name(instr, e.attr.as_str())
@@ -191,7 +191,7 @@ fn refuse_lone_star(em: &mut Emitter) -> Result<(), CodegenError>
     ensures goes { (k : Next) → Goes result (k (state em.new)) (refuse (CodegenErrorType.SyntaxError lone_star) (state em.old)) }
     ensures same { Same result (rest em.new) (rest em.old) }
 {
-    Err(em.syntax_error("starred assignment target must be in a list or tuple"))
+    refuse!(em, SyntaxError: "starred assignment target must be in a list or tuple");
 }
 
 /// Refuses an expression that is no target.

@@ -13,7 +13,7 @@ ghost use Rattle.py_expr.specs.Appending.{Appended};
 
 use crate::expressions::{compile_expression, compile_expressions};
 use py_bytecode::{ConstantData, Instruction};
-use py_emit::{Emitter, emit};
+use py_emit::{Emitter, emit, refuse};
 use py_meaning::{CodegenError, CodegenErrorType};
 use py_tree::{
     Constant, ConversionFlag, Expr, ExprConstant, ExprFormattedValue, ExprJoinedStr, List, Text,
@@ -102,7 +102,7 @@ pub(crate) fn copied_constant(
 {
     match constant_data(em.alloc(), value) {
         Ok(data) => Ok(data),
-        Err(_) => Err(em.error(CodegenErrorType::OutOfMemory)),
+        Err(_) => refuse!(em, CodegenErrorType::OutOfMemory),
     }
 }
 
@@ -171,7 +171,7 @@ pub(crate) fn whole_text(em: &mut Emitter, parts: &[Expr]) -> Result<Option<Text
 {
     match texts_of(em.alloc(), parts) {
         Ok(text) => Ok(text),
-        Err(_) => Err(em.error(CodegenErrorType::OutOfMemory)),
+        Err(_) => refuse!(em, CodegenErrorType::OutOfMemory),
     }
 }
 

@@ -1,13 +1,4 @@
-pub mod Arities
 pub mod Dues
-pub mod Ends
 pub mod Feeds
-pub mod FewRows
-pub mod Jsons
-pub mod Keywords
-pub mod Numerals
-pub mod Optionals
 pub mod Pieces
-pub mod Sofar
-pub mod Takes
 pub mod Verdicts

@@ -8,9 +8,9 @@ use Rattle.py_meaning.specs.Agreement.{Agree}
 use Rattle.py_meaning.specs.Meaning.{body}
 use Rattle.py_meaning.specs.Messages.{message}
 use Rattle.py_meaning.specs.declared.errors.CodegenErrorType.TheVariants as error
-use Rattle.pyc.specs.declared.rows.error.RowsError.{RowsError}
-use Rattle.pyc.specs.declared.rows.error.RowsError.TheVariants.{NotJson, NotRows, NotBuilt, WrongRow, WideInteger, LaterRow, WrongKind, NamedTwice, TooDeep, NoMod, NotNamed, OutOfMemory}
-use Rattle.pyc.specs.Rows.{rows_tree}
+use Rattle.py_rows.specs.declared.error.RowsError.{RowsError}
+use Rattle.py_rows.specs.declared.error.RowsError.TheVariants.{NotJson, NotRows, NotBuilt, WrongRow, WideInteger, LaterRow, WrongKind, NamedTwice, TooDeep, NoMod, NotNamed, OutOfMemory}
+use Rattle.py_rows.specs.Rows.{rows_tree}
 use Rattle.py_meaning.specs.Faults.{Fault}
 use Rattle.py_meaning.specs.Faults.{faults}
 use Rattle.pyc.specs.Words.{Command, words_form}

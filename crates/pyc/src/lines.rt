@@ -1,8 +1,8 @@
 ghost use Rattle.std.specs.Prelude.{◌≡◌, ◌++◌, IfOk, OnOk, string_bytes, codes};
 ghost use Rattle.pyc.specs.Statuses.{input_line, place_text, refusal_line, rows_text};
 
-use crate::rows::RowsError;
 use py_meaning::CodegenErrorType;
+use py_rows::RowsError;
 use py_tree::SourceLocation;
 use std::alloc::{AllocError, Global};
 use std::fmt::Write;

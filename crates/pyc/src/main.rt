@@ -15,7 +15,6 @@ mod memory;
 mod preparing;
 mod reading;
 mod report;
-mod rows;
 mod sink;
 mod source;
 mod standard;

@@ -7,13 +7,13 @@ ghost use Rattle.pyc.specs.Words.{command_view, words_form};
 
 use crate::lines::{input_line, refusal_line, too_long_line};
 use crate::reading::{ReadError, read_all};
-use crate::rows::{RowsError, read_rows};
 use crate::source::Source;
 use crate::words::{Command, Words, parse};
 use codegen::CompileOpts;
 use codegen::compile::compile_top;
 use py_bytecode::{CodeObject, listing};
 use py_meaning::CodegenErrorType;
+use py_rows::{RowsError, read_rows};
 use py_tree::{Mod, SourceLocation};
 use std::alloc::Global;
 

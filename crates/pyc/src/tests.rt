@@ -4,7 +4,7 @@ use crate::clean::{CleanSink, CleanSource};
 use crate::engine::run;
 use crate::memory::{MemSink, MemSource};
 use crate::report::Status;
-use crate::rows::read_rows;
+use py_rows::read_rows;
 use py_tree::{BoolOp, CmpOp, Expr, List, Mod, Stmt, Text, UnaryOp};
 use std::alloc::{AllocError, Global};
 use std::fmt::Write;

@@ -1,5 +1,0 @@
-use Rattle.pyc.proofs.Arities.{not_three}
-use Rattle.pyc.proofs.rows.fields.three.Goals as goal
-
-pub returns-then-fields-ne3 : goal.returns-then-fields-ne3
-returns-then-fields-ne3 c = not_three c.args.row c.args.fields.now c.if-fields-ne3.true

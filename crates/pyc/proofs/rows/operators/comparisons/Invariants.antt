@@ -1,8 +1,0 @@
-use Rattle.std.proofs.Common.{◌≡◌, drop}
-use Rattle.serde_json.specs.View.{items_view}
-use Rattle.pyc.specs.Operators.{comparisons_in}
-use Rattle.pyc.proofs.Sofar.{with_front}
-use Rattle.pyc.proofs.rows.operators.comparisons.Given as goal
-
-abbrev pub invariant-loop-entry : goal.invariant-loop-entry
-invariant-loop-entry l = with_front l.found.items (comparisons_in l.row (items_view (drop l.entry-index l.entry-items))) ≡ comparisons_in l.row (items_view l.entry-items)
