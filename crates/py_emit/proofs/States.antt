@@ -1,7 +1,6 @@
 -- States and rests by their parts.
-use Rattle.std.proofs.Common.{◌≡◌, ℕ, suc, List, [], ◌∷◌, ◌++◌, length, map, refl, ap, ◌∙◌}
+use Rattle.std.proofs.Common.{◌≡◌, ℕ, suc, List, [], ◌∷◌, ◌++◌, length, map, refl}
 use Rattle.py_bytecode.specs.View.{constant}
-use Rattle.py_ir.specs.BlockList.{BlockList}
 use Rattle.py_ir.specs.Chain.{plain}
 use Rattle.py_ir.specs.FlatCode.{info_of}
 use Rattle.py_meaning.specs.Emitting.{Done, Step, State, nothing, refuse, with_block, with_step}

@@ -1,7 +1,7 @@
 -- What the last step is, and what is left without it.
-use Rattle.std.proofs.Common.{◌≡◌, ◌≢◌, ℕ, zero, suc, ◌-◌, ◌<◌, List, [], ◌∷◌, ◌++◌, length, take, set, get_or, map, Option, Some, None, refl, sym, ap, ◌∙◌, subst, arith, append_assoc, get_or-set_same, rules}
+use Rattle.std.proofs.Common.{◌≡◌, ◌≢◌, ℕ, suc, ◌-◌, ◌<◌, List, [], ◌∷◌, ◌++◌, length, take, set, map, Option, Some, None, refl, sym, ap, ◌∙◌, subst, arith, append_assoc, get_or-set_same, rules}
 use Rattle.std.specs.Prelude.{IfNone, IfSome, slice_get}
-use Rattle.std.proofs.lemmas.List.{length-map, length-set, set-get_or, set-set}
+use Rattle.std.proofs.lemmas.List.{length-set, set-get_or, set-set}
 use Rattle.py_base.specs.declared.location.SourceLocation.{SourceLocation}
 use Rattle.py_bytecode.specs.declared.instruction.Instruction.{Instruction}
 use Rattle.py_bytecode.specs.declared.instruction.Instruction.TheVariants as op
@@ -11,7 +11,7 @@ use Rattle.py_ir.specs.Chain.{Blk, blk, block_number, plain}
 use Rattle.py_ir.specs.BlockList.{BlockList, IsWhole, current_block, empty_block, last_item, popped, pushed, with_items, without_last}
 use Rattle.py_meaning.specs.Emitting.{Step, Put, Begin, State, with_step}
 use Rattle.py_emit.specs.Steps.{EndsAtBegin, closed, returned, step_of, steps_in, with_closed, with_return}
-use Rattle.py_emit.proofs.Holding.{Along, Tails, along, blk_at, path_steps, push_steps, tail_inside}
+use Rattle.py_emit.proofs.Holding.{Tails, along, blk_at, path_steps, push_steps, tail_inside}
 
 back : {A : Type 0} (y z : A) (xs : List A) → length (y ∷ z ∷ xs) - 1 ≡ suc (length (z ∷ xs) - 1)
 back y z xs = omega arith

@@ -1,5 +1,5 @@
 -- The code object of what is emitted.
-use Rattle.std.specs.Prelude.{◌≡◌, ℕ, List, [], length, map}
+use Rattle.std.specs.Prelude.{◌≡◌, ℕ, List, length, map}
 use Rattle.py_bytecode.specs.declared.code.CodeObject.{CodeObject}
 use Rattle.py_bytecode.specs.View.{constant}
 use Rattle.py_ir.specs.declared.info.CodeInfo.{CodeInfo}

@@ -1,4 +1,4 @@
-use Rattle.std.proofs.Common.{[], ◌∷◌, ◌++◌, refl, sym, ap, subst, ◌∙◌, length, map, Option, Some, None}
+use Rattle.std.proofs.Common.{[], ◌∷◌, ◌++◌, refl, sym, ap, subst, ◌∙◌, length, map}
 use Rattle.py_ir.specs.BlockList.{BlockList, IsWhole}
 use Rattle.py_ir.specs.Chain.{plain}
 use Rattle.py_emit.specs.States.{state}
