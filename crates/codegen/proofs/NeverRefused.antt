@@ -28,7 +28,8 @@ use Rattle.py_meaning.proofs.Assembly.{occurs}
 use Rattle.py_meaning.proofs.Labels.{placed_once}
 use Rattle.py_sound.proofs.Blocks.{laid_is_sound}
 use Rattle.py_emit.specs.Emitted.{Holds}
-use Rattle.py_emit.specs.States.{Head, IsUnrefused}
+use Rattle.py_meaning.specs.Sealed.{Head}
+use Rattle.py_emit.specs.States.{IsUnrefused}
 use Rattle.py_emit.specs.Steps.{steps_in}
 use Rattle.codegen.proofs.Adding.{Begins, AllRead, AllInside}
 use Rattle.codegen.proofs.ExprAdds.{outer}

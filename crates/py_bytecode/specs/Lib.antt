@@ -12,3 +12,4 @@ pub mod Blocks
 pub mod Quote
 pub mod Listing
 pub mod Laws
+pub mod Cells

@@ -2,3 +2,8 @@ pub mod Chains
 pub mod Holding
 pub mod States
 pub mod Taking
+pub mod Listed
+pub mod Sealed
+mod Samples
+pub mod Placed
+pub mod SealedLaid

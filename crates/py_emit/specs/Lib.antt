@@ -2,3 +2,4 @@ pub mod Steps
 pub mod States
 pub mod Access
 pub mod Emitted
+pub mod Placed

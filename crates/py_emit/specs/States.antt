@@ -15,6 +15,7 @@ use Rattle.py_ir.specs.FlatCode.{info_of}
 use Rattle.py_ir.specs.declared.flat_code.FlatCode.{FlatCode}
 use Rattle.py_ir.specs.Refusals.{TooLong, Refused as IsRefused}
 use Rattle.py_meaning.specs.Emitting.{State, LoopBlocks, Outcome, Refused}
+use Rattle.py_meaning.specs.Sealed.{Head}
 use Rattle.py_meaning.specs.declared.errors.CodegenErrorType.{CodegenErrorType}
 use Rattle.py_meaning.specs.declared.errors.CodegenErrorType.TheVariants as error
 use Rattle.py_emit.specs.declared.context.CompileOpts.{CompileOpts}
@@ -24,19 +25,6 @@ use Rattle.py_emit.specs.Steps.{steps_in}
 
 abbrev pub state : Emitter → State
 state e = record { steps = steps_in (map plain e.code.body.blocks); blocks = length e.code.body.blocks; names = e.code.name_cache; constants = map constant e.code.constants; location = e.location }
-
--- what a code object says of its scope
-pub record Head : Type 0 where
-  pub flags : ℕ
-  pub posonlyarg_count : ℕ
-  pub arg_count : ℕ
-  pub kwonlyarg_count : ℕ
-  pub source_path : List ℕ
-  pub first_line_number : ℕ
-  pub obj_name : List ℕ
-  pub varnames : List (List ℕ)
-  pub cellvars : List (List ℕ)
-  pub freevars : List (List ℕ)
 
 abbrev pub head_of : FlatCode → Head
 head_of c = record {

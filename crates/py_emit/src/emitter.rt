@@ -1,8 +1,10 @@
 //! The emitter.
 ghost use Rattle.std.specs.Prelude.{◌≡◌, ◌≢◌, ◌<◌, None, Some, IfOk, IfErr, OnOk};
+ghost use Rattle.py_bytecode.specs.View.{object};
 ghost use Rattle.py_ir.specs.Chain.{block_number};
 ghost use Rattle.py_ir.specs.Final.{IsFinal};
 ghost use Rattle.py_meaning.specs.Emitting.{Begin, Next, Put, emit as emission_of, emit_count, jump as jumping, located, nothing, with_block, with_step};
+ghost use Rattle.py_meaning.specs.Sealed.{sealed};
 ghost use Rattle.py_emit.specs.States.{Goes, Same, IsFirst, IsStarved, IsUnrefused, first_rest, info, placed_error, rest, state, with_context};
 ghost use Rattle.py_emit.specs.Steps.{IsOpen, step_of};
 
@@ -232,6 +234,7 @@ impl Emitter {
     pub fn finish(self) -> Result<CodeObject, CodegenError>
         requires { IsUnrefused (rest self).opts.optimize (info self) }
         ensures code { IfOk result (λ code. IsFinal (rest self).opts.optimize (info self) code) }
+        ensures sealed { IfOk result (λ code. object code ≡ sealed (rest self).opts.optimize (rest self).head (state self)) }
         ensures err { IfErr result (λ e. IsStarved e (rest self).path) }
     {
         let Emitter {

@@ -4,6 +4,7 @@
 mod context;
 mod emitter;
 mod endings;
+mod laws;
 mod macros;
 mod names;
 mod refusals;
@@ -13,4 +14,5 @@ mod tests;
 
 pub use context::{CompileOpts, EmitContext, NameUsage, ScopeHead};
 pub use emitter::Emitter;
+pub use laws::sealed_runs;
 pub use names::{debug_constant, is_debug};

@@ -19,7 +19,7 @@ use Rattle.py_base.specs.declared.location.SourceLocation.{SourceLocation}
 use Rattle.py_bytecode.specs.declared.operand.CodeUnit.{CodeUnit}
 use Rattle.std.proofs.lemmas.Bool.{cases_lt}
 
-listed_is : (cs : List Const) → listed (consts_of cs) ≡ cs
+pub listed_is : (cs : List Const) → listed (consts_of cs) ≡ cs
 listed_is [] = refl
 listed_is (c ∷ cs) = ap (λ ds. c ∷ ds) (listed_is cs)
 

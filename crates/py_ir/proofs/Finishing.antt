@@ -91,7 +91,7 @@ module _ (lens1 : TableLens) (level : ℕ) (bs : List Blk) (cs starts : List ℕ
           done1 = subst (λ s. IsAssembled s items units locations) es (subst (λ xs. IsAssembled starts2 xs units locations) ex2 done)
 
           pub laid_answer : (t : Tables) → lens_of t ≡ lens1 → IsLaid t level bs units locations d
-          laid_answer t el = is_laid t level bs cs starts chain short at inside ins mk long (fine t el) (fits t el) d low code1 range1 ok1 dep1 units locations done1
+          laid_answer t el = is_laid t level bs cs starts chain short at inside ins mk long (fine t el) d low code1 range1 ok1 dep1 units locations done1
 
           pub clear_answer : ¬ widths.TooManyUnits (needs_of starts2 list2) → (t : Tables) → lens_of t ≡ lens1 → NoneBefore 10 t level bs
-          clear_answer few t el = all_clear t level bs cs starts chain short at inside ins mk long (fine t el) (fits t el) d low code1 range1 ok1 dep1 units locations done1 (subst (λ s. ¬ widths.TooManyUnits (needs_of s items)) es (subst (λ xs. ¬ widths.TooManyUnits (needs_of starts2 xs)) ex2 few))
+          clear_answer few t el = all_clear t level bs cs starts chain short at inside ins mk long (fine t el) (fits t el) d low ok1 (subst (λ s. ¬ widths.TooManyUnits (needs_of s items)) es (subst (λ xs. ¬ widths.TooManyUnits (needs_of starts2 xs)) ex2 few))

@@ -114,7 +114,7 @@ rank_low Check.TargetOnOther = omega arith
 rank_low Check.PrefixGiven = omega arith
 rank_low Check.OperandOutside = omega arith
 
-holds_check : (t : Tables) (level : ℕ) (bs : List Blk) (c : Check) (b i : ℕ) → ItemAt level bs b (capped i) (Condition c (lens_of t)) → Holds t level bs (check_error c b i)
+pub holds_check : (t : Tables) (level : ℕ) (bs : List Blk) (c : Check) (b i : ℕ) → ItemAt level bs b (capped i) (Condition c (lens_of t)) → Holds t level bs (check_error c b i)
 holds_check t level bs Check.TargetOutside b i h = h
 holds_check t level bs Check.JumpWithoutTarget b i h = h
 holds_check t level bs Check.TargetOnOther b i h = h
@@ -214,6 +214,37 @@ module _ (t : Tables) (level : ℕ) (bs : List Blk) (cs starts : List ℕ) (chai
         let h1 : widths.TooManyUnits (needs_of starts1 items) = subst (λ z. widths.TooManyUnits (needs_of starts1 (flat level bs z))) e h in
         subst widths.TooManyUnits (map_on (need_of starts1) (need_of starts) items (need_same starts1 a2)) h1
 
+    -- what is made of a list whose walks are sound
+    module _ (d : ℕ) (low : d < 2 ^ 32) (code : IsCode starts items) (range : InRange items) (ok : Sound (look_at starts items) 0 (d + 1)) (dep : IsDepth (look_at starts items) 0 d) (units : List CodeUnit) (locations : List SourceLocation) (done : IsAssembled starts items units locations) where
+      ok1 : Sound (look_at starts items) 0 (suc d)
+      ok1 = let e : d + 1 ≡ suc d = omega arith in subst (Sound (look_at starts items) 0) e ok
+
+      laid_units : List CodeUnit
+      laid_units = written (operand_in starts done.widths) items done.widths
+
+      sound_units : Sound (λ p. seen (fetch_unit t units p)) 0 (suc d)
+      sound_units = subst (λ us. Sound (λ p. seen (fetch_unit t us p)) 0 (suc d)) (sym done.units_are) (units_sound starts items done.widths code range done.least.fits t decodes (suc d) ok1)
+
+      runs : RunsAsBlocks t bs units d
+      runs fuel w =
+          unlimited (fetch_unit t units) 0 (suc d) sound_units (unit_proper t units) d refl fuel w
+          ∙ ap (λ us. machine (fetch_unit t us) fuel 0 w) done.units_are
+          ∙ units_run starts items done.widths code range done.least.fits t decodes (suc d) ok1 fuel w
+          ∙ walked.blocks_run t level bs cs starts chain short at linked decodes (suc d) ok1 fuel w
+
+      pub is_laid : IsLaid t level bs units locations d
+      is_laid = record {
+        chain = cs;
+        starts = starts;
+        is_chain = chain;
+        starts_at = at;
+        assembled = done;
+        is_depth = walked.blocks_depth t level bs cs starts chain short at linked decodes d dep;
+        unit_depth = subst (λ us. IsDepth (λ p. seen (fetch_unit t us p)) 0 d) (sym done.units_are) (units_depth starts items done.widths code range done.least.fits t decodes (suc d) ok1 d dep);
+        sound = sound_units;
+        runs = runs;
+      }
+
     module _ (tables_fit : ¬ TooLong lens) where
       walks_clear : (limit : ℕ) → limit ≤ 2 ^ 32 → Sound (look_at starts items) 0 limit → WalksClear t bs
       walks_clear limit l ok = record {
@@ -248,39 +279,10 @@ module _ (t : Tables) (level : ℕ) (bs : List Blk) (cs starts : List ℕ) (chai
         clear 9 (λ _. tables_fit) (λ _. walks_clear u.limit u.low u.sound) (λ l. absurd (omega arith)),
       )
 
-      -- the starts outside the chain do not matter to widths
-      module _ (d : ℕ) (low : d < 2 ^ 32) (code : IsCode starts items) (range : InRange items) (ok : Sound (look_at starts items) 0 (d + 1)) (dep : IsDepth (look_at starts items) 0 d) (units : List CodeUnit) (locations : List SourceLocation) (done : IsAssembled starts items units locations) where
-        ok1 : Sound (look_at starts items) 0 (suc d)
-        ok1 = let e : d + 1 ≡ suc d = omega arith in subst (Sound (look_at starts items) 0) e ok
-
-        laid_units : List CodeUnit
-        laid_units = written (operand_in starts done.widths) items done.widths
-
-        sound_units : Sound (λ p. seen (fetch_unit t units p)) 0 (suc d)
-        sound_units = subst (λ us. Sound (λ p. seen (fetch_unit t us p)) 0 (suc d)) (sym done.units_are) (units_sound starts items done.widths code range done.least.fits t decodes (suc d) ok1)
-
-        runs : RunsAsBlocks t bs units d
-        runs fuel w =
-            unlimited (fetch_unit t units) 0 (suc d) sound_units (unit_proper t units) d refl fuel w
-            ∙ ap (λ us. machine (fetch_unit t us) fuel 0 w) done.units_are
-            ∙ units_run starts items done.widths code range done.least.fits t decodes (suc d) ok1 fuel w
-            ∙ walked.blocks_run t level bs cs starts chain short at linked decodes (suc d) ok1 fuel w
-
-        pub is_laid : IsLaid t level bs units locations d
-        is_laid = record {
-          chain = cs;
-          starts = starts;
-          is_chain = chain;
-          starts_at = at;
-          assembled = done;
-          is_depth = walked.blocks_depth t level bs cs starts chain short at linked decodes d dep;
-          unit_depth = subst (λ us. IsDepth (λ p. seen (fetch_unit t us p)) 0 d) (sym done.units_are) (units_depth starts items done.widths code range done.least.fits t decodes (suc d) ok1 d dep);
-          sound = sound_units;
-          runs = runs;
-        }
-
-        pub all_clear : ¬ widths.TooManyUnits (needs_of starts items) → NoneBefore 10 t level bs
-        all_clear few = clear 10 (λ _. tables_fit) (λ _. walks_clear (suc d) (omega arith) ok1) (λ _ h. few (narrow h.chain h.starts h.is_chain h.starts_at h.too_many))
+      pub all_clear : (d : ℕ) → d < 2 ^ 32 → Sound (look_at starts items) 0 (d + 1) → ¬ widths.TooManyUnits (needs_of starts items) → NoneBefore 10 t level bs
+      all_clear d low ok few =
+          let e : d + 1 ≡ suc d = omega arith in
+          clear 10 (λ _. tables_fit) (λ _. walks_clear (suc d) (omega arith) (subst (Sound (look_at starts items) 0) e ok)) (λ _ h. few (narrow h.chain h.starts h.is_chain h.starts_at h.too_many))
 
 -- what the functions over the list ask of the chain
 pub starts_inside : (level : ℕ) (bs : List Blk) (cs starts : List ℕ) → IsChain bs cs → StartsAt level bs cs starts → All (λ c. c < length starts) cs

@@ -1,11 +1,10 @@
 -- What a code object is made of a list of blocks.
-use Rattle.std.specs.Prelude.{◌≡◌, ◌≢◌, ℕ, suc, ◌+◌, ℤ, pos, negsuc, List, map, All, Option, Some, None, nat_eq, nat_lt, ◌==◌, position, if◌then◌else◌}
-use Rattle.std.specs.Int.RustNames.{bit_and}
-use Rattle.std.specs.Cmp.Lexicographic.{pointwise}
+use Rattle.std.specs.Prelude.{◌≡◌, ◌≢◌, ℕ, suc, ℤ, List, All, Option, Some, None}
 use Rattle.std.specs.List.{Contains}
 use Rattle.py_base.specs.declared.location.SourceLocation.{SourceLocation}
 use Rattle.py_bytecode.specs.declared.operand.CodeUnit.{CodeUnit}
 use Rattle.py_bytecode.specs.Objects.{Object}
+use Rattle.py_bytecode.specs.Cells.{parameter_of, cell_places}
 use Rattle.py_bytecode.specs.Values.{World}
 use Rattle.py_bytecode.specs.Machine.{machine, limited_machine}
 use Rattle.py_bytecode.specs.Decode.{Tables}
@@ -31,25 +30,6 @@ pub record IsLaid (t : Tables) (level : ℕ) (bs : List Blk) (units : List CodeU
   pub unit_depth : IsDepth (λ p. seen (fetch_unit t units p)) 0 depth
   pub sound : Sound (λ p. seen (fetch_unit t units p)) 0 (suc depth)
   pub runs : RunsAsBlocks t bs units depth
-
--- how many parameters there are, by the counts and the two flags of further ones
-abbrev pub parameter_count : (flags args kwonly : ℕ) → ℕ
-parameter_count flags args kwonly = args + kwonly + (if bit_and flags 0x08 == 0x08 then 1 else 0) + (if bit_and flags 0x10 == 0x10 then 1 else 0)
-
--- the place of the parameter that has the cell's name, among the first so many names
-abbrev pub among : ℕ → Option ℕ → Option ℕ
-among count None = None
-among count (Some i) = if nat_lt i count then Some i else None
-
-abbrev pub parameter_of : (count : ℕ) → List (List ℕ) → List ℕ → Option ℕ
-parameter_of count varnames cell = among count (position (pointwise nat_eq cell) varnames)
-
-abbrev pub cell_place : Option ℕ → ℤ
-cell_place None = negsuc 0
-cell_place (Some i) = pos i
-
-abbrev pub cell_places : (count : ℕ) → (varnames cells : List (List ℕ)) → List ℤ
-cell_places count varnames cells = map (λ c. cell_place (parameter_of count varnames c)) cells
 
 -- some cell is a parameter
 abbrev pub IsAny : (count : ℕ) → (varnames cells : List (List ℕ)) → Type 0

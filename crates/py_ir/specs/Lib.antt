@@ -8,3 +8,4 @@ pub mod BlockList
 pub mod Spans
 pub mod Flattened
 pub mod FlatCode
+pub mod Sizes

@@ -1,7 +1,8 @@
 ghost use Rattle.std.specs.Prelude.{ℕ, ◌≡◌, ◌<◌, ◌≤◌, ◌^◌, ◌++◌, All, IfErr, IfOk, Some, None as Nothing, false, length, map, slice_get, true};
 ghost use Rattle.py_ir.specs.Chain.{plain};
 ghost use Rattle.py_ir.specs.Refusals.{NoneBefore, Refused};
-ghost use Rattle.py_ir.specs.Finished.{IsAny, IsCell2Arg, cell_place, cell_places, parameter_count, parameter_of};
+ghost use Rattle.py_bytecode.specs.Cells.{cell_place, cell_places, parameter_count, parameter_of};
+ghost use Rattle.py_ir.specs.Finished.{IsAny, IsCell2Arg};
 ghost use Rattle.py_ir.specs.Final.{IsFinal, tables_of};
 
 use crate::{BlockIdx, Blocks, ConstantSet, FinalizeError, FlatCode, NameSet};

@@ -4,3 +4,5 @@ pub mod Ending
 pub mod Reading
 pub mod Writing
 pub mod SameUnits
+pub mod Widening
+pub mod Assembling

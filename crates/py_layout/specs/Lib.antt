@@ -1,2 +1,4 @@
 pub mod Widths
 pub mod Written
+pub mod Widened
+pub mod Assembled

@@ -18,6 +18,8 @@ pub mod TableParts
 pub mod Table
 pub mod Meaning
 pub mod Emitting
+pub mod Listed
+pub mod Sealed
 pub mod EmissionParts
 pub mod Emission
 pub mod Faults

@@ -19,3 +19,5 @@ pub mod Visiting
 pub mod Codes
 pub mod Elsewhere
 pub mod Looking
+pub mod Rounds
+pub mod Highest

@@ -4,3 +4,4 @@ pub mod Flat
 pub mod Known
 pub mod Shown
 pub mod Sound
+pub mod Highest

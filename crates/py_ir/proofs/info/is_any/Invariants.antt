@@ -1,5 +1,5 @@
 use Rattle.std.proofs.Common.{◌≡◌, ◌<◌, ℕ, None, [], get_or}
-use Rattle.py_ir.specs.Finished.{parameter_of}
+use Rattle.py_bytecode.specs.Cells.{parameter_of}
 use Rattle.py_ir.proofs.info.is_any.Given as goal
 
 abbrev pub invariant-loop-cell : goal.invariant-loop-cell

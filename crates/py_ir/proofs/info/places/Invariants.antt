@@ -1,5 +1,5 @@
 use Rattle.std.proofs.Common.{◌≡◌, take}
-use Rattle.py_ir.specs.Finished.{cell_places}
+use Rattle.py_bytecode.specs.Cells.{cell_places}
 use Rattle.py_ir.proofs.info.places.Given as goal
 
 abbrev pub invariant-loop-cell : goal.invariant-loop-cell
