@@ -6,7 +6,7 @@ use Rattle.py_tree.specs.Size.{expr_size, stmt_size, stmts_size, size_of}
 use Rattle.py_tree.specs.declared.modules.Mode.{Mode}
 use Rattle.py_bytecode.specs.Objects.{Object}
 use Rattle.py_bytecode.specs.Machine.{ReturnValue}
-use Rattle.py_meaning.specs.Form.{Interp, VForm, VConst, VLoad, VOp, VMake, VShort, VChain, VChoice, VKeep, VAt}
+use Rattle.py_meaning.specs.Form.{Interp, VForm, VConst, VLoad, VOp, VMake, VShort, VChain, VChoice, VKeep, VSwap, VAt}
 use Rattle.py_meaning.specs.Fit.{Loops}
 use Rattle.py_meaning.specs.Agree.{form_of}
 use Rattle.py_meaning.specs.Code.{Do, labels, labels_t, code_v, code, return_code, body_code}
@@ -60,6 +60,7 @@ module _ (i : Interp Object) (l : ℕ) where
   return_small (VChain f o g ls) n m h = let k = burden-append (code_v i (VChain f o g ls) n) (Do ReturnValue ∷ []) in omega (arith, h, k)
   return_small (VChoice t a b) n m h = let k = burden-append (code_v i (VChoice t a b) n) (Do ReturnValue ∷ []) in omega (arith, h, k)
   return_small (VKeep f how t) n m h = let k = burden-append (code_v i (VKeep f how t) n) (Do ReturnValue ∷ []) in omega (arith, h, k)
+  return_small (VSwap o a b fs) n m h = let k = burden-append (code_v i (VSwap o a b fs) n) (Do ReturnValue ∷ []) in omega (arith, h, k)
   return_small (VAt p f) n m h = return_small f n m h
 
 -- a docstring that is kept has less than its statement

@@ -3,7 +3,7 @@ use Rattle.py_bytecode.specs.Objects as const
 use Rattle.std.proofs.Common.{◌≡◌, ℕ, zero, suc, List, [], ◌∷◌, ◌++◌, length, Bool, true, false, Option, Some, None, refl, sym, ap, ◌∙◌, append_assoc}
 use Rattle.std.specs.Prelude.{nat_eq, if◌then◌else◌}
 use Rattle.py_bytecode.specs.Values.{Operation, raise_again, match_exception, enter_with, exit_with, Value, Constant, Given, Child, Answer, Gives, Truth, End, Raised, Usage, Load, Store, Delete, Event, Operates, Makes, Accesses, AsksTruth, AsksNext, World, Got, Fine, Raises, Stops, then_get, ask_of, ask, ask_for, fits, fits_truth, fits_next, given, gives_of, for_one, for_two, for_none, one_of, two_of, none_of, truth_of, next_of, on_some, Leave, Breaks, Continues, Returns, Throws, Ended, Normal, Leaves, Halts, on_ended, then_do, use_it, effect, choose, meets}
-use Rattle.py_meaning.specs.Form.{VForm, VConst, VLoad, VOp, VMake, VShort, VChain, VChoice, VKeep, VAt, VForms, VNone, VMore, VMethod, Shorts, OneShort, MoreShort, Links, LastLink, MoreLink, TForm, TTruth, TNot, TAll, Tests, OneTest, MoreTest, Target, GStore, GPut, GUnder, GUnpack, GDrop, Targets, NoTarget, MoreTarget, SForm, SSkip, SThen, SDo, SInto, SRemove, SIf, SIfElse, SWhile, SFor, SBreak, SContinue, SReturn, SClassEnd, SReraise, SAugment, SAugmentTwo, STry, STryFinal, SFinally, SWith, SGather, SGenerate, SAt, Handlers, HNone, HAny, HTyped, Clauses, CLast, CEach, Filters, NoFilter, MoreFilter, Scope, Fixed, Interp, targets, decide, stop_test, link, kept, after_turn, turns, assigned, rounds, for_run, clause_turn, circles, in_hand, handle, try_run, typed_run, finally_run, exit_run, exit_leave, with_run, class_end, reraised, augment_run, augment_two_run, access, run_value, run_values, run_shorts, run_links, run_test, run_tests, run_target, run_targets, run_filters, run_clauses, append_run, drop_run, run, run_handlers}
+use Rattle.py_meaning.specs.Form.{VForm, VConst, VLoad, VOp, VMake, VShort, VChain, VChoice, VKeep, VSwap, VAt, VForms, VNone, VMore, VMethod, Shorts, OneShort, MoreShort, Links, LastLink, MoreLink, TForm, TTruth, TNot, TAll, Tests, OneTest, MoreTest, Target, GStore, GPut, GUnder, GUnpack, GDrop, Targets, NoTarget, MoreTarget, SForm, SSkip, SThen, SDo, SInto, SRemove, SIf, SIfElse, SWhile, SFor, SBreak, SContinue, SReturn, SClassEnd, SReraise, SAugment, SAugmentTwo, STry, STryFinal, SFinally, SWith, SGather, SGenerate, SAt, Handlers, HNone, HAny, HTyped, Clauses, CLast, CEach, Filters, NoFilter, MoreFilter, Scope, Fixed, Interp, targets, decide, stop_test, link, kept, after_turn, turns, assigned, rounds, for_run, clause_turn, circles, in_hand, handle, try_run, typed_run, finally_run, exit_run, exit_leave, with_run, class_end, reraised, augment_run, augment_two_run, access, run_value, run_values, run_shorts, run_links, run_test, run_tests, run_target, run_targets, run_filters, run_clauses, append_run, drop_run, run, run_handlers}
 use Rattle.py_meaning.specs.View.{View, value_to, values_to, slot_to, event_to, events_to, entry_to, world_to, got_to, leave_to, ended_to}
 
 -- one interpretation carries to another
@@ -266,6 +266,8 @@ module _ {K L : Type 0} (c : K → L) (v : View) where
       value_carries (VChoice t a b) w = carry_then (run_test i t w) _ (λ x. x) (value_to c v) _ _ (test_carries t w) (λ x w1. carry_choose x (run_value i a w1) (run_value i b w1) _ _ (value_to c v) (value_carries a w1) (value_carries b w1))
       value_carries (VKeep f how t) w =
           carry_then (run_value i f w) _ (value_to c v) (value_to c v) _ _ (value_carries f w) (λ x w1. carry_then (kept how x w1) _ (value_to c v) (value_to c v) _ _ (kept_to how x w1) (λ u w2. carry_then (run_target i t u w2) _ (λ d. d) (value_to c v) _ _ (target_carries t u w2) (λ d w3. refl)))
+      value_carries (VSwap o a b fs) w =
+          carry_then (run_value i a w) _ (value_to c v) (value_to c v) _ _ (value_carries a w) (λ u w1. carry_then (run_value i b w1) _ (value_to c v) (value_to c v) _ _ (value_carries b w1) (λ x w2. carry_then (run_values i fs w2) _ (values_to c v) (value_to c v) _ _ (values_carry fs w2) (λ vs w3. for_one_to (Operates o (x ∷ u ∷ vs)) _ refl w3)))
       value_carries (VAt p f) w = value_carries f w
 
       values_carry : (fs : VForms) → Runs1 (values_to c v) (run_values i fs) (run_values j fs)

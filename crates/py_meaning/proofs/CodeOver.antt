@@ -2,7 +2,7 @@
 use Rattle.std.proofs.Common.{◌≡◌, ℕ, suc, ◌+◌, List, [], ◌∷◌, ◌++◌, Bool, true, false, Option, Some, None, refl, ap, ◌∙◌}
 use Rattle.py_bytecode.specs.Values.{Operation, Cell, flip}
 use Rattle.py_bytecode.specs.Machine.{Instr, PopBlock, Jump, SetupExcept}
-use Rattle.py_meaning.specs.Form.{VForm, VConst, VLoad, VOp, VMake, VShort, VChain, VChoice, VKeep, VAt, VForms, VNone, VMore, VMethod, Shorts, OneShort, MoreShort, Links, LastLink, MoreLink, TForm, TTruth, TNot, TAll, Tests, OneTest, MoreTest, Target, GStore, GPut, GUnder, GUnpack, GDrop, Targets, NoTarget, MoreTarget, SForm, SSkip, SThen, SDo, SInto, SRemove, SIf, SIfElse, SWhile, SFor, SBreak, SContinue, SReturn, SClassEnd, SReraise, SAugment, SAugmentTwo, STry, STryFinal, SFinally, SWith, SGather, SGenerate, SAt, Handlers, HNone, HAny, HTyped, Clauses, CLast, CEach, Filters, NoFilter, MoreFilter, Interp}
+use Rattle.py_meaning.specs.Form.{VForm, VConst, VLoad, VOp, VMake, VShort, VChain, VChoice, VKeep, VSwap, VAt, VForms, VNone, VMore, VMethod, Shorts, OneShort, MoreShort, Links, LastLink, MoreLink, TForm, TTruth, TNot, TAll, Tests, OneTest, MoreTest, Target, GStore, GPut, GUnder, GUnpack, GDrop, Targets, NoTarget, MoreTarget, SForm, SSkip, SThen, SDo, SInto, SRemove, SIf, SIfElse, SWhile, SFor, SBreak, SContinue, SReturn, SClassEnd, SReraise, SAugment, SAugmentTwo, STry, STryFinal, SFinally, SWith, SGather, SGenerate, SAt, Handlers, HNone, HAny, HTyped, Clauses, CLast, CEach, Filters, NoFilter, MoreFilter, Interp}
 use Rattle.py_meaning.specs.Fit.{Loops}
 use Rattle.py_meaning.specs.Places.{instr_over, items_over}
 use Rattle.py_meaning.specs.Code.{Item, Do, Label, labels_v, labels_vs, labels_t, labels_g, labels_bs, labels, labels_h, kept_code, cell_codes, closure_code, class_code, tail_code, code_v, code_vs, code_ss, code_ls, code_t, code_ts, code_g, code_gs, code_bs, code_c, return_code, append_code, drop_code, code, code_h, closes, closing, body_code}
@@ -75,6 +75,7 @@ module _ {K L : Type 0} (c : K → L) where
       over_v (VChoice t a b) n =
           both (over_t t false n (2 + n)) (both (over_v a (2 + n + labels_t t false)) (doing refl (mark (ended _ _ (over_v b (2 + n + labels_t t false + labels_v a)) refl))))
       over_v (VKeep f how t) n = both (over_v f n) (doing (kept_over how) (over_g t (n + labels_v f)))
+      over_v (VSwap o a b fs) n = both (over_v a n) (both (over_v b (n + labels_v a)) (doing refl (ended _ _ (over_vs fs (n + labels_v a + labels_v b)) refl)))
       over_v (VAt p f) n = over_v f n
 
       over_vs : (fs : VForms) (n : ℕ) → Over (code_vs i fs n) (code_vs j fs n)
@@ -124,6 +125,7 @@ module _ {K L : Type 0} (c : K → L) where
     over_return (VChain f o g ls) n = ended _ _ (over_v (VChain f o g ls) n) refl
     over_return (VChoice t a b) n = ended _ _ (over_v (VChoice t a b) n) refl
     over_return (VKeep f how t) n = ended _ _ (over_v (VKeep f how t) n) refl
+    over_return (VSwap o a b fs) n = ended _ _ (over_v (VSwap o a b fs) n) refl
     over_return (VAt p f) n = over_return f n
 
     over_c : (cs : Clauses) (leaf : ℕ → ℕ → List (Item K)) (leaf1 : ℕ → ℕ → List (Item L)) → ((d n : ℕ) → Over (leaf d n) (leaf1 d n)) → (d n : ℕ) → Over (code_c i cs leaf d n) (code_c j cs leaf1 d n)

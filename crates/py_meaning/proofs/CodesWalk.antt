@@ -6,7 +6,7 @@ use Rattle.std.proofs.lemmas.Option.{slice_get-get_or, slice_get_within}
 use Rattle.py_bytecode.specs.Objects as const
 use Rattle.py_bytecode.specs.Values.{Constant, Cell}
 use Rattle.py_bytecode.specs.Machine.{ReturnValue, ReturnConst}
-use Rattle.py_meaning.specs.Form.{VForm, VConst, VLoad, VOp, VMake, VShort, VChain, VChoice, VKeep, VAt, SForm, SThen, SReturn, SClassEnd, SGather, SAt, Interp}
+use Rattle.py_meaning.specs.Form.{VForm, VConst, VLoad, VOp, VMake, VShort, VChain, VChoice, VKeep, VSwap, VAt, SForm, SThen, SReturn, SClassEnd, SGather, SAt, Interp}
 use Rattle.py_meaning.specs.Fit.{Loops}
 use Rattle.py_meaning.specs.Code.{Item, Do, Label, labels, class_code, code_v, code_c, append_code, return_code, code, closes, closing, body_code}
 use Rattle.py_meaning.specs.Walks.{Shape, shape, Then, Falls, Never, fall, after, Walks}
@@ -91,6 +91,7 @@ module _ {K : Type 0} (at : ℕ → Option Shape) where
     return_end (VChain f o g ls) n t = returned_end (code_v i (VChain f o g ls) n) t
     return_end (VChoice c a b) n t = returned_end (code_v i (VChoice c a b) n) t
     return_end (VKeep f how g) n t = returned_end (code_v i (VKeep f how g) n) t
+    return_end (VSwap o a b fs) n t = returned_end (code_v i (VSwap o a b fs) n) t
     return_end (VAt p f) n t = return_end f n t
 
     class_end : (cs : List Cell) (t : Then) → state_after (class_code cs) t ≡ Never

@@ -1,7 +1,7 @@
 -- The shapes that a form's labels have: with these its code walks from a height and blocks to the same.
 use Rattle.std.proofs.Common.{◌≡◌, ℕ, ◌+◌, List, ◌∷◌, Bool, true, false, Option, Some}
 use Rattle.py_bytecode.specs.Values.{flip}
-use Rattle.py_meaning.specs.Form.{VForm, VConst, VLoad, VOp, VMake, VShort, VChain, VChoice, VKeep, VAt, VForms, VNone, VMore, VMethod, Shorts, OneShort, MoreShort, Links, LastLink, MoreLink, TForm, TTruth, TNot, TAll, Tests, OneTest, MoreTest, Target, GStore, GPut, GUnder, GUnpack, GDrop, Targets, NoTarget, MoreTarget, SForm, SSkip, SThen, SDo, SInto, SRemove, SIf, SIfElse, SWhile, SFor, SBreak, SContinue, SReturn, SClassEnd, SReraise, SAugment, SAugmentTwo, STry, STryFinal, SFinally, SWith, SGather, SGenerate, SAt, Handlers, HNone, HAny, HTyped, Clauses, CLast, CEach, Filters, NoFilter, MoreFilter, targets}
+use Rattle.py_meaning.specs.Form.{VForm, VConst, VLoad, VOp, VMake, VShort, VChain, VChoice, VKeep, VSwap, VAt, VForms, VNone, VMore, VMethod, Shorts, OneShort, MoreShort, Links, LastLink, MoreLink, TForm, TTruth, TNot, TAll, Tests, OneTest, MoreTest, Target, GStore, GPut, GUnder, GUnpack, GDrop, Targets, NoTarget, MoreTarget, SForm, SSkip, SThen, SDo, SInto, SRemove, SIf, SIfElse, SWhile, SFor, SBreak, SContinue, SReturn, SClassEnd, SReraise, SAugment, SAugmentTwo, STry, STryFinal, SFinally, SWith, SGather, SGenerate, SAt, Handlers, HNone, HAny, HTyped, Clauses, CLast, CEach, Filters, NoFilter, MoreFilter, targets}
 use Rattle.py_meaning.specs.Code.{count, labels_v, labels_vs, labels_t, labels_g, labels_bs, labels, labels_h}
 use Rattle.py_meaning.specs.Fit.{Loops}
 use Rattle.py_meaning.specs.Walks.{LoopSort, ExceptSort, FinallySort, ExitSort, HandlerSort, LastSort, CleanupSort, Mark, mark, Shape, shape, loop_at, cut_height, BreaksTo, ContinuesTo}
@@ -19,6 +19,7 @@ module _ (at : ℕ → Option Shape) where
     FitsV (VChoice t a b) n h ms =
         (at n ≡ Some (shape h ms)) × (at (1 + n) ≡ Some (shape (1 + h) ms)) × FitsT t false n (2 + n) h ms × FitsV a (2 + n + labels_t t false) h ms × FitsV b (2 + n + labels_t t false + labels_v a) h ms
     FitsV (VKeep f how t) n h ms = FitsV f n h ms × FitsG t (n + labels_v f) (1 + h) ms
+    FitsV (VSwap o a b fs) n h ms = FitsV a n h ms × FitsV b (n + labels_v a) (1 + h) ms × FitsVs fs (n + labels_v a + labels_v b) (2 + h) ms
     FitsV (VAt p f) n h ms = FitsV f n h ms
 
     pub FitsVs : VForms → (n h : ℕ) → List Mark → Type 0

@@ -1,7 +1,7 @@
 -- A form's labels fit where they have the shapes of the form.
 use Rattle.std.proofs.Common.{◌≡◌, ℕ, ◌+◌, ◌-◌, List, [], ◌∷◌, ◌++◌, length, Bool, true, false, Option, Some, refl, sym, ap, ◌∙◌, subst, arith}
 use Rattle.py_bytecode.specs.Values.{flip}
-use Rattle.py_meaning.specs.Form.{VForm, VConst, VLoad, VOp, VMake, VShort, VChain, VChoice, VKeep, VAt, VForms, VNone, VMore, VMethod, Shorts, OneShort, MoreShort, Links, LastLink, MoreLink, TForm, TTruth, TNot, TAll, Tests, OneTest, MoreTest, Target, GStore, GPut, GUnder, GUnpack, GDrop, Targets, NoTarget, MoreTarget, SForm, SSkip, SThen, SDo, SInto, SRemove, SIf, SIfElse, SWhile, SFor, SBreak, SContinue, SReturn, SClassEnd, SReraise, SAugment, SAugmentTwo, STry, STryFinal, SFinally, SWith, SGather, SGenerate, SAt, Handlers, HNone, HAny, HTyped, Clauses, CLast, CEach, Filters, NoFilter, MoreFilter, targets}
+use Rattle.py_meaning.specs.Form.{VForm, VConst, VLoad, VOp, VMake, VShort, VChain, VChoice, VKeep, VSwap, VAt, VForms, VNone, VMore, VMethod, Shorts, OneShort, MoreShort, Links, LastLink, MoreLink, TForm, TTruth, TNot, TAll, Tests, OneTest, MoreTest, Target, GStore, GPut, GUnder, GUnpack, GDrop, Targets, NoTarget, MoreTarget, SForm, SSkip, SThen, SDo, SInto, SRemove, SIf, SIfElse, SWhile, SFor, SBreak, SContinue, SReturn, SClassEnd, SReraise, SAugment, SAugmentTwo, STry, STryFinal, SFinally, SWith, SGather, SGenerate, SAt, Handlers, HNone, HAny, HTyped, Clauses, CLast, CEach, Filters, NoFilter, MoreFilter, targets}
 use Rattle.py_meaning.specs.Code.{count, labels_v, labels_vs, labels_t, labels_g, labels_bs, labels, labels_h}
 use Rattle.py_meaning.specs.Fit.{Loops}
 use Rattle.py_meaning.specs.Looped.{Looped, LoopedAll}
@@ -70,6 +70,9 @@ module _ (at : ℕ → Option Shape) where
           fits_v b (2 + n + labels_t t false + labels_v a) h ms (second _ _ _ (len_v a h ms) (omega arith) r2),
         )
     fits_v (VKeep f how t) n h ms k = (fits_v f n h ms (first _ k), fits_g t (n + labels_v f) (1 + h) ms (second _ _ _ (len_v f h ms) (omega arith) k))
+    fits_v (VSwap o a b fs) n h ms k =
+        let r = second (shapes_v a h ms) _ (n + labels_v a) (len_v a h ms) (omega arith) k in
+        (fits_v a n h ms (first _ k), fits_v b (n + labels_v a) (1 + h) ms (first _ r), fits_vs fs (n + labels_v a + labels_v b) (2 + h) ms (second _ _ _ (len_v b (1 + h) ms) (omega arith) r))
     fits_v (VAt p f) n h ms k = fits_v f n h ms k
 
     fits_vs : (fs : VForms) (n h : ℕ) (ms : List Mark) → Known n (shapes_vs fs h ms) → FitsVs at fs n h ms

@@ -1,7 +1,7 @@
 -- No label of a form is higher than what the form's instructions give, and none has its stack below its innermost block.
 use Rattle.std.proofs.Common.{◌≡◌, ◌≤◌, ℕ, suc, ◌+◌, List, [], ◌∷◌, ◌++◌, Bool, true, false, Option, Some, None, refl, arith}
 use Rattle.py_bytecode.specs.Values.{Operation, flip}
-use Rattle.py_meaning.specs.Form.{VForm, VConst, VLoad, VOp, VMake, VShort, VChain, VChoice, VKeep, VAt, VForms, VNone, VMore, VMethod, Shorts, OneShort, MoreShort, Links, LastLink, MoreLink, TForm, TTruth, TNot, TAll, Tests, OneTest, MoreTest, Target, GStore, GPut, GUnder, GUnpack, GDrop, Targets, NoTarget, MoreTarget, SForm, SSkip, SThen, SDo, SInto, SRemove, SIf, SIfElse, SWhile, SFor, SBreak, SContinue, SReturn, SClassEnd, SReraise, SAugment, SAugmentTwo, STry, STryFinal, SFinally, SWith, SGather, SGenerate, SAt, Handlers, HNone, HAny, HTyped, Clauses, CLast, CEach, Filters, NoFilter, MoreFilter, Interp, targets}
+use Rattle.py_meaning.specs.Form.{VForm, VConst, VLoad, VOp, VMake, VShort, VChain, VChoice, VKeep, VSwap, VAt, VForms, VNone, VMore, VMethod, Shorts, OneShort, MoreShort, Links, LastLink, MoreLink, TForm, TTruth, TNot, TAll, Tests, OneTest, MoreTest, Target, GStore, GPut, GUnder, GUnpack, GDrop, Targets, NoTarget, MoreTarget, SForm, SSkip, SThen, SDo, SInto, SRemove, SIf, SIfElse, SWhile, SFor, SBreak, SContinue, SReturn, SClassEnd, SReraise, SAugment, SAugmentTwo, STry, STryFinal, SFinally, SWith, SGather, SGenerate, SAt, Handlers, HNone, HAny, HTyped, Clauses, CLast, CEach, Filters, NoFilter, MoreFilter, Interp, targets}
 use Rattle.py_meaning.specs.Fit.{Loops}
 use Rattle.py_meaning.specs.Agree.{AllOf}
 use Rattle.py_meaning.specs.Code.{Item, Do, Label, count, labels_v, labels_vs, labels_t, labels_g, labels_bs, labels, labels_h, kept_code, code_v, code_vs, code_ss, code_ls, code_t, code_ts, code_g, code_gs, code_bs, code_c, return_code, append_code, drop_code, code, code_h, body_code}
@@ -44,6 +44,7 @@ module _ {K : Type 0} (i : Interp K) where
     value_rise (VChain f o g ls) n = let r = value_rise f (2 + n) in simp rises-append (omega (arith, r))
     value_rise (VChoice t a b) n = let r = value_rise a (2 + n + labels_t t false) in simp rises-append (omega (arith, r))
     value_rise (VKeep f how t) n = let r = value_rise f n in simp rises-append (omega (arith, r))
+    value_rise (VSwap o a b fs) n = let r = value_rise a n in simp rises-append (omega (arith, r))
     value_rise (VAt p f) n = value_rise f n
 
     shorts_rise : (ss : Shorts) (d : Bool) (end n : ℕ) → 1 ≤ rises (code_ss i ss d end n)
@@ -89,6 +90,11 @@ module _ {K : Type 0} (i : Interp K) where
         let r = value_rise f n in
         let k = rise_kept K how in
         parts _ _ _ _ _ (high_v f n h ms low) (simp rises-append (omega arith)) (high_g t (n + labels_v f) (1 + h) ms (omega (arith, low))) (simp rises-append (omega (arith, r, k)))
+    high_v (VSwap o a b fs) n h ms low =
+        let r = value_rise a n in
+        let q = value_rise b (n + labels_v a) in
+        parts _ (h + rises (code_v i (VSwap o a b fs) n)) _ _ _ (high_v a n h ms low) (simp rises-append (omega arith))
+        (parts _ _ _ _ _ (high_v b (n + labels_v a) (1 + h) ms (omega (arith, low))) (simp rises-append (omega (arith, r))) (high_vs fs (n + labels_v a + labels_v b) (2 + h) ms (omega (arith, low))) (simp rises-append (omega (arith, r, q)))) (omega arith)
     high_v (VAt p f) n h ms low = high_v f n h ms low
 
     high_vs : (fs : VForms) (n h : ℕ) (ms : List Mark) → floor ms ≤ h → AllBounded (h + rises (code_vs i fs n)) (shapes_vs fs h ms)
@@ -143,6 +149,7 @@ module _ {K : Type 0} (i : Interp K) where
   high_return (VChain f o g ls) n h ms low = widened (h + rises (code_v i (VChain f o g ls) n)) (h + rises (return_code i (VChain f o g ls) n)) (simp rises-append (omega arith)) (shapes_v (VChain f o g ls) h ms) (high_v (VChain f o g ls) n h ms low)
   high_return (VChoice t a b) n h ms low = widened (h + rises (code_v i (VChoice t a b) n)) (h + rises (return_code i (VChoice t a b) n)) (simp rises-append (omega arith)) (shapes_v (VChoice t a b) h ms) (high_v (VChoice t a b) n h ms low)
   high_return (VKeep f how t) n h ms low = widened (h + rises (code_v i (VKeep f how t) n)) (h + rises (return_code i (VKeep f how t) n)) (simp rises-append (omega arith)) (shapes_v (VKeep f how t) h ms) (high_v (VKeep f how t) n h ms low)
+  high_return (VSwap o a b fs) n h ms low = widened (h + rises (code_v i (VSwap o a b fs) n)) (h + rises (return_code i (VSwap o a b fs) n)) (simp rises-append (omega arith)) (shapes_v (VSwap o a b fs) h ms) (high_v (VSwap o a b fs) n h ms low)
   high_return (VAt p f) n h ms low = high_return f n h ms low
 
   high_c : (cs : Clauses) (part : ℕ → ℕ → List (Item K)) (leaf : ℕ → List Shape) (ms : List Mark) → ((d n h : ℕ) → floor ms ≤ h → AllBounded (h + rises (part d n)) (leaf h)) → (d n h : ℕ) → floor ms ≤ h → AllBounded (h + rises (code_c i cs part d n)) (shapes_c cs leaf h ms)

@@ -3,7 +3,7 @@ use Rattle.py_bytecode.specs.Objects as const
 use Rattle.py_bytecode.specs.Objects.{Const}
 use Rattle.std.proofs.Common.{◌≡◌, ℕ, suc, ◌+◌, List, [], ◌∷◌, ◌++◌, Bool, true, false, Option, Some, None, refl, sym, ap, ◌∙◌, subst, append_assoc, append-nil}
 use Rattle.py_bytecode.specs.Values.{Operation, Value, Constant, Child, Cell, Cells, flip}
-use Rattle.py_meaning.specs.Form.{VForm, VConst, VLoad, VOp, VMake, VShort, VChain, VChoice, VKeep, VAt, VForms, VNone, VMore, VMethod, Shorts, OneShort, MoreShort, Links, LastLink, MoreLink, TForm, TTruth, TNot, TAll, Tests, OneTest, MoreTest, Target, GStore, GPut, GUnder, GUnpack, GDrop, Targets, NoTarget, MoreTarget, SForm, SSkip, SThen, SDo, SInto, SRemove, SIf, SIfElse, SWhile, SFor, SBreak, SContinue, SReturn, SClassEnd, SReraise, SAugment, SAugmentTwo, STry, STryFinal, SFinally, SWith, SGather, SGenerate, SAt, Handlers, HNone, HAny, HTyped, Clauses, CLast, CEach, Filters, NoFilter, MoreFilter, Scope, Interp}
+use Rattle.py_meaning.specs.Form.{VForm, VConst, VLoad, VOp, VMake, VShort, VChain, VChoice, VKeep, VSwap, VAt, VForms, VNone, VMore, VMethod, Shorts, OneShort, MoreShort, Links, LastLink, MoreLink, TForm, TTruth, TNot, TAll, Tests, OneTest, MoreTest, Target, GStore, GPut, GUnder, GUnpack, GDrop, Targets, NoTarget, MoreTarget, SForm, SSkip, SThen, SDo, SInto, SRemove, SIf, SIfElse, SWhile, SFor, SBreak, SContinue, SReturn, SClassEnd, SReraise, SAugment, SAugmentTwo, STry, STryFinal, SFinally, SWith, SGather, SGenerate, SAt, Handlers, HNone, HAny, HTyped, Clauses, CLast, CEach, Filters, NoFilter, MoreFilter, Scope, Interp}
 use Rattle.py_bytecode.specs.Machine.{Instr, PopBlock, Jump, SetupExcept}
 use Rattle.py_meaning.specs.Fit.{Loops}
 use Rattle.py_meaning.specs.Code.{Item, Do, Label, count, labels_v, labels_vs, labels_t, labels_g, labels_bs, labels, labels_h, kept_code, has_cells, cell_codes, closure_code, class_code, tail_code, code_v, code_vs, code_ss, code_ls, code_t, code_ts, code_g, code_gs, code_bs, code_c, return_code, append_code, drop_code, code, code_h, closes, closing, body_code}
@@ -87,6 +87,7 @@ module _ {K : Type 0} (i : Interp K) where
     in_v (VChoice t a b) n =
         both (in_t t false n (2 + n)) (both (in_v a (2 + n + labels_t t false)) (skip refl (mark (ended _ (in_v b (2 + n + labels_t t false + labels_v a)) refl))))
     in_v (VKeep f how t) n = both (in_v f n) (skip (no_kept how) (in_g t (n + labels_v f)))
+    in_v (VSwap o a b fs) n = both (in_v a n) (both (in_v b (n + labels_v a)) (skip refl (ended _ (in_vs fs (n + labels_v a + labels_v b)) refl)))
     in_v (VAt p f) n = in_v f n
 
     in_vs : (fs : VForms) (n : ℕ) → Has (code_vs i fs n) (kids_vs fs)
@@ -136,6 +137,7 @@ module _ {K : Type 0} (i : Interp K) where
   in_return (VChain f o g ls) n = ended _ (in_v (VChain f o g ls) n) refl
   in_return (VChoice t a b) n = ended _ (in_v (VChoice t a b) n) refl
   in_return (VKeep f how t) n = ended _ (in_v (VKeep f how t) n) refl
+  in_return (VSwap o a b fs) n = ended _ (in_v (VSwap o a b fs) n) refl
   in_return (VAt p f) n = in_return f n
 
   in_c : (cs : Clauses) (leaf : ℕ → ℕ → List (Item K)) (x : List Scope) → ((d n : ℕ) → Has (leaf d n) x) → (d n : ℕ) → Has (code_c i cs leaf d n) (kids_c cs x)

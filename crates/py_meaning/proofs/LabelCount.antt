@@ -3,7 +3,7 @@ use Rattle.std.proofs.Common.{◌≡◌, ℕ, suc, ◌+◌, List, [], ◌∷◌,
 use Rattle.py_bytecode.specs.Objects.{Object}
 use Rattle.py_bytecode.specs.Values.{Cell, flip}
 use Rattle.py_bytecode.specs.Machine.{Instr, ReturnValue}
-use Rattle.py_meaning.specs.Form.{VForm, VConst, VLoad, VOp, VMake, VShort, VChain, VChoice, VKeep, VAt, VForms, VNone, VMore, VMethod, Shorts, OneShort, MoreShort, Links, LastLink, MoreLink, TForm, TTruth, TNot, TAll, Tests, OneTest, MoreTest, Target, GStore, GPut, GUnder, GUnpack, GDrop, Targets, NoTarget, MoreTarget, SForm, SSkip, SThen, SDo, SInto, SRemove, SIf, SIfElse, SWhile, SFor, SBreak, SContinue, SReturn, SClassEnd, SReraise, SAugment, SAugmentTwo, STry, STryFinal, SFinally, SWith, SGather, SGenerate, SAt, Handlers, HNone, HAny, HTyped, Clauses, CLast, CEach, Filters, NoFilter, MoreFilter, Interp}
+use Rattle.py_meaning.specs.Form.{VForm, VConst, VLoad, VOp, VMake, VShort, VChain, VChoice, VKeep, VSwap, VAt, VForms, VNone, VMore, VMethod, Shorts, OneShort, MoreShort, Links, LastLink, MoreLink, TForm, TTruth, TNot, TAll, Tests, OneTest, MoreTest, Target, GStore, GPut, GUnder, GUnpack, GDrop, Targets, NoTarget, MoreTarget, SForm, SSkip, SThen, SDo, SInto, SRemove, SIf, SIfElse, SWhile, SFor, SBreak, SContinue, SReturn, SClassEnd, SReraise, SAugment, SAugmentTwo, STry, STryFinal, SFinally, SWith, SGather, SGenerate, SAt, Handlers, HNone, HAny, HTyped, Clauses, CLast, CEach, Filters, NoFilter, MoreFilter, Interp}
 use Rattle.py_meaning.specs.Fit.{Loops}
 use Rattle.py_meaning.specs.Code.{Item, Do, Label, labels_v, labels_vs, labels_ss, labels_ls, labels_t, labels_ts, labels_g, labels_gs, labels_bs, labels_c, labels, labels_h, cell_codes, closure_code, class_code, tail_code, code_v, code_vs, code_ss, code_ls, code_t, code_ts, code_g, code_gs, code_bs, code_c, return_code, append_code, drop_code, code, code_h, closes, closing, body_code}
 use Rattle.py_meaning.specs.Blocks.{placed_labels}
@@ -56,6 +56,11 @@ module _ (i : Interp Object) where
         let c = count_v y (2 + n + labels_t t false + labels_v x) in
         simp count-append (omega (arith, a, b, c))
     count_v (VKeep f how t) n = let a = count_v f n in let b = count_g t (n + labels_v f) in simp count-append (omega (arith, a, b))
+    count_v (VSwap o x y fs) n =
+        let a = count_v x n in
+        let b = count_v y (n + labels_v x) in
+        let c = count_vs fs (n + labels_v x + labels_v y) in
+        simp count-append (omega (arith, a, b, c))
     count_v (VAt p f) n = count_v f n
 
     count_vs : (fs : VForms) (n : ℕ) → placed_labels (code_vs i fs n) ≡ labels_vs fs
@@ -108,6 +113,7 @@ module _ (i : Interp Object) where
   count_return (VChain f o g ls) n = returned (code_v i (VChain f o g ls) n) ReturnValue _ (count_v (VChain f o g ls) n)
   count_return (VChoice t x y) n = returned (code_v i (VChoice t x y) n) ReturnValue _ (count_v (VChoice t x y) n)
   count_return (VKeep f how t) n = returned (code_v i (VKeep f how t) n) ReturnValue _ (count_v (VKeep f how t) n)
+  count_return (VSwap o a b fs) n = returned (code_v i (VSwap o a b fs) n) ReturnValue _ (count_v (VSwap o a b fs) n)
   count_return (VAt p f) n = count_return f n
 
   count_c : (cs : Clauses) (part : ℕ → ℕ → List (Item Object)) (x : ℕ) → ((d n : ℕ) → placed_labels (part d n) ≡ x) → (d n : ℕ) → placed_labels (code_c i cs part d n) ≡ labels_c cs + x

@@ -1,7 +1,7 @@
 -- The shapes that the labels of a form have, in the order of the labels, and how many they are.
 use Rattle.std.proofs.Common.{◌≡◌, ℕ, ◌+◌, List, [], ◌∷◌, ◌++◌, length, Bool, true, false, refl, arith, length-append}
 use Rattle.py_bytecode.specs.Values.{flip}
-use Rattle.py_meaning.specs.Form.{VForm, VConst, VLoad, VOp, VMake, VShort, VChain, VChoice, VKeep, VAt, VForms, VNone, VMore, VMethod, Shorts, OneShort, MoreShort, Links, LastLink, MoreLink, TForm, TTruth, TNot, TAll, Tests, OneTest, MoreTest, Target, GStore, GPut, GUnder, GUnpack, GDrop, Targets, NoTarget, MoreTarget, SForm, SSkip, SThen, SDo, SInto, SRemove, SIf, SIfElse, SWhile, SFor, SBreak, SContinue, SReturn, SClassEnd, SReraise, SAugment, SAugmentTwo, STry, STryFinal, SFinally, SWith, SGather, SGenerate, SAt, Handlers, HNone, HAny, HTyped, Clauses, CLast, CEach, Filters, NoFilter, MoreFilter, targets}
+use Rattle.py_meaning.specs.Form.{VForm, VConst, VLoad, VOp, VMake, VShort, VChain, VChoice, VKeep, VSwap, VAt, VForms, VNone, VMore, VMethod, Shorts, OneShort, MoreShort, Links, LastLink, MoreLink, TForm, TTruth, TNot, TAll, Tests, OneTest, MoreTest, Target, GStore, GPut, GUnder, GUnpack, GDrop, Targets, NoTarget, MoreTarget, SForm, SSkip, SThen, SDo, SInto, SRemove, SIf, SIfElse, SWhile, SFor, SBreak, SContinue, SReturn, SClassEnd, SReraise, SAugment, SAugmentTwo, STry, STryFinal, SFinally, SWith, SGather, SGenerate, SAt, Handlers, HNone, HAny, HTyped, Clauses, CLast, CEach, Filters, NoFilter, MoreFilter, targets}
 use Rattle.py_meaning.specs.Code.{count, labels_v, labels_vs, labels_ss, labels_ls, labels_t, labels_ts, labels_g, labels_gs, labels_bs, labels_c, labels, labels_h}
 use Rattle.py_meaning.specs.Walks.{LoopSort, ExceptSort, FinallySort, ExitSort, HandlerSort, LastSort, CleanupSort, Mark, mark, Shape, shape}
 
@@ -15,6 +15,7 @@ abbrev mutual
   shapes_v (VChain f o g ls) h ms = shape (2 + h) ms ∷ shape (1 + h) ms ∷ (shapes_v f h ms ++ (shapes_v g (1 + h) ms ++ shapes_ls ls h ms))
   shapes_v (VChoice t a b) h ms = shape h ms ∷ shape (1 + h) ms ∷ (shapes_t t false h ms ++ (shapes_v a h ms ++ shapes_v b h ms))
   shapes_v (VKeep f how t) h ms = shapes_v f h ms ++ shapes_g t (1 + h) ms
+  shapes_v (VSwap o a b fs) h ms = shapes_v a h ms ++ (shapes_v b (1 + h) ms ++ shapes_vs fs (2 + h) ms)
   shapes_v (VAt p f) h ms = shapes_v f h ms
 
   pub shapes_vs : VForms → ℕ → List Mark → List Shape
@@ -111,6 +112,7 @@ mutual
   len_v (VChain f o g ls) h ms = omega (arith, two_parts _ _ _ _ (len_v f h ms) (two_parts _ _ _ _ (len_v g (1 + h) ms) (len_ls ls h ms)))
   len_v (VChoice t a b) h ms = omega (arith, two_parts _ _ _ _ (len_t t false h ms) (two_parts _ _ _ _ (len_v a h ms) (len_v b h ms)))
   len_v (VKeep f how t) h ms = two_parts _ _ _ _ (len_v f h ms) (len_g t (1 + h) ms)
+  len_v (VSwap o a b fs) h ms = omega (arith, two_parts _ _ _ _ (len_v a h ms) (two_parts _ _ _ _ (len_v b (1 + h) ms) (len_vs fs (2 + h) ms)))
   len_v (VAt p f) h ms = len_v f h ms
 
   pub len_vs : (fs : VForms) (h : ℕ) (ms : List Mark) → length (shapes_vs fs h ms) ≡ labels_vs fs

@@ -3,7 +3,7 @@ use Rattle.std.proofs.Common.{◌≡◌, ℕ, suc, ◌+◌, ◌≤◌, ◌<◌, 
 use Rattle.std.proofs.lemmas.Bool.{cases_lt}
 use Rattle.std.proofs.lemmas.Bool.Decides.{nat_tests}
 use Rattle.py_bytecode.specs.Values.{Value, Child, Cell, flip}
-use Rattle.py_meaning.specs.Form.{VForm, VConst, VLoad, VOp, VMake, VShort, VChain, VChoice, VKeep, VAt, VForms, VNone, VMore, VMethod, Shorts, OneShort, MoreShort, Links, LastLink, MoreLink, TForm, TTruth, TNot, TAll, Tests, OneTest, MoreTest, Target, GStore, GPut, GUnder, GUnpack, GDrop, Targets, NoTarget, MoreTarget, SForm, SSkip, SThen, SDo, SInto, SRemove, SIf, SIfElse, SWhile, SFor, SBreak, SContinue, SReturn, SClassEnd, SReraise, SAugment, SAugmentTwo, STry, STryFinal, SFinally, SWith, SGather, SGenerate, SAt, Handlers, HNone, HAny, HTyped, Clauses, CLast, CEach, Filters, NoFilter, MoreFilter, Interp}
+use Rattle.py_meaning.specs.Form.{VForm, VConst, VLoad, VOp, VMake, VShort, VChain, VChoice, VKeep, VSwap, VAt, VForms, VNone, VMore, VMethod, Shorts, OneShort, MoreShort, Links, LastLink, MoreLink, TForm, TTruth, TNot, TAll, Tests, OneTest, MoreTest, Target, GStore, GPut, GUnder, GUnpack, GDrop, Targets, NoTarget, MoreTarget, SForm, SSkip, SThen, SDo, SInto, SRemove, SIf, SIfElse, SWhile, SFor, SBreak, SContinue, SReturn, SClassEnd, SReraise, SAugment, SAugmentTwo, STry, STryFinal, SFinally, SWith, SGather, SGenerate, SAt, Handlers, HNone, HAny, HTyped, Clauses, CLast, CEach, Filters, NoFilter, MoreFilter, Interp}
 use Rattle.py_bytecode.specs.Machine.{Instr, Operate}
 use Rattle.py_meaning.specs.Fit.{Loops}
 use Rattle.py_meaning.specs.Code.{closes, closing, tuple_of, Item, Do, Label, labels_v, labels_vs, labels_ss, labels_ls, labels_t, labels_ts, labels_g, labels_gs, labels_bs, labels_c, labels, labels_h, cell_codes, closure_code, class_code, tail_code, make_code, count, code_v, code_vs, code_ss, code_ls, code_t, code_ts, code_g, code_gs, code_bs, code_c, return_code, append_code, drop_code, code, code_h, body_code}
@@ -114,6 +114,8 @@ module _ {K : Type 0} (i : Interp K) where
     in_v (VChoice t a b) n =
         ends_at _ (omega arith) (reorder _ _ (mark_two (both (in_t t false n (2 + n)) (both (in_v a (2 + n + labels_t t false)) (in_v b (2 + n + labels_t t false + labels_v a))))) (λ k. simp occurs-append (omega arith)))
     in_v (VKeep f how t) n = ends_at _ (omega arith) (both (in_v f n) (skip (in_g t (n + labels_v f))))
+    in_v (VSwap o a b fs) n =
+        ends_at _ (omega arith) (both (in_v a n) (both (in_v b (n + labels_v a)) (skip (ended _ (λ k. refl) (in_vs fs (n + labels_v a + labels_v b))))))
     in_v (VAt p f) n = in_v f n
 
     in_vs : (fs : VForms) (n : ℕ) → Places n (n + labels_vs fs) (code_vs i fs n)
@@ -163,6 +165,7 @@ module _ {K : Type 0} (i : Interp K) where
   in_return (VChain f o g ls) n = ended _ (λ k. refl) (in_v (VChain f o g ls) n)
   in_return (VChoice t a b) n = ended _ (λ k. refl) (in_v (VChoice t a b) n)
   in_return (VKeep f how t) n = ended _ (λ k. refl) (in_v (VKeep f how t) n)
+  in_return (VSwap o a b fs) n = ended _ (λ k. refl) (in_v (VSwap o a b fs) n)
   in_return (VAt p f) n = in_return f n
 
   in_c : (cs : Clauses) (leaf : ℕ → ℕ → List (Item K)) (x : ℕ) → ((d n : ℕ) → Places n (n + x) (leaf d n)) → (d n : ℕ) → Places n (n + (labels_c cs + x)) (code_c i cs leaf d n)

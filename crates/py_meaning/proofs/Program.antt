@@ -1,7 +1,7 @@
 -- Each form's code follows its run.
 use Rattle.std.proofs.Common.{◌≡◌, ℕ, suc, ◌+◌, List, ◌∷◌, Bool, true, false, refl, ap}
 use Rattle.py_bytecode.specs.Values.{Value, Constant, Child, Entry, It, Load, Store, Delete, World, Got, choose, flip, Breaks, Continues, Returns, use_it}
-use Rattle.py_meaning.specs.Form.{VForm, VConst, VLoad, VOp, VMake, VShort, VChain, VChoice, VKeep, VAt, VForms, VNone, VMore, VMethod, Shorts, OneShort, MoreShort, Links, LastLink, MoreLink, TForm, TTruth, TNot, TAll, Tests, OneTest, MoreTest, Target, GStore, GPut, GUnder, GUnpack, GDrop, Targets, NoTarget, MoreTarget, SForm, SSkip, SThen, SDo, SInto, SRemove, SIf, SIfElse, SWhile, SFor, SBreak, SContinue, SReturn, SClassEnd, SReraise, SAugment, SAugmentTwo, STry, STryFinal, SFinally, SWith, SGather, SGenerate, SAt, Handlers, HNone, HAny, HTyped, Clauses, CLast, CEach, Filters, NoFilter, MoreFilter, Interp, targets, run_value, run_values, run_shorts, run_links, run_test, run_tests, run_target, run_targets, run_filters, run_clauses, append_run, drop_run, run, run_handlers, returns}
+use Rattle.py_meaning.specs.Form.{VForm, VConst, VLoad, VOp, VMake, VShort, VChain, VChoice, VKeep, VSwap, VAt, VForms, VNone, VMore, VMethod, Shorts, OneShort, MoreShort, Links, LastLink, MoreLink, TForm, TTruth, TNot, TAll, Tests, OneTest, MoreTest, Target, GStore, GPut, GUnder, GUnpack, GDrop, Targets, NoTarget, MoreTarget, SForm, SSkip, SThen, SDo, SInto, SRemove, SIf, SIfElse, SWhile, SFor, SBreak, SContinue, SReturn, SClassEnd, SReraise, SAugment, SAugmentTwo, STry, STryFinal, SFinally, SWith, SGather, SGenerate, SAt, Handlers, HNone, HAny, HTyped, Clauses, CLast, CEach, Filters, NoFilter, MoreFilter, Interp, targets, run_value, run_values, run_shorts, run_links, run_test, run_tests, run_target, run_targets, run_filters, run_clauses, append_run, drop_run, run, run_handlers, returns}
 use Rattle.py_bytecode.specs.Machine.{Break, Continue, ReturnConst, Block, has_loop, Config, wrong}
 use Rattle.py_meaning.specs.Fit.{Loops}
 use Rattle.py_meaning.specs.Looped.{Looped, LoopedAll}
@@ -10,7 +10,7 @@ use Rattle.py_meaning.proofs.Reach.{light, Ground}
 use Rattle.py_meaning.proofs.Moves.{bare, none_on, moves_then, FollowsValue, FollowsValues, FollowsTarget, FollowsTest, Follows}
 use Rattle.py_meaning.proofs.Wholes.{nothing, joined, moved, value_whole, values_whole, test_whole, target_whole, gathers_whole, yields_whole, augment_whole, augment_two_whole}
 use Rattle.py_meaning.proofs.Ops.{as_many}
-use Rattle.py_meaning.proofs.Values.{const_follows, load_follows, delete_follows, store_follows, none_follows, more_follows, method_follows, op_follows, do_follows, make_follows, FollowsShort, short_one, short_more, short_follows, FollowsLinks, last_link, more_link, chain_follows, choice_value_follows, keep_follows, drop_follows, put_follows, under_follows, FollowsTargets, no_targets, more_targets, unpack_follows}
+use Rattle.py_meaning.proofs.Values.{const_follows, load_follows, delete_follows, store_follows, none_follows, more_follows, method_follows, op_follows, do_follows, make_follows, FollowsShort, short_one, short_more, short_follows, FollowsLinks, last_link, more_link, chain_follows, choice_value_follows, keep_follows, swap_follows, drop_follows, put_follows, under_follows, FollowsTargets, no_targets, more_targets, unpack_follows}
 use Rattle.py_meaning.proofs.Tests.{truth_follows, not_follows, FollowsTests, tests_one, tests_more, all_false, all_true, FollowsFilter, no_filter, more_filter}
 use Rattle.py_meaning.proofs.Statements.{skip_follows, effect_follows, doing_follows, seq_follows, leave_follows, return_follows, class_follows, reraise_follows, if_follows, choice_follows, augment_follows, augment_two_follows}
 use Rattle.py_meaning.proofs.Loops.{while_follows, turn_follows, for_follows}
@@ -32,6 +32,8 @@ module _ {K P : Type 0} (i : Interp K) (g : Ground K P) where
     value_follows (VChoice t a b) n =
         choice_value_follows g _ _ _ n (1 + n) _ _ _ (test_follows t false n (2 + n)) (value_follows a (2 + n + labels_t t false)) (value_follows b (2 + n + labels_t t false + labels_v a))
     value_follows (VKeep f how t) n = keep_follows g how _ _ _ (run_target i t) (value_follows f n) (target_follows t (n + labels_v f))
+    value_follows (VSwap o a b fs) n =
+        swap_follows g o (count fs) _ _ _ (run_value i a) (run_value i b) (run_values i fs) (as_many i fs) (value_follows a n) (value_follows b (n + labels_v a)) (values_follow fs (n + labels_v a + labels_v b))
     value_follows (VAt p f) n = value_follows f n
 
     pub values_follow : (fs : VForms) (n : ℕ) → FollowsValues g (code_vs i fs n) (run_values i fs)
@@ -81,6 +83,7 @@ module _ {K P : Type 0} (i : Interp K) (g : Ground K P) where
   return_is (VChain f o h ls) l n = return_follows g _ l _ (value_whole i (VChain f o h ls) n) (value_follows (VChain f o h ls) n)
   return_is (VChoice t a b) l n = return_follows g _ l _ (value_whole i (VChoice t a b) n) (value_follows (VChoice t a b) n)
   return_is (VKeep f how t) l n = return_follows g _ l _ (value_whole i (VKeep f how t) n) (value_follows (VKeep f how t) n)
+  return_is (VSwap o a b fs) l n = return_follows g _ l _ (value_whole i (VSwap o a b fs) n) (value_follows (VSwap o a b fs) n)
   return_is (VAt p f) l n = return_is f l n
 
   -- clauses, over what stands within them

@@ -1,7 +1,7 @@
 -- Values, tests and targets walk where their labels have their shapes.
 use Rattle.std.proofs.Common.{◌≡◌, ◌≤◌, ℕ, suc, ◌+◌, List, [], ◌∷◌, ◌++◌, length, Bool, true, false, Option, Some, None, inl, inr, refl, subst, arith}
 use Rattle.py_bytecode.specs.Values.{Operation, Value, Constant, Child, Cell, Entry, It, Cells, flip}
-use Rattle.py_meaning.specs.Form.{VForm, VConst, VLoad, VOp, VMake, VShort, VChain, VChoice, VKeep, VAt, VForms, VNone, VMore, VMethod, Shorts, OneShort, MoreShort, Links, LastLink, MoreLink, TForm, TTruth, TNot, TAll, Tests, OneTest, MoreTest, Target, GStore, GPut, GUnder, GUnpack, GDrop, Targets, NoTarget, MoreTarget, SForm, SSkip, SThen, SDo, SInto, SRemove, SIf, SIfElse, SWhile, SFor, SBreak, SContinue, SReturn, SClassEnd, SReraise, SAugment, SAugmentTwo, STry, STryFinal, SFinally, SWith, SGather, SGenerate, SAt, Handlers, HNone, HAny, HTyped, Clauses, CLast, CEach, Filters, NoFilter, MoreFilter, Interp, targets}
+use Rattle.py_meaning.specs.Form.{VForm, VConst, VLoad, VOp, VMake, VShort, VChain, VChoice, VKeep, VSwap, VAt, VForms, VNone, VMore, VMethod, Shorts, OneShort, MoreShort, Links, LastLink, MoreLink, TForm, TTruth, TNot, TAll, Tests, OneTest, MoreTest, Target, GStore, GPut, GUnder, GUnpack, GDrop, Targets, NoTarget, MoreTarget, SForm, SSkip, SThen, SDo, SInto, SRemove, SIf, SIfElse, SWhile, SFor, SBreak, SContinue, SReturn, SClassEnd, SReraise, SAugment, SAugmentTwo, STry, STryFinal, SFinally, SWith, SGather, SGenerate, SAt, Handlers, HNone, HAny, HTyped, Clauses, CLast, CEach, Filters, NoFilter, MoreFilter, Interp, targets}
 use Rattle.py_bytecode.specs.Machine.{Operate, ReturnValue}
 use Rattle.py_meaning.specs.Code.{Item, Do, count, labels_v, labels_vs, labels_t, labels_g, code_v, code_vs, code_ss, code_ls, code_t, code_ts, code_g, code_gs, cell_codes, closure_code, has_cells, make_code, class_code, tail_code, labels_bs, labels, labels_h, return_code, code_bs, code_c, append_code, drop_code, code, code_h}
 use Rattle.py_meaning.specs.Fit.{Loops}
@@ -47,6 +47,11 @@ module _ (K : Type 0) (at : ℕ → Option Shape) where
           walk_then K at (value_walks f n h ms low e.0) (walk_do K at (shape (1 + (1 + h)) ms) (omega (arith, low)) (level K at _ _ ms (omega arith)) (target_walks t (n + labels_v f) (1 + h) ms (omega (arith, low)) e.1))
       value_walks (VKeep f (Some o) t) n h ms low e =
           walk_then K at (value_walks f n h ms low e.0) (walk_do K at (shape (1 + (1 + h)) ms) (omega (arith, low)) (level K at _ _ ms (omega arith)) (target_walks t (n + labels_v f) (1 + h) ms (omega (arith, low)) e.1))
+      value_walks (VSwap o a b fs) n h ms low e =
+          walk_then K at (value_walks a n h ms low e.0)
+          (walk_then K at (move (1 + h) (1 + (1 + h)) (1 + h) (2 + h) ms refl (omega arith) (value_walks b (n + labels_v a) (1 + h) ms (omega (arith, low)) e.1))
+          (walk_do K at (shape (2 + h) ms) (omega (arith, low)) (level K at _ _ ms (omega arith))
+          (walk_then K at (move (2 + h) (count fs + (2 + h)) (2 + h) (2 + count fs + h) ms refl (omega arith) (values_walk fs (n + labels_v a + labels_v b) (2 + h) ms (omega (arith, low)) e.2)) (operate_walks K at h ms low o (2 + count fs) 1))))
       value_walks (VAt p f) n h ms low e = value_walks f n h ms low e
 
       values_walk : (fs : VForms) (n h : ℕ) (ms : List Mark) → floor ms ≤ h → FitsVs at fs n h ms → WalksOn K at (code_vs i fs n) (shape h ms) (shape (count fs + h) ms)
@@ -105,6 +110,7 @@ module _ (K : Type 0) (at : ℕ → Option Shape) where
     return_walk (VChain f o g ls) n h ms low e = returned _ h ms low (value_walks (VChain f o g ls) n h ms low e)
     return_walk (VChoice t a b) n h ms low e = returned _ h ms low (value_walks (VChoice t a b) n h ms low e)
     return_walk (VKeep f how t) n h ms low e = returned _ h ms low (value_walks (VKeep f how t) n h ms low e)
+    return_walk (VSwap o a b fs) n h ms low e = returned _ h ms low (value_walks (VSwap o a b fs) n h ms low e)
     return_walk (VAt p f) n h ms low e = return_walk f n h ms low e
 
     class_walk : (cs : List Cell) (h : ℕ) (ms : List Mark) → floor ms ≤ h → WalksOn K at (class_code cs) (shape h ms) (shape h ms)

@@ -50,6 +50,15 @@ module _ {K P : Type 0} (g : Ground K P) where
   pub op_follows : (o : Operation) (n : ℕ) (parts : List (Item K)) (m : World K → Got K (List (Value K))) → ((w : World K) → OnFine (m w) (λ vs w1. length vs ≡ n)) → FollowsValues g parts m → FollowsValue g (parts ++ Do (Operate o n (Some 1)) ∷ []) (λ w. then_get (m w) (λ vs w1. for_one (Operates o vs) w1))
   op_follows o n parts m len fs = moves_on g parts _ (bare g) push (one_on g) m _ (λ vs. length vs ≡ n) len fs (λ vs e. one_moves o n vs e)
 
+  -- two values change places before the further ones
+  pub swap_follows : (o : Operation) (n : ℕ) (a b parts : List (Item K)) (ma mb : World K → Got K (Value K)) (m : World K → Got K (List (Value K))) → ((w : World K) → OnFine (m w) (λ vs w1. length vs ≡ n)) → FollowsValue g a ma → FollowsValue g b mb → FollowsValues g parts m → FollowsValue g (a ++ (b ++ (Do Rotate2 ∷ (parts ++ Do (Operate o (2 + n) (Some 1)) ∷ [])))) (λ w. then_get (ma w) (λ u w1. then_get (mb w1) (λ v w2. then_get (m w2) (λ vs w3. for_one (Operates o (v ∷ u ∷ vs)) w3))))
+  swap_follows o n a b parts ma mb m len fa fb fs =
+      moves_then g a _ (bare g) (one_on g) (one_on g) ma _ fa
+      (λ u. moves_then g b _ (one_on g u) (λ v s. It v ∷ It u ∷ s) (one_on g) mb _ (framed g (It u) b (bare g) mb (one_on g) fb)
+      (λ v. moves_shuffle g Rotate2 _ (λ s. It v ∷ It u ∷ s) (λ s. It u ∷ It v ∷ s) (one_on g) _ (λ q s bs slot w. refl)
+      (moves_on g parts _ (λ s. It u ∷ It v ∷ s) (λ vs s. push vs (It u ∷ It v ∷ s)) (one_on g) m _ (λ vs. length vs ≡ n) len (framed_push g (v ∷ u ∷ []) parts (bare g) m push fs)
+      (λ vs e. one_moves o (2 + n) (v ∷ u ∷ vs) (omega (arith, e))))))
+
   pub do_follows : (o : Operation) (n : ℕ) (r : Bool) (parts : List (Item K)) (m : World K → Got K (List (Value K))) → ((w : World K) → OnFine (m w) (λ vs w1. length vs ≡ n)) → FollowsValues g parts m → FollowsEffect g (parts ++ Do (Operate o n (gives_of r)) ∷ []) (λ w. then_get (m w) (λ vs w1. for_none (Operates o vs) r w1))
   do_follows o n r parts m len fs = moves_on g parts _ (bare g) push (none_on g) m _ (λ vs. length vs ≡ n) len fs (λ vs e. none_moves o n r vs e)
 

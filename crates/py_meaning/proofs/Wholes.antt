@@ -2,7 +2,7 @@
 use Rattle.std.proofs.Common.{◌≡◌, ℕ, suc, ◌+◌, List, [], ◌∷◌, ◌++◌, Bool, true, false, Some, None, refl, ap, ◌∙◌, arith}
 use Rattle.py_bytecode.specs.Values.{Operation, Cell, flip}
 use Rattle.py_bytecode.specs.Machine.{Instr}
-use Rattle.py_meaning.specs.Form.{VForm, VConst, VLoad, VOp, VMake, VShort, VChain, VChoice, VKeep, VAt, VForms, VNone, VMore, VMethod, Shorts, OneShort, MoreShort, Links, LastLink, MoreLink, TForm, TTruth, TNot, TAll, Tests, OneTest, MoreTest, Target, GStore, GPut, GUnder, GUnpack, GDrop, Targets, NoTarget, MoreTarget, Clauses, CLast, CEach, Filters, NoFilter, MoreFilter, Interp}
+use Rattle.py_meaning.specs.Form.{VForm, VConst, VLoad, VOp, VMake, VShort, VChain, VChoice, VKeep, VSwap, VAt, VForms, VNone, VMore, VMethod, Shorts, OneShort, MoreShort, Links, LastLink, MoreLink, TForm, TTruth, TNot, TAll, Tests, OneTest, MoreTest, Target, GStore, GPut, GUnder, GUnpack, GDrop, Targets, NoTarget, MoreTarget, Clauses, CLast, CEach, Filters, NoFilter, MoreFilter, Interp}
 use Rattle.py_meaning.specs.Code.{Item, Do, Label, size, labels_v, labels_vs, labels_t, labels_g, labels_bs, cell_codes, closure_code, tail_code, augment_code, augment_two_code, code_v, code_vs, code_ss, code_ls, code_t, code_ts, code_g, code_gs, code_bs, code_c, append_code, drop_code}
 use Rattle.py_meaning.specs.Live.{stays, live}
 use Rattle.py_meaning.proofs.Falls.{falls, live-append, falls-append, live_if}
@@ -69,6 +69,8 @@ module _ {K : Type 0} (i : Interp K) where
         joined (test_whole t false n (2 + n)) (joined (value_whole a (2 + n + labels_t t false)) (jumped (joined (value_whole b (2 + n + labels_t t false + labels_v a)) (marked nothing))))
     value_whole (VKeep f None t) n = joined (value_whole f n) (moved refl (target_whole t (n + labels_v f)))
     value_whole (VKeep f (Some o) t) n = joined (value_whole f n) (moved refl (target_whole t (n + labels_v f)))
+    value_whole (VSwap o a b fs) n =
+        joined (value_whole a n) (joined (value_whole b (n + labels_v a)) (moved refl (joined (values_whole fs (n + labels_v a + labels_v b)) (moved refl nothing))))
     value_whole (VAt p f) n = value_whole f n
 
     pub values_whole : (fs : VForms) (n : ℕ) → Whole (code_vs i fs n)
