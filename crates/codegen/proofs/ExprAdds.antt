@@ -1,8 +1,8 @@
 -- The emission of an expression adds the code of its form, as a value and as a test.
 use Rattle.std.proofs.Common.{◌≡◌, ℕ, List, [], Bool, true, false, Some, None, refl}
 use Rattle.std.specs.Prelude.{if◌then◌else◌}
-use Rattle.py_tree.specs.Literal as literal
-use Rattle.py_tree.specs.Literal.{Literal}
+use Rattle.py_base.specs.Literal as literal
+use Rattle.py_base.specs.Literal.{Literal}
 use Rattle.py_tree.specs.PythonName.{python_name}
 use Rattle.py_tree.specs.Tree as tree
 use Rattle.py_base.specs.declared.location.SourceLocation.{SourceLocation}

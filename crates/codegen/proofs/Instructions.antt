@@ -1,14 +1,14 @@
 -- The instructions that an emission adds, kind by kind.
 use Rattle.std.proofs.Common.{◌≡◌, ℕ, suc, ◌+◌, ◌*◌, ◌%◌, ◌/◌, ◌<◌, ◌^◌, List, [], ◌∷◌, Bool, true, false, Option, Some, None, refl, ap, ◌∙◌, arith, rules}
 use Rattle.std.specs.Prelude.{nat_lt, slice_get, if◌then◌else◌}
-use Rattle.py_tree.specs.declared.operators.CmpOp.{CmpOp}
-use Rattle.py_tree.specs.declared.operators.CmpOp.TheVariants as comparison
-use Rattle.py_tree.specs.declared.operators.ConversionFlag.{ConversionFlag}
-use Rattle.py_tree.specs.declared.operators.ConversionFlag.TheVariants as conversion
-use Rattle.py_tree.specs.declared.operators.Operator.{Operator}
-use Rattle.py_tree.specs.declared.operators.Operator.TheVariants as operator
-use Rattle.py_tree.specs.declared.operators.UnaryOp.{UnaryOp}
-use Rattle.py_tree.specs.declared.operators.UnaryOp.TheVariants as unary
+use Rattle.py_base.specs.declared.operators.CmpOp.{CmpOp}
+use Rattle.py_base.specs.declared.operators.CmpOp.TheVariants as comparison
+use Rattle.py_base.specs.declared.operators.ConversionFlag.{ConversionFlag}
+use Rattle.py_base.specs.declared.operators.ConversionFlag.TheVariants as conversion
+use Rattle.py_base.specs.declared.operators.Operator.{Operator}
+use Rattle.py_base.specs.declared.operators.Operator.TheVariants as operator
+use Rattle.py_base.specs.declared.operators.UnaryOp.{UnaryOp}
+use Rattle.py_base.specs.declared.operators.UnaryOp.TheVariants as unary
 use Rattle.py_bytecode.specs.declared.instruction.Instruction.{Instruction}
 use Rattle.py_bytecode.specs.declared.instruction.Instruction.TheVariants as op
 use Rattle.py_bytecode.specs.declared.instruction.OperandKind.TheVariants as kind

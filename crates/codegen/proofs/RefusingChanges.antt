@@ -4,7 +4,7 @@ use Rattle.std.specs.Prelude.{nat_eq}
 use Rattle.py_tree.specs.Tree as tree
 use Rattle.py_tree.specs.Valid.{when, count, name_shapes, expr_shapes, exprs_shapes, opt_expr_shapes}
 use Rattle.py_base.specs.declared.location.SourceLocation.{SourceLocation}
-use Rattle.py_tree.specs.declared.operators.Operator.{Operator}
+use Rattle.py_base.specs.declared.operators.Operator.{Operator}
 use Rattle.py_base.specs.declared.shapes.Malformed.TheVariants as shape
 use Rattle.py_bytecode.specs.declared.instruction.Instruction.TheVariants as op
 use Rattle.py_bytecode.specs.Objects as const

@@ -1,11 +1,11 @@
 -- What operators, comparisons and choices weigh.
 use Rattle.std.proofs.Common.{ℕ, ◌+◌, ◌*◌, ◌≤◌, List, [], ◌∷◌, length, Bool, true, false, arith}
 use Rattle.py_base.specs.declared.location.SourceLocation.{SourceLocation}
-use Rattle.py_tree.specs.declared.operators.BoolOp.{BoolOp}
-use Rattle.py_tree.specs.declared.operators.BoolOp.TheVariants.{And, Or}
-use Rattle.py_tree.specs.declared.operators.CmpOp.{CmpOp}
-use Rattle.py_tree.specs.declared.operators.UnaryOp.{UnaryOp}
-use Rattle.py_tree.specs.declared.operators.UnaryOp.TheVariants as unary
+use Rattle.py_base.specs.declared.operators.BoolOp.{BoolOp}
+use Rattle.py_base.specs.declared.operators.BoolOp.TheVariants.{And, Or}
+use Rattle.py_base.specs.declared.operators.CmpOp.{CmpOp}
+use Rattle.py_base.specs.declared.operators.UnaryOp.{UnaryOp}
+use Rattle.py_base.specs.declared.operators.UnaryOp.TheVariants as unary
 use Rattle.py_bytecode.specs.Objects.{Object}
 use Rattle.py_bytecode.specs.Values.{flip}
 use Rattle.py_meaning.specs.Form.{Interp, VChoice}

@@ -1,9 +1,10 @@
-//! The small types that every crate stands on: texts, lists, places in the source.
+//! The small types that every crate stands on: texts, lists, places in the source, operators.
 #![tactic(auto)]
 
 pub mod limits;
 pub mod list;
 pub mod location;
+pub mod operators;
 pub mod shapes;
 #[cfg(test)]
 mod tests;
@@ -12,6 +13,7 @@ pub mod text;
 pub use limits::TreeLimit;
 pub use list::List;
 pub use location::{LocatedError, OneIndexed, SourceLocation};
+pub use operators::{BoolOp, CmpOp, ConversionFlag, Operator, UnaryOp};
 pub use shapes::Malformed;
 pub use text::Text;
 

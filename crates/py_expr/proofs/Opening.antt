@@ -3,9 +3,9 @@ use Rattle.std.proofs.Common.{◌≡◌, ◌≢◌, ℕ, List, [], ◌∷◌, le
 use Rattle.std.specs.Prelude.{codes, nat_eq, nat_lt, if◌then◌else◌}
 use Rattle.py_tree.specs.Tree as tree
 use Rattle.py_base.specs.declared.location.SourceLocation.{SourceLocation}
-use Rattle.py_tree.specs.declared.operators.BoolOp.{BoolOp}
-use Rattle.py_tree.specs.declared.operators.CmpOp.{CmpOp}
-use Rattle.py_tree.specs.declared.operators.Operator.{Operator}
+use Rattle.py_base.specs.declared.operators.BoolOp.{BoolOp}
+use Rattle.py_base.specs.declared.operators.CmpOp.{CmpOp}
+use Rattle.py_base.specs.declared.operators.Operator.{Operator}
 use Rattle.py_tree.specs.PythonName.{python_name}
 use Rattle.py_base.specs.declared.shapes.Malformed.TheVariants as shape
 use Rattle.py_bytecode.specs.declared.instruction.Instruction.{Instruction}

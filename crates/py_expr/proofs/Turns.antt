@@ -5,8 +5,8 @@ use Rattle.std.specs.Prelude.{nat_eq, nat_lt, if◌then◌else◌}
 use Rattle.std.proofs.Math.Seq.{drop-cons}
 use Rattle.std.proofs.lemmas.List.{length-drop}
 use Rattle.py_tree.specs.declared.expressions.Expr.{Expr}
-use Rattle.py_tree.specs.declared.operators.BoolOp.{BoolOp}
-use Rattle.py_tree.specs.declared.operators.CmpOp.{CmpOp}
+use Rattle.py_base.specs.declared.operators.BoolOp.{BoolOp}
+use Rattle.py_base.specs.declared.operators.CmpOp.{CmpOp}
 use Rattle.py_tree.specs.Tree as tree
 use Rattle.py_tree.specs.View.{expr_tree, exprs}
 use Rattle.py_base.specs.declared.shapes.Malformed.{Malformed}

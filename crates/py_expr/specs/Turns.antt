@@ -3,8 +3,8 @@ use Rattle.std.specs.Prelude.{ℕ, zero, suc, ◌+◌, List, [], ◌∷◌, Bool
 use Rattle.py_tree.specs.Tree as tree
 use Rattle.py_tree.specs.View.{expr_tree, exprs, opt_exprs}
 use Rattle.py_tree.specs.declared.expressions.Expr.{Expr}
-use Rattle.py_tree.specs.declared.operators.BoolOp.{BoolOp}
-use Rattle.py_tree.specs.declared.operators.CmpOp.{CmpOp}
+use Rattle.py_base.specs.declared.operators.BoolOp.{BoolOp}
+use Rattle.py_base.specs.declared.operators.CmpOp.{CmpOp}
 use Rattle.py_bytecode.specs.declared.instruction.Instruction.TheVariants as op
 use Rattle.py_meaning.specs.Elements.{Element, Single, Spread, pairs}
 use Rattle.py_meaning.specs.TableParts.{deciding}

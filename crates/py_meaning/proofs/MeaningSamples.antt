@@ -1,9 +1,9 @@
 -- The meaning of `f(a + 1)`, run.
 use Rattle.std.proofs.Common.{◌≡◌, refl, ℕ, List, [], ◌∷◌, pos, codes}
-use Rattle.py_tree.specs.Literal as literal
+use Rattle.py_base.specs.Literal as literal
 use Rattle.py_tree.specs.Tree as tree
 use Rattle.py_base.specs.declared.location.SourceLocation.{SourceLocation}
-use Rattle.py_tree.specs.declared.operators.Operator.TheVariants.{Add}
+use Rattle.py_base.specs.declared.operators.Operator.TheVariants.{Add}
 use Rattle.py_tree.specs.declared.modules.Mode.TheVariants.{Exec}
 use Rattle.py_bytecode.specs.declared.instruction.Instruction.TheVariants as op
 use Rattle.py_bytecode.specs.Objects as const

@@ -2,7 +2,7 @@
 use Rattle.std.specs.Prelude.{ℕ, List, [], ◌∷◌, Bool, true, false, Option, Some, None, codes, if◌then◌else◌}
 use Rattle.py_tree.specs.PythonName.{python_name}
 use Rattle.py_tree.specs.Tree as tree
-use Rattle.py_tree.specs.declared.operators.Operator.{Operator}
+use Rattle.py_base.specs.declared.operators.Operator.{Operator}
 use Rattle.py_base.specs.declared.shapes.Malformed.TheVariants as shape
 use Rattle.py_bytecode.specs.declared.instruction.Instruction.{Instruction}
 use Rattle.py_bytecode.specs.declared.instruction.Instruction.TheVariants as op

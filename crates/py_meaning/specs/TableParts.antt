@@ -1,20 +1,20 @@
 -- What form a node of the tree is, by the forms of its parts.
 use Rattle.std.specs.Prelude.{ℕ, suc, List, [], ◌∷◌, ◌++◌, ◌+◌, ◌*◌, length, ◌||◌, Bool, true, false, Option, Some, None, nat_eq, codes, if◌then◌else◌}
 use Rattle.std.specs.Cmp.Lexicographic.{pointwise}
-use Rattle.py_tree.specs.Literal as literal
-use Rattle.py_tree.specs.Literal.{Literal, Literals, no_literals, more_literals}
+use Rattle.py_base.specs.Literal as literal
+use Rattle.py_base.specs.Literal.{Literal, Literals, no_literals, more_literals}
 use Rattle.py_tree.specs.Tree as tree
 use Rattle.py_base.specs.declared.location.SourceLocation.{SourceLocation}
-use Rattle.py_tree.specs.declared.operators.BoolOp.{BoolOp}
-use Rattle.py_tree.specs.declared.operators.BoolOp.TheVariants.{And, Or}
-use Rattle.py_tree.specs.declared.operators.CmpOp.{CmpOp}
-use Rattle.py_tree.specs.declared.operators.CmpOp.TheVariants as comparison
-use Rattle.py_tree.specs.declared.operators.ConversionFlag.{ConversionFlag}
-use Rattle.py_tree.specs.declared.operators.ConversionFlag.TheVariants as conversion
-use Rattle.py_tree.specs.declared.operators.Operator.{Operator}
-use Rattle.py_tree.specs.declared.operators.Operator.TheVariants as operator
-use Rattle.py_tree.specs.declared.operators.UnaryOp.{UnaryOp}
-use Rattle.py_tree.specs.declared.operators.UnaryOp.TheVariants as unary
+use Rattle.py_base.specs.declared.operators.BoolOp.{BoolOp}
+use Rattle.py_base.specs.declared.operators.BoolOp.TheVariants.{And, Or}
+use Rattle.py_base.specs.declared.operators.CmpOp.{CmpOp}
+use Rattle.py_base.specs.declared.operators.CmpOp.TheVariants as comparison
+use Rattle.py_base.specs.declared.operators.ConversionFlag.{ConversionFlag}
+use Rattle.py_base.specs.declared.operators.ConversionFlag.TheVariants as conversion
+use Rattle.py_base.specs.declared.operators.Operator.{Operator}
+use Rattle.py_base.specs.declared.operators.Operator.TheVariants as operator
+use Rattle.py_base.specs.declared.operators.UnaryOp.{UnaryOp}
+use Rattle.py_base.specs.declared.operators.UnaryOp.TheVariants as unary
 use Rattle.py_bytecode.specs.declared.instruction.Instruction.{Instruction}
 use Rattle.py_bytecode.specs.declared.instruction.Instruction.TheVariants as op
 use Rattle.py_bytecode.specs.Objects as const

@@ -3,7 +3,7 @@ use Rattle.std.specs.Prelude.{ℕ, Bool, List, Option, Ok}
 use Rattle.py_tree.specs.Tree as tree
 use Rattle.py_tree.specs.View.{exprs, opt_expr}
 use Rattle.py_base.specs.declared.location.SourceLocation.{SourceLocation}
-use Rattle.py_tree.specs.declared.operators.Operator.{Operator}
+use Rattle.py_base.specs.declared.operators.Operator.{Operator}
 use Rattle.py_rows.specs.Gives.{◌>>=◌}
 use Rattle.py_rows.specs.Slots.{Made, Stmt, Slot, take_expr, take_exprs, take_optional}
 

@@ -1,6 +1,6 @@
 -- The constant that a row makes of the rows that it names, which it takes.
 use Rattle.std.specs.Prelude.{ℕ, List, Ok}
-use Rattle.py_tree.specs.Literal as literal
+use Rattle.py_base.specs.Literal as literal
 use Rattle.py_tree.specs.View.{literal_list, literal_of}
 use Rattle.py_rows.specs.declared.forms.ConstantForm.{ConstantForm}
 use Rattle.py_rows.specs.declared.forms.ConstantForm.TheVariants as written

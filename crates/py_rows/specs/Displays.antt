@@ -3,7 +3,7 @@ use Rattle.std.specs.Prelude.{ℕ, List, Option, Ok}
 use Rattle.py_tree.specs.Tree as tree
 use Rattle.py_tree.specs.View.{exprs, opt_expr, opt_exprs}
 use Rattle.py_base.specs.declared.location.SourceLocation.{SourceLocation}
-use Rattle.py_tree.specs.declared.operators.ConversionFlag.{ConversionFlag}
+use Rattle.py_base.specs.declared.operators.ConversionFlag.{ConversionFlag}
 use Rattle.py_rows.specs.Gives.{◌>>=◌}
 use Rattle.py_rows.specs.Slots.{Made, Expr, Slot, take_expr, take_exprs, take_optional, take_optionals}
 

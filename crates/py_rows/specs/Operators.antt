@@ -3,16 +3,16 @@ use Rattle.std.specs.Prelude.{ℕ, List, [], ◌∷◌, Option, Some, None, opti
 use Rattle.std.specs.Str.{bytes_eq}
 use Rattle.serde_json.specs.Data.{Data, Items, no_items, item}
 use Rattle.serde_json.specs.Find.{as_array, as_str}
-use Rattle.py_tree.specs.declared.operators.BoolOp.{BoolOp}
-use Rattle.py_tree.specs.declared.operators.BoolOp.TheVariants as joining
-use Rattle.py_tree.specs.declared.operators.Operator.{Operator}
-use Rattle.py_tree.specs.declared.operators.Operator.TheVariants as operator
-use Rattle.py_tree.specs.declared.operators.UnaryOp.{UnaryOp}
-use Rattle.py_tree.specs.declared.operators.UnaryOp.TheVariants as unary
-use Rattle.py_tree.specs.declared.operators.CmpOp.{CmpOp}
-use Rattle.py_tree.specs.declared.operators.CmpOp.TheVariants as comparing
-use Rattle.py_tree.specs.declared.operators.ConversionFlag.{ConversionFlag}
-use Rattle.py_tree.specs.declared.operators.ConversionFlag.TheVariants as converting
+use Rattle.py_base.specs.declared.operators.BoolOp.{BoolOp}
+use Rattle.py_base.specs.declared.operators.BoolOp.TheVariants as joining
+use Rattle.py_base.specs.declared.operators.Operator.{Operator}
+use Rattle.py_base.specs.declared.operators.Operator.TheVariants as operator
+use Rattle.py_base.specs.declared.operators.UnaryOp.{UnaryOp}
+use Rattle.py_base.specs.declared.operators.UnaryOp.TheVariants as unary
+use Rattle.py_base.specs.declared.operators.CmpOp.{CmpOp}
+use Rattle.py_base.specs.declared.operators.CmpOp.TheVariants as comparing
+use Rattle.py_base.specs.declared.operators.ConversionFlag.{ConversionFlag}
+use Rattle.py_base.specs.declared.operators.ConversionFlag.TheVariants as converting
 use Rattle.py_rows.specs.declared.error.RowsError.{RowsError}
 use Rattle.py_rows.specs.declared.error.RowsError.TheVariants.{WrongRow}
 use Rattle.py_rows.specs.Gives.{or_fault, ◌>>=◌}

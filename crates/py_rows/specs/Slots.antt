@@ -2,7 +2,7 @@
 use Rattle.std.specs.Prelude.{ℕ, zero, suc, ◌==◌, max, Bool, false, nat_lt, List, [], ◌∷◌, Option, Some, None, option_map, option_and_then, Result, Ok, Err}
 use Rattle.std.specs.Option.{option_map_or}
 use Rattle.std.specs.List.{list_all, slice_get}
-use Rattle.py_tree.specs.Literal.{Literal}
+use Rattle.py_base.specs.Literal.{Literal}
 use Rattle.py_tree.specs.Tree as tree
 use Rattle.py_tree.specs.View.{literal_of, expr_tree, stmt_tree, mod_tree}
 use Rattle.py_tree.specs.declared.expressions.Expr.{Expr as KeptExpr}

@@ -3,10 +3,10 @@ use Rattle.std.specs.Prelude.{ℕ, List, Option, Ok}
 use Rattle.py_tree.specs.Tree as tree
 use Rattle.py_tree.specs.View.{exprs, keywords as keywords_of, opt_expr}
 use Rattle.py_base.specs.declared.location.SourceLocation.{SourceLocation}
-use Rattle.py_tree.specs.declared.operators.BoolOp.{BoolOp}
-use Rattle.py_tree.specs.declared.operators.Operator.{Operator}
-use Rattle.py_tree.specs.declared.operators.UnaryOp.{UnaryOp}
-use Rattle.py_tree.specs.declared.operators.CmpOp.{CmpOp}
+use Rattle.py_base.specs.declared.operators.BoolOp.{BoolOp}
+use Rattle.py_base.specs.declared.operators.Operator.{Operator}
+use Rattle.py_base.specs.declared.operators.UnaryOp.{UnaryOp}
+use Rattle.py_base.specs.declared.operators.CmpOp.{CmpOp}
 use Rattle.py_rows.specs.declared.forms.ExprForm.{ExprForm}
 use Rattle.py_rows.specs.declared.forms.ExprForm.TheVariants as expr
 use Rattle.py_rows.specs.Displays.{dict_node, formatted_value_node, joined_str_node, list_node, set_node, tuple_node}

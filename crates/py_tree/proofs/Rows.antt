@@ -1,13 +1,13 @@
 -- The counts of worked trees, by computation.
 use Rattle.std.proofs.Common.{◌≡◌, ℕ, true, List, [], ◌∷◌, None, Some, refl, pos, codes}
-use Rattle.py_tree.specs.Literal as literal
+use Rattle.py_base.specs.Literal as literal
 use Rattle.py_tree.specs.Tree as tree
 use Rattle.py_tree.specs.Nesting.{nesting}
 use Rattle.py_tree.specs.Size.{size_of}
 use Rattle.py_base.specs.declared.location.SourceLocation.{SourceLocation}
-use Rattle.py_tree.specs.declared.operators.Operator.TheVariants.{Add}
-use Rattle.py_tree.specs.declared.operators.CmpOp.{CmpOp}
-use Rattle.py_tree.specs.declared.operators.CmpOp.TheVariants.{Lt}
+use Rattle.py_base.specs.declared.operators.Operator.TheVariants.{Add}
+use Rattle.py_base.specs.declared.operators.CmpOp.{CmpOp}
+use Rattle.py_base.specs.declared.operators.CmpOp.TheVariants.{Lt}
 use Rattle.py_tree.specs.declared.modules.Mode.TheVariants.{Exec}
 use Rattle.py_base.specs.declared.shapes.Malformed.TheVariants.{NoOperand, NoTarget, UnevenLists, EmptyName, StrayDot}
 use Rattle.py_tree.specs.PythonName.{python_name}

@@ -2,8 +2,8 @@
 use Rattle.std.proofs.Common.{◌≡◌, ℕ, ℤ, Bool as Truth, List, [], ◌∷◌, Option, None, Some, refl, sym, ap, ◌∙◌, map}
 use Rattle.std.specs.declared.alloc.Global.{Global}
 use Rattle.std.specs.declared.boxed.Box.{Box}
-use Rattle.py_tree.specs.Literal as literal
-use Rattle.py_tree.specs.Literal.{Literal}
+use Rattle.py_base.specs.Literal as literal
+use Rattle.py_base.specs.Literal.{Literal}
 use Rattle.py_tree.specs.Tree as tree
 use Rattle.py_tree.specs.View.{literal_list, literal_layer, literal_of, exprs, opt_expr, opt_exprs, keywords, expr_layer, expr_tree, bool_op_tree, named_expr_tree, bin_op_tree, unary_op_tree, if_exp_tree, dict_tree, set_tree, compare_tree, call_tree, formatted_value_tree, joined_str_tree, constant_tree, attribute_tree, subscript_tree, starred_tree, name_tree, list_tree, tuple_tree, slice_tree, stmts, stmt_layer, stmt_tree, delete_tree, assign_tree, aug_assign_tree, ann_assign_tree, while_tree, if_tree, stmt_expr_tree, pass_tree, break_tree, continue_tree, mod_tree, module_tree, expression_tree}
 use Rattle.py_tree.specs.declared.expressions.Constant as constant

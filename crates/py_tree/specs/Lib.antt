@@ -1,5 +1,4 @@
 pub mod Limits
-pub mod Literal
 pub mod Nesting
 pub mod PythonName
 pub mod Size

@@ -1,6 +1,6 @@
 -- How deep a tree nests. A node nests one deeper than its deepest child, and a leaf 1. A constant is the child of its expression.
 use Rattle.std.specs.Prelude.{ℕ, ◌+◌, max}
-use Rattle.py_tree.specs.Literal as literal
+use Rattle.py_base.specs.Literal as literal
 use Rattle.py_tree.specs.Tree as tree
 
 abbrev mutual

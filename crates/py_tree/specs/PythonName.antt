@@ -1,6 +1,6 @@
 -- What messages call an expression.
 use Rattle.std.specs.Prelude.{ℕ, Bool, true, false, ◌||◌, List, codes, if◌then◌else◌}
-use Rattle.py_tree.specs.Literal as literal
+use Rattle.py_base.specs.Literal as literal
 use Rattle.py_tree.specs.Tree as tree
 
 abbrev pub literal_name : literal.Literal → List ℕ

@@ -1,6 +1,6 @@
 -- How large a tree is: one for each row of its rows form, that is for each node and each constant, one for each identifier, one for each operator of a comparison, and one for each key that a dict lacks.
 use Rattle.std.specs.Prelude.{ℕ, ◌+◌, List, length, Option, None, Some}
-use Rattle.py_tree.specs.Literal as literal
+use Rattle.py_base.specs.Literal as literal
 use Rattle.py_tree.specs.Tree as tree
 
 abbrev mutual

@@ -1,12 +1,12 @@
 -- The syntax tree as the definitions see it: no pointers, and a name is the list of its bytes.
 use Rattle.std.specs.Prelude.{ℕ, Bool, List as Seq, Option}
-use Rattle.py_tree.specs.Literal.{Literal}
+use Rattle.py_base.specs.Literal.{Literal}
 use Rattle.py_base.specs.declared.location.SourceLocation.{SourceLocation}
-use Rattle.py_tree.specs.declared.operators.BoolOp.{BoolOp as BoolOperator}
-use Rattle.py_tree.specs.declared.operators.Operator.{Operator}
-use Rattle.py_tree.specs.declared.operators.UnaryOp.{UnaryOp as UnaryOperator}
-use Rattle.py_tree.specs.declared.operators.CmpOp.{CmpOp}
-use Rattle.py_tree.specs.declared.operators.ConversionFlag.{ConversionFlag}
+use Rattle.py_base.specs.declared.operators.BoolOp.{BoolOp as BoolOperator}
+use Rattle.py_base.specs.declared.operators.Operator.{Operator}
+use Rattle.py_base.specs.declared.operators.UnaryOp.{UnaryOp as UnaryOperator}
+use Rattle.py_base.specs.declared.operators.CmpOp.{CmpOp}
+use Rattle.py_base.specs.declared.operators.ConversionFlag.{ConversionFlag}
 
 mutual
   pub data Expr : Type 0 where

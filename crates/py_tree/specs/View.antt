@@ -2,8 +2,8 @@
 use Rattle.std.specs.Prelude.{List, [], ◌∷◌, Option, None, Some}
 use Rattle.std.specs.declared.alloc.Global.{Global}
 use Rattle.std.specs.declared.boxed.Box.{Box}
-use Rattle.py_tree.specs.Literal as literal
-use Rattle.py_tree.specs.Literal.{Literal}
+use Rattle.py_base.specs.Literal as literal
+use Rattle.py_base.specs.Literal.{Literal}
 use Rattle.py_tree.specs.Tree as tree
 use Rattle.py_tree.specs.declared.expressions.Constant.{Constant}
 use Rattle.py_tree.specs.declared.expressions.Constant.TheOpen as constant

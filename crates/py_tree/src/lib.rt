@@ -4,7 +4,6 @@
 pub mod depth;
 pub mod expressions;
 pub mod modules;
-pub mod operators;
 mod python_name;
 pub mod size;
 pub mod statements;
@@ -22,9 +21,9 @@ pub use expressions::{
     ExprTuple, ExprTupleOf, ExprUnaryOp, ExprUnaryOpOf, Exprs, Keyword, KeywordOf,
 };
 pub use modules::{Mod, ModExpression, ModModule, Mode};
-pub use operators::{BoolOp, CmpOp, ConversionFlag, Operator, UnaryOp};
 pub use py_base::{
-    List, LocatedError, Malformed, Names, OneIndexed, SourceLocation, Text, TreeLimit,
+    BoolOp, CmpOp, ConversionFlag, List, LocatedError, Malformed, Names, OneIndexed, Operator,
+    SourceLocation, Text, TreeLimit, UnaryOp,
 };
 pub use size::{size_of_body, size_of_expr, size_of_tree};
 pub use statements::{

@@ -5,7 +5,7 @@ mod StoreLoops
 use Rattle.std.proofs.Common.{arith, rules, ◌≢◌, get_or, Bool, false, ◌<◌, Err, ℕ, List, Option, [], refl, subst, ◌≡◌, ◌+◌, ◌∙◌, ap, drop, length, sym}
 use Rattle.std.specs.Prelude.{nat_eq, nat_lt}
 use Rattle.py_bytecode.specs.declared.instruction.Instruction.TheVariants as op
-use Rattle.py_tree.specs.declared.operators.CmpOp.TheVariants as comparison
+use Rattle.py_base.specs.declared.operators.CmpOp.TheVariants as comparison
 use Rattle.py_meaning.specs.TableParts.{deciding}
 use Rattle.py_tree.proofs.View.{tree_Constant}
 use Rattle.py_tree.specs.View.{expr_tree, exprs}
