@@ -7,8 +7,8 @@ use Rattle.py_bytecode.specs.Objects.{Const, Object, codes_in}
 use Rattle.py_bytecode.specs.Machine.{Instr}
 use Rattle.py_bytecode.specs.Decode.{Tables, instr_of}
 use Rattle.py_walks.specs.Flat.{is_jump}
-use Rattle.py_meaning.specs.Code.{Item, Do, Label}
-use Rattle.py_meaning.specs.Emitting.{Step, Put, Begin, State, located}
+use Rattle.py_forms.specs.Code.{Item, Do, Label}
+use Rattle.py_forms.specs.Emitting.{Step, Put, Begin, State, located}
 
 -- tables that begin with those of a state
 pub record Begins (s : State) (t : Tables) : Type 0 where

@@ -15,19 +15,19 @@ use Rattle.py_bytecode.specs.View.{constant, object}
 use Rattle.py_bytecode.proofs.View.{object_is}
 use Rattle.py_ir.specs.Chain.{Blk, plain, coded_block, coded_blocks, flat}
 use Rattle.py_ir.specs.Final.{tables_of}
-use Rattle.py_meaning.specs.Form.{Scope, MkScope}
-use Rattle.py_meaning.specs.Code.{Item, labels, body_code}
-use Rattle.py_meaning.specs.Live.{live}
-use Rattle.py_meaning.specs.Looped.{Looped}
-use Rattle.py_meaning.specs.Laws.{IsEnd}
-use Rattle.py_meaning.specs.Agree.{runs_code, form_of, exactly}
-use Rattle.py_meaning.specs.Agreement.{Agree, AgreeFull}
+use Rattle.py_forms.specs.Form.{Scope, MkScope}
+use Rattle.py_forms.specs.Code.{Item, labels, body_code}
+use Rattle.py_forms.specs.Live.{live}
+use Rattle.py_forms.specs.Looped.{Looped}
+use Rattle.py_forms.specs.Laws.{IsEnd}
+use Rattle.py_forms.specs.Agree.{runs_code, form_of, exactly}
+use Rattle.py_forms.specs.Agreement.{Agree, AgreeFull}
 use Rattle.py_meaning.specs.Meaning.{outer_head, body}
-use Rattle.py_meaning.specs.Emitting.{State, Outcome, Done, TooWide, Refused, nothing}
+use Rattle.py_forms.specs.Emitting.{State, Outcome, Done, TooWide, Refused, nothing}
 use Rattle.py_meaning.specs.Emission.{emitted}
-use Rattle.py_meaning.proofs.CodeObjects.{childless_agrees}
-use Rattle.py_meaning.proofs.LaidOut.{laid_runs}
-use Rattle.py_meaning.proofs.Laws.{scope_ends}
+use Rattle.py_forms.proofs.CodeObjects.{childless_agrees}
+use Rattle.py_forms.proofs.LaidOut.{laid_runs}
+use Rattle.py_forms.proofs.Laws.{scope_ends}
 use Rattle.py_emit.specs.Steps.{steps_in}
 use Rattle.py_emit.specs.Emitted.{IsMade, IsEmitted}
 use Rattle.codegen.specs.Compiled.{NoHigher, AlwaysEnds}

@@ -10,16 +10,16 @@ use Rattle.py_bytecode.specs.Objects as const
 use Rattle.py_bytecode.specs.Objects.{Object}
 use Rattle.py_bytecode.specs.Values.{Operation, operation, Bare}
 use Rattle.py_bytecode.specs.Machine.{Operate, Duplicate, Duplicate2, Rotate2, Rotate3}
-use Rattle.py_meaning.specs.Form.{Interp, Scope, VForm, VForms, VConst, VLoad, VOp, VKeep, VMore, VNone, Target, GStore, GDrop, FixedByName, Resolved, SForm, SThen, SDo, SInto, SAugment, SAugmentTwo}
-use Rattle.py_meaning.specs.Fit.{Loops}
-use Rattle.py_meaning.specs.Code.{Item, Do, count as form_count, labels_v, labels_vs, labels_g, labels, code_v, code_vs, code_g, code}
-use Rattle.py_meaning.specs.TableParts.{name_form, inplace, binary_case, named}
+use Rattle.py_forms.specs.Form.{Interp, Scope, VForm, VForms, VConst, VLoad, VOp, VKeep, VMore, VNone, Target, GStore, GDrop, FixedByName, Resolved, SForm, SThen, SDo, SInto, SAugment, SAugmentTwo}
+use Rattle.py_forms.specs.Fit.{Loops}
+use Rattle.py_forms.specs.Code.{Item, Do, count as form_count, labels_v, labels_vs, labels_g, labels, code_v, code_vs, code_g, code}
+use Rattle.py_forms.specs.TableParts.{name_form, inplace, binary_case, named}
 use Rattle.py_meaning.specs.Table.{expr_form, target_form, removal, removals, assigned, assign_form, augment_form, declared_form, annotation_target}
-use Rattle.py_meaning.specs.Emitting.{State, Done, Next, refuse, emit, emit_name, emit_constant}
-use Rattle.py_meaning.specs.EmissionParts.{unless_debug, no_assignment, no_deletion, emission_of_name}
+use Rattle.py_forms.specs.Emitting.{State, Done, Next, refuse, emit, emit_name, emit_constant}
+use Rattle.py_forms.specs.EmissionParts.{unless_debug, no_assignment, no_deletion, emission_of_name}
 use Rattle.py_meaning.specs.Emission.{deletion_name, emission, emission_of_store, emission_of_delete, emission_of_deletes, emission_of_assign, emission_of_augment, emission_of_declared, emission_of_annotation}
-use Rattle.py_meaning.specs.declared.errors.CodegenErrorType.{CodegenErrorType}
-use Rattle.py_meaning.specs.declared.errors.CodegenErrorType.TheVariants as error
+use Rattle.py_forms.specs.declared.errors.CodegenErrorType.{CodegenErrorType}
+use Rattle.py_forms.specs.declared.errors.CodegenErrorType.TheVariants as error
 use Rattle.py_emit.proofs.States.{never_refused}
 use Rattle.codegen.proofs.Emitting.{Comes, comes_as, comes_then, comes_more, comes_nothing, emit_adds}
 use Rattle.codegen.proofs.Instructions.{inplace_adds, name_adds, constant_adds, delete_adds, attribute_adds, attribute_put_adds, attribute_delete_adds, subscript_adds, subscript_put_adds, subscript_delete_adds}

@@ -6,9 +6,9 @@ use Rattle.py_tree.specs.Tree as tree
 use Rattle.py_tree.specs.View.{expr_tree, exprs}
 use Rattle.py_tree.specs.declared.expressions.Expr.{Expr}
 use Rattle.py_bytecode.specs.declared.instruction.Instruction.TheVariants as op
-use Rattle.py_meaning.specs.Emitting.{Next, emit, refuse}
+use Rattle.py_forms.specs.Emitting.{Next, emit, refuse}
 use Rattle.py_meaning.specs.Emission.{emission_of_assign, emission_of_store}
-use Rattle.py_meaning.specs.declared.errors.CodegenErrorType.TheVariants as error
+use Rattle.py_forms.specs.declared.errors.CodegenErrorType.TheVariants as error
 use Rattle.py_base.specs.declared.shapes.Malformed.TheVariants as shape
 use Rattle.py_expr.proofs.Turns.{more_left, some}
 use Rattle.codegen.specs.Assigning.{assigned_to, assigned_to_all, some_targets}

@@ -1,7 +1,7 @@
 -- What a code weighs: one for each instruction, and by how much that raises the stack at most.
 use Rattle.std.proofs.Common.{◌≡◌, ℕ, suc, ◌+◌, List, [], ◌∷◌, ◌++◌, arith}
-use Rattle.py_meaning.specs.Code.{Item, Do, Label, size}
-use Rattle.py_meaning.specs.Walks.{rise, rises}
+use Rattle.py_forms.specs.Code.{Item, Do, Label, size}
+use Rattle.py_forms.specs.Walks.{rise, rises}
 
 abbrev pub burden : {K : Type 0} → List (Item K) → ℕ
 burden [] = 0

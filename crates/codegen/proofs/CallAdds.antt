@@ -6,14 +6,14 @@ use Rattle.py_bytecode.specs.declared.instruction.Instruction.TheVariants as op
 use Rattle.py_bytecode.specs.Objects as const
 use Rattle.py_bytecode.specs.Objects.{Object}
 use Rattle.py_bytecode.specs.Machine.{Operate}
-use Rattle.py_meaning.specs.Form.{Interp, VForm, VForms, VConst, VMore, VMethod, VNone}
-use Rattle.py_meaning.specs.Code.{count as form_count}
-use Rattle.py_meaning.specs.Elements.{Element, Single, Spread, Callee, Function, Method, starred, bare, groups}
-use Rattle.py_meaning.specs.TableParts as table
-use Rattle.py_meaning.specs.TableParts.{parts_of, counted, any}
-use Rattle.py_meaning.specs.EmissionParts as emitting
-use Rattle.py_meaning.specs.Emitting.{State, Done, Next, emit_constant, emit_count, emit_name}
-use Rattle.py_meaning.specs.EmissionParts.{in_turn, checked, packed_tuple, no_assignment, emission_of_call}
+use Rattle.py_forms.specs.Form.{Interp, VForm, VForms, VConst, VMore, VMethod, VNone}
+use Rattle.py_forms.specs.Code.{count as form_count}
+use Rattle.py_forms.specs.Elements.{Element, Single, Spread, Callee, Function, Method, starred, bare, groups}
+use Rattle.py_forms.specs.TableParts as table
+use Rattle.py_forms.specs.TableParts.{parts_of, counted, any}
+use Rattle.py_forms.specs.EmissionParts as emitting
+use Rattle.py_forms.specs.Emitting.{State, Done, Next, emit_constant, emit_count, emit_name}
+use Rattle.py_forms.specs.EmissionParts.{in_turn, checked, packed_tuple, no_assignment, emission_of_call}
 use Rattle.codegen.proofs.Pairwise.{Pairwise, Alike, AlikeElement, same_length, same_starred, bare_alike, bare_length, groups_alike}
 use Rattle.codegen.proofs.Instructions.{Builds, tuple_builds, tuple_unpacks, map_unpacks, map_adds, constant_adds, call_adds, method_call_adds, keyword_call_adds, keyword_method_adds, spread_call_adds, spread_method_adds}
 use Rattle.codegen.proofs.FormAdds.{ValueAdds, PartsAdd, StepAdds, CalleeAdds, AllValuesAdd, AllElementsAdd, as_many, either_adds, more_parts, no_parts, method_parts, values_add, operation_adds, unless_debug_only}

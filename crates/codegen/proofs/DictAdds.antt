@@ -5,14 +5,14 @@ use Rattle.py_bytecode.specs.Objects as const
 use Rattle.py_bytecode.specs.Objects.{Object}
 use Rattle.py_bytecode.specs.Values.{operation, Bare}
 use Rattle.py_bytecode.specs.Machine.{Operate}
-use Rattle.py_meaning.specs.Form.{Interp, VForm, VOp, VMore, VNone}
-use Rattle.py_meaning.specs.Code.{count as form_count}
-use Rattle.py_meaning.specs.Elements.{pairs, keyed, unkeyed, sides}
-use Rattle.py_meaning.specs.TableParts as table
-use Rattle.py_meaning.specs.TableParts.{parts_of, counted, updated, dict_form, slice_form, joined_form}
-use Rattle.py_meaning.specs.EmissionParts as emitting
-use Rattle.py_meaning.specs.Emitting.{Next, emit, emit_count}
-use Rattle.py_meaning.specs.EmissionParts.{in_turn, updates, dict_value, slice_value, joined_value}
+use Rattle.py_forms.specs.Form.{Interp, VForm, VOp, VMore, VNone}
+use Rattle.py_forms.specs.Code.{count as form_count}
+use Rattle.py_forms.specs.Elements.{pairs, keyed, unkeyed, sides}
+use Rattle.py_forms.specs.TableParts as table
+use Rattle.py_forms.specs.TableParts.{parts_of, counted, updated, dict_form, slice_form, joined_form}
+use Rattle.py_forms.specs.EmissionParts as emitting
+use Rattle.py_forms.specs.Emitting.{Next, emit, emit_count}
+use Rattle.py_forms.specs.EmissionParts.{in_turn, updates, dict_value, slice_value, joined_value}
 use Rattle.codegen.proofs.Emitting.{emit_adds}
 use Rattle.codegen.proofs.Instructions.{map_adds, string_builds, constant_adds}
 use Rattle.codegen.proofs.FormAdds.{ValueAdds, StepAdds, OptionAdds, AllValuesAdd, AllOptionsAdd, value_or_adds, more_parts, no_parts, values_add, operation_adds, two_add}

@@ -4,14 +4,14 @@ use Rattle.py_bytecode.specs.declared.instruction.Instruction.{Instruction}
 use Rattle.py_bytecode.specs.declared.instruction.Instruction.TheVariants as op
 use Rattle.py_bytecode.specs.Objects.{Object}
 use Rattle.py_bytecode.specs.Machine.{Operate}
-use Rattle.py_meaning.specs.Form.{Interp, VForm}
-use Rattle.py_meaning.specs.Code.{count as form_count}
-use Rattle.py_meaning.specs.Elements.{Element, starred, bare, groups}
-use Rattle.py_meaning.specs.TableParts as table
-use Rattle.py_meaning.specs.TableParts.{parts_of, counted}
-use Rattle.py_meaning.specs.EmissionParts as emitting
-use Rattle.py_meaning.specs.Emitting.{Next, emit_count}
-use Rattle.py_meaning.specs.EmissionParts.{in_turn}
+use Rattle.py_forms.specs.Form.{Interp, VForm}
+use Rattle.py_forms.specs.Code.{count as form_count}
+use Rattle.py_forms.specs.Elements.{Element, starred, bare, groups}
+use Rattle.py_forms.specs.TableParts as table
+use Rattle.py_forms.specs.TableParts.{parts_of, counted}
+use Rattle.py_forms.specs.EmissionParts as emitting
+use Rattle.py_forms.specs.Emitting.{Next, emit_count}
+use Rattle.py_forms.specs.EmissionParts.{in_turn}
 use Rattle.codegen.proofs.Pairwise.{same_length, same_starred, bare_alike, groups_alike}
 use Rattle.codegen.proofs.Instructions.{Builds, tuple_builds}
 use Rattle.codegen.proofs.FormAdds.{ValueAdds, StepAdds, AllValuesAdd, AllElementsAdd, as_many, either_adds, values_add, operation_adds}

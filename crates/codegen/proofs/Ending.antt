@@ -13,13 +13,13 @@ use Rattle.py_meaning.specs.Ends.{last_of, parts_entered, expr_end, ends_of, del
 use Rattle.py_meaning.specs.Faults.{Fault, fault_at, only_in_loop, joined_faults, expr_faults, all_faults, stmt_faults, stmts_faults, compile_faults}
 use Rattle.py_meaning.specs.Faults as fault
 use Rattle.py_meaning.specs.Texts.{texts_of, first_text, unless_text, after_doc, doc_of}
-use Rattle.py_meaning.specs.TableParts.{constant_of, debug_constant, is_debug}
+use Rattle.py_forms.specs.TableParts.{constant_of, debug_constant, is_debug}
 use Rattle.py_meaning.specs.Table.{annotated}
-use Rattle.py_meaning.specs.declared.errors.CodegenErrorType.{CodegenErrorType}
-use Rattle.py_meaning.specs.declared.errors.CodegenErrorType.TheVariants as error
-use Rattle.py_meaning.specs.Emitting.{State, Outcome, Done, Refused, Next, LoopBlocks, emit, emit_name, emit_constant, jump, begin, new_block, nothing}
-use Rattle.py_meaning.specs.EmissionParts.{values, none, only, choice}
-use Rattle.py_meaning.specs.Emission.{all_emissions, leave_loop, emission_of_stmt, emission_of_stmts, emission_of_doc, emission_of_setup, joined_return, emission_of_return, emitted}
+use Rattle.py_forms.specs.declared.errors.CodegenErrorType.{CodegenErrorType}
+use Rattle.py_forms.specs.declared.errors.CodegenErrorType.TheVariants as error
+use Rattle.py_forms.specs.Emitting.{State, Outcome, Done, Refused, Next, LoopBlocks, emit, emit_name, emit_constant, jump, begin, new_block, nothing}
+use Rattle.py_forms.specs.EmissionParts.{values, only, choice}
+use Rattle.py_meaning.specs.Emission.{all_emissions, leave_loop, emission_of_stmt, emission_of_stmts, emission_of_doc, emission_of_setup, joined_return, emission_of_return, emitted, none}
 use Rattle.codegen.proofs.StmtAdds.{held}
 use Rattle.codegen.proofs.Refusing.{Ends, Wide, Stops, GoesOn, EndsAs, Passes, then_ends, last_ends, nothing_passes, emit_passes, count_passes, jump_passes, begin_passes, name_passes, constant_passes, refusal_ends, moved_ends, new_ends, ended_ends, if_ends}
 use Rattle.codegen.proofs.RefusingTests.{AllEnding, turn_ends, choice_ends}

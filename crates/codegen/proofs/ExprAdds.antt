@@ -11,18 +11,18 @@ use Rattle.py_bytecode.specs.Objects as const
 use Rattle.py_bytecode.specs.Objects.{Object}
 use Rattle.py_bytecode.specs.Values.{Constant, operation, Bare}
 use Rattle.py_bytecode.specs.Decode.{value_of}
-use Rattle.py_meaning.specs.Form.{Interp, Scope, MkScope, VForm, VConst, VLoad, VOp, VAt, VMore, VNone, Resolved, SForm, GStore, GPut, GDrop}
-use Rattle.py_meaning.specs.Agree.{exactly}
-use Rattle.py_meaning.specs.Elements.{pairs}
+use Rattle.py_forms.specs.Form.{Interp, Scope, MkScope, VForm, VConst, VLoad, VOp, VAt, VMore, VNone, Resolved, SForm, GStore, GPut, GDrop}
+use Rattle.py_forms.specs.Agree.{exactly}
+use Rattle.py_forms.specs.Elements.{pairs}
 use Rattle.py_meaning.specs.Texts.{texts_of}
-use Rattle.py_meaning.specs.TableParts as table
-use Rattle.py_meaning.specs.TableParts.{binary, binary_case, conversion_case, counted, constant_of, debug_constant, is_debug, name_form}
+use Rattle.py_forms.specs.TableParts as table
+use Rattle.py_forms.specs.TableParts.{binary, binary_case, conversion_case, counted, constant_of, debug_constant, is_debug, name_form}
 use Rattle.py_meaning.specs.Table.{expr_forms, all_forms, opt_form, opt_forms, keyword_forms, target_forms, all_targets}
 use Rattle.py_meaning.specs.Meaning.{outer_head}
-use Rattle.py_meaning.specs.declared.errors.CodegenErrorType.TheVariants as error
-use Rattle.py_meaning.specs.EmissionParts as emitting
-use Rattle.py_meaning.specs.Emitting.{Next, refuse, emit, emit_name, emit_constant, move}
-use Rattle.py_meaning.specs.EmissionParts.{emission_of_name, no_assignment, lone_star}
+use Rattle.py_forms.specs.declared.errors.CodegenErrorType.TheVariants as error
+use Rattle.py_forms.specs.EmissionParts as emitting
+use Rattle.py_forms.specs.Emitting.{Next, refuse, emit, emit_name, emit_constant, move}
+use Rattle.py_forms.specs.EmissionParts.{emission_of_name, no_assignment, lone_star}
 use Rattle.py_meaning.specs.Emission.{emissions, all_emissions, opt_emission, opt_emissions, keyword_emissions, stores, all_stores}
 use Rattle.py_emit.proofs.States.{never_refused}
 use Rattle.codegen.proofs.Emitting.{comes_moved}

@@ -6,9 +6,9 @@ use Rattle.py_bytecode.specs.declared.instruction.Instruction.TheVariants as op
 use Rattle.py_bytecode.specs.Objects.{none}
 use Rattle.py_meaning.specs.Texts.{after_doc, doc_of}
 use Rattle.py_meaning.specs.Table.{annotated}
-use Rattle.py_meaning.specs.Emitting.{Done, Next, Outcome, State, emit_constant}
+use Rattle.py_forms.specs.Emitting.{Done, Next, Outcome, State, emit_constant}
 use Rattle.py_meaning.specs.Emission.{emission_of_doc, emission_of_program, emission_of_setup, emission_of_stmts}
-use Rattle.py_meaning.specs.declared.errors.CodegenErrorType.{CodegenErrorType}
+use Rattle.py_forms.specs.declared.errors.CodegenErrorType.{CodegenErrorType}
 use Rattle.py_emit.specs.States.{Goes}
 use Rattle.py_expr.proofs.Turns.{goes_as}
 

@@ -7,15 +7,15 @@ use Rattle.py_bytecode.specs.Objects.{Const, Object}
 use Rattle.py_bytecode.specs.Values.{Operation, Constant}
 use Rattle.py_bytecode.specs.Machine.{Instr, Operate, JumpIf}
 use Rattle.py_bytecode.specs.Decode.{value_of}
-use Rattle.py_meaning.specs.Form.{Interp, VForm, VForms, VOp, VMore, VMethod, VNone, TForm}
-use Rattle.py_meaning.specs.Code.{Do, count as form_count, labels_v, labels_vs, labels_t, code_v, code_vs, code_t}
-use Rattle.py_meaning.specs.Elements.{Element, Callee, Function, Method}
-use Rattle.py_meaning.specs.TableParts as table
-use Rattle.py_meaning.specs.TableParts.{ExprForms, parts_of, is_debug}
-use Rattle.py_meaning.specs.EmissionParts as emitting
-use Rattle.py_meaning.specs.Emitting.{State, Done, Next, emit_name, jump, move, refuse}
-use Rattle.py_meaning.specs.EmissionParts.{Emissions, testing_jump, unless_debug, in_turn}
-use Rattle.py_meaning.specs.declared.errors.CodegenErrorType.TheVariants as error
+use Rattle.py_forms.specs.Form.{Interp, VForm, VForms, VOp, VMore, VMethod, VNone, TForm}
+use Rattle.py_forms.specs.Code.{Do, count as form_count, labels_v, labels_vs, labels_t, code_v, code_vs, code_t}
+use Rattle.py_forms.specs.Elements.{Element, Callee, Function, Method}
+use Rattle.py_forms.specs.TableParts as table
+use Rattle.py_forms.specs.TableParts.{ExprForms, parts_of, is_debug}
+use Rattle.py_forms.specs.EmissionParts as emitting
+use Rattle.py_forms.specs.Emitting.{State, Done, Next, emit_name, jump, move, refuse}
+use Rattle.py_forms.specs.EmissionParts.{Emissions, testing_jump, unless_debug, in_turn}
+use Rattle.py_forms.specs.declared.errors.CodegenErrorType.TheVariants as error
 use Rattle.py_emit.proofs.States.{never_refused}
 use Rattle.codegen.proofs.Emitting.{Comes, comes_as, comes_then, comes_more, comes_nothing, comes_moved}
 use Rattle.codegen.proofs.Pairwise.{Pairwise, AlikeElement}

@@ -18,10 +18,10 @@ use Rattle.py_bytecode.specs.Values.{Constant, It, ByName, Global, Load, Store, 
 use Rattle.py_bytecode.specs.Machine.{Instr, Push, Access, Operate, Unpack, JumpIf, JumpIfOrPop, ReturnConst}
 use Rattle.py_bytecode.specs.Decode.{Tables, instr_of, value_of, for_some, within}
 use Rattle.py_bytecode.proofs.Entered.{entered_stands, constant_stands}
-use Rattle.py_meaning.specs.Code.{Do}
-use Rattle.py_meaning.specs.TableParts.{binary, binary_case, inplace, unary_operation, unary_case, conversion_case, comparison_operation, counted, named}
-use Rattle.py_meaning.specs.Emitting.{State, Outcome, Done, TooWide, Next, emit, emit_count, emit_name, emit_constant, jump, place_in, with_name, with_constant}
-use Rattle.py_meaning.specs.EmissionParts.{keeping_jump, testing_jump, emission_of_comparison}
+use Rattle.py_forms.specs.Code.{Do}
+use Rattle.py_forms.specs.TableParts.{binary, binary_case, inplace, unary_operation, unary_case, conversion_case, comparison_operation, counted, named}
+use Rattle.py_forms.specs.Emitting.{State, Outcome, Done, TooWide, Next, emit, emit_count, emit_name, emit_constant, jump, place_in, with_name, with_constant}
+use Rattle.py_forms.specs.EmissionParts.{keeping_jump, testing_jump, emission_of_comparison}
 use Rattle.codegen.proofs.Emitting.{Comes, emit_adds, jump_adds, entry_stays, comes_named, comes_constant}
 use Rattle.codegen.proofs.Texts.{text_eq_sound}
 

@@ -6,9 +6,9 @@ use Rattle.py_tree.specs.declared.modules.Mode.TheVariants.{Exec}
 use Rattle.py_base.specs.declared.location.LocatedError.{LocatedError}
 use Rattle.py_bytecode.specs.declared.code.CodeObject.{CodeObject}
 use Rattle.py_ir.specs.Final.{IsFinal}
-use Rattle.py_meaning.specs.Emitting.{Done, Outcome, nothing}
+use Rattle.py_forms.specs.Emitting.{Done, Outcome, nothing}
 use Rattle.py_meaning.specs.Emission.{emission_of_mod, emitted}
-use Rattle.py_meaning.specs.declared.errors.CodegenErrorType.{CodegenErrorType}
+use Rattle.py_forms.specs.declared.errors.CodegenErrorType.{CodegenErrorType}
 use Rattle.py_emit.specs.Emitted.{IsEmitted, IsMade, Holds}
 use Rattle.py_emit.specs.States.{Goes, IsUnrefused, Rest, Same, first_rest, info, module_head, rest, state}
 use Rattle.py_emit.specs.declared.context.CompileOpts.{CompileOpts}

@@ -17,18 +17,18 @@ use Rattle.py_ir.specs.Final.{tables_of}
 use Rattle.py_ir.specs.Refusals as refusals
 use Rattle.py_ir.specs.Refusals.{TooLong, Refused}
 use Rattle.py_ir.proofs.Unique.{not_broken, no_blocks}
-use Rattle.py_meaning.specs.Form.{Scope, MkScope, SForm}
-use Rattle.py_meaning.specs.Agree.{form_of}
-use Rattle.py_meaning.specs.Code.{Item, labels, body_code}
+use Rattle.py_forms.specs.Form.{Scope, MkScope, SForm}
+use Rattle.py_forms.specs.Agree.{form_of}
+use Rattle.py_forms.specs.Code.{Item, labels, body_code}
 use Rattle.py_meaning.specs.Meaning.{outer_head, body}
-use Rattle.py_meaning.specs.Looped.{Looped}
-use Rattle.py_meaning.specs.Emitting.{State, Done}
+use Rattle.py_forms.specs.Looped.{Looped}
+use Rattle.py_forms.specs.Emitting.{State, Done}
 use Rattle.py_meaning.specs.Emission.{emitted}
-use Rattle.py_meaning.proofs.Assembly.{occurs}
-use Rattle.py_meaning.proofs.Labels.{placed_once}
+use Rattle.py_forms.proofs.Assembly.{occurs}
+use Rattle.py_forms.proofs.Labels.{placed_once}
 use Rattle.py_sound.proofs.Blocks.{laid_is_sound}
 use Rattle.py_emit.specs.Emitted.{Holds}
-use Rattle.py_meaning.specs.Sealed.{Head}
+use Rattle.py_forms.specs.Sealed.{Head}
 use Rattle.py_emit.specs.States.{IsUnrefused}
 use Rattle.py_emit.specs.Steps.{steps_in}
 use Rattle.codegen.proofs.Adding.{Begins, AllRead, AllInside}

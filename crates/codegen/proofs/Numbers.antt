@@ -7,9 +7,9 @@ use Rattle.py_bytecode.specs.Objects.{Object}
 use Rattle.py_bytecode.specs.Decode.{Tables}
 use Rattle.py_walks.specs.declared.info.InstructionInfo.{InstructionInfo}
 use Rattle.py_ir.specs.Chain.{Blk, blk, cut, body, flat}
-use Rattle.py_meaning.specs.Code.{Item, Do, Label, size}
-use Rattle.py_meaning.specs.Emitting.{Step}
-use Rattle.py_meaning.proofs.Moves.{size-append}
+use Rattle.py_forms.specs.Code.{Item, Do, Label, size}
+use Rattle.py_forms.specs.Emitting.{Step}
+use Rattle.py_forms.proofs.Moves.{size-append}
 use Rattle.py_emit.specs.Steps.{step_of, onwards, steps_from}
 use Rattle.codegen.proofs.Adding.{AllRead}
 use Rattle.py_emit.proofs.Chains.{Leads}

@@ -12,15 +12,15 @@ use Rattle.py_bytecode.specs.declared.instruction.Instruction.TheVariants as op
 use Rattle.py_bytecode.specs.Objects.{Object}
 use Rattle.py_bytecode.specs.Values.{flip}
 use Rattle.py_bytecode.specs.Machine.{Operate, Rotate2, Rotate3, Pop, Duplicate, Jump, JumpIfOrPop}
-use Rattle.py_meaning.specs.Form.{Interp, VOp, VChoice, VAt, VMore, VNone, TTruth}
-use Rattle.py_meaning.specs.Code.{Item, Do, Label, labels_v, labels_t, labels_ts, labels_ss, labels_ls, code_v, code_t, code_ts, code_ss, code_ls, link_code}
-use Rattle.py_meaning.specs.TableParts as table
-use Rattle.py_meaning.specs.TableParts.{ExprForms, no_operand, shorts_of, part_test, tests_of, bool_forms, unary_forms, links_of, compare_form, deciding, unary_operation, comparison_operation}
-use Rattle.py_meaning.specs.declared.errors.CodegenErrorType.{CodegenErrorType}
-use Rattle.py_meaning.specs.declared.errors.CodegenErrorType.TheVariants as error
-use Rattle.py_meaning.specs.EmissionParts as emitting
-use Rattle.py_meaning.specs.Emitting.{State, Done, Next, refuse, emit, jump, begin, new_block, move}
-use Rattle.py_meaning.specs.EmissionParts.{Emissions, keeping_jump, in_turn, shorts, bool_value, tests, bool_test, some_test, bool_emissions, unary_value, unary_emissions, emission_of_comparison, emission_of_link, links, chain, comparisons, emission_of_compare, choice}
+use Rattle.py_forms.specs.Form.{Interp, VOp, VChoice, VAt, VMore, VNone, TTruth}
+use Rattle.py_forms.specs.Code.{Item, Do, Label, labels_v, labels_t, labels_ts, labels_ss, labels_ls, code_v, code_t, code_ts, code_ss, code_ls, link_code}
+use Rattle.py_forms.specs.TableParts as table
+use Rattle.py_forms.specs.TableParts.{ExprForms, no_operand, shorts_of, part_test, tests_of, bool_forms, unary_forms, links_of, compare_form, deciding, unary_operation, comparison_operation}
+use Rattle.py_forms.specs.declared.errors.CodegenErrorType.{CodegenErrorType}
+use Rattle.py_forms.specs.declared.errors.CodegenErrorType.TheVariants as error
+use Rattle.py_forms.specs.EmissionParts as emitting
+use Rattle.py_forms.specs.Emitting.{State, Done, Next, refuse, emit, jump, begin, new_block, move}
+use Rattle.py_forms.specs.EmissionParts.{Emissions, keeping_jump, in_turn, shorts, bool_value, tests, bool_test, some_test, bool_emissions, unary_value, unary_emissions, emission_of_comparison, emission_of_link, links, chain, comparisons, emission_of_compare, choice}
 use Rattle.py_emit.proofs.States.{never_refused}
 use Rattle.codegen.proofs.Emitting.{Comes, comes_as, comes_then, comes_more, comes_moved, comes_new, emit_adds, jump_adds, begin_adds}
 use Rattle.codegen.proofs.Instructions.{unary_adds, comparison_adds, keeping_adds}

@@ -6,10 +6,10 @@ use Rattle.py_tree.specs.Size.{expr_size, stmt_size, stmts_size, size_of}
 use Rattle.py_tree.specs.declared.modules.Mode.{Mode}
 use Rattle.py_bytecode.specs.Objects.{Object}
 use Rattle.py_bytecode.specs.Machine.{ReturnValue}
-use Rattle.py_meaning.specs.Form.{Interp, VForm, VConst, VLoad, VOp, VMake, VShort, VChain, VChoice, VKeep, VSwap, VAt}
-use Rattle.py_meaning.specs.Fit.{Loops}
-use Rattle.py_meaning.specs.Agree.{form_of}
-use Rattle.py_meaning.specs.Code.{Do, labels, labels_t, code_v, code, return_code, body_code}
+use Rattle.py_forms.specs.Form.{Interp, VForm, VConst, VLoad, VOp, VMake, VShort, VChain, VChoice, VKeep, VSwap, VAt}
+use Rattle.py_forms.specs.Fit.{Loops}
+use Rattle.py_forms.specs.Agree.{form_of}
+use Rattle.py_forms.specs.Code.{Do, labels, labels_t, code_v, code, return_code, body_code}
 use Rattle.py_meaning.specs.Meaning.{body}
 use Rattle.py_meaning.specs.Table.{expr_form, test_form, stmt_form, stmts_form, doc_form, setup_form, annotated}
 use Rattle.py_meaning.specs.Texts.{after_doc, doc_of, first_text, unless_text}

@@ -11,22 +11,22 @@ use Rattle.py_bytecode.specs.Objects as const
 use Rattle.py_bytecode.specs.Objects.{Object}
 use Rattle.py_bytecode.specs.Values.{Operation, operation, Bare, Constant, It}
 use Rattle.py_bytecode.specs.Machine.{Push, Operate, ReturnValue, ReturnConst}
-use Rattle.py_meaning.specs.Form.{Interp, Scope, SForm, VForm, VForms, VConst, VLoad, VOp, VMore, VNone, Resolved, SReturn}
-use Rattle.py_meaning.specs.Fit.{Loops}
-use Rattle.py_meaning.specs.Code.{Item, Do, labels_v, labels, code_v, code, body_code, return_code}
-use Rattle.py_meaning.specs.Looped.{Looped}
-use Rattle.py_meaning.specs.Agree.{form_of}
-use Rattle.py_meaning.specs.Elements.{Callee, Function, Method, starred, pairs, unkeyed}
+use Rattle.py_forms.specs.Form.{Interp, Scope, SForm, VForm, VForms, VConst, VLoad, VOp, VMore, VNone, Resolved, SReturn}
+use Rattle.py_forms.specs.Fit.{Loops}
+use Rattle.py_forms.specs.Code.{Item, Do, labels_v, labels, code_v, code, body_code, return_code}
+use Rattle.py_forms.specs.Looped.{Looped}
+use Rattle.py_forms.specs.Agree.{form_of}
+use Rattle.py_forms.specs.Elements.{Callee, Function, Method, starred, pairs, unkeyed}
 use Rattle.py_meaning.specs.Texts.{after_doc, doc_of, texts_of}
 use Rattle.py_meaning.specs.Meaning.{body}
-use Rattle.py_meaning.specs.TableParts as table
-use Rattle.py_meaning.specs.TableParts.{call_by, placed, updated, slice_form, joined_form, compare_form, constant_of, debug_constant, is_debug}
+use Rattle.py_forms.specs.TableParts as table
+use Rattle.py_forms.specs.TableParts.{call_by, placed, updated, slice_form, joined_form, compare_form, constant_of, debug_constant, is_debug}
 use Rattle.py_meaning.specs.Table.{expr_forms, all_forms, opt_form, opt_forms, keyword_forms, annotated, setup_form, expr_form, stmts_form, doc_form, program_form}
-use Rattle.py_meaning.specs.EmissionParts as emitting
-use Rattle.py_meaning.specs.Emitting.{State, Outcome, Done, Next, emit, emit_constant, emit_name, move, located, refuse, nothing}
-use Rattle.py_meaning.specs.EmissionParts.{comparisons, emission_of_compare}
+use Rattle.py_forms.specs.EmissionParts as emitting
+use Rattle.py_forms.specs.Emitting.{State, Outcome, Done, Next, emit, emit_constant, emit_name, move, located, refuse, nothing}
+use Rattle.py_forms.specs.EmissionParts.{comparisons, emission_of_compare}
 use Rattle.py_meaning.specs.Emission.{emissions, all_emissions, emission, emission_of_doc, emission_of_setup, emission_of_stmts, emission_of_return, joined_return, emitted}
-use Rattle.py_meaning.specs.declared.errors.CodegenErrorType.TheVariants as error
+use Rattle.py_forms.specs.declared.errors.CodegenErrorType.TheVariants as error
 use Rattle.py_emit.proofs.States.{never_refused}
 use Rattle.codegen.proofs.Adding.{Adds}
 use Rattle.codegen.proofs.Emitting.{Comes, comes_as, comes_then, comes_more, comes_nothing, comes_moved, emit_adds}

@@ -9,11 +9,11 @@ use Rattle.py_bytecode.specs.declared.instruction.Instruction.TheVariants as op
 use Rattle.py_bytecode.specs.Objects.{Const}
 use Rattle.py_bytecode.specs.Equality.{const_eq, text_eq}
 use Rattle.py_meaning.specs.Faults.{Fault, fault_at, when, debug_faults}
-use Rattle.py_meaning.specs.TableParts.{is_debug}
-use Rattle.py_meaning.specs.declared.errors.CodegenErrorType.{CodegenErrorType}
-use Rattle.py_meaning.specs.declared.errors.CodegenErrorType.TheVariants as error
-use Rattle.py_meaning.specs.Emitting.{State, Outcome, TooWide, Refused, Next, Put, with_step, with_block, with_name, with_constant, place_in, located, refuse, emit, emit_count, emit_name, emit_constant, jump, begin, new_block, move}
-use Rattle.py_meaning.specs.EmissionParts.{unless_debug, emission_of_comparison, emission_of_link}
+use Rattle.py_forms.specs.TableParts.{is_debug}
+use Rattle.py_forms.specs.declared.errors.CodegenErrorType.{CodegenErrorType}
+use Rattle.py_forms.specs.declared.errors.CodegenErrorType.TheVariants as error
+use Rattle.py_forms.specs.Emitting.{State, Outcome, TooWide, Refused, Next, Put, with_step, with_block, with_name, with_constant, place_in, located, refuse, emit, emit_count, emit_name, emit_constant, jump, begin, new_block, move}
+use Rattle.py_forms.specs.EmissionParts.{unless_debug, emission_of_comparison, emission_of_link}
 
 -- an operand is too large; or it is refused as the first of these faults says; or there are none, and it goes on to what follows, from that place
 pub data Ends (k : Next) (fs : List Fault) (q : SourceLocation) (o : Outcome) : Type 0 where

@@ -10,10 +10,10 @@ use Rattle.py_bytecode.specs.declared.instruction.Instruction.TheVariants as op
 use Rattle.py_bytecode.specs.Objects as const
 use Rattle.py_meaning.specs.Ends.{expr_end, store_end, delete_end, deletes_end}
 use Rattle.py_meaning.specs.Faults.{Fault, expr_faults, delete_faults, deletes_faults, assign_faults, augment_faults, declared_faults}
-use Rattle.py_meaning.specs.TableParts.{binary_case}
-use Rattle.py_meaning.specs.declared.errors.CodegenErrorType.TheVariants as error
-use Rattle.py_meaning.specs.Emitting.{Next}
-use Rattle.py_meaning.specs.EmissionParts.{no_assignment, no_deletion}
+use Rattle.py_forms.specs.TableParts.{binary_case}
+use Rattle.py_forms.specs.declared.errors.CodegenErrorType.TheVariants as error
+use Rattle.py_forms.specs.Emitting.{Next}
+use Rattle.py_forms.specs.EmissionParts.{no_assignment, no_deletion}
 use Rattle.py_meaning.specs.Emission.{emission, emission_of_delete, emission_of_deletes, emission_of_assign, emission_of_augment, emission_of_declared, emission_of_annotation, deletion_name}
 use Rattle.codegen.proofs.Refusing.{EndsAs, Passes, then_ends, last_ends, ends_so, nothing_passes, emit_passes, name_passes, constant_passes, refusal_ends, unless_debug_ends, unless_debug_last}
 use Rattle.codegen.proofs.RefusingExprs.{both_none, name_load_passes, no_target, expr_ends, store_ends}

@@ -6,12 +6,12 @@ use Rattle.py_bytecode.specs.declared.instruction.Instruction.{Instruction}
 use Rattle.py_bytecode.specs.declared.instruction.Instruction.TheVariants as op
 use Rattle.py_bytecode.specs.Objects as const
 use Rattle.py_bytecode.specs.Objects.{Const}
-use Rattle.py_meaning.specs.Elements.{starred, bare, groups, pairs, keyed, unkeyed, sides}
+use Rattle.py_forms.specs.Elements.{starred, bare, groups, pairs, keyed, unkeyed, sides}
 use Rattle.py_meaning.specs.Ends.{last_of, some_of, parts_entered, pairs_entered, expr_end, ends_of, opt_end, opts_ends}
 use Rattle.py_meaning.specs.Faults.{Fault, in_order, if_any, dict_faults, joined_faults, faults_in, all_faults, opt_faults, opts_faults}
 use Rattle.py_meaning.specs.Faults as fault
-use Rattle.py_meaning.specs.Emitting.{Next}
-use Rattle.py_meaning.specs.EmissionParts.{values, elements, in_turn, built, display, updates, dict_value, value_or, slice_step, slice_value, joined_value}
+use Rattle.py_forms.specs.Emitting.{Next}
+use Rattle.py_forms.specs.EmissionParts.{values, elements, in_turn, built, display, updates, dict_value, value_or, slice_step, slice_value, joined_value}
 use Rattle.py_meaning.specs.Emission.{emissions, all_emissions, opt_emission, opt_emissions}
 use Rattle.codegen.proofs.Refusing.{EndsAs, then_ends, last_ends, ends_so, ends_there, nothing_passes, emit_passes, count_passes, constant_passes, if_ends}
 use Rattle.codegen.proofs.RefusingTests.{EndsWell, AllEnding, turn_ends}

@@ -10,15 +10,15 @@ use Rattle.py_base.specs.declared.shapes.Malformed.TheVariants as shape
 use Rattle.py_bytecode.specs.declared.instruction.Instruction.{Instruction}
 use Rattle.py_bytecode.specs.declared.instruction.Instruction.TheVariants as op
 use Rattle.py_bytecode.specs.Objects as const
-use Rattle.py_meaning.specs.Elements.{bare}
+use Rattle.py_forms.specs.Elements.{bare}
 use Rattle.py_meaning.specs.Ends.{last_of, expr_end, ends_of, store_end, stores_end}
 use Rattle.py_meaning.specs.Faults.{Fault, ExprFaults, either, in_order, fault_at, faults_in, all_faults, faults_to, all_faults_to}
 use Rattle.py_meaning.specs.Faults as fault
 use Rattle.py_meaning.specs.Texts.{texts_of}
-use Rattle.py_meaning.specs.TableParts.{binary_case, conversion_case, constant_of, debug_constant, is_debug}
-use Rattle.py_meaning.specs.declared.errors.CodegenErrorType.TheVariants as error
-use Rattle.py_meaning.specs.Emitting.{Next, refuse, emit_name, move}
-use Rattle.py_meaning.specs.EmissionParts.{tested, elements, display, in_turn, emission_of_name, no_assignment, lone_star}
+use Rattle.py_forms.specs.TableParts.{binary_case, conversion_case, constant_of, debug_constant, is_debug}
+use Rattle.py_forms.specs.declared.errors.CodegenErrorType.TheVariants as error
+use Rattle.py_forms.specs.Emitting.{Next, refuse, emit_name, move}
+use Rattle.py_forms.specs.EmissionParts.{tested, elements, display, in_turn, emission_of_name, no_assignment, lone_star}
 use Rattle.py_meaning.specs.Emission.{emissions, all_emissions, stores, all_stores}
 use Rattle.codegen.proofs.Refusing.{EndsAs, Passes, then_ends, last_ends, nothing_passes, emit_passes, name_passes, constant_passes, if_ends, moved_ends, refusal_ends, unless_debug_ends, unless_debug_last}
 use Rattle.codegen.proofs.RefusingTests.{Ending, EndsWell, AllEnding, truth_ends, at_ends, bool_ends, unary_ends, compare_ends, choice_ends}

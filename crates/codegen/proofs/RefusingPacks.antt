@@ -3,10 +3,10 @@ use Rattle.std.proofs.Common.{◌≡◌, ℕ, List, [], ◌∷◌, ◌++◌, ref
 use Rattle.py_base.specs.declared.location.SourceLocation.{SourceLocation}
 use Rattle.py_bytecode.specs.declared.instruction.Instruction.TheVariants as op
 use Rattle.py_bytecode.specs.Objects as const
-use Rattle.py_meaning.specs.Elements.{Element, Single, Spread, bare, grouped, groups}
+use Rattle.py_forms.specs.Elements.{Element, Single, Spread, bare, grouped, groups}
 use Rattle.py_meaning.specs.Faults.{Fault}
-use Rattle.py_meaning.specs.Emitting.{Next, emit_constant}
-use Rattle.py_meaning.specs.EmissionParts.{in_turn, built, name_values, map_of}
+use Rattle.py_forms.specs.Emitting.{Next, emit_constant}
+use Rattle.py_forms.specs.EmissionParts.{in_turn, built, name_values, map_of}
 use Rattle.codegen.proofs.Refusing.{EndsAs, then_ends, last_ends, ends_so, nothing_passes, count_passes}
 use Rattle.codegen.proofs.RefusingTests.{ElementEnds}
 

@@ -4,11 +4,11 @@ use Rattle.std.specs.Prelude.{nat_eq, nat_lt, not, ◌&&◌, if◌then◌else◌
 use Rattle.py_tree.specs.Tree as tree
 use Rattle.py_base.specs.declared.location.SourceLocation.{SourceLocation}
 use Rattle.py_bytecode.specs.declared.instruction.Instruction.TheVariants as op
-use Rattle.py_meaning.specs.Elements.{Element, Single, Spread, bare, stars, before_star, after_star}
+use Rattle.py_forms.specs.Elements.{Element, Single, Spread, bare, stars, before_star, after_star}
 use Rattle.py_meaning.specs.Faults.{Fault, TargetFaults, both, fault_at, when, star_faults, as_element, starring}
-use Rattle.py_meaning.specs.declared.errors.CodegenErrorType.TheVariants as error
-use Rattle.py_meaning.specs.Emitting.{Next, refuse, emit, move}
-use Rattle.py_meaning.specs.EmissionParts.{Stores, plain_store, in_turn, few_aside, unpack}
+use Rattle.py_forms.specs.declared.errors.CodegenErrorType.TheVariants as error
+use Rattle.py_forms.specs.Emitting.{Next, refuse, emit, move}
+use Rattle.py_forms.specs.EmissionParts.{Stores, plain_store, in_turn, few_aside, unpack}
 use Rattle.py_meaning.specs.Emission.{stores, all_stores}
 use Rattle.codegen.proofs.Refusing.{EndsAs, then_ends, ends_so, emit_passes, count_passes, refusal_ends, moved_ends}
 use Rattle.codegen.proofs.RefusingTests.{ElementEnds}

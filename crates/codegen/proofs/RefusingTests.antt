@@ -10,15 +10,15 @@ use Rattle.py_base.specs.declared.operators.UnaryOp.TheVariants as unary
 use Rattle.py_base.specs.declared.shapes.Malformed.TheVariants as shape
 use Rattle.py_bytecode.specs.declared.instruction.Instruction.TheVariants as op
 use Rattle.py_bytecode.specs.Values.{flip}
-use Rattle.py_meaning.specs.Elements.{Element, Single, Spread, Callee, Function, Method}
+use Rattle.py_forms.specs.Elements.{Element, Single, Spread, Callee, Function, Method}
 use Rattle.py_meaning.specs.Ends.{last_of, expr_end, ends_of}
 use Rattle.py_meaning.specs.Faults.{Fault, ExprFaults, either, in_order, faults_in, all_faults}
 use Rattle.py_meaning.specs.Faults as fault
-use Rattle.py_meaning.specs.TableParts.{unary_case, deciding}
-use Rattle.py_meaning.specs.declared.errors.CodegenErrorType.{CodegenErrorType}
-use Rattle.py_meaning.specs.declared.errors.CodegenErrorType.TheVariants as error
-use Rattle.py_meaning.specs.Emitting.{Next, refuse, emit, jump, begin, new_block, move}
-use Rattle.py_meaning.specs.EmissionParts.{keeping_jump, testing_jump, Emissions, ordinary, truth_of, tested, values, in_turn, shorts, tests, some_test, bool_emissions, unary_value, unary_emissions, links, chain, first_comparison, comparisons, emission_of_compare, choice}
+use Rattle.py_forms.specs.TableParts.{unary_case, deciding}
+use Rattle.py_forms.specs.declared.errors.CodegenErrorType.{CodegenErrorType}
+use Rattle.py_forms.specs.declared.errors.CodegenErrorType.TheVariants as error
+use Rattle.py_forms.specs.Emitting.{Next, refuse, emit, jump, begin, new_block, move}
+use Rattle.py_forms.specs.EmissionParts.{keeping_jump, testing_jump, Emissions, ordinary, truth_of, tested, values, in_turn, shorts, tests, some_test, bool_emissions, unary_value, unary_emissions, links, chain, first_comparison, comparisons, emission_of_compare, choice}
 use Rattle.py_meaning.specs.Emission.{emissions, all_emissions}
 use Rattle.codegen.proofs.Refusing.{EndsAs, Passes, then_ends, last_ends, ends_so, nothing_passes, emit_passes, jump_passes, begin_passes, moved_ends, new_ends, ended_ends, if_ends, comparison_passes, link_passes}
 

@@ -12,8 +12,8 @@ use Rattle.py_walks.specs.Flat.{is_jump}
 use Rattle.py_ir.specs.Chain.{Blk, blk, block_number, body, coded_blocks, flat, IsChain}
 use Rattle.py_ir.specs.Checks.{lens_of, operand_fits}
 use Rattle.py_ir.specs.Refusals.{ItemAt, TooWide}
-use Rattle.py_meaning.specs.Code.{Item, size}
-use Rattle.py_meaning.proofs.Assembly.{occurs}
+use Rattle.py_forms.specs.Code.{Item, size}
+use Rattle.py_forms.proofs.Assembly.{occurs}
 use Rattle.py_emit.specs.Steps.{step_of, steps_in}
 use Rattle.codegen.proofs.Adding.{AllRead, Below, AllInside}
 use Rattle.py_emit.proofs.Chains.{Leads, chain_leads, chain_short}

@@ -9,10 +9,10 @@ use Rattle.py_bytecode.specs.declared.instruction.Instruction.TheVariants as op
 use Rattle.py_bytecode.specs.Objects as const
 use Rattle.py_bytecode.specs.Objects.{Object}
 use Rattle.py_bytecode.specs.Values.{Bare, operation}
-use Rattle.py_meaning.specs.Form.{Interp, VForm, VConst, VLoad, VOp, VNone, VMore, VAt, VKeep, GPut, Resolved}
+use Rattle.py_forms.specs.Form.{Interp, VForm, VConst, VLoad, VOp, VNone, VMore, VAt, VKeep, GPut, Resolved}
 use Rattle.py_meaning.specs.Texts.{texts_of}
-use Rattle.py_meaning.specs.Code.{labels_v}
-use Rattle.py_meaning.specs.TableParts.{ExprForms, tested, values, elements, parts_of, conversion_case, counted, named, binary, display, value_or, debug_constant, is_debug, unpacked_to}
+use Rattle.py_forms.specs.Code.{labels_v}
+use Rattle.py_forms.specs.TableParts.{ExprForms, tested, values, elements, parts_of, conversion_case, counted, named, binary, display, value_or, debug_constant, is_debug, unpacked_to}
 use Rattle.py_meaning.specs.Table.{expr_forms, all_forms, opt_form, opt_forms, keyword_forms, target_forms, all_targets}
 use Rattle.codegen.proofs.Burden.{burden-append}
 use Rattle.codegen.proofs.Together.{Together, Possible, OneElement}

@@ -4,10 +4,10 @@ use Rattle.py_tree.specs.Tree as tree
 use Rattle.py_tree.specs.Size.{expr_size, exprs_size, opt_expr_size}
 use Rattle.py_base.specs.declared.operators.Operator.{Operator}
 use Rattle.py_bytecode.specs.Objects.{Object}
-use Rattle.py_meaning.specs.Form.{Interp, VForm, VKeep, Target, SForm, SThen, SInto}
-use Rattle.py_meaning.specs.Fit.{Loops}
-use Rattle.py_meaning.specs.Code.{labels, labels_v, code}
-use Rattle.py_meaning.specs.TableParts.{name_form, is_debug}
+use Rattle.py_forms.specs.Form.{Interp, VForm, VKeep, Target, SForm, SThen, SInto}
+use Rattle.py_forms.specs.Fit.{Loops}
+use Rattle.py_forms.specs.Code.{labels, labels_v, code}
+use Rattle.py_forms.specs.TableParts.{name_form, is_debug}
 use Rattle.py_meaning.specs.Table.{expr_form, target_form, removal, removals, assigned, assign_form, augment_form, declared_form, annotation_target}
 use Rattle.codegen.proofs.Burden.{burden, burden-append}
 use Rattle.codegen.proofs.Small.{FormSmall, TargetSmall}

@@ -6,10 +6,10 @@ use Rattle.py_bytecode.specs.declared.instruction.Instruction.TheVariants as op
 use Rattle.py_bytecode.specs.Objects as const
 use Rattle.py_bytecode.specs.Objects.{Const, Object}
 use Rattle.py_bytecode.specs.Values.{Bare, operation}
-use Rattle.py_meaning.specs.Elements.{Element, Single, Spread, starred, bare, grouped, groups, pairs, keyed, unkeyed, sides}
-use Rattle.py_meaning.specs.Form.{Interp, VForm, VOp, VNone, VMore}
-use Rattle.py_meaning.specs.Code.{labels_v, code_v, code_vs}
-use Rattle.py_meaning.specs.TableParts.{counted, parts_of, built, unpacked, display, updated, dict_form, value_or, slice_form, joined_form}
+use Rattle.py_forms.specs.Elements.{Element, Single, Spread, starred, bare, grouped, groups, pairs, keyed, unkeyed, sides}
+use Rattle.py_forms.specs.Form.{Interp, VForm, VOp, VNone, VMore}
+use Rattle.py_forms.specs.Code.{labels_v, code_v, code_vs}
+use Rattle.py_forms.specs.TableParts.{counted, parts_of, built, unpacked, display, updated, dict_form, value_or, slice_form, joined_form}
 use Rattle.codegen.proofs.Burden.{burden, burden-append}
 use Rattle.codegen.proofs.Together.{Together, Possible, OneElement, push_together, bare_together}
 use Rattle.codegen.proofs.Small.{FormSmall, parts_small, operation_small}

@@ -2,10 +2,10 @@
 use Rattle.std.proofs.Common.{ℕ, ◌+◌, ◌*◌, ◌≤◌, List, [], ◌∷◌, None, arith}
 use Rattle.py_bytecode.specs.Objects.{Object}
 use Rattle.py_bytecode.specs.Values.{Operation}
-use Rattle.py_meaning.specs.Elements.{Element, bare}
-use Rattle.py_meaning.specs.Form.{Interp, VForm, VKeep, Target, GStore, GPut, GDrop, Resolved, targets}
-use Rattle.py_meaning.specs.Code.{labels_v, labels_g, code_gs}
-use Rattle.py_meaning.specs.TableParts.{plain_target, parts_of, targets_of, unpacked_to}
+use Rattle.py_forms.specs.Elements.{Element, bare}
+use Rattle.py_forms.specs.Form.{Interp, VForm, VKeep, Target, GStore, GPut, GDrop, Resolved, targets}
+use Rattle.py_forms.specs.Code.{labels_v, labels_g, code_gs}
+use Rattle.py_forms.specs.TableParts.{plain_target, parts_of, targets_of, unpacked_to}
 use Rattle.codegen.proofs.Burden.{burden, burden-append}
 use Rattle.codegen.proofs.Together.{Together, OneElement, bare_together}
 use Rattle.codegen.proofs.Small.{FormSmall, TargetSmall, SmallTarget, plain_small, parts_small}

@@ -9,9 +9,9 @@ use Rattle.py_bytecode.specs.Decode.{Tables}
 use Rattle.py_bytecode.specs.Table.{row_of}
 use Rattle.py_walks.specs.declared.info.InstructionInfo.{InstructionInfo}
 use Rattle.py_ir.specs.Chain.{Blk, blk, cut, body}
-use Rattle.py_meaning.specs.Code.{Item, Do, Label}
-use Rattle.py_meaning.specs.Emitting.{Step, Put, Begin}
-use Rattle.py_meaning.proofs.Assembly.{occurs}
+use Rattle.py_forms.specs.Code.{Item, Do, Label}
+use Rattle.py_forms.specs.Emitting.{Step, Put, Begin}
+use Rattle.py_forms.proofs.Assembly.{occurs}
 use Rattle.py_emit.specs.Steps.{step_of, onwards, steps_from, Begun}
 use Rattle.codegen.proofs.Adding.{Reads, AllRead, Below, AllInside}
 use Rattle.py_emit.proofs.Chains.{Leads}

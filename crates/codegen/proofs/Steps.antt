@@ -4,7 +4,7 @@ use Rattle.py_tree.specs.declared.expressions.Expr.{Expr}
 use Rattle.py_tree.specs.declared.statements.Stmt.{Stmt}
 use Rattle.py_tree.specs.View.{expr_tree, stmt_tree, stmts}
 use Rattle.py_base.specs.declared.location.SourceLocation.{SourceLocation}
-use Rattle.py_meaning.specs.Emitting.{Begin, LoopBlocks, Next, Outcome, State, begin, located, move, new_block, with_block, with_step}
+use Rattle.py_forms.specs.Emitting.{Begin, LoopBlocks, Next, Outcome, State, begin, located, move, new_block, with_block, with_step}
 use Rattle.py_meaning.specs.Emission.{emission_of_stmts, emission_of_test}
 use Rattle.py_emit.specs.States.{Rest, loop_blocks}
 use Rattle.py_expr.proofs.Steps.{begin_goes, block_goes, move_goes}

@@ -6,15 +6,15 @@ use Rattle.py_base.specs.declared.operators.Operator.{Operator}
 use Rattle.py_bytecode.specs.declared.instruction.Instruction.TheVariants as op
 use Rattle.py_bytecode.specs.Objects.{Object}
 use Rattle.py_bytecode.specs.Machine.{Jump, SetupLoop, PopBlock, Break, Continue}
-use Rattle.py_meaning.specs.Form.{Scope, SForm, SThen, SInto, SBreak, SContinue, GDrop}
-use Rattle.py_meaning.specs.Fit.{Loops}
-use Rattle.py_meaning.specs.Code.{Item, Do, Label, labels_t, labels, code_t, code}
-use Rattle.py_meaning.specs.Looped.{Looped}
+use Rattle.py_forms.specs.Form.{Scope, SForm, SThen, SInto, SBreak, SContinue, GDrop}
+use Rattle.py_forms.specs.Fit.{Loops}
+use Rattle.py_forms.specs.Code.{Item, Do, Label, labels_t, labels, code_t, code}
+use Rattle.py_forms.specs.Looped.{Looped}
 use Rattle.py_meaning.specs.Table.{stmt_form, stmts_form, expr_form, test_form, target_form, removals, assign_form, augment_form, declared_form, annotation_target}
-use Rattle.py_meaning.specs.Emitting.{LoopBlocks, State, Done, Next, emit, jump, begin, with_block, located, new_block, move}
+use Rattle.py_forms.specs.Emitting.{LoopBlocks, State, Done, Next, emit, jump, begin, with_block, located, new_block, move}
 use Rattle.py_meaning.specs.Emission.{emission, emission_of_test, emission_of_deletes, emission_of_assign, emission_of_augment, emission_of_declared, emission_of_annotation, leave_loop, emission_of_stmt, emission_of_stmts}
-use Rattle.py_meaning.specs.declared.errors.CodegenErrorType.{CodegenErrorType}
-use Rattle.py_meaning.specs.declared.errors.CodegenErrorType.TheVariants as error
+use Rattle.py_forms.specs.declared.errors.CodegenErrorType.{CodegenErrorType}
+use Rattle.py_forms.specs.declared.errors.CodegenErrorType.TheVariants as error
 use Rattle.py_emit.proofs.States.{never_refused}
 use Rattle.codegen.proofs.Emitting.{Comes, comes_as, comes_then, comes_nothing, comes_moved, comes_new, emit_adds, jump_adds, begin_adds}
 use Rattle.codegen.proofs.TargetAdds.{drop_adds}

@@ -6,14 +6,14 @@ use Rattle.py_bytecode.specs.declared.instruction.Instruction.TheVariants as op
 use Rattle.py_bytecode.specs.Objects.{Object}
 use Rattle.py_bytecode.specs.Values.{Operation}
 use Rattle.py_bytecode.specs.Machine.{Operate, Pop, Duplicate, Unpack}
-use Rattle.py_meaning.specs.Form.{Interp, VForm, VForms, VKeep, Target, GPut, GDrop, targets}
-use Rattle.py_meaning.specs.Code.{Do, count as form_count, labels_v, labels_vs, labels_g, labels_gs, code_v, code_vs, code_g, code_gs}
-use Rattle.py_meaning.specs.Elements.{Element, bare, stars, before_star, after_star}
-use Rattle.py_meaning.specs.TableParts.{TargetForms, plain_target, targets_of, unpacking, unpacked_to, counted}
-use Rattle.py_meaning.specs.Emitting.{State, Done, Next, emit, emit_count, move, refuse}
-use Rattle.py_meaning.specs.EmissionParts.{Stores, plain_store, in_turn, few_aside, unpack, unpack_starred, unless_debug}
-use Rattle.py_meaning.specs.declared.errors.CodegenErrorType.{CodegenErrorType}
-use Rattle.py_meaning.specs.declared.errors.CodegenErrorType.TheVariants as error
+use Rattle.py_forms.specs.Form.{Interp, VForm, VForms, VKeep, Target, GPut, GDrop, targets}
+use Rattle.py_forms.specs.Code.{Do, count as form_count, labels_v, labels_vs, labels_g, labels_gs, code_v, code_vs, code_g, code_gs}
+use Rattle.py_forms.specs.Elements.{Element, bare, stars, before_star, after_star}
+use Rattle.py_forms.specs.TableParts.{TargetForms, plain_target, targets_of, unpacking, unpacked_to, counted}
+use Rattle.py_forms.specs.Emitting.{State, Done, Next, emit, emit_count, move, refuse}
+use Rattle.py_forms.specs.EmissionParts.{Stores, plain_store, in_turn, few_aside, unpack, unpack_starred, unless_debug}
+use Rattle.py_forms.specs.declared.errors.CodegenErrorType.{CodegenErrorType}
+use Rattle.py_forms.specs.declared.errors.CodegenErrorType.TheVariants as error
 use Rattle.py_emit.proofs.States.{never_refused}
 use Rattle.codegen.proofs.Emitting.{Comes, comes_as, comes_then, comes_more, comes_nothing, comes_moved, emit_adds}
 use Rattle.codegen.proofs.Pairwise.{Pairwise, Alike, AlikeElement, same_length, same_stars, same_before, same_after, bare_alike, bare_length, around_star}

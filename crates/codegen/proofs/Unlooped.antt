@@ -2,8 +2,8 @@
 use Rattle.std.proofs.Common.{ℕ, Bool, None}
 use Rattle.py_tree.specs.Tree as tree
 use Rattle.py_base.specs.declared.operators.Operator.{Operator}
-use Rattle.py_meaning.specs.Form.{VForm, VKeep, Target, SForm}
-use Rattle.py_meaning.specs.Looped.{Looped}
+use Rattle.py_forms.specs.Form.{VForm, VKeep, Target, SForm}
+use Rattle.py_forms.specs.Looped.{Looped}
 use Rattle.py_meaning.specs.Table.{target_form, removal, removals, assigned, assign_form, augment_form, declared_form}
 
 -- it stands in a loop or in none

@@ -5,11 +5,11 @@ use Rattle.py_bytecode.specs.Values.{Answer}
 use Rattle.py_bytecode.specs.Machine.{Config, At, Over, steps, start}
 use Rattle.py_bytecode.specs.Decode.{tables}
 use Rattle.py_bytecode.specs.Units.{fetch_unit, machine}
-use Rattle.py_meaning.specs.Laws.{IsEnd}
+use Rattle.py_forms.specs.Laws.{IsEnd}
 use Rattle.py_meaning.specs.Faults.{Fault}
-use Rattle.py_meaning.specs.Emitting.{Outcome, Refused}
-use Rattle.py_meaning.specs.declared.errors.CodegenErrorType.{CodegenErrorType}
-use Rattle.py_meaning.specs.declared.errors.CodegenErrorType.TheVariants as error
+use Rattle.py_forms.specs.Emitting.{Outcome, Refused}
+use Rattle.py_forms.specs.declared.errors.CodegenErrorType.{CodegenErrorType}
+use Rattle.py_forms.specs.declared.errors.CodegenErrorType.TheVariants as error
 use Rattle.py_base.specs.declared.location.LocatedError.{LocatedError}
 
 -- how high the stack is

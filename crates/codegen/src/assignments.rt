@@ -2,8 +2,8 @@
 ghost use Rattle.std.specs.Prelude.{◌≡◌, ℕ, Option as Optional};
 ghost use Rattle.py_tree.specs.View.{ann_assign_tree, assign_tree, attribute_tree, aug_assign_tree, delete_tree, expr_tree, exprs, name_tree, opt_box, subscript_tree};
 ghost use Rattle.py_bytecode.specs.Objects.{str};
-ghost use Rattle.py_meaning.specs.TableParts.{binary_case};
-ghost use Rattle.py_meaning.specs.Emitting.{LoopBlocks as Loops, Next, emit as emitting, emit_constant, emit_name};
+ghost use Rattle.py_forms.specs.TableParts.{binary_case};
+ghost use Rattle.py_forms.specs.Emitting.{LoopBlocks as Loops, Next, emit as emitting, emit_constant, emit_name};
 ghost use Rattle.py_meaning.specs.Emission.{emission, emission_of_annotation, emission_of_assign, emission_of_augment, emission_of_declared, emission_of_deletes, emission_of_stmt};
 ghost use Rattle.py_emit.specs.States.{Goes, Same, rest, state};
 ghost use Rattle.codegen.specs.Assigning.{assigned_to};
@@ -11,7 +11,7 @@ ghost use Rattle.codegen.specs.Assigning.{assigned_to};
 use py_bytecode::{ConstantData, Instruction};
 use py_emit::{Emitter, NameUsage, emit, is_debug, refuse};
 use py_expr::{case_of, compile_deletes, compile_expression, compile_store, refuse_store};
-use py_meaning::{CodegenError, CodegenErrorType};
+use py_forms::{CodegenError, CodegenErrorType};
 use py_tree::{
     Expr, ExprAttribute, ExprName, ExprSubscript, Malformed, StmtAnnAssign, StmtAssign,
     StmtAugAssign, StmtDelete,

@@ -4,8 +4,8 @@ ghost use Rattle.std.specs.Prelude.{◌≡◌, [], ◌<◌, ◌^◌, None, IfOk,
 ghost use Rattle.py_tree.specs.Size.{size_of};
 ghost use Rattle.py_tree.specs.View.{mod_tree};
 ghost use Rattle.py_bytecode.specs.View.{object};
-ghost use Rattle.py_meaning.specs.Agreement.{Agree, AgreeFull};
-ghost use Rattle.py_meaning.specs.Emitting.{Done};
+ghost use Rattle.py_forms.specs.Agreement.{Agree, AgreeFull};
+ghost use Rattle.py_forms.specs.Emitting.{Done};
 ghost use Rattle.py_meaning.specs.Emission.{emission_of_mod, emitted};
 ghost use Rattle.py_meaning.specs.Faults.{faults};
 ghost use Rattle.py_meaning.specs.Meaning.{body};
@@ -18,7 +18,7 @@ use py_bytecode::CodeObject;
 pub use py_emit::CompileOpts;
 use py_emit::Emitter;
 use py_expr::compile_return;
-use py_meaning::{CodegenError, CodegenErrorType};
+use py_forms::{CodegenError, CodegenErrorType};
 use py_tree::{LocatedError, Mod, Mode, Text, TreeLimit, depth_of_tree, size_of_tree, valid};
 use std::alloc::Global;
 

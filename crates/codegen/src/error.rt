@@ -1,3 +1,3 @@
 //! Why a tree is refused.
 
-pub use py_meaning::{CodegenError, CodegenErrorType};
+pub use py_forms::{CodegenError, CodegenErrorType};

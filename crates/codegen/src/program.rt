@@ -1,7 +1,7 @@
 //! The code of a file.
 ghost use Rattle.std.specs.Prelude.{◌≡◌, ◌≤◌, None, Option as Optional, drop, length, IfOk};
 ghost use Rattle.py_tree.specs.View.{stmt_tree, stmts};
-ghost use Rattle.py_meaning.specs.Emitting.{Done, Next, emit_constant};
+ghost use Rattle.py_forms.specs.Emitting.{Done, Next, emit_constant};
 ghost use Rattle.py_meaning.specs.Emission.{emission_of_doc, emission_of_program, emission_of_setup, emission_of_stmts};
 ghost use Rattle.py_bytecode.specs.Objects.{none};
 ghost use Rattle.py_meaning.specs.Texts.{after_doc, doc_of};
@@ -12,7 +12,7 @@ use crate::docs::{split_doc, statements_from};
 use crate::statements::compile_statements;
 use py_bytecode::{ConstantData, Instruction};
 use py_emit::{Emitter, emit, refuse};
-use py_meaning::{CodegenError, CodegenErrorType};
+use py_forms::{CodegenError, CodegenErrorType};
 use py_tree::{Stmt, Stmts, Text};
 
 /// Emits the statements of a file, its docstring first, and the return of None.

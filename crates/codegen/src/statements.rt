@@ -1,8 +1,8 @@
 //! Statements.
 ghost use Rattle.std.specs.Prelude.{◌≡◌, ◌<◌, ℕ, Some, Option as Optional};
 ghost use Rattle.py_tree.specs.View.{break_tree, continue_tree, expr_tree, if_tree, pass_tree, stmt_expr_tree, stmt_tree, stmts, while_tree};
-ghost use Rattle.py_meaning.specs.Emitting.{LoopBlocks as Loops, Next};
-ghost use Rattle.py_meaning.specs.EmissionParts.{choice, only};
+ghost use Rattle.py_forms.specs.Emitting.{LoopBlocks as Loops, Next};
+ghost use Rattle.py_forms.specs.EmissionParts.{choice, only};
 ghost use Rattle.py_meaning.specs.Emission.{emission_of_stmt, emission_of_stmts, emission_of_test};
 ghost use Rattle.py_emit.specs.States.{AreMade, Goes, Same, loop_blocks, rest, state};
 
@@ -12,8 +12,8 @@ use crate::assignments::{
 use py_bytecode::Instruction;
 use py_emit::{EmitContext, Emitter, emit, refuse};
 use py_expr::{compile_expression, compile_jump_if};
+use py_forms::{CodegenError, CodegenErrorType};
 use py_ir::BlockIdx;
-use py_meaning::{CodegenError, CodegenErrorType};
 use py_tree::{Stmt, StmtBreak, StmtContinue, StmtExpr, StmtIf, StmtPass, StmtWhile};
 
 /// Emits statements one after the other. The context has the blocks to which the innermost loop of this scope goes.

@@ -3,8 +3,8 @@ use Rattle.std.proofs.Common.{◌≡◌, ℕ, suc, List, [], ◌∷◌, ◌++◌
 use Rattle.py_bytecode.specs.View.{constant}
 use Rattle.py_ir.specs.Chain.{plain}
 use Rattle.py_ir.specs.FlatCode.{info_of}
-use Rattle.py_meaning.specs.Emitting.{Done, Step, State, nothing, refuse, with_block, with_step}
-use Rattle.py_meaning.specs.declared.errors.CodegenErrorType.{CodegenErrorType}
+use Rattle.py_forms.specs.Emitting.{Done, Step, State, nothing, refuse, with_block, with_step}
+use Rattle.py_forms.specs.declared.errors.CodegenErrorType.{CodegenErrorType}
 use Rattle.py_emit.specs.States.{IsFirst, IsUnrefused, first_rest, info, no_context, rest, state}
 use Rattle.py_emit.specs.Emitted.{Holds}
 use Rattle.py_emit.specs.Steps.{steps_in}

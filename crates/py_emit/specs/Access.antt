@@ -1,8 +1,8 @@
 -- What is emitted of an access to a name that is looked up by its name.
 use Rattle.std.specs.Prelude.{ℕ, List}
 use Rattle.py_bytecode.specs.declared.instruction.Instruction.TheVariants as op
-use Rattle.py_meaning.specs.Emitting.{Next, emit_name}
-use Rattle.py_meaning.specs.EmissionParts.{emission_of_name, no_assignment, no_deletion, unless_debug}
+use Rattle.py_forms.specs.Emitting.{Next, emit_name}
+use Rattle.py_forms.specs.EmissionParts.{emission_of_name, no_assignment, no_deletion, unless_debug}
 use Rattle.py_emit.specs.declared.context.NameUsage.{NameUsage}
 use Rattle.py_emit.specs.declared.context.NameUsage.TheVariants as usage
 

@@ -5,8 +5,8 @@ use Rattle.py_bytecode.specs.View.{constant}
 use Rattle.py_ir.specs.declared.info.CodeInfo.{CodeInfo}
 use Rattle.py_ir.specs.Chain.{plain}
 use Rattle.py_ir.specs.Final.{IsFinal}
-use Rattle.py_meaning.specs.Emitting.{State, Outcome, Done, TooWide, Refused}
-use Rattle.py_meaning.specs.Sealed.{Head}
+use Rattle.py_forms.specs.Emitting.{State, Outcome, Done, TooWide, Refused}
+use Rattle.py_forms.specs.Sealed.{Head}
 use Rattle.py_emit.specs.States.{module_head}
 use Rattle.py_emit.specs.Steps.{steps_in}
 

@@ -14,10 +14,10 @@ use Rattle.py_ir.specs.BlockList.{one_block}
 use Rattle.py_ir.specs.FlatCode.{info_of}
 use Rattle.py_ir.specs.declared.flat_code.FlatCode.{FlatCode}
 use Rattle.py_ir.specs.Refusals.{TooLong, Refused as IsRefused}
-use Rattle.py_meaning.specs.Emitting.{State, LoopBlocks, Outcome, Refused}
-use Rattle.py_meaning.specs.Sealed.{Head}
-use Rattle.py_meaning.specs.declared.errors.CodegenErrorType.{CodegenErrorType}
-use Rattle.py_meaning.specs.declared.errors.CodegenErrorType.TheVariants as error
+use Rattle.py_forms.specs.Emitting.{State, LoopBlocks, Outcome, Refused}
+use Rattle.py_forms.specs.Sealed.{Head}
+use Rattle.py_forms.specs.declared.errors.CodegenErrorType.{CodegenErrorType}
+use Rattle.py_forms.specs.declared.errors.CodegenErrorType.TheVariants as error
 use Rattle.py_emit.specs.declared.context.CompileOpts.{CompileOpts}
 use Rattle.py_emit.specs.declared.context.EmitContext.{EmitContext}
 use Rattle.py_emit.specs.declared.emitter.Emitter.{Emitter}

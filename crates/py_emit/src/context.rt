@@ -1,8 +1,8 @@
 //! What an emitter is told of the code around.
 
+use py_base::Text;
 use py_bytecode::CodeFlags;
 use py_ir::BlockIdx;
-use py_tree::Text;
 
 /// How a tree is compiled.
 #[derive(Clone, Copy, Debug, Default)]

@@ -3,17 +3,17 @@ ghost use Rattle.std.specs.Prelude.{◌≡◌, ◌≢◌, ◌<◌, None, Some, I
 ghost use Rattle.py_bytecode.specs.View.{object};
 ghost use Rattle.py_ir.specs.Chain.{block_number};
 ghost use Rattle.py_ir.specs.Final.{IsFinal};
-ghost use Rattle.py_meaning.specs.Emitting.{Begin, Next, Put, emit as emission_of, emit_count, jump as jumping, located, nothing, with_block, with_step};
-ghost use Rattle.py_meaning.specs.Sealed.{sealed};
+ghost use Rattle.py_forms.specs.Emitting.{Begin, Next, Put, emit as emission_of, emit_count, jump as jumping, located, nothing, with_block, with_step};
+ghost use Rattle.py_forms.specs.Sealed.{sealed};
 ghost use Rattle.py_emit.specs.States.{Goes, Same, IsFirst, IsStarved, IsUnrefused, first_rest, info, placed_error, rest, state, with_context};
 ghost use Rattle.py_emit.specs.Steps.{IsOpen, step_of};
 
 use crate::context::{CompileOpts, EmitContext};
 use crate::refusals::{has_short_tables, only_starved, starved};
+use py_base::{LocatedError, OneIndexed, SourceLocation, Text};
 use py_bytecode::{CodeFlags, CodeObject, Instruction, OpArg};
+use py_forms::{CodegenError, CodegenErrorType};
 use py_ir::{BlockIdx, ConstantSet, FlatBlocks, FlatCode, InstructionInfo, NameSet};
-use py_meaning::{CodegenError, CodegenErrorType};
-use py_tree::{LocatedError, OneIndexed, SourceLocation, Text};
 use std::alloc::{AllocError, Global};
 use std::mem;
 
@@ -92,7 +92,7 @@ impl Emitter {
     }
 
     /// What follows stands there in the source.
-    #[tactic(auto, unfolding(py_meaning::specs::Emitting::located, crate::specs::States::rest))]
+    #[tactic(auto, unfolding(py_forms::specs::Emitting::located, crate::specs::States::rest))]
     pub fn set_location(&mut self, location: SourceLocation)
         ensures state { state self.new ≡ located location (state self.old) }
         ensures rest { rest self.new ≡ rest self.old }
@@ -159,7 +159,7 @@ impl Emitter {
     ///
     /// # Errors
     /// OutOfMemory alone.
-    #[tactic(auto, unfolding(py_meaning::specs::Emitting::emit))]
+    #[tactic(auto, unfolding(py_forms::specs::Emitting::emit))]
     pub fn emit_arg(&mut self, instr: Instruction, arg: u32) -> Result<(), CodegenError>
         ensures goes { (k : Next) → Goes result (k (state self.new)) (emission_of instr arg k (state self.old)) }
         ensures same { Same result (rest self.new) (rest self.old) }
@@ -172,7 +172,7 @@ impl Emitter {
     ///
     /// # Errors
     /// OutOfMemory alone.
-    #[tactic(auto, unfolding(py_meaning::specs::Emitting::emit_count))]
+    #[tactic(auto, unfolding(py_forms::specs::Emitting::emit_count))]
     pub fn emit_count(&mut self, instr: Instruction, count: usize) -> Result<(), CodegenError>
         ensures goes { (k : Next) → Goes result (k (state self.new)) (emit_count instr count k (state self.old)) }
         ensures same { Same result (rest self.new) (rest self.old) }
@@ -187,7 +187,7 @@ impl Emitter {
     ///
     /// # Errors
     /// OutOfMemory alone.
-    #[tactic(auto, unfolding(py_meaning::specs::Emitting::jump))]
+    #[tactic(auto, unfolding(py_forms::specs::Emitting::jump))]
     pub fn emit_jump(&mut self, instr: Instruction, target: BlockIdx) -> Result<(), CodegenError>
         requires { target.0 < 0xffff_ffff }
         ensures goes { (k : Next) → Goes result (k (state self.new)) (jumping instr target.0 k (state self.old)) }

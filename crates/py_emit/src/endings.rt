@@ -1,13 +1,13 @@
 //! The last instruction of a block, and the return of a value.
 ghost use Rattle.std.specs.Prelude.{◌≡◌, IfNone, IfSome, IfErr, OnOk};
-ghost use Rattle.py_meaning.specs.Emitting.{with_step};
+ghost use Rattle.py_forms.specs.Emitting.{with_step};
 ghost use Rattle.py_emit.specs.States.{IsStarved, rest, state};
 ghost use Rattle.py_emit.specs.Steps.{EndsAtBegin, step_of, with_closed, with_return};
 
 use crate::emitter::Emitter;
 use py_bytecode::{Instruction, OpArg};
+use py_forms::CodegenError;
 use py_ir::{BlockIdx, InstructionInfo};
-use py_meaning::CodegenError;
 
 impl Emitter {
     /// Takes out the last instruction of the current block. None where that block is empty.

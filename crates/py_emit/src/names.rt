@@ -1,17 +1,17 @@
 //! Accesses to names.
 ghost use Rattle.std.specs.Prelude.{◌≡◌, ◌≢◌, IfOk, IfErr, OnOk};
 ghost use Rattle.py_bytecode.specs.View.{constant};
-ghost use Rattle.py_meaning.specs.Emitting.{Next, Refused, emit_name, refuse};
-ghost use Rattle.py_meaning.specs.EmissionParts.{emission_of_name, unless_debug};
-ghost use Rattle.py_meaning.specs.TableParts.{debug_constant as constant_debug, is_debug as named_debug};
+ghost use Rattle.py_forms.specs.Emitting.{Next, Refused, emit_name, refuse};
+ghost use Rattle.py_forms.specs.EmissionParts.{emission_of_name, unless_debug};
+ghost use Rattle.py_forms.specs.TableParts.{debug_constant as constant_debug, is_debug as named_debug};
 ghost use Rattle.py_emit.specs.Access.{emission_of_access};
 ghost use Rattle.py_emit.specs.States.{Goes, IsStarved, Same, rest, state};
 
 use crate::context::{CompileOpts, NameUsage};
 use crate::emitter::Emitter;
+use py_base::Text;
 use py_bytecode::{ConstantData, Instruction};
-use py_meaning::{CodegenError, CodegenErrorType};
-use py_tree::Text;
+use py_forms::{CodegenError, CodegenErrorType};
 
 /// Whether a name is the constant that says whether the level is 0.
 pub fn is_debug(name: &str) -> bool
@@ -83,7 +83,7 @@ impl Emitter {
     }
 
     /// The SyntaxError with a text, or want of memory for it.
-    #[tactic(auto, unfolding(py_meaning::specs::Emitting::refuse))]
+    #[tactic(auto, unfolding(py_forms::specs::Emitting::refuse))]
     pub fn syntax_error(&mut self, text: &str) -> CodegenError
         ensures goes { result.error ≢ CodegenErrorType.OutOfMemory → refuse (CodegenErrorType.SyntaxError text.now) (state self.old) ≡ Refused result.error result.location }
         ensures path { result.source_path ≡ (rest self.old).path }

@@ -6,9 +6,9 @@ ghost use Rattle.py_ir.specs.FlatCode.{info_of};
 ghost use Rattle.py_ir.specs.Refusals.{TooLong};
 ghost use Rattle.py_emit.specs.States.{IsStarved};
 
+use py_base::{LocatedError, Text};
+use py_forms::{CodegenError, CodegenErrorType};
 use py_ir::{FinalizeError, FlatCode};
-use py_meaning::{CodegenError, CodegenErrorType};
-use py_tree::{LocatedError, Text};
 
 /// The number of entries that no table has.
 const TABLE_LIMIT: usize = 1 << 31;

@@ -2,23 +2,23 @@
 ghost use Rattle.std.specs.Prelude.{◌≡◌, ◌≢◌, true, false, IfOk, IfErr, OnOk};
 ghost use Rattle.py_bytecode.specs.Equality.{const_eq, text_eq};
 ghost use Rattle.py_bytecode.specs.View.{constant as constant_of};
-ghost use Rattle.py_meaning.specs.Emitting.{Next, Refused, emit_constant, emit_name as emission_of_name, place_in, refuse, with_constant, with_name};
-ghost use Rattle.py_meaning.specs.EmissionParts.{no_assignment};
-ghost use Rattle.py_meaning.specs.TableParts.{is_debug as named_debug};
+ghost use Rattle.py_forms.specs.Emitting.{Next, Refused, emit_constant, emit_name as emission_of_name, place_in, refuse, with_constant, with_name};
+ghost use Rattle.py_forms.specs.EmissionParts.{no_assignment};
+ghost use Rattle.py_forms.specs.TableParts.{is_debug as named_debug};
 ghost use Rattle.py_emit.specs.States.{Goes, Same, IsStarved, rest, state, with_varname};
 
 use crate::emitter::Emitter;
 use crate::names::is_debug;
+use py_base::Text;
 use py_bytecode::{ConstantData, Instruction};
-use py_meaning::{CodegenError, CodegenErrorType};
-use py_tree::Text;
+use py_forms::{CodegenError, CodegenErrorType};
 
 impl Emitter {
     /// The place of a name in the name table, where it is entered if it is new.
     ///
     /// # Errors
     /// OutOfMemory alone.
-    #[tactic(auto, unfolding(py_meaning::specs::Emitting::with_name, crate::specs::States::rest))]
+    #[tactic(auto, unfolding(py_forms::specs::Emitting::with_name, crate::specs::States::rest))]
     pub fn name(&mut self, name: &str) -> Result<u32, CodegenError>
         ensures place { IfOk result (λ place. place ≡ place_in text_eq (state self.old).names name.now) }
         ensures next { OnOk result (state self.new ≡ with_name name.now (state self.old)) }
@@ -62,7 +62,7 @@ impl Emitter {
     ///
     /// # Errors
     /// OutOfMemory alone.
-    #[tactic(auto, unfolding(py_meaning::specs::Emitting::with_constant, crate::specs::States::rest), using(py_bytecode::proofs::Entered::constants_entered, py_bytecode::proofs::Entered::constant_place))]
+    #[tactic(auto, unfolding(py_forms::specs::Emitting::with_constant, crate::specs::States::rest), using(py_bytecode::proofs::Entered::constants_entered, py_bytecode::proofs::Entered::constant_place))]
     pub fn add_constant(&mut self, constant: ConstantData) -> Result<u32, CodegenError>
         ensures place { IfOk result (λ place. place ≡ place_in const_eq (state self.old).constants (constant_of constant)) }
         ensures next { OnOk result (state self.new ≡ with_constant (constant_of constant) (state self.old)) }
@@ -91,7 +91,7 @@ impl Emitter {
     ///
     /// # Errors
     /// OutOfMemory alone.
-    #[tactic(auto, unfolding(py_meaning::specs::Emitting::emit_constant))]
+    #[tactic(auto, unfolding(py_forms::specs::Emitting::emit_constant))]
     pub fn load_const(&mut self, constant: ConstantData) -> Result<(), CodegenError>
         ensures goes { (k : Next) → Goes result (k (state self.new)) (emit_constant Instruction.LoadConst (constant_of constant) k (state self.old)) }
         ensures same { Same result (rest self.new) (rest self.old) }
@@ -104,7 +104,7 @@ impl Emitter {
     ///
     /// # Errors
     /// OutOfMemory alone.
-    #[tactic(auto, unfolding(py_meaning::specs::Emitting::emit_constant))]
+    #[tactic(auto, unfolding(py_forms::specs::Emitting::emit_constant))]
     pub fn return_const(&mut self, constant: ConstantData) -> Result<(), CodegenError>
         ensures goes { (k : Next) → Goes result (k (state self.new)) (emit_constant Instruction.ReturnConst (constant_of constant) k (state self.old)) }
         ensures same { Same result (rest self.new) (rest self.old) }
@@ -117,7 +117,7 @@ impl Emitter {
     ///
     /// # Errors
     /// OutOfMemory alone.
-    #[tactic(auto, unfolding(py_meaning::specs::Emitting::emit_name))]
+    #[tactic(auto, unfolding(py_forms::specs::Emitting::emit_name))]
     pub fn emit_name(&mut self, instr: Instruction, name: &str) -> Result<(), CodegenError>
         ensures goes { (k : Next) → Goes result (k (state self.new)) (emission_of_name instr name.now k (state self.old)) }
         ensures same { Same result (rest self.new) (rest self.old) }

@@ -2,10 +2,10 @@
 
 use crate::context::CompileOpts;
 use crate::emitter::Emitter;
+use py_base::{OneIndexed, SourceLocation, Text};
 use py_bytecode::{ConstantData, Instruction, OpArg};
+use py_forms::CodegenErrorType;
 use py_ir::{BlockIdx, InstructionInfo};
-use py_meaning::CodegenErrorType;
-use py_tree::{OneIndexed, SourceLocation, Text};
 use std::alloc::Global;
 use std::process::Abort;
 use std::test::Fail;

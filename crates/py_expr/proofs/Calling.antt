@@ -8,10 +8,10 @@ use Rattle.py_tree.specs.declared.expressions.Expr.{Expr}
 use Rattle.py_tree.specs.declared.expressions.KeywordOf.{KeywordOf}
 use Rattle.py_bytecode.specs.declared.instruction.Instruction.{Instruction}
 use Rattle.py_bytecode.specs.declared.instruction.Instruction.TheVariants as op
-use Rattle.py_meaning.specs.Elements.{Element, Single, Spread, Callee, Function, Method, bare, groups, starred}
-use Rattle.py_meaning.specs.TableParts.{any}
-use Rattle.py_meaning.specs.Emitting.{Next, State, emit_count, located}
-use Rattle.py_meaning.specs.EmissionParts.{Keywords, built, call_by, checked, elements, emission_of_call, in_turn, joined_map, map_of, packed, packed_tuple, placed}
+use Rattle.py_forms.specs.Elements.{Element, Single, Spread, Callee, Function, Method, bare, groups, starred}
+use Rattle.py_forms.specs.TableParts.{any}
+use Rattle.py_forms.specs.Emitting.{Next, State, emit_count, located}
+use Rattle.py_forms.specs.EmissionParts.{Keywords, built, call_by, checked, elements, emission_of_call, in_turn, joined_map, map_of, packed, packed_tuple, placed}
 use Rattle.py_meaning.specs.Emission.{all_emissions, emission, emissions, keyword_emissions}
 use Rattle.py_expr.specs.declared.calls.CallType.{CallType}
 use Rattle.py_expr.specs.declared.calls.CallType.TheVariants as call

@@ -8,9 +8,9 @@ use Rattle.py_tree.specs.Tree as tree
 use Rattle.py_tree.specs.View.{expr_tree, exprs}
 use Rattle.py_bytecode.specs.declared.instruction.Instruction.{Instruction}
 use Rattle.py_bytecode.specs.declared.instruction.Instruction.TheVariants as op
-use Rattle.py_meaning.specs.Elements.{Element, Single, Spread, bare, grouped, groups, starred}
-use Rattle.py_meaning.specs.Emitting.{Next, emit_count}
-use Rattle.py_meaning.specs.EmissionParts.{built, display, elements, in_turn, values}
+use Rattle.py_forms.specs.Elements.{Element, Single, Spread, bare, grouped, groups, starred}
+use Rattle.py_forms.specs.Emitting.{Next, emit_count}
+use Rattle.py_forms.specs.EmissionParts.{built, display, elements, in_turn, values}
 use Rattle.py_meaning.specs.Emission.{all_emissions, emissions}
 use Rattle.py_expr.proofs.Turns.{if_not}
 use Rattle.py_expr.specs.Turns.{closed, group_count, group_rest, groups_by, is_spread, run_behind, runs}

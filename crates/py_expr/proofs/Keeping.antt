@@ -11,13 +11,13 @@ use Rattle.py_base.specs.declared.shapes.Malformed.TheVariants as shape
 use Rattle.py_bytecode.specs.declared.instruction.Instruction.{Instruction}
 use Rattle.py_bytecode.specs.declared.instruction.Instruction.TheVariants as op
 use Rattle.py_bytecode.specs.Objects.{Const}
-use Rattle.py_meaning.specs.TableParts.{deciding}
-use Rattle.py_meaning.specs.declared.errors.CodegenErrorType.{CodegenErrorType}
-use Rattle.py_meaning.specs.declared.errors.CodegenErrorType.TheVariants as error
-use Rattle.py_meaning.specs.Elements.{Element, Single, Spread, Callee, Function, Method}
-use Rattle.py_meaning.specs.EmissionParts as emitting
-use Rattle.py_meaning.specs.Emitting.{Step, Put, Begin, State, Outcome, Done, TooWide, Next, LoopBlocks, with_step, with_block, with_name, with_constant, located, refuse, emit, emit_count, emit_name, emit_constant, jump, begin, new_block, move}
-use Rattle.py_meaning.specs.EmissionParts.{Emissions, keeping_jump, testing_jump, in_turn, shorts, bool_value, tests, some_test, bool_test, bool_emissions, unary_value, unary_emissions, emission_of_comparison, emission_of_link, emission_of_name, links, chain, choice, comparisons, emission_of_compare}
+use Rattle.py_forms.specs.TableParts.{deciding}
+use Rattle.py_forms.specs.declared.errors.CodegenErrorType.{CodegenErrorType}
+use Rattle.py_forms.specs.declared.errors.CodegenErrorType.TheVariants as error
+use Rattle.py_forms.specs.Elements.{Element, Single, Spread, Callee, Function, Method}
+use Rattle.py_forms.specs.EmissionParts as emitting
+use Rattle.py_forms.specs.Emitting.{Step, Put, Begin, State, Outcome, Done, TooWide, Next, LoopBlocks, with_step, with_block, with_name, with_constant, located, refuse, emit, emit_count, emit_name, emit_constant, jump, begin, new_block, move}
+use Rattle.py_forms.specs.EmissionParts.{Emissions, keeping_jump, testing_jump, in_turn, shorts, bool_value, tests, some_test, bool_test, bool_emissions, unary_value, unary_emissions, emission_of_comparison, emission_of_link, emission_of_name, links, chain, choice, comparisons, emission_of_compare}
 use Rattle.py_meaning.specs.Emission.{emissions, all_emissions, leave_loop, emission_of_stmt, emission_of_stmts}
 use Rattle.py_emit.specs.Steps.{Begun, IsOpen}
 use Rattle.py_emit.proofs.States.{never_refused}

@@ -4,10 +4,10 @@ use Rattle.std.specs.Prelude.{◌||◌}
 use Rattle.py_bytecode.specs.declared.instruction.Instruction.{Instruction}
 use Rattle.py_bytecode.specs.declared.instruction.Instruction.TheVariants as op
 use Rattle.py_bytecode.specs.Objects as const
-use Rattle.py_meaning.specs.Elements.{Element, Single, Spread, Callee, Function, Method, bare, grouped, groups, starred}
-use Rattle.py_meaning.specs.TableParts.{any}
-use Rattle.py_meaning.specs.Emitting.{Next, emit_constant, emit_count, emit_name}
-use Rattle.py_meaning.specs.EmissionParts.{Keywords, built, call_by, checked, emission_of_call, in_turn, joined_map, map_of, name_values, names_in, no_assignment, packed, packed_tuple, placed, values_in}
+use Rattle.py_forms.specs.Elements.{Element, Single, Spread, Callee, Function, Method, bare, grouped, groups, starred}
+use Rattle.py_forms.specs.TableParts.{any}
+use Rattle.py_forms.specs.Emitting.{Next, emit_constant, emit_count, emit_name}
+use Rattle.py_forms.specs.EmissionParts.{Keywords, built, call_by, checked, emission_of_call, in_turn, joined_map, map_of, name_values, names_in, no_assignment, packed, packed_tuple, placed, values_in}
 use Rattle.py_expr.proofs.Keeping.{Keeps, CalleeKeeps, constant_keeps, count_keeps, either_keeps, name_keeps, then_keeps}
 use Rattle.py_expr.proofs.KeptDisplays.{ElementsKeep, TurnsKeep, append_keep, bare_keep, built_keeps, groups_keep, idle_keeps, turn_keeps}
 use Rattle.py_expr.proofs.KeptTargets.{debug_keeps}

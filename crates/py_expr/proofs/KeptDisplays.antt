@@ -4,9 +4,9 @@ use Rattle.py_bytecode.specs.declared.instruction.Instruction.{Instruction}
 use Rattle.py_bytecode.specs.declared.instruction.Instruction.TheVariants as op
 use Rattle.py_bytecode.specs.Objects as const
 use Rattle.py_bytecode.specs.Objects.{Const}
-use Rattle.py_meaning.specs.Elements.{Element, Single, Spread, starred, bare, grouped, groups, pairs, keyed, unkeyed, sides}
-use Rattle.py_meaning.specs.Emitting.{Next, emit, emit_count}
-use Rattle.py_meaning.specs.EmissionParts.{Emissions, built, dict_value, display, elements, in_turn, joined_value, slice_step, slice_value, unpacked, updates, value_or, values}
+use Rattle.py_forms.specs.Elements.{Element, Single, Spread, starred, bare, grouped, groups, pairs, keyed, unkeyed, sides}
+use Rattle.py_forms.specs.Emitting.{Next, emit, emit_count}
+use Rattle.py_forms.specs.EmissionParts.{Emissions, built, dict_value, display, elements, in_turn, joined_value, slice_step, slice_value, unpacked, updates, value_or, values}
 use Rattle.py_expr.proofs.Keeping.{Keeps, ElementKeeps, AllKeep, constant_keeps, count_keeps, either_keeps, emit_keeps, then_keeps}
 
 -- nothing is emitted

@@ -3,12 +3,12 @@ use Rattle.std.proofs.Common.{ℕ, ◌+◌, ◌*◌, List, length}
 use Rattle.std.specs.Prelude.{nat_eq, if◌then◌else◌}
 use Rattle.py_base.specs.declared.location.SourceLocation.{SourceLocation}
 use Rattle.py_bytecode.specs.declared.instruction.Instruction.TheVariants as op
-use Rattle.py_meaning.specs.Elements.{Element, after_star, bare, before_star, stars}
-use Rattle.py_meaning.specs.TableParts.{is_debug}
-use Rattle.py_meaning.specs.declared.errors.CodegenErrorType.{CodegenErrorType}
-use Rattle.py_meaning.specs.declared.errors.CodegenErrorType.TheVariants as error
-use Rattle.py_meaning.specs.Emitting.{Next, emit, emit_count, move, refuse}
-use Rattle.py_meaning.specs.EmissionParts.{Stores, few_aside, in_turn, plain_store, unless_debug, unpack, unpack_starred}
+use Rattle.py_forms.specs.Elements.{Element, after_star, bare, before_star, stars}
+use Rattle.py_forms.specs.TableParts.{is_debug}
+use Rattle.py_forms.specs.declared.errors.CodegenErrorType.{CodegenErrorType}
+use Rattle.py_forms.specs.declared.errors.CodegenErrorType.TheVariants as error
+use Rattle.py_forms.specs.Emitting.{Next, emit, emit_count, move, refuse}
+use Rattle.py_forms.specs.EmissionParts.{Stores, few_aside, in_turn, plain_store, unless_debug, unpack, unpack_starred}
 use Rattle.py_emit.proofs.States.{never_refused}
 use Rattle.py_expr.proofs.Keeping.{Keeps, ElementKeeps, count_keeps, either_keeps, emit_keeps, moved_keeps, some_keeps, then_keeps}
 use Rattle.py_expr.proofs.KeptDisplays.{ElementsKeep, bare_keep, turn_keeps}

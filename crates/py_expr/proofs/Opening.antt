@@ -12,12 +12,12 @@ use Rattle.py_bytecode.specs.declared.instruction.Instruction.{Instruction}
 use Rattle.py_bytecode.specs.declared.instruction.Instruction.TheVariants as op
 use Rattle.py_bytecode.specs.Objects as const
 use Rattle.py_meaning.specs.Texts.{texts_of}
-use Rattle.py_meaning.specs.TableParts.{binary_case, constant_of, conversion_case, debug_constant, is_debug}
-use Rattle.py_meaning.specs.declared.errors.CodegenErrorType.{CodegenErrorType}
-use Rattle.py_meaning.specs.declared.errors.CodegenErrorType.TheVariants as error
-use Rattle.py_meaning.specs.Emitting.{State, Begin, with_step, with_block, located, Outcome, Done, Next, LoopBlocks, refuse, emit, emit_name, emit_constant, jump, begin, new_block}
-use Rattle.py_meaning.specs.EmissionParts.{Emissions, in_turn, values, elements, value_or, shorts, tests, bool_value, links, first_comparison, chain, none, only, choice, comparisons, emission_of_compare, lone_star, no_assignment, no_deletion, unless_debug, emission_of_name}
-use Rattle.py_meaning.specs.Emission.{opt_emission, opt_emissions, emission, emission_of_test, emissions, all_emissions, leave_loop, emission_of_stmt, emission_of_stmts, all_stores, stores, keyword_emissions, deletion_name, emission_of_assign, emission_of_annotation, emission_of_augment, emission_of_declared, emission_of_delete, emission_of_deletes}
+use Rattle.py_forms.specs.TableParts.{binary_case, constant_of, conversion_case, debug_constant, is_debug}
+use Rattle.py_forms.specs.declared.errors.CodegenErrorType.{CodegenErrorType}
+use Rattle.py_forms.specs.declared.errors.CodegenErrorType.TheVariants as error
+use Rattle.py_forms.specs.Emitting.{State, Begin, with_step, with_block, located, Outcome, Done, Next, LoopBlocks, refuse, emit, emit_name, emit_constant, jump, begin, new_block}
+use Rattle.py_forms.specs.EmissionParts.{Emissions, in_turn, values, elements, value_or, shorts, tests, bool_value, links, first_comparison, chain, only, choice, comparisons, emission_of_compare, lone_star, no_assignment, no_deletion, unless_debug, emission_of_name}
+use Rattle.py_meaning.specs.Emission.{opt_emission, opt_emissions, emission, emission_of_test, emissions, all_emissions, leave_loop, emission_of_stmt, emission_of_stmts, all_stores, stores, keyword_emissions, deletion_name, emission_of_assign, emission_of_annotation, emission_of_augment, emission_of_declared, emission_of_delete, emission_of_deletes, none}
 use Rattle.py_emit.specs.Steps.{IsOpen}
 use Rattle.py_emit.proofs.States.{never_refused}
 use Rattle.py_expr.proofs.Keeping.{From, Keeps, EachKeeps, AllKeep, grows_same, grows_block, grows_located, begun_other, still_open, emit_keeps, jump_keeps, begin_keeps, new_from, move_keeps, name_keeps, constant_keeps, either_keeps, ordinary_keeps, then_keeps, truth_keeps, shorts_keep, tests_keep, bool_test_keeps, bool_value_keeps, tested_keeps, moved_keeps, unary_keeps, comparison_keeps, links_keep}

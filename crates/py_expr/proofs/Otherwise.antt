@@ -16,9 +16,9 @@ use Rattle.py_tree.specs.declared.expressions.ExprName.{ExprName}
 use Rattle.py_tree.specs.declared.expressions.ExprStarredOf.{ExprStarredOf}
 use Rattle.py_tree.specs.declared.expressions.ExprUnaryOpOf.{ExprUnaryOpOf}
 use Rattle.py_bytecode.specs.declared.instruction.Instruction.TheVariants as op
-use Rattle.py_meaning.specs.Elements.{Single, Function}
-use Rattle.py_meaning.specs.Emitting.{Next, emit, jump}
-use Rattle.py_meaning.specs.EmissionParts.{testing_jump}
+use Rattle.py_forms.specs.Elements.{Single, Function}
+use Rattle.py_forms.specs.Emitting.{Next, emit, jump}
+use Rattle.py_forms.specs.EmissionParts.{testing_jump}
 use Rattle.py_meaning.specs.Emission.{emission, emission_of_return, emission_of_test, emissions}
 
 pub as_layer : (x : Expr) → expr_tree x ≡ expr_layer expr_tree (out-Expr x)

@@ -6,9 +6,9 @@ use Rattle.std.proofs.lemmas.List.{length-drop}
 use Rattle.py_tree.specs.declared.expressions.Expr.{Expr}
 use Rattle.py_tree.specs.View.{expr_tree, opt_expr}
 use Rattle.py_bytecode.specs.declared.instruction.Instruction.TheVariants as op
-use Rattle.py_meaning.specs.Elements.{keyed, sides, unkeyed}
-use Rattle.py_meaning.specs.Emitting.{Next, emit}
-use Rattle.py_meaning.specs.EmissionParts.{in_turn, updates}
+use Rattle.py_forms.specs.Elements.{keyed, sides, unkeyed}
+use Rattle.py_forms.specs.Emitting.{Next, emit}
+use Rattle.py_forms.specs.EmissionParts.{in_turn, updates}
 use Rattle.py_meaning.specs.Emission.{emission, emissions, opt_emission}
 use Rattle.py_expr.specs.Turns.{pairs_of}
 

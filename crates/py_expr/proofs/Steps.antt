@@ -4,14 +4,12 @@ use Rattle.std.specs.Bool.{IsTrue}
 use Rattle.std.specs.Prelude.{nat_eq}
 use Rattle.py_tree.specs.declared.expressions.Expr.{Expr}
 use Rattle.py_tree.specs.View.{expr_tree, exprs}
-use Rattle.py_meaning.specs.TableParts.{count}
 use Rattle.py_base.specs.declared.location.SourceLocation.{SourceLocation}
 use Rattle.py_tree.specs.declared.statements.Stmt.{Stmt}
 use Rattle.py_tree.specs.View.{stmt_tree, stmts}
-use Rattle.py_meaning.specs.declared.errors.CodegenErrorType.{CodegenErrorType}
-use Rattle.py_meaning.specs.Emitting.{Next, Refused, State, begin, located, move, new_block, refuse, with_block, with_step, Begin}
-use Rattle.py_meaning.specs.EmissionParts.{none}
-use Rattle.py_meaning.specs.Emission.{all_emissions}
+use Rattle.py_forms.specs.declared.errors.CodegenErrorType.{CodegenErrorType}
+use Rattle.py_forms.specs.Emitting.{Next, Refused, State, begin, located, move, new_block, refuse, with_block, with_step, Begin}
+use Rattle.py_meaning.specs.Emission.{all_emissions, none}
 
 pub move_goes : (at : SourceLocation) (k : Next) (s : State) → move at k s ≡ k (located at s)
 unfolding move
@@ -33,10 +31,6 @@ pub located_at : (at : SourceLocation) (s : State) → (located at s).location �
 unfolding located
 located_at at s = refl
 
-pub count_exprs : (xs : List Expr) → count (exprs expr_tree xs) ≡ length xs
-count_exprs [] = refl
-count_exprs (x ∷ xs) = ap suc (count_exprs xs)
-
 pub many_emissions : (l : ℕ) (xs : List Expr) → length (all_emissions l (exprs expr_tree xs)) ≡ length xs
 many_emissions l [] = refl
 many_emissions l (x ∷ xs) = ap suc (many_emissions l xs)
@@ -55,4 +49,4 @@ none_is [] false f g = let h = g refl in absurd cc
 none_is (x ∷ xs) true f g = let h = f refl in absurd cc
 none_is (x ∷ xs) false f g = refl
 
-pub ruleset steps = (move_goes, block_goes, begin_goes, refuse_goes, located_at, count_exprs, many_emissions, none_stmts)
+pub ruleset steps = (move_goes, block_goes, begin_goes, refuse_goes, located_at, many_emissions, none_stmts)

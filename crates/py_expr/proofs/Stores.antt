@@ -12,10 +12,10 @@ use Rattle.py_tree.specs.declared.expressions.Expr.TheOpen.{Expr-F}
 use Rattle.py_tree.specs.declared.expressions.Expr.TheViews.{roll-Expr, out-Expr, rolls-Starred}
 use Rattle.py_tree.specs.declared.expressions.ExprStarredOf.{ExprStarredOf}
 use Rattle.py_bytecode.specs.declared.instruction.Instruction.TheVariants as op
-use Rattle.py_meaning.specs.Elements.{Element, Single, Spread, after_star, bare, before_star, stars}
-use Rattle.py_meaning.specs.declared.errors.CodegenErrorType.TheVariants as error
-use Rattle.py_meaning.specs.Emitting.{Next, emit, emit_count, move, refuse}
-use Rattle.py_meaning.specs.EmissionParts.{few_aside, in_turn, unpack_starred}
+use Rattle.py_forms.specs.Elements.{Element, Single, Spread, after_star, bare, before_star, stars}
+use Rattle.py_forms.specs.declared.errors.CodegenErrorType.TheVariants as error
+use Rattle.py_forms.specs.Emitting.{Next, emit, emit_count, move, refuse}
+use Rattle.py_forms.specs.EmissionParts.{few_aside, in_turn, unpack_starred}
 use Rattle.py_meaning.specs.Emission.{all_stores, stores}
 use Rattle.py_expr.specs.Targets.{bare_of, unpacking}
 use Rattle.py_expr.specs.Turns.{is_spread}

@@ -11,10 +11,10 @@ use Rattle.py_tree.specs.Tree as tree
 use Rattle.py_tree.specs.View.{expr_tree, exprs}
 use Rattle.py_base.specs.declared.shapes.Malformed.{Malformed}
 use Rattle.py_base.specs.declared.shapes.Malformed.TheVariants as shape
-use Rattle.py_meaning.specs.declared.errors.CodegenErrorType.{CodegenErrorType}
-use Rattle.py_meaning.specs.declared.errors.CodegenErrorType.TheVariants as error
-use Rattle.py_meaning.specs.Emitting.{Next, State, Outcome, Refused, refuse}
-use Rattle.py_meaning.specs.EmissionParts.{Emissions, chain, comparisons, emission_of_compare, first_comparison, in_turn, links, shorts, some_test, past_tests, tests, values}
+use Rattle.py_forms.specs.declared.errors.CodegenErrorType.{CodegenErrorType}
+use Rattle.py_forms.specs.declared.errors.CodegenErrorType.TheVariants as error
+use Rattle.py_forms.specs.Emitting.{Next, State, Outcome, Refused, refuse}
+use Rattle.py_forms.specs.EmissionParts.{Emissions, chain, comparisons, emission_of_compare, first_comparison, in_turn, links, shorts, some_test, past_tests, tests, values}
 use Rattle.py_meaning.specs.Emission.{all_emissions, emission_of_test}
 use Rattle.py_emit.specs.States.{Goes, Rest, Same, placed_error}
 use Rattle.py_expr.specs.Turns.{linked, short}

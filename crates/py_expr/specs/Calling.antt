@@ -4,9 +4,9 @@ use Rattle.py_tree.specs.Tree as tree
 use Rattle.py_bytecode.specs.declared.instruction.Instruction.{Instruction}
 use Rattle.py_bytecode.specs.declared.instruction.Instruction.TheVariants as op
 use Rattle.py_bytecode.specs.Objects as const
-use Rattle.py_meaning.specs.Elements.{Element, Single, Spread, Callee, Function, Method, bare, groups, starred}
-use Rattle.py_meaning.specs.Emitting.{Next, emit_constant, emit_count, emit_name}
-use Rattle.py_meaning.specs.EmissionParts.{Keywords, built, checked, in_turn, joined_map, map_of, names_in, no_assignment, unless_debug, values_in}
+use Rattle.py_forms.specs.Elements.{Element, Single, Spread, Callee, Function, Method, bare, groups, starred}
+use Rattle.py_forms.specs.Emitting.{Next, emit_constant, emit_count, emit_name}
+use Rattle.py_forms.specs.EmissionParts.{Keywords, built, checked, in_turn, joined_map, map_of, names_in, no_assignment, unless_debug, values_in}
 use Rattle.py_meaning.specs.Emission.{emissions}
 use Rattle.py_expr.specs.declared.calls.CallType.{CallType}
 use Rattle.py_expr.specs.declared.calls.CallType.TheVariants as call

@@ -2,9 +2,9 @@
 use Rattle.std.specs.Prelude.{List, length, nat_eq, if◌then◌else◌}
 use Rattle.py_base.specs.declared.location.SourceLocation.{SourceLocation}
 use Rattle.py_bytecode.specs.declared.instruction.Instruction.TheVariants as op
-use Rattle.py_meaning.specs.Elements.{Element, Single, Spread, stars}
-use Rattle.py_meaning.specs.Emitting.{Next, emit_count}
-use Rattle.py_meaning.specs.EmissionParts.{unpack_starred}
+use Rattle.py_forms.specs.Elements.{Element, Single, Spread, stars}
+use Rattle.py_forms.specs.Emitting.{Next, emit_count}
+use Rattle.py_forms.specs.EmissionParts.{unpack_starred}
 
 -- the value of an element, starred or not
 abbrev pub bare_of : {A : Type 0} → Element A A → A

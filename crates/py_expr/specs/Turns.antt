@@ -6,10 +6,10 @@ use Rattle.py_tree.specs.declared.expressions.Expr.{Expr}
 use Rattle.py_base.specs.declared.operators.BoolOp.{BoolOp}
 use Rattle.py_base.specs.declared.operators.CmpOp.{CmpOp}
 use Rattle.py_bytecode.specs.declared.instruction.Instruction.TheVariants as op
-use Rattle.py_meaning.specs.Elements.{Element, Single, Spread, pairs}
-use Rattle.py_meaning.specs.TableParts.{deciding}
-use Rattle.py_meaning.specs.Emitting.{Next, emit_count, jump}
-use Rattle.py_meaning.specs.EmissionParts.{emission_of_comparison, emission_of_link, keeping_jump, values}
+use Rattle.py_forms.specs.Elements.{Element, Single, Spread, pairs}
+use Rattle.py_forms.specs.TableParts.{deciding}
+use Rattle.py_forms.specs.Emitting.{Next, emit_count, jump}
+use Rattle.py_forms.specs.EmissionParts.{emission_of_comparison, emission_of_link, keeping_jump, values}
 use Rattle.py_meaning.specs.Emission.{all_emissions, emission, opt_emissions}
 
 -- a value of `and` or `or`, with a jump to the end where more follow

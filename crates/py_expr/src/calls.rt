@@ -1,10 +1,10 @@
 //! Calls.
 ghost use Rattle.std.specs.Prelude.{◌≡◌, ◌+◌, ◌||◌, ℕ, false, length, IfErr, IfOk, OnOk, if◌then◌else◌};
 ghost use Rattle.py_tree.specs.View.{call_tree, expr_tree, exprs, keywords as keyword_trees};
-ghost use Rattle.py_meaning.specs.Emitting.{Next};
-ghost use Rattle.py_meaning.specs.EmissionParts.{elements, in_turn};
+ghost use Rattle.py_forms.specs.Emitting.{Next};
+ghost use Rattle.py_forms.specs.EmissionParts.{elements, in_turn};
 ghost use Rattle.py_meaning.specs.Emission.{all_emissions, emission, emissions, keyword_emissions};
-ghost use Rattle.py_meaning.specs.Elements.{bare, starred};
+ghost use Rattle.py_forms.specs.Elements.{bare, starred};
 ghost use Rattle.py_emit.specs.States.{Goes, IsStarved, Same, rest, state};
 ghost use Rattle.py_expr.specs.Calling.{argument_tuple, arguments, call_operand, called, callee_value, calling, function_call, is_method, keyworded, method_call, positional, taken, type_of};
 
@@ -13,7 +13,7 @@ use crate::expressions::{compile_expression, compile_expressions};
 use crate::keywords::{check_keywords, compile_keyword_map, compile_named_values, has_double_star};
 use py_bytecode::Instruction;
 use py_emit::{Emitter, refuse};
-use py_meaning::{CodegenError, CodegenErrorType};
+use py_forms::{CodegenError, CodegenErrorType};
 use py_tree::{Expr, ExprCall, Exprs, Keyword, List};
 
 /// What a call takes.

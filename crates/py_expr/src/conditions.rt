@@ -1,9 +1,9 @@
 //! Tests, and the values of `and` and `or`.
 ghost use Rattle.std.specs.Prelude.{◌≡◌, ◌<◌, if◌then◌else◌};
 ghost use Rattle.py_tree.specs.View.{bool_op_tree, expr_tree, exprs, unary_op_tree};
-ghost use Rattle.py_meaning.specs.TableParts.{deciding};
-ghost use Rattle.py_meaning.specs.Emitting.{Next, jump as jumping};
-ghost use Rattle.py_meaning.specs.EmissionParts.{bool_test, bool_value, keeping_jump, past_tests, shorts, some_test, some_values, testing_jump, tests, values};
+ghost use Rattle.py_forms.specs.TableParts.{deciding};
+ghost use Rattle.py_forms.specs.Emitting.{Next, jump as jumping};
+ghost use Rattle.py_forms.specs.EmissionParts.{bool_test, bool_value, keeping_jump, past_tests, shorts, some_test, some_values, testing_jump, tests, values};
 ghost use Rattle.py_meaning.specs.Emission.{all_emissions, emission, emission_of_test};
 ghost use Rattle.py_emit.specs.States.{Goes, Same, rest, state};
 ghost use Rattle.py_expr.specs.Turns.{short};
@@ -11,8 +11,8 @@ ghost use Rattle.py_expr.specs.Turns.{short};
 use crate::expressions::{compile_expression, compile_unary_op};
 use py_bytecode::Instruction;
 use py_emit::{Emitter, emit, refuse};
+use py_forms::{CodegenError, CodegenErrorType};
 use py_ir::BlockIdx;
-use py_meaning::{CodegenError, CodegenErrorType};
 use py_tree::{BoolOp, Expr, ExprBoolOp, ExprUnaryOp, Malformed, UnaryOp};
 
 /// Where a test jumps: to the block, where the truth is this.

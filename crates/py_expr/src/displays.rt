@@ -2,9 +2,9 @@
 ghost use Rattle.std.specs.Prelude.{◌≡◌, ◌≤◌, ◌⊎◌, length, IfOk};
 ghost use Rattle.py_tree.specs.View.{dict_tree, expr_tree, exprs, list_tree, opt_box, opt_exprs, set_tree, slice_tree, tuple_tree};
 ghost use Rattle.py_bytecode.specs.Objects as object;
-ghost use Rattle.py_meaning.specs.Elements.{keyed, pairs, sides, unkeyed};
-ghost use Rattle.py_meaning.specs.Emitting.{Next, emit as emitting};
-ghost use Rattle.py_meaning.specs.EmissionParts.{display, elements, in_turn, slice_step, updates, value_or, values};
+ghost use Rattle.py_forms.specs.Elements.{keyed, pairs, sides, unkeyed};
+ghost use Rattle.py_forms.specs.Emitting.{Next, emit as emitting};
+ghost use Rattle.py_forms.specs.EmissionParts.{display, elements, in_turn, slice_step, updates, value_or, values};
 ghost use Rattle.py_meaning.specs.Emission.{all_emissions, emission, opt_emission, opt_emissions};
 ghost use Rattle.py_emit.specs.States.{Goes, Same, rest, state};
 
@@ -12,7 +12,7 @@ use crate::elements::{compile_unpacked, has_star};
 use crate::expressions::{compile_expression, compile_expressions};
 use py_bytecode::{ConstantData, Instruction};
 use py_emit::{Emitter, emit};
-use py_meaning::CodegenError;
+use py_forms::CodegenError;
 use py_tree::{Expr, ExprDict, ExprList, ExprSet, ExprSlice, ExprTuple};
 
 #[cycle(code)]

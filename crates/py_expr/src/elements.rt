@@ -1,9 +1,9 @@
 //! Elements, some of which may be starred.
 ghost use Rattle.std.specs.Prelude.{◌≡◌, ◌<◌, ℕ, [], length, IfOk};
 ghost use Rattle.py_tree.specs.View.{expr_tree, exprs};
-ghost use Rattle.py_meaning.specs.Elements.{groups, starred};
-ghost use Rattle.py_meaning.specs.Emitting.{Next};
-ghost use Rattle.py_meaning.specs.EmissionParts.{built, elements, in_turn, unpacked};
+ghost use Rattle.py_forms.specs.Elements.{groups, starred};
+ghost use Rattle.py_forms.specs.Emitting.{Next};
+ghost use Rattle.py_forms.specs.EmissionParts.{built, elements, in_turn, unpacked};
 ghost use Rattle.py_meaning.specs.Emission.{all_emissions, emissions, stores};
 ghost use Rattle.py_emit.specs.States.{Goes, Same, rest, state};
 ghost use Rattle.py_expr.specs.Turns.{is_spread, groups_by, element_behind, run_behind, runs, closed};
@@ -11,7 +11,7 @@ ghost use Rattle.py_expr.specs.Turns.{is_spread, groups_by, element_behind, run_
 use crate::expressions::compile_expression;
 use py_bytecode::Instruction;
 use py_emit::Emitter;
-use py_meaning::CodegenError;
+use py_forms::CodegenError;
 use py_tree::Expr;
 
 /// Whether an element is starred.

@@ -1,8 +1,8 @@
 //! The expressions that open no scope.
 ghost use Rattle.std.specs.Prelude.{◌≡◌};
 ghost use Rattle.py_tree.specs.View.{attribute_tree, bin_op_tree, expr_tree, exprs, if_exp_tree, name_tree, starred_tree, subscript_tree, unary_op_tree};
-ghost use Rattle.py_meaning.specs.TableParts.{binary_case, unary_case};
-ghost use Rattle.py_meaning.specs.Emitting.{Next};
+ghost use Rattle.py_forms.specs.TableParts.{binary_case, unary_case};
+ghost use Rattle.py_forms.specs.Emitting.{Next};
 ghost use Rattle.py_meaning.specs.Emission.{emission, emission_of_exprs};
 ghost use Rattle.py_emit.specs.States.{Goes, Same, rest, state};
 
@@ -14,7 +14,7 @@ use crate::targets::compile_named_expr;
 use crate::texts::{compile_constant, compile_formatted_value, compile_joined_str};
 use py_bytecode::Instruction;
 use py_emit::{Emitter, NameUsage, emit, refuse};
-use py_meaning::{CodegenError, CodegenErrorType};
+use py_forms::{CodegenError, CodegenErrorType};
 use py_tree::{
     Expr, ExprAttribute, ExprBinOp, ExprIfExp, ExprName, ExprStarred, ExprSubscript, ExprUnaryOp,
     Operator, UnaryOp,

@@ -3,9 +3,9 @@ ghost use Rattle.std.specs.Prelude.{◌≡◌, ◌<◌, ℕ, [], length, IfErr, 
 ghost use Rattle.py_tree.specs.View.{expr_tree, keywords as keyword_trees};
 ghost use Rattle.py_bytecode.specs.View.{constant};
 ghost use Rattle.py_bytecode.specs.Objects.{str, tuple};
-ghost use Rattle.py_meaning.specs.Elements.{groups, starred};
-ghost use Rattle.py_meaning.specs.Emitting.{Next, emit_constant};
-ghost use Rattle.py_meaning.specs.EmissionParts.{checked, in_turn, joined_map, map_of, names_in, no_assignment, unless_debug, values_in};
+ghost use Rattle.py_forms.specs.Elements.{groups, starred};
+ghost use Rattle.py_forms.specs.Emitting.{Next, emit_constant};
+ghost use Rattle.py_forms.specs.EmissionParts.{checked, in_turn, joined_map, map_of, names_in, no_assignment, unless_debug, values_in};
 ghost use Rattle.py_meaning.specs.Emission.{emission, keyword_emissions};
 ghost use Rattle.py_emit.specs.States.{Goes, IsStarved, Same, rest, state};
 ghost use Rattle.py_expr.specs.Calling.{checked_name, closed_map, keyword_behind, keyword_emission, named_if_any, named_values};
@@ -15,7 +15,7 @@ use crate::expressions::compile_expression;
 use crate::texts::str_data;
 use py_bytecode::{ConstantData, Instruction};
 use py_emit::{Emitter, is_debug, refuse};
-use py_meaning::{CodegenError, CodegenErrorType};
+use py_forms::{CodegenError, CodegenErrorType};
 use py_tree::{Keyword, List, Text};
 use std::alloc::{AllocError, Global};
 

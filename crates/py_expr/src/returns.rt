@@ -2,8 +2,8 @@
 ghost use Rattle.std.specs.Prelude.{ℕ};
 ghost use Rattle.py_tree.specs.View.{constant_tree, expr_tree, exprs, joined_str_tree, name_tree};
 ghost use Rattle.py_meaning.specs.Texts.{texts_of};
-ghost use Rattle.py_meaning.specs.Emitting.{Next, emit as emitting};
-ghost use Rattle.py_meaning.specs.EmissionParts.{values};
+ghost use Rattle.py_forms.specs.Emitting.{Next, emit as emitting};
+ghost use Rattle.py_forms.specs.EmissionParts.{values};
 ghost use Rattle.py_meaning.specs.Emission.{all_emissions, emission, emission_of_return, joined_return};
 ghost use Rattle.py_emit.specs.States.{Goes, Same, rest, state};
 
@@ -11,7 +11,7 @@ use crate::expressions::compile_expression;
 use crate::texts::{compile_parts, copied_constant, whole_text};
 use py_bytecode::{ConstantData, Instruction};
 use py_emit::{Emitter, NameUsage, debug_constant, emit, is_debug};
-use py_meaning::CodegenError;
+use py_forms::CodegenError;
 use py_tree::{Expr, ExprConstant, ExprJoinedStr, ExprName};
 
 /// Emits the code that returns an expression's value: a constant by one instruction.

@@ -3,9 +3,9 @@
 ghost use Rattle.std.specs.Prelude.{◌≡◌, ◌<◌, ◌≢◌, ℕ, length};
 ghost use Rattle.py_tree.specs.View.{attribute_tree, expr_tree, exprs, named_expr_tree, subscript_tree};
 ghost use Rattle.py_tree.specs.PythonName.{python_name};
-ghost use Rattle.py_meaning.specs.Elements.{after_star, bare, before_star, stars};
-ghost use Rattle.py_meaning.specs.Emitting.{Next, Refused, emit_name, refuse, emit as emitting};
-ghost use Rattle.py_meaning.specs.EmissionParts.{in_turn, lone_star, unless_debug, unpack, unpack_starred};
+ghost use Rattle.py_forms.specs.Elements.{after_star, bare, before_star, stars};
+ghost use Rattle.py_forms.specs.Emitting.{Next, Refused, emit_name, refuse, emit as emitting};
+ghost use Rattle.py_forms.specs.EmissionParts.{in_turn, lone_star, unless_debug, unpack, unpack_starred};
 ghost use Rattle.py_meaning.specs.Emission.{all_stores, deletion_name, emission, emission_of_delete, emission_of_deletes, emission_of_store, stores};
 ghost use Rattle.py_emit.specs.States.{Goes, Same, rest, state};
 ghost use Rattle.py_expr.specs.Targets.{bare_of, unpacking};
@@ -14,7 +14,7 @@ use crate::elements::is_star;
 use crate::expressions::compile_expression;
 use py_bytecode::Instruction;
 use py_emit::{Emitter, NameUsage, emit, is_debug, refuse};
-use py_meaning::{CodegenError, CodegenErrorType};
+use py_forms::{CodegenError, CodegenErrorType};
 use py_tree::{Expr, ExprAttribute, ExprNamedExpr, ExprSubscript, SourceLocation};
 
 /// The most targets that stand on one side of a star.

@@ -4,9 +4,9 @@ ghost use Rattle.py_tree.specs.View.{constant_tree, expr_tree, exprs, formatted_
 ghost use Rattle.py_bytecode.specs.View.{constant};
 ghost use Rattle.py_bytecode.specs.Objects as object;
 ghost use Rattle.py_meaning.specs.Texts.{text_in, text_of, texts_of};
-ghost use Rattle.py_meaning.specs.TableParts.{constants_of, conversion_case, constant_of as literal_constant};
-ghost use Rattle.py_meaning.specs.Emitting.{Next};
-ghost use Rattle.py_meaning.specs.EmissionParts.{built, joined_value, value_or, values};
+ghost use Rattle.py_forms.specs.TableParts.{constants_of, conversion_case, constant_of as literal_constant};
+ghost use Rattle.py_forms.specs.Emitting.{Next};
+ghost use Rattle.py_forms.specs.EmissionParts.{built, joined_value, value_or, values};
 ghost use Rattle.py_meaning.specs.Emission.{all_emissions, emission, opt_emission};
 ghost use Rattle.py_emit.specs.States.{Goes, IsStarved, Same, rest, state};
 ghost use Rattle.py_expr.specs.Appending.{Appended};
@@ -14,7 +14,7 @@ ghost use Rattle.py_expr.specs.Appending.{Appended};
 use crate::expressions::{compile_expression, compile_expressions};
 use py_bytecode::{ConstantData, Instruction};
 use py_emit::{Emitter, emit, refuse};
-use py_meaning::{CodegenError, CodegenErrorType};
+use py_forms::{CodegenError, CodegenErrorType};
 use py_tree::{
     Constant, ConversionFlag, Expr, ExprConstant, ExprFormattedValue, ExprJoinedStr, List, Text,
 };

@@ -8,14 +8,18 @@ use Rattle.py_bytecode.specs.declared.instruction.Instruction.{Instruction}
 use Rattle.py_bytecode.specs.declared.instruction.Instruction.TheVariants as op
 use Rattle.py_bytecode.specs.Objects as const
 use Rattle.py_bytecode.specs.Objects.{Const, Consts, no_consts, more_consts}
-use Rattle.py_meaning.specs.declared.errors.CodegenErrorType.{CodegenErrorType}
-use Rattle.py_meaning.specs.declared.errors.CodegenErrorType.TheVariants as error
-use Rattle.py_meaning.specs.Elements.{Element, Single, Spread, Function, Method, pairs}
+use Rattle.py_forms.specs.declared.errors.CodegenErrorType.{CodegenErrorType}
+use Rattle.py_forms.specs.declared.errors.CodegenErrorType.TheVariants as error
+use Rattle.py_forms.specs.Elements.{Element, Single, Spread, Function, Method, pairs}
 use Rattle.py_meaning.specs.Texts.{after_doc, doc_of, texts_of}
-use Rattle.py_meaning.specs.TableParts.{binary_case, conversion_case, constant_of, is_debug, debug_constant}
+use Rattle.py_forms.specs.TableParts.{binary_case, conversion_case, constant_of, is_debug, debug_constant}
 use Rattle.py_meaning.specs.Table.{annotated}
-use Rattle.py_meaning.specs.Emitting.{Done, LoopBlocks, Next, Outcome, begin, emit, emit_constant, emit_name, jump, move, new_block, nothing, refuse}
-use Rattle.py_meaning.specs.EmissionParts.{Emissions, Keywords, Stores, bool_emissions, built, choice, dict_value, display, elements, emission_of_call, emission_of_compare, emission_of_name, in_turn, joined_value, lone_star, no_assignment, no_deletion, none, only, plain_store, slice_value, tested, truth_of, unary_emissions, unless_debug, unpack, value_or, values}
+use Rattle.py_forms.specs.Emitting.{Done, LoopBlocks, Next, Outcome, begin, emit, emit_constant, emit_name, jump, move, new_block, nothing, refuse}
+use Rattle.py_forms.specs.EmissionParts.{Emissions, Keywords, Stores, bool_emissions, built, choice, dict_value, display, elements, emission_of_call, emission_of_compare, emission_of_name, in_turn, joined_value, lone_star, no_assignment, no_deletion, only, plain_store, slice_value, tested, truth_of, unary_emissions, unless_debug, unpack, value_or, values}
+
+abbrev pub none : tree.Stmts → Bool
+none tree.no_stmts = true
+none (tree.more_stmts s ss) = false
 
 abbrev mutual
   pub emissions : (level : ℕ) → tree.Expr → Emissions

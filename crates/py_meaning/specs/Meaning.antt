@@ -3,8 +3,8 @@ use Rattle.std.specs.Prelude.{ℕ, List, []}
 use Rattle.py_tree.specs.Tree as tree
 use Rattle.py_tree.specs.declared.modules.Mode.{Mode}
 use Rattle.py_bytecode.specs.Values.{Answer, Usage, Kind, Fast, ByName, Global, Ran}
-use Rattle.py_meaning.specs.Form.{Fixed, Resolved, FixedByName, FixedGlobal, FixedFast, Head, SReturn, Scope, MkScope}
-use Rattle.py_meaning.specs.Agree.{plainly, meaning_by}
+use Rattle.py_forms.specs.Form.{Fixed, Resolved, FixedByName, FixedGlobal, FixedFast, Head, SReturn, Scope, MkScope}
+use Rattle.py_forms.specs.Agree.{plainly, meaning_by}
 use Rattle.py_meaning.specs.Table.{expr_form, program_form}
 
 -- outside functions a name is looked up by name, unless the form fixes it

@@ -10,14 +10,14 @@ use Rattle.py_walks.specs.declared.info.InstructionInfo.{InstructionInfo}
 use Rattle.py_walks.specs.Flow.{flow_of}
 use Rattle.py_walks.specs.Flat.{look_at, fetch_at, sees, decoded}
 use Rattle.py_walks.proofs.Rows.{RowIs, row_is}
-use Rattle.py_meaning.specs.Code.{Item, Do, Label, body_code}
-use Rattle.py_meaning.specs.Live.{live}
-use Rattle.py_meaning.specs.Agree.{exactly, form_of}
-use Rattle.py_meaning.proofs.Moves.{Stands}
-use Rattle.py_meaning.proofs.Reach.{Ground}
-use Rattle.py_meaning.proofs.Assembly.{simulated, simulated_at, fuel_covers}
-use Rattle.py_meaning.proofs.Labels.{once}
-use Rattle.py_meaning.proofs.DecodeAt.{option_at, decode_at}
+use Rattle.py_forms.specs.Code.{Item, Do, Label, body_code}
+use Rattle.py_forms.specs.Live.{live}
+use Rattle.py_forms.specs.Agree.{exactly, form_of}
+use Rattle.py_forms.proofs.Moves.{Stands}
+use Rattle.py_forms.proofs.Reach.{Ground}
+use Rattle.py_forms.proofs.Assembly.{simulated, simulated_at, fuel_covers}
+use Rattle.py_forms.proofs.Labels.{once}
+use Rattle.py_forms.proofs.DecodeAt.{option_at, decode_at}
 use Rattle.py_sound.proofs.Standing.{flow_at_places}
 use Rattle.py_sound.specs.Sound.{seen_as, Sees}
 use Rattle.py_sound.specs.Flat.{Lies, FlatRuns, FlatIsSound}

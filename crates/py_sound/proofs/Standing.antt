@@ -3,9 +3,9 @@ use Rattle.std.proofs.Common.{◌≡◌, List, [], ◌∷◌, Some, refl, ap, �
 use Rattle.py_bytecode.specs.Machine.{Instr, Push, Access, Operate, MakeFunction, Import, Append, Unpack, Nop, Pop, Rotate2, Rotate3, Duplicate, Duplicate2, JumpIf, JumpIfOrPop, Jump, SetupLoop, PopBlock, Break, Continue, ReturnValue, ReturnConst, SetupExcept, SetupFinally, PopException, EnterFinally, EndFinally, Reraise, ForIter, SetupWith, WithCleanupStart, WithCleanupFinish, at_places}
 use Rattle.py_walks.specs.Flow.{flow_of, target_of}
 use Rattle.py_walks.specs.Walks.{seen}
-use Rattle.py_meaning.specs.Code.{Item, Do, Label}
-use Rattle.py_meaning.proofs.Moves.{Stands}
-use Rattle.py_meaning.proofs.Reach.{Ground}
+use Rattle.py_forms.specs.Code.{Item, Do, Label}
+use Rattle.py_forms.proofs.Moves.{Stands}
+use Rattle.py_forms.proofs.Reach.{Ground}
 use Rattle.py_sound.specs.Sound.{Sees}
 
 -- the flow of an instruction has no places

@@ -4,12 +4,12 @@ use Rattle.py_bytecode.specs.Objects.{Object}
 use Rattle.py_bytecode.specs.Decode.{Tables}
 use Rattle.py_bytecode.specs.Blocks.{Block, Place, Of, settled, fetch_block}
 use Rattle.py_walks.specs.Walks.{seen, Sound}
-use Rattle.py_meaning.specs.Form.{Scope}
-use Rattle.py_meaning.specs.Code.{labels, body_code}
-use Rattle.py_meaning.specs.Blocks.{Lies, Laid, Ends}
-use Rattle.py_meaning.specs.Walks.{rises}
-use Rattle.py_meaning.specs.Looped.{Looped}
-use Rattle.py_meaning.specs.Agree.{exactly, form_of}
+use Rattle.py_forms.specs.Form.{Scope}
+use Rattle.py_forms.specs.Code.{labels, body_code}
+use Rattle.py_forms.specs.Blocks.{Lies, Laid, Ends}
+use Rattle.py_forms.specs.Walks.{rises}
+use Rattle.py_forms.specs.Looped.{Looped}
+use Rattle.py_forms.specs.Agree.{exactly, form_of}
 
 -- no walk over blocks in which the whole code of a scope lies is refused, where the limit is above what its instructions give
 abbrev pub BlocksAreSound : Type 0

@@ -7,12 +7,12 @@ use Rattle.py_bytecode.specs.Decode.{Tables, instr_of}
 use Rattle.py_walks.specs.declared.info.InstructionInfo.{InstructionInfo}
 use Rattle.py_walks.specs.Walks.{Sound}
 use Rattle.py_walks.specs.Flat.{look_at, fetch_at}
-use Rattle.py_meaning.specs.Form.{Scope}
-use Rattle.py_meaning.specs.Code.{Item, Do, Label, body_code}
-use Rattle.py_meaning.specs.Live.{live}
-use Rattle.py_meaning.specs.Walks.{rises}
-use Rattle.py_meaning.specs.Looped.{Looped}
-use Rattle.py_meaning.specs.Agree.{exactly, form_of, runs_code}
+use Rattle.py_forms.specs.Form.{Scope}
+use Rattle.py_forms.specs.Code.{Item, Do, Label, body_code}
+use Rattle.py_forms.specs.Live.{live}
+use Rattle.py_forms.specs.Walks.{rises}
+use Rattle.py_forms.specs.Looped.{Looped}
+use Rattle.py_forms.specs.Agree.{exactly, form_of, runs_code}
 
 -- The items lie in the list from one place to another: the instructions decode from its entries one after another, where a jump names a
 -- block by its number, and where a label is placed the block of that number starts.

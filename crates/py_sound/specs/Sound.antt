@@ -4,11 +4,11 @@ use Rattle.py_bytecode.specs.Objects.{Object}
 use Rattle.py_bytecode.specs.Machine.{Instr, at_places}
 use Rattle.py_walks.specs.Flow.{flow_of, target_of}
 use Rattle.py_walks.specs.Walks.{Seen, Sound}
-use Rattle.py_meaning.specs.Form.{Scope}
-use Rattle.py_meaning.specs.Code.{Item, Do, Label, body_code}
-use Rattle.py_meaning.specs.Walks.{rises}
-use Rattle.py_meaning.specs.Looped.{Looped}
-use Rattle.py_meaning.specs.Agree.{exactly, form_of}
+use Rattle.py_forms.specs.Form.{Scope}
+use Rattle.py_forms.specs.Code.{Item, Do, Label, body_code}
+use Rattle.py_forms.specs.Walks.{rises}
+use Rattle.py_forms.specs.Looped.{Looped}
+use Rattle.py_forms.specs.Agree.{exactly, form_of}
 
 -- what is seen of an instruction before this place, where labels are at places
 abbrev pub seen_as : {K P : Type 0} → (ℕ → P) → Instr K ℕ → P → Seen P

@@ -4,10 +4,10 @@ use Rattle.py_tree.specs.Tree as tree
 use Rattle.py_base.specs.declared.location.SourceLocation.{SourceLocation}
 use Rattle.py_bytecode.specs.View.{object}
 use Rattle.py_bytecode.specs.declared.code.CodeObject.{CodeObject}
-use Rattle.py_meaning.specs.Agreement.{Agree}
+use Rattle.py_forms.specs.Agreement.{Agree}
 use Rattle.py_meaning.specs.Meaning.{body}
-use Rattle.py_meaning.specs.Messages.{message}
-use Rattle.py_meaning.specs.declared.errors.CodegenErrorType.TheVariants as error
+use Rattle.py_forms.specs.Messages.{message}
+use Rattle.py_forms.specs.declared.errors.CodegenErrorType.TheVariants as error
 use Rattle.py_rows.specs.declared.error.RowsError.{RowsError}
 use Rattle.py_rows.specs.declared.error.RowsError.TheVariants.{NotJson, NotRows, NotBuilt, WrongRow, WideInteger, LaterRow, WrongKind, NamedTwice, TooDeep, NoMod, NotNamed, OutOfMemory}
 use Rattle.py_rows.specs.Rows.{rows_tree}

@@ -1,7 +1,7 @@
 ghost use Rattle.std.specs.Prelude.{◌≡◌, ◌++◌, IfOk, OnOk, string_bytes, codes};
 ghost use Rattle.pyc.specs.Statuses.{input_line, place_text, refusal_line, rows_text};
 
-use py_meaning::CodegenErrorType;
+use py_forms::CodegenErrorType;
 use py_rows::RowsError;
 use py_tree::SourceLocation;
 use std::alloc::{AllocError, Global};

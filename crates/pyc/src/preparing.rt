@@ -12,7 +12,7 @@ use crate::words::{Command, Words, parse};
 use codegen::CompileOpts;
 use codegen::compile::compile_top;
 use py_bytecode::{CodeObject, listing};
-use py_meaning::CodegenErrorType;
+use py_forms::CodegenErrorType;
 use py_rows::{RowsError, read_rows};
 use py_tree::{Mod, SourceLocation};
 use std::alloc::Global;

@@ -6,17 +6,17 @@ use Rattle.std.proofs.Common.{arith, rules, ◌≢◌, get_or, Bool, false, ◌<
 use Rattle.std.specs.Prelude.{nat_eq, nat_lt}
 use Rattle.py_bytecode.specs.declared.instruction.Instruction.TheVariants as op
 use Rattle.py_base.specs.declared.operators.CmpOp.TheVariants as comparison
-use Rattle.py_meaning.specs.TableParts.{deciding}
+use Rattle.py_forms.specs.TableParts.{deciding}
 use Rattle.py_tree.proofs.View.{tree_Constant}
 use Rattle.py_tree.specs.View.{expr_tree, exprs}
-use Rattle.py_meaning.specs.Emitting.{Next, Refused, emit, emit_count}
-use Rattle.py_meaning.specs.EmissionParts.{elements, in_turn, links, shorts, some_test, some_values, tests, updates, values}
+use Rattle.py_forms.specs.Emitting.{Next, Refused, emit, emit_count}
+use Rattle.py_forms.specs.EmissionParts.{elements, in_turn, links, shorts, some_test, some_values, tests, updates, values}
 use Rattle.py_meaning.specs.Emission.{all_emissions, emission, emission_of_test, emissions}
-use Rattle.py_meaning.specs.declared.errors.CodegenErrorType.TheVariants as error
+use Rattle.py_forms.specs.declared.errors.CodegenErrorType.TheVariants as error
 use Rattle.py_emit.specs.States.{Rest, rest, state}
 use Rattle.py_expr.specs.Calling.{callee_value, is_method}
 use Rattle.py_expr.specs.Turns.{element_behind, group_count, group_rest, groups_by, linked, run_behind, short}
-use Rattle.py_meaning.specs.Elements.{Callee, Element, keyed, sides, unkeyed}
+use Rattle.py_forms.specs.Elements.{Callee, Element, keyed, sides, unkeyed}
 use Rattle.py_tree.specs.declared.expressions.Expr.{Expr}
 use Rattle.py_emit.specs.declared.emitter.Emitter.{Emitter}
 use Rattle.py_expr.proofs.+code.Answers.CallSteps.{call_goes, named_goes, plain_goes, positional_plain, tuple_plain, type_taken}

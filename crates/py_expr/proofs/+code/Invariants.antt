@@ -1,9 +1,9 @@
 use Rattle.std.proofs.Common.{◌≡◌, ◌≤◌, ◌+◌, ◌*◌, [], drop, length}
 use Rattle.py_bytecode.specs.declared.instruction.Instruction.TheVariants as op
 use Rattle.py_tree.specs.View.{expr_tree, exprs, keywords}
-use Rattle.py_meaning.specs.Elements.{bare, groups, keyed, sides, unkeyed}
-use Rattle.py_meaning.specs.Emitting.{Next}
-use Rattle.py_meaning.specs.EmissionParts.{map_of, values_in, built, elements, in_turn, links, shorts, tests, updates}
+use Rattle.py_forms.specs.Elements.{bare, groups, keyed, sides, unkeyed}
+use Rattle.py_forms.specs.Emitting.{Next}
+use Rattle.py_forms.specs.EmissionParts.{map_of, values_in, built, elements, in_turn, links, shorts, tests, updates}
 use Rattle.py_meaning.specs.Emission.{all_emissions, all_stores, keyword_emissions, emission_of_exprs}
 use Rattle.py_emit.specs.States.{rest, state}
 use Rattle.py_expr.specs.Calling.{map_rest}

@@ -1,8 +1,8 @@
 use Rattle.std.proofs.Common.{◌≡◌, ◌≢◌, ◌+◌, ◌∙◌, Err, drop, length, refl, ap, subst, sym}
 use Rattle.std.specs.Prelude.{nat_lt}
 use Rattle.py_tree.specs.View.{expr_tree, exprs}
-use Rattle.py_meaning.specs.Emitting.{Next, Refused}
-use Rattle.py_meaning.specs.declared.errors.CodegenErrorType.TheVariants as error
+use Rattle.py_forms.specs.Emitting.{Next, Refused}
+use Rattle.py_forms.specs.declared.errors.CodegenErrorType.TheVariants as error
 use Rattle.py_emit.specs.States.{Rest, rest, state}
 use Rattle.py_expr.proofs.Turns.{refused_shape, refuses_as, same_error}
 use Rattle.codegen.specs.Assigning.{assigned_to, assigned_to_all}

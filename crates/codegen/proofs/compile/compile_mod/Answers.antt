@@ -4,9 +4,9 @@ use Rattle.py_tree.specs.View.{mod_tree}
 use Rattle.py_base.specs.declared.location.LocatedError.{LocatedError}
 use Rattle.py_bytecode.specs.declared.code.CodeObject.{CodeObject}
 use Rattle.py_ir.specs.Final.{IsFinal}
-use Rattle.py_meaning.specs.Emitting.{Done}
+use Rattle.py_forms.specs.Emitting.{Done}
 use Rattle.py_meaning.specs.Emission.{emitted}
-use Rattle.py_meaning.specs.declared.errors.CodegenErrorType.{CodegenErrorType}
+use Rattle.py_forms.specs.declared.errors.CodegenErrorType.{CodegenErrorType}
 use Rattle.py_emit.specs.Emitted.{IsEmitted}
 use Rattle.py_emit.specs.States.{Rest, info, rest, state}
 use Rattle.codegen.specs.Compiled.{IsRefused}

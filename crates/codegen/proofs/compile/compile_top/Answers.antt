@@ -5,7 +5,7 @@ use Rattle.py_tree.specs.Size.{size_of}
 use Rattle.py_tree.specs.Nesting.{nesting}
 use Rattle.py_tree.specs.View.{mod_tree}
 use Rattle.py_bytecode.specs.View.{object}
-use Rattle.py_meaning.specs.Agreement.{Agree, AgreeFull}
+use Rattle.py_forms.specs.Agreement.{Agree, AgreeFull}
 use Rattle.py_meaning.specs.Emission.{emitted}
 use Rattle.py_meaning.specs.Faults.{faults}
 use Rattle.py_meaning.specs.Meaning.{body}

@@ -2,7 +2,7 @@ use Rattle.std.proofs.Common.{◌≡◌, None, ap, drop, subst, sym, ◌∙◌}
 use Rattle.py_tree.specs.View.{stmt_tree, stmts}
 use Rattle.py_bytecode.specs.declared.instruction.Instruction.TheVariants as op
 use Rattle.py_bytecode.specs.Objects.{none}
-use Rattle.py_meaning.specs.Emitting.{Done, emit_constant}
+use Rattle.py_forms.specs.Emitting.{Done, emit_constant}
 use Rattle.py_meaning.specs.Emission.{emission_of_stmts}
 use Rattle.py_emit.specs.States.{Goes, Rest, loop_blocks, rest, state}
 use Rattle.codegen.proofs.Files.{program_goes}

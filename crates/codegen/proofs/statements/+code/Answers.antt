@@ -2,8 +2,8 @@ use Rattle.std.proofs.Common.{rules, ◌∙◌, ℕ, Some, ap, false, subst, sym
 use Rattle.py_bytecode.specs.declared.instruction.Instruction.TheVariants as op
 use Rattle.py_tree.proofs.View.{tree_AnnAssign, tree_Assign, tree_AugAssign, tree_Delete, tree_Break, tree_Continue, tree_Pass, tree_StmtExpr}
 use Rattle.py_tree.specs.View.{expr_tree, stmt_tree, stmts}
-use Rattle.py_meaning.specs.Emitting.{Next, begin, emit, jump, new_block, located}
-use Rattle.py_meaning.specs.EmissionParts.{choice, only}
+use Rattle.py_forms.specs.Emitting.{Next, begin, emit, jump, new_block, located}
+use Rattle.py_forms.specs.EmissionParts.{choice, only}
 use Rattle.py_meaning.specs.Emission.{emission_of_stmts, emission_of_test}
 use Rattle.py_emit.specs.States.{Goes, Rest, Same, loop_blocks, rest, state}
 use Rattle.py_expr.proofs.Opening.{apart, begin_opens, block_opens, emit_opens, jump_opens, stmts_open, test_opens}

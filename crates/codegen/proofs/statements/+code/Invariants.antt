@@ -1,6 +1,6 @@
 use Rattle.std.proofs.Common.{◌≡◌, ◌+◌, ◌*◌, drop}
 use Rattle.py_tree.specs.View.{stmt_tree, stmts}
-use Rattle.py_meaning.specs.Emitting.{Next}
+use Rattle.py_forms.specs.Emitting.{Next}
 use Rattle.py_meaning.specs.Emission.{emission_of_stmts}
 use Rattle.py_emit.specs.States.{loop_blocks, rest, state}
 use Rattle.codegen.proofs.statements.+code.Given as goal

@@ -1,10 +1,10 @@
 use Rattle.std.proofs.Common.{◌≡◌, None, ◌∙◌, ap, sym}
 use Rattle.py_base.specs.declared.location.LocatedError.{LocatedError}
 use Rattle.py_bytecode.specs.declared.instruction.Instruction.TheVariants as op
-use Rattle.py_meaning.specs.Emitting.{located}
+use Rattle.py_forms.specs.Emitting.{located}
 use Rattle.py_meaning.specs.Emission.{leave_loop}
-use Rattle.py_meaning.specs.declared.errors.CodegenErrorType.{CodegenErrorType}
-use Rattle.py_meaning.specs.declared.errors.CodegenErrorType.TheVariants as error
+use Rattle.py_forms.specs.declared.errors.CodegenErrorType.{CodegenErrorType}
+use Rattle.py_forms.specs.declared.errors.CodegenErrorType.TheVariants as error
 use Rattle.py_emit.specs.States.{Rest, loop_blocks, rest, state}
 use Rattle.py_emit.specs.declared.context.EmitContext.{EmitContext}
 use Rattle.py_expr.proofs.Steps.{move_goes}

@@ -2,8 +2,8 @@
 use Rattle.std.proofs.Common.{rules, subst, ◌≡◌, ◌∙◌, ap, length, sym}
 use Rattle.std.specs.Prelude.{IfOk}
 use Rattle.py_tree.specs.View.{expr_tree, exprs, keywords}
-use Rattle.py_meaning.specs.Emitting.{Next}
-use Rattle.py_meaning.specs.EmissionParts.{elements, in_turn}
+use Rattle.py_forms.specs.Emitting.{Next}
+use Rattle.py_forms.specs.EmissionParts.{elements, in_turn}
 use Rattle.py_meaning.specs.Emission.{all_emissions, keyword_emissions}
 use Rattle.py_emit.specs.States.{Rest, rest, state}
 use Rattle.py_expr.specs.Calling.{taken}

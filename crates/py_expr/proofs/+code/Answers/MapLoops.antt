@@ -2,11 +2,11 @@
 use Rattle.std.proofs.Common.{arith, ◌≢◌, [], Err, refl, subst, ◌≡◌, ◌+◌, ◌∙◌, ap, drop, length, sym}
 use Rattle.py_tree.specs.View.{expr_tree, keywords}
 use Rattle.py_bytecode.specs.declared.instruction.Instruction.TheVariants as op
-use Rattle.py_meaning.specs.Elements.{groups}
-use Rattle.py_meaning.specs.Emitting.{Next, Refused, emit_count}
-use Rattle.py_meaning.specs.EmissionParts.{Keywords, map_of}
+use Rattle.py_forms.specs.Elements.{groups}
+use Rattle.py_forms.specs.Emitting.{Next, Refused, emit_count}
+use Rattle.py_forms.specs.EmissionParts.{Keywords, map_of}
 use Rattle.py_meaning.specs.Emission.{keyword_emissions}
-use Rattle.py_meaning.specs.declared.errors.CodegenErrorType.TheVariants as error
+use Rattle.py_forms.specs.declared.errors.CodegenErrorType.TheVariants as error
 use Rattle.py_emit.specs.States.{Rest, rest, state}
 use Rattle.py_expr.specs.Calling.{keyword_behind, keyword_emission, map_rest}
 use Rattle.py_expr.specs.Turns.{group_count, groups_by, run_behind}

@@ -2,13 +2,13 @@
 use Rattle.std.proofs.Common.{arith, ◌≢◌, get_or, ◌<◌, Err, List, Option, subst, ◌≡◌, ◌+◌, ◌∙◌, ap, drop, length, sym}
 use Rattle.py_bytecode.specs.declared.instruction.Instruction.TheVariants as op
 use Rattle.py_tree.specs.View.{expr_tree}
-use Rattle.py_meaning.specs.Emitting.{Next, Refused, emit}
-use Rattle.py_meaning.specs.EmissionParts.{in_turn, updates}
+use Rattle.py_forms.specs.Emitting.{Next, Refused, emit}
+use Rattle.py_forms.specs.EmissionParts.{in_turn, updates}
 use Rattle.py_meaning.specs.Emission.{emission}
-use Rattle.py_meaning.specs.declared.errors.CodegenErrorType.TheVariants as error
+use Rattle.py_forms.specs.declared.errors.CodegenErrorType.TheVariants as error
 use Rattle.py_emit.specs.States.{Rest, rest, state}
 use Rattle.py_expr.specs.Turns.{pairs_of}
-use Rattle.py_meaning.specs.Elements.{keyed, sides, unkeyed}
+use Rattle.py_forms.specs.Elements.{keyed, sides, unkeyed}
 use Rattle.py_tree.specs.declared.expressions.Expr.{Expr}
 use Rattle.py_emit.specs.declared.emitter.Emitter.{Emitter}
 use Rattle.py_expr.proofs.Pairs.{first, none_is, none_left, none_of, none_update, pairs_over, some_count, some_first, some_is, some_left, some_side}

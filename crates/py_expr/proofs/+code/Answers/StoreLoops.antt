@@ -4,11 +4,11 @@ use Rattle.py_tree.specs.View.{expr_tree, exprs}
 use Rattle.py_tree.proofs.View.{tree_Attribute}
 use Rattle.py_tree.specs.Tree as tree
 use Rattle.py_tree.specs.declared.expressions.Expr.{Expr}
-use Rattle.py_meaning.specs.Elements.{Element, bare}
-use Rattle.py_meaning.specs.Emitting.{Next, Refused}
-use Rattle.py_meaning.specs.EmissionParts.{in_turn}
+use Rattle.py_forms.specs.Elements.{Element, bare}
+use Rattle.py_forms.specs.Emitting.{Next, Refused}
+use Rattle.py_forms.specs.EmissionParts.{in_turn}
 use Rattle.py_meaning.specs.Emission.{all_stores, emission_of_store, stores}
-use Rattle.py_meaning.specs.declared.errors.CodegenErrorType.TheVariants as error
+use Rattle.py_forms.specs.declared.errors.CodegenErrorType.TheVariants as error
 use Rattle.py_emit.specs.States.{Rest, rest, state}
 use Rattle.py_expr.specs.Targets.{bare_of}
 use Rattle.py_expr.proofs.Stores.{plain_target, stored_at}

@@ -1,7 +1,7 @@
 use Rattle.std.proofs.Common.{◌≡◌, ℕ, drop}
 use Rattle.py_tree.specs.View.{expr_tree, keywords}
-use Rattle.py_meaning.specs.Emitting.{Next}
-use Rattle.py_meaning.specs.EmissionParts.{checked}
+use Rattle.py_forms.specs.Emitting.{Next}
+use Rattle.py_forms.specs.EmissionParts.{checked}
 use Rattle.py_meaning.specs.Emission.{keyword_emissions}
 use Rattle.py_emit.specs.States.{rest, state}
 use Rattle.py_expr.proofs.keywords.check_keywords.Given as goal

@@ -1,5 +1,5 @@
 use Rattle.std.proofs.Common.{ap, rules}
-use Rattle.py_meaning.specs.Emitting.{Next}
+use Rattle.py_forms.specs.Emitting.{Next}
 use Rattle.py_expr.proofs.Otherwise.{value_return}
 use Rattle.py_expr.proofs.Turns.{goes_as}
 use Rattle.py_tree.proofs.View.{tree_Constant}

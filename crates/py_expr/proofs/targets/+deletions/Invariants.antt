@@ -1,6 +1,6 @@
 use Rattle.std.proofs.Common.{◌≡◌, ◌+◌, ◌*◌, drop}
 use Rattle.py_tree.specs.View.{expr_tree, exprs}
-use Rattle.py_meaning.specs.Emitting.{Next}
+use Rattle.py_forms.specs.Emitting.{Next}
 use Rattle.py_meaning.specs.Emission.{emission_of_deletes}
 use Rattle.py_emit.specs.States.{rest, state}
 use Rattle.py_expr.proofs.targets.+deletions.Given as goal

@@ -1,9 +1,9 @@
 use Rattle.std.proofs.Common.{◌≡◌, ap, ◌∙◌, sym, arith}
 use Rattle.py_tree.specs.View.{expr_tree, exprs}
-use Rattle.py_meaning.specs.Emitting.{Next, emit, move, refuse}
-use Rattle.py_meaning.specs.EmissionParts.{unpack_starred}
+use Rattle.py_forms.specs.Emitting.{Next, emit, move, refuse}
+use Rattle.py_forms.specs.EmissionParts.{unpack_starred}
 use Rattle.py_meaning.specs.Emission.{all_stores}
-use Rattle.py_meaning.specs.declared.errors.CodegenErrorType.TheVariants as error
+use Rattle.py_forms.specs.declared.errors.CodegenErrorType.TheVariants as error
 use Rattle.py_bytecode.specs.declared.instruction.Instruction.TheVariants as op
 use Rattle.py_emit.specs.States.{state}
 use Rattle.py_expr.proofs.Steps.{move_goes}

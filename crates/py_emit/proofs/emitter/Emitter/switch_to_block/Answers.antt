@@ -1,7 +1,7 @@
 use Rattle.std.proofs.Common.{◌≢◌, refl, ap, ◌∙◌, length, map, arith}
 use Rattle.py_ir.specs.BlockList.{BlockList}
 use Rattle.py_ir.specs.Chain.{plain}
-use Rattle.py_meaning.specs.Emitting.{Begin}
+use Rattle.py_forms.specs.Emitting.{Begin}
 use Rattle.py_emit.specs.States.{state}
 use Rattle.py_emit.specs.Steps.{steps_in}
 use Rattle.py_emit.proofs.Holding.{is_outside, not_in_chain, place_long, place_steps}
