@@ -1,5 +1,5 @@
 -- What form a node of the tree is, by the forms of its parts.
-use Rattle.std.specs.Prelude.{ℕ, suc, List, [], ◌∷◌, ◌++◌, ◌+◌, ◌*◌, length, ◌||◌, Bool, true, false, Option, Some, None, nat_eq, codes, if◌then◌else◌}
+use Rattle.std.specs.Prelude.{ℕ, List, [], ◌∷◌, ◌++◌, ◌+◌, ◌*◌, length, ◌||◌, Bool, true, false, Option, Some, None, nat_eq, codes, if◌then◌else◌}
 use Rattle.std.specs.Cmp.Lexicographic.{pointwise}
 use Rattle.py_base.specs.Literal as literal
 use Rattle.py_base.specs.Literal.{Literal, Literals, no_literals, more_literals}
