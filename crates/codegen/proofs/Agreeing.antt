@@ -31,10 +31,10 @@ use Rattle.py_forms.proofs.Laws.{scope_ends}
 use Rattle.py_emit.specs.Steps.{steps_in}
 use Rattle.py_emit.specs.Emitted.{IsMade, IsEmitted}
 use Rattle.codegen.specs.Compiled.{NoHigher, AlwaysEnds}
-use Rattle.codegen.proofs.Adding.{Begins, AllRead, AllInside, Adds}
+use Rattle.py_adds.proofs.Adding.{Begins, AllRead, AllInside, Adds}
 use Rattle.py_emit.proofs.Chains.{Leads, chain_leads, chain_short}
-use Rattle.codegen.proofs.Laying.{Lays, lay}
-use Rattle.codegen.proofs.Counting.{few, units_enough}
+use Rattle.py_adds.proofs.Laying.{Lays, lay}
+use Rattle.py_adds.proofs.Counting.{few, units_enough}
 use Rattle.codegen.proofs.Childless.{body_childless}
 use Rattle.codegen.proofs.Heights.{no_higher}
 use Rattle.codegen.proofs.Programs.{tree_adds}

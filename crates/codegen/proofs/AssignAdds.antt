@@ -21,10 +21,10 @@ use Rattle.py_meaning.specs.Emission.{deletion_name, emission, emission_of_store
 use Rattle.py_forms.specs.declared.errors.CodegenErrorType.{CodegenErrorType}
 use Rattle.py_forms.specs.declared.errors.CodegenErrorType.TheVariants as error
 use Rattle.py_emit.proofs.States.{never_refused}
-use Rattle.codegen.proofs.Emitting.{Comes, comes_as, comes_then, comes_more, comes_nothing, emit_adds}
-use Rattle.codegen.proofs.Instructions.{inplace_adds, name_adds, constant_adds, delete_adds, attribute_adds, attribute_put_adds, attribute_delete_adds, subscript_adds, subscript_put_adds, subscript_delete_adds}
-use Rattle.codegen.proofs.FormAdds.{ValueAdds, PartsAdd, StepAdds, unless_debug_only, more_parts, no_parts, two_add}
-use Rattle.codegen.proofs.TargetAdds.{TargetAdds, drop_adds, put_adds, keep_adds}
+use Rattle.py_adds.proofs.Emitting.{Comes, comes_as, comes_then, comes_more, comes_nothing, emit_adds}
+use Rattle.py_adds.proofs.Instructions.{inplace_adds, name_adds, constant_adds, delete_adds, attribute_adds, attribute_put_adds, attribute_delete_adds, subscript_adds, subscript_put_adds, subscript_delete_adds}
+use Rattle.py_adds.proofs.FormAdds.{ValueAdds, PartsAdd, StepAdds, unless_debug_only, more_parts, no_parts, two_add}
+use Rattle.py_adds.proofs.TargetAdds.{TargetAdds, drop_adds, put_adds, keep_adds}
 use Rattle.codegen.proofs.ExprAdds.{outer, name_value_adds, expr_adds, target_adds}
 
 -- a statement that leaves no loop is added

@@ -9,7 +9,7 @@ use Rattle.py_forms.specs.Form.{VForm, VKeep, Target}
 use Rattle.py_forms.specs.Agree.{AllOf, form_of, kids}
 use Rattle.py_meaning.specs.Texts.{after_doc, doc_of, texts_of}
 use Rattle.py_meaning.specs.Meaning.{body}
-use Rattle.codegen.proofs.ChildlessForms.{Bare, BareTarget, BareOption, BareStore, BareKeyword, Childless, AllChildless, ChildlessTarget, tested_childless, plain_childless, both_none, either_childless, values_childless, elements_childless, display_childless, call_childless, unpacked_to_childless, pairs_childless, dict_childless, value_or_childless, slice_childless, joined_childless, bool_childless, unary_childless, compare_childless}
+use Rattle.py_adds.proofs.ChildlessForms.{Bare, BareTarget, BareOption, BareStore, BareKeyword, Childless, AllChildless, ChildlessTarget, tested_childless, plain_childless, both_none, either_childless, values_childless, elements_childless, display_childless, call_childless, unpacked_to_childless, pairs_childless, dict_childless, value_or_childless, slice_childless, joined_childless, bool_childless, unary_childless, compare_childless}
 use Rattle.py_forms.specs.TableParts.{is_debug}
 use Rattle.py_meaning.specs.Table.{target_forms, all_targets, target_form, expr_form, keyword_forms, removal, removals, assigned, assign_form, augment_form, declared_form, annotation_target, annotated, setup_form, expr_forms, all_forms, opt_form, opt_forms, stmt_form, stmts_form, doc_form}
 

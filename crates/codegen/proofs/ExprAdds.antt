@@ -25,14 +25,14 @@ use Rattle.py_forms.specs.Emitting.{Next, refuse, emit, emit_name, emit_constant
 use Rattle.py_forms.specs.EmissionParts.{emission_of_name, no_assignment, lone_star}
 use Rattle.py_meaning.specs.Emission.{emissions, all_emissions, opt_emission, opt_emissions, keyword_emissions, stores, all_stores}
 use Rattle.py_emit.proofs.States.{never_refused}
-use Rattle.codegen.proofs.Emitting.{comes_moved}
-use Rattle.codegen.proofs.Instructions.{binary_adds, conversion_adds, name_adds, local_adds, attribute_adds, attribute_put_adds, subscript_adds, subscript_put_adds, constant_adds, list_builds, list_unpacks, set_builds, set_unpacks, tuple_builds, tuple_unpacks}
-use Rattle.codegen.proofs.FormAdds.{ValueAdds, OptionAdds, AddsForms, AllAddForms, AllOptionsAdd, truth_adds, tested_adds, moved_adds, value_or_adds, more_parts, no_parts, one_adds, two_add, all_values_add, all_elements_add}
-use Rattle.codegen.proofs.OperatorAdds.{bool_adds, unary_forms_add, compare_adds, choice_adds}
-use Rattle.codegen.proofs.DisplayAdds.{display_adds}
-use Rattle.codegen.proofs.CallAdds.{KeywordsAdd, call_form_adds}
-use Rattle.codegen.proofs.TargetAdds.{TargetAdds, AddsTarget, StoresAdd, plain_adds, refused_adds, unless_debug_adds, put_adds, keep_adds, unpack_to_adds}
-use Rattle.codegen.proofs.DictAdds.{pairs_add, dict_adds, slice_adds, joined_adds}
+use Rattle.py_adds.proofs.Emitting.{comes_moved}
+use Rattle.py_adds.proofs.Instructions.{binary_adds, conversion_adds, name_adds, local_adds, attribute_adds, attribute_put_adds, subscript_adds, subscript_put_adds, constant_adds, list_builds, list_unpacks, set_builds, set_unpacks, tuple_builds, tuple_unpacks}
+use Rattle.py_adds.proofs.FormAdds.{ValueAdds, OptionAdds, AddsForms, AllAddForms, AllOptionsAdd, truth_adds, tested_adds, moved_adds, value_or_adds, more_parts, no_parts, one_adds, two_add, all_values_add, all_elements_add}
+use Rattle.py_adds.proofs.OperatorAdds.{bool_adds, unary_forms_add, compare_adds, choice_adds}
+use Rattle.py_adds.proofs.DisplayAdds.{display_adds}
+use Rattle.py_adds.proofs.CallAdds.{KeywordsAdd, call_form_adds}
+use Rattle.py_adds.proofs.TargetAdds.{TargetAdds, AddsTarget, StoresAdd, plain_adds, refused_adds, unless_debug_adds, put_adds, keep_adds, unpack_to_adds}
+use Rattle.py_adds.proofs.DictAdds.{pairs_add, dict_adds, slice_adds, joined_adds}
 
 -- the outermost scope as its code sees it, whatever its children are
 abbrev pub outer : (Scope → Object) → SForm → Interp Object

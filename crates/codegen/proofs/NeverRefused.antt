@@ -31,12 +31,12 @@ use Rattle.py_emit.specs.Emitted.{Holds}
 use Rattle.py_forms.specs.Sealed.{Head}
 use Rattle.py_emit.specs.States.{IsUnrefused}
 use Rattle.py_emit.specs.Steps.{steps_in}
-use Rattle.codegen.proofs.Adding.{Begins, AllRead, AllInside}
+use Rattle.py_adds.proofs.Adding.{Begins, AllRead, AllInside}
 use Rattle.codegen.proofs.ExprAdds.{outer}
-use Rattle.codegen.proofs.Burden.{burden, burden_is}
+use Rattle.py_adds.proofs.Burden.{burden, burden_is}
 use Rattle.codegen.proofs.ProgramSizes.{body_small}
 use Rattle.codegen.proofs.Programs.{tree_adds}
-use Rattle.codegen.proofs.Refuted.{target_inside, jump_has_target, other_has_none, no_prefix_given, operand_inside, few_enough, laid_along}
+use Rattle.py_adds.proofs.Refuted.{target_inside, jump_has_target, other_has_none, no_prefix_given, operand_inside, few_enough, laid_along}
 
 -- programs here have no children; any would do
 pub no_child : Scope → Object

@@ -13,7 +13,7 @@ use Rattle.py_forms.specs.Code.{Do, labels, labels_t, code_v, code, return_code,
 use Rattle.py_meaning.specs.Meaning.{body}
 use Rattle.py_meaning.specs.Table.{expr_form, test_form, stmt_form, stmts_form, doc_form, setup_form, annotated}
 use Rattle.py_meaning.specs.Texts.{after_doc, doc_of, first_text, unless_text}
-use Rattle.codegen.proofs.Burden.{burden, burden-append}
+use Rattle.py_adds.proofs.Burden.{burden, burden-append}
 use Rattle.codegen.proofs.Sizes.{expr_small}
 use Rattle.codegen.proofs.SmallAssigns.{CodeSmall, removals_small, assign_small, augment_small, declare_small}
 

@@ -28,12 +28,12 @@ use Rattle.py_forms.specs.EmissionParts.{comparisons, emission_of_compare}
 use Rattle.py_meaning.specs.Emission.{emissions, all_emissions, emission, emission_of_doc, emission_of_setup, emission_of_stmts, emission_of_return, joined_return, emitted}
 use Rattle.py_forms.specs.declared.errors.CodegenErrorType.TheVariants as error
 use Rattle.py_emit.proofs.States.{never_refused}
-use Rattle.codegen.proofs.Adding.{Adds}
-use Rattle.codegen.proofs.Emitting.{Comes, comes_as, comes_then, comes_more, comes_nothing, comes_moved, emit_adds}
-use Rattle.codegen.proofs.Instructions.{name_adds, constant_adds, return_adds, store_adds, string_builds}
-use Rattle.codegen.proofs.FormAdds.{ValueAdds, all_values_add}
-use Rattle.codegen.proofs.DisplayAdds.{built_adds}
-use Rattle.codegen.proofs.OperatorAdds.{even_only}
+use Rattle.py_adds.proofs.Adding.{Adds}
+use Rattle.py_adds.proofs.Emitting.{Comes, comes_as, comes_then, comes_more, comes_nothing, comes_moved, emit_adds}
+use Rattle.py_adds.proofs.Instructions.{name_adds, constant_adds, return_adds, store_adds, string_builds}
+use Rattle.py_adds.proofs.FormAdds.{ValueAdds, all_values_add}
+use Rattle.py_adds.proofs.DisplayAdds.{built_adds}
+use Rattle.py_adds.proofs.OperatorAdds.{even_only}
 use Rattle.codegen.proofs.ExprAdds.{outer, literal_value, expr_adds, exprs_add}
 use Rattle.codegen.proofs.AssignAdds.{ActAdds}
 use Rattle.codegen.proofs.Unlooped.{Unlooped}

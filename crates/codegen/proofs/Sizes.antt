@@ -14,13 +14,13 @@ use Rattle.py_meaning.specs.Texts.{texts_of}
 use Rattle.py_forms.specs.Code.{labels_v}
 use Rattle.py_forms.specs.TableParts.{ExprForms, tested, values, elements, parts_of, conversion_case, counted, named, binary, display, value_or, debug_constant, is_debug, unpacked_to}
 use Rattle.py_meaning.specs.Table.{expr_forms, all_forms, opt_form, opt_forms, keyword_forms, target_forms, all_targets}
-use Rattle.codegen.proofs.Burden.{burden-append}
-use Rattle.codegen.proofs.Together.{Together, Possible, OneElement}
-use Rattle.codegen.proofs.Small.{FormSmall, TargetSmall, Small, SmallTarget, tested_small, plain_small, values_small, elements_small, one_small, two_small}
-use Rattle.codegen.proofs.SmallOperators.{bool_small, unary_small, compare_small, choice_small}
-use Rattle.codegen.proofs.SmallDisplays.{display_small, dict_small, value_or_small, slice_small, joined_small}
-use Rattle.codegen.proofs.SmallCalls.{KeywordSmall, call_small}
-use Rattle.codegen.proofs.SmallTargets.{store_small, drop_small, put_one_small, put_two_small, unpack_small, keep_small}
+use Rattle.py_adds.proofs.Burden.{burden-append}
+use Rattle.py_adds.proofs.Together.{Together, Possible, OneElement}
+use Rattle.py_adds.proofs.Small.{FormSmall, TargetSmall, Small, SmallTarget, tested_small, plain_small, values_small, elements_small, one_small, two_small}
+use Rattle.py_adds.proofs.SmallOperators.{bool_small, unary_small, compare_small, choice_small}
+use Rattle.py_adds.proofs.SmallDisplays.{display_small, dict_small, value_or_small, slice_small, joined_small}
+use Rattle.py_adds.proofs.SmallCalls.{KeywordSmall, call_small}
+use Rattle.py_adds.proofs.SmallTargets.{store_small, drop_small, put_one_small, put_two_small, unpack_small, keep_small}
 
 -- no expression is without a size
 pub expr_some : (t : tree.Expr) → 1 ≤ expr_size t

@@ -9,9 +9,9 @@ use Rattle.py_forms.specs.Fit.{Loops}
 use Rattle.py_forms.specs.Code.{labels, labels_v, code}
 use Rattle.py_forms.specs.TableParts.{name_form, is_debug}
 use Rattle.py_meaning.specs.Table.{expr_form, target_form, removal, removals, assigned, assign_form, augment_form, declared_form, annotation_target}
-use Rattle.codegen.proofs.Burden.{burden, burden-append}
-use Rattle.codegen.proofs.Small.{FormSmall, TargetSmall}
-use Rattle.codegen.proofs.SmallTargets.{keep_small}
+use Rattle.py_adds.proofs.Burden.{burden, burden-append}
+use Rattle.py_adds.proofs.Small.{FormSmall, TargetSmall}
+use Rattle.py_adds.proofs.SmallTargets.{keep_small}
 use Rattle.codegen.proofs.Sizes.{expr_small, target_small, named_small}
 
 module _ (i : Interp Object) (l : ℕ) where

@@ -16,8 +16,8 @@ use Rattle.py_meaning.specs.Emission.{emission, emission_of_test, emission_of_de
 use Rattle.py_forms.specs.declared.errors.CodegenErrorType.{CodegenErrorType}
 use Rattle.py_forms.specs.declared.errors.CodegenErrorType.TheVariants as error
 use Rattle.py_emit.proofs.States.{never_refused}
-use Rattle.codegen.proofs.Emitting.{Comes, comes_as, comes_then, comes_nothing, comes_moved, comes_new, emit_adds, jump_adds, begin_adds}
-use Rattle.codegen.proofs.TargetAdds.{drop_adds}
+use Rattle.py_adds.proofs.Emitting.{Comes, comes_as, comes_then, comes_nothing, comes_moved, comes_new, emit_adds, jump_adds, begin_adds}
+use Rattle.py_adds.proofs.TargetAdds.{drop_adds}
 use Rattle.codegen.proofs.ExprAdds.{outer, expr_adds}
 use Rattle.codegen.proofs.AssignAdds.{ActAdds, into_adds, deletes_add, assign_adds, augmented_adds, annotated_adds}
 use Rattle.codegen.proofs.Unlooped.{Unlooped, removals_unlooped, assign_unlooped, augment_unlooped, declared_unlooped}

@@ -15,13 +15,13 @@ use Rattle.py_ir.specs.Refusals.{ItemAt, TooWide}
 use Rattle.py_forms.specs.Code.{Item, size}
 use Rattle.py_forms.proofs.Assembly.{occurs}
 use Rattle.py_emit.specs.Steps.{step_of, steps_in}
-use Rattle.codegen.proofs.Adding.{AllRead, Below, AllInside}
+use Rattle.py_adds.proofs.Adding.{AllRead, Below, AllInside}
 use Rattle.py_emit.proofs.Chains.{Leads, chain_leads, chain_short}
-use Rattle.codegen.proofs.Decoding.{operand_within, no_prefix, jump_aims}
-use Rattle.codegen.proofs.Laying.{Lays, lay}
-use Rattle.codegen.proofs.Numbers.{left_of_chain}
-use Rattle.codegen.proofs.Standing.{In, contained, contains, Fine, all_fine, fine_block, fine_at, body_at, begun_read, begun_in}
-use Rattle.codegen.proofs.Widths.{not_too_many}
+use Rattle.py_adds.proofs.Decoding.{operand_within, no_prefix, jump_aims}
+use Rattle.py_adds.proofs.Laying.{Lays, lay}
+use Rattle.py_adds.proofs.Numbers.{left_of_chain}
+use Rattle.py_adds.proofs.Standing.{In, contained, contains, Fine, all_fine, fine_block, fine_at, body_at, begun_read, begun_in}
+use Rattle.py_adds.proofs.Widths.{not_too_many}
 
 number_if : (b : Bool) (n : ℕ) → nat_eq n 0xffff_ffff ≡ b → n ≢ 0xffff_ffff → (if b then None else Some n) ≡ Some n
 number_if true n e h = absurd (h (search (rules, e)))

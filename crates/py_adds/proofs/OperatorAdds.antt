@@ -22,9 +22,9 @@ use Rattle.py_forms.specs.EmissionParts as emitting
 use Rattle.py_forms.specs.Emitting.{State, Done, Next, refuse, emit, jump, begin, new_block, move}
 use Rattle.py_forms.specs.EmissionParts.{Emissions, keeping_jump, in_turn, shorts, bool_value, tests, bool_test, some_test, bool_emissions, unary_value, unary_emissions, emission_of_comparison, emission_of_link, links, chain, comparisons, emission_of_compare, choice}
 use Rattle.py_emit.proofs.States.{never_refused}
-use Rattle.codegen.proofs.Emitting.{Comes, comes_as, comes_then, comes_more, comes_moved, comes_new, emit_adds, jump_adds, begin_adds}
-use Rattle.codegen.proofs.Instructions.{unary_adds, comparison_adds, keeping_adds}
-use Rattle.codegen.proofs.FormAdds.{ValueAdds, TestAdds, AddsForms, AllAddForms, ordinary_adds, truth_adds, moved_adds, one_adds, two_add}
+use Rattle.py_adds.proofs.Emitting.{Comes, comes_as, comes_then, comes_more, comes_moved, comes_new, emit_adds, jump_adds, begin_adds}
+use Rattle.py_adds.proofs.Instructions.{unary_adds, comparison_adds, keeping_adds}
+use Rattle.py_adds.proofs.FormAdds.{ValueAdds, TestAdds, AddsForms, AllAddForms, ordinary_adds, truth_adds, moved_adds, one_adds, two_add}
 
 module _ (i : Interp Object) where
   -- `and` and `or`

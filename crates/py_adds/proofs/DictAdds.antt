@@ -13,10 +13,10 @@ use Rattle.py_forms.specs.TableParts.{parts_of, counted, updated, dict_form, sli
 use Rattle.py_forms.specs.EmissionParts as emitting
 use Rattle.py_forms.specs.Emitting.{Next, emit, emit_count}
 use Rattle.py_forms.specs.EmissionParts.{in_turn, updates, dict_value, slice_value, joined_value}
-use Rattle.codegen.proofs.Emitting.{emit_adds}
-use Rattle.codegen.proofs.Instructions.{map_adds, string_builds, constant_adds}
-use Rattle.codegen.proofs.FormAdds.{ValueAdds, StepAdds, OptionAdds, AllValuesAdd, AllOptionsAdd, value_or_adds, more_parts, no_parts, values_add, operation_adds, two_add}
-use Rattle.codegen.proofs.DisplayAdds.{built_adds}
+use Rattle.py_adds.proofs.Emitting.{emit_adds}
+use Rattle.py_adds.proofs.Instructions.{map_adds, string_builds, constant_adds}
+use Rattle.py_adds.proofs.FormAdds.{ValueAdds, StepAdds, OptionAdds, AllValuesAdd, AllOptionsAdd, value_or_adds, more_parts, no_parts, values_add, operation_adds, two_add}
+use Rattle.py_adds.proofs.DisplayAdds.{built_adds}
 
 module _ (i : Interp Object) where
   -- values with their keys, where they have any

@@ -13,7 +13,7 @@ use Rattle.py_forms.specs.Code.{Item, Do, Label}
 use Rattle.py_forms.specs.Emitting.{Step, Put, Begin}
 use Rattle.py_forms.proofs.Assembly.{occurs}
 use Rattle.py_emit.specs.Steps.{step_of, onwards, steps_from, Begun}
-use Rattle.codegen.proofs.Adding.{Reads, AllRead, Below, AllInside}
+use Rattle.py_adds.proofs.Adding.{Reads, AllRead, Below, AllInside}
 use Rattle.py_emit.proofs.Chains.{Leads}
 
 -- a number is one of these

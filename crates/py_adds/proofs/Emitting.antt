@@ -14,7 +14,7 @@ use Rattle.py_bytecode.proofs.Joining.{get_left}
 use Rattle.py_walks.specs.Flat.{is_jump}
 use Rattle.py_forms.specs.Code.{Item, Do, Label}
 use Rattle.py_forms.specs.Emitting.{Step, Put, Begin, State, Done, TooWide, Next, with_step, with_block, with_name, with_constant, located, emit, jump, begin, new_block, move}
-use Rattle.codegen.proofs.Adding.{Begins, StepReads, Inside, Adds, adds_join, adds_nothing, adds_located, codes_join}
+use Rattle.py_adds.proofs.Adding.{Begins, StepReads, Inside, Adds, adds_join, adds_nothing, adds_located, codes_join}
 
 -- an emission comes to a state with these items more, from which what follows comes to its end
 pub record Comes (k : Next) (s o : State) (is : List (Item Object)) (m : ℕ) : Type 0 where

@@ -17,9 +17,9 @@ use Rattle.py_forms.specs.Live.{stays, live}
 use Rattle.py_forms.specs.Emitting.{Step}
 use Rattle.py_forms.proofs.Stays.{stays_row}
 use Rattle.py_emit.specs.Steps.{step_of, onwards, steps_from}
-use Rattle.codegen.proofs.Adding.{AllRead}
+use Rattle.py_adds.proofs.Adding.{AllRead}
 use Rattle.py_emit.proofs.Chains.{Leads}
-use Rattle.codegen.proofs.Laying.{parted}
+use Rattle.py_adds.proofs.Laying.{parted}
 
 -- whether the first can be come to makes no difference where there is none, or a label stands before it
 abbrev Fresh : List (Item Object) → Type 0

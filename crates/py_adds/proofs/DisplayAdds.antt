@@ -12,9 +12,9 @@ use Rattle.py_forms.specs.TableParts.{parts_of, counted}
 use Rattle.py_forms.specs.EmissionParts as emitting
 use Rattle.py_forms.specs.Emitting.{Next, emit_count}
 use Rattle.py_forms.specs.EmissionParts.{in_turn}
-use Rattle.codegen.proofs.Pairwise.{same_length, same_starred, bare_alike, groups_alike}
-use Rattle.codegen.proofs.Instructions.{Builds, tuple_builds}
-use Rattle.codegen.proofs.FormAdds.{ValueAdds, StepAdds, AllValuesAdd, AllElementsAdd, as_many, either_adds, values_add, operation_adds}
+use Rattle.py_adds.proofs.Pairwise.{same_length, same_starred, bare_alike, groups_alike}
+use Rattle.py_adds.proofs.Instructions.{Builds, tuple_builds}
+use Rattle.py_adds.proofs.FormAdds.{ValueAdds, StepAdds, AllValuesAdd, AllElementsAdd, as_many, either_adds, values_add, operation_adds}
 
 -- what is built of so many values as there are forms
 pub builds_as : (x : Instruction) → Builds x → (n : ℕ) (fs : List VForm) → n ≡ length fs → StepAdds (emit_count x n) (Operate (counted x (length fs)) (form_count (parts_of fs)) (Some 1))

@@ -17,9 +17,9 @@ use Rattle.py_forms.specs.Emitting.{State, Done, Next, emit_name, jump, move, re
 use Rattle.py_forms.specs.EmissionParts.{Emissions, testing_jump, unless_debug, in_turn}
 use Rattle.py_forms.specs.declared.errors.CodegenErrorType.TheVariants as error
 use Rattle.py_emit.proofs.States.{never_refused}
-use Rattle.codegen.proofs.Emitting.{Comes, comes_as, comes_then, comes_more, comes_nothing, comes_moved}
-use Rattle.codegen.proofs.Pairwise.{Pairwise, AlikeElement}
-use Rattle.codegen.proofs.Instructions.{constant_adds, method_adds, testing_adds}
+use Rattle.py_adds.proofs.Emitting.{Comes, comes_as, comes_then, comes_more, comes_nothing, comes_moved}
+use Rattle.py_adds.proofs.Pairwise.{Pairwise, AlikeElement}
+use Rattle.py_adds.proofs.Instructions.{constant_adds, method_adds, testing_adds}
 
 -- a value is added
 abbrev pub ValueAdds : Interp Object → (Next → Next) → VForm → Type 0

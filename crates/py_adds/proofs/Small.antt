@@ -6,8 +6,8 @@ use Rattle.py_forms.specs.Elements.{Callee, Function, Method}
 use Rattle.py_forms.specs.Form.{Interp, VForm, VOp, Target}
 use Rattle.py_forms.specs.Code.{labels_v, code_v, code_vs, code_t, code_g}
 use Rattle.py_forms.specs.TableParts.{ExprForms, TargetForms, tested, plain_target, values, elements, parts_of}
-use Rattle.codegen.proofs.Burden.{burden, burden-append}
-use Rattle.codegen.proofs.Together.{Together, OneElement}
+use Rattle.py_adds.proofs.Burden.{burden, burden-append}
+use Rattle.py_adds.proofs.Together.{Together, OneElement}
 
 module _ (i : Interp Object) where
   -- with two to spare, from any label on

@@ -11,9 +11,9 @@ use Rattle.py_forms.specs.Code.{Item, Do, Label, size}
 use Rattle.py_forms.specs.Emitting.{Step}
 use Rattle.py_forms.proofs.Moves.{size-append}
 use Rattle.py_emit.specs.Steps.{step_of, onwards, steps_from}
-use Rattle.codegen.proofs.Adding.{AllRead}
+use Rattle.py_adds.proofs.Adding.{AllRead}
 use Rattle.py_emit.proofs.Chains.{Leads}
-use Rattle.codegen.proofs.Laying.{Parted, parted}
+use Rattle.py_adds.proofs.Laying.{Parted, parted}
 
 read_size : (t : Tables) (xs : List InstructionInfo) (items : List (Item Object)) → AllRead t (map step_of xs) items → length xs ≡ size items
 read_size t [] [] r = refl

@@ -10,10 +10,10 @@ use Rattle.py_forms.specs.Elements.{Element, Single, Spread, Callee, Function, M
 use Rattle.py_forms.specs.Form.{Interp, VForm, VConst, VForms}
 use Rattle.py_forms.specs.Code.{labels_v, code_v, code_vs}
 use Rattle.py_forms.specs.TableParts.{counted, parts_of, built, unpacked, call_by, Keywords, name_values, map_of, joined_map, names_in, values_in, packed, any, placed, call_form}
-use Rattle.codegen.proofs.Burden.{burden, burden-append}
-use Rattle.codegen.proofs.Together.{Together, OneElement, join_together, push_together, bare_together}
-use Rattle.codegen.proofs.Small.{FormSmall, CalleeSmall, parts_small}
-use Rattle.codegen.proofs.SmallDisplays.{PartsSmall, ElementsSmall, groups_small, gathered_small}
+use Rattle.py_adds.proofs.Burden.{burden, burden-append}
+use Rattle.py_adds.proofs.Together.{Together, OneElement, join_together, push_together, bare_together}
+use Rattle.py_adds.proofs.Small.{FormSmall, CalleeSmall, parts_small}
+use Rattle.py_adds.proofs.SmallDisplays.{PartsSmall, ElementsSmall, groups_small, gathered_small}
 
 module _ (i : Interp Object) where
   -- a value with its name, which is a constant before it

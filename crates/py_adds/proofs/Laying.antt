@@ -14,7 +14,7 @@ use Rattle.py_forms.specs.Blocks.{IsItem, Laid, Ends}
 use Rattle.py_forms.specs.Emitting.{Step}
 use Rattle.py_forms.proofs.Laying.{laid_then}
 use Rattle.py_emit.specs.Steps.{step_of, onwards, steps_from}
-use Rattle.codegen.proofs.Adding.{AllRead, Below, AllInside}
+use Rattle.py_adds.proofs.Adding.{AllRead, Below, AllInside}
 use Rattle.py_emit.proofs.Chains.{Leads}
 
 -- items that are read from steps in two parts

@@ -6,9 +6,9 @@ use Rattle.py_forms.specs.Elements.{Element, bare}
 use Rattle.py_forms.specs.Form.{Interp, VForm, VKeep, Target, GStore, GPut, GDrop, Resolved, targets}
 use Rattle.py_forms.specs.Code.{labels_v, labels_g, code_gs}
 use Rattle.py_forms.specs.TableParts.{plain_target, parts_of, targets_of, unpacked_to}
-use Rattle.codegen.proofs.Burden.{burden, burden-append}
-use Rattle.codegen.proofs.Together.{Together, OneElement, bare_together}
-use Rattle.codegen.proofs.Small.{FormSmall, TargetSmall, SmallTarget, plain_small, parts_small}
+use Rattle.py_adds.proofs.Burden.{burden, burden-append}
+use Rattle.py_adds.proofs.Together.{Together, OneElement, bare_together}
+use Rattle.py_adds.proofs.Small.{FormSmall, TargetSmall, SmallTarget, plain_small, parts_small}
 
 module _ (i : Interp Object) where
   pub store_small : (x : List ℕ) (s : ℕ) → 1 ≤ s → SmallTarget i (plain_target (GStore Resolved x)) s

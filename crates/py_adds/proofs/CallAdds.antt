@@ -14,10 +14,10 @@ use Rattle.py_forms.specs.TableParts.{parts_of, counted, any}
 use Rattle.py_forms.specs.EmissionParts as emitting
 use Rattle.py_forms.specs.Emitting.{State, Done, Next, emit_constant, emit_count, emit_name}
 use Rattle.py_forms.specs.EmissionParts.{in_turn, checked, packed_tuple, no_assignment, emission_of_call}
-use Rattle.codegen.proofs.Pairwise.{Pairwise, Alike, AlikeElement, same_length, same_starred, bare_alike, bare_length, groups_alike}
-use Rattle.codegen.proofs.Instructions.{Builds, tuple_builds, tuple_unpacks, map_unpacks, map_adds, constant_adds, call_adds, method_call_adds, keyword_call_adds, keyword_method_adds, spread_call_adds, spread_method_adds}
-use Rattle.codegen.proofs.FormAdds.{ValueAdds, PartsAdd, StepAdds, CalleeAdds, AllValuesAdd, AllElementsAdd, as_many, either_adds, more_parts, no_parts, method_parts, values_add, operation_adds, unless_debug_only}
-use Rattle.codegen.proofs.DisplayAdds.{builds_as, built_adds, groups_add}
+use Rattle.py_adds.proofs.Pairwise.{Pairwise, Alike, AlikeElement, same_length, same_starred, bare_alike, bare_length, groups_alike}
+use Rattle.py_adds.proofs.Instructions.{Builds, tuple_builds, tuple_unpacks, map_unpacks, map_adds, constant_adds, call_adds, method_call_adds, keyword_call_adds, keyword_method_adds, spread_call_adds, spread_method_adds}
+use Rattle.py_adds.proofs.FormAdds.{ValueAdds, PartsAdd, StepAdds, CalleeAdds, AllValuesAdd, AllElementsAdd, as_many, either_adds, more_parts, no_parts, method_parts, values_add, operation_adds, unless_debug_only}
+use Rattle.py_adds.proofs.DisplayAdds.{builds_as, built_adds, groups_add}
 
 -- a keyword has the same name, and its value is added
 abbrev pub NamedAdds : Interp Object → List ℕ × (Next → Next) → List ℕ × VForm → Type 0

@@ -15,10 +15,10 @@ use Rattle.py_forms.specs.EmissionParts.{Stores, plain_store, in_turn, few_aside
 use Rattle.py_forms.specs.declared.errors.CodegenErrorType.{CodegenErrorType}
 use Rattle.py_forms.specs.declared.errors.CodegenErrorType.TheVariants as error
 use Rattle.py_emit.proofs.States.{never_refused}
-use Rattle.codegen.proofs.Emitting.{Comes, comes_as, comes_then, comes_more, comes_nothing, comes_moved, emit_adds}
-use Rattle.codegen.proofs.Pairwise.{Pairwise, Alike, AlikeElement, same_length, same_stars, same_before, same_after, bare_alike, bare_length, around_star}
-use Rattle.codegen.proofs.Instructions.{unpack_adds, unpack_star_adds}
-use Rattle.codegen.proofs.FormAdds.{ValueAdds, PartsAdd, StepAdds, unless_debug_only}
+use Rattle.py_adds.proofs.Emitting.{Comes, comes_as, comes_then, comes_more, comes_nothing, comes_moved, emit_adds}
+use Rattle.py_adds.proofs.Pairwise.{Pairwise, Alike, AlikeElement, same_length, same_stars, same_before, same_after, bare_alike, bare_length, around_star}
+use Rattle.py_adds.proofs.Instructions.{unpack_adds, unpack_star_adds}
+use Rattle.py_adds.proofs.FormAdds.{ValueAdds, PartsAdd, StepAdds, unless_debug_only}
 
 -- a store is added
 abbrev pub TargetAdds : Interp Object → (Next → Next) → Target → Type 0

@@ -22,8 +22,8 @@ use Rattle.py_forms.specs.Code.{Do}
 use Rattle.py_forms.specs.TableParts.{binary, binary_case, inplace, unary_operation, unary_case, conversion_case, comparison_operation, counted, named}
 use Rattle.py_forms.specs.Emitting.{State, Outcome, Done, TooWide, Next, emit, emit_count, emit_name, emit_constant, jump, place_in, with_name, with_constant}
 use Rattle.py_forms.specs.EmissionParts.{keeping_jump, testing_jump, emission_of_comparison}
-use Rattle.codegen.proofs.Emitting.{Comes, emit_adds, jump_adds, entry_stays, comes_named, comes_constant}
-use Rattle.codegen.proofs.Texts.{text_eq_sound}
+use Rattle.py_adds.proofs.Emitting.{Comes, emit_adds, jump_adds, entry_stays, comes_named, comes_constant}
+use Rattle.py_adds.proofs.Texts.{text_eq_sound}
 
 reads_binary : (o : Operator) (t : Tables) (to : Option ℕ) → instr_of t to op.BinaryOperation (binary_case o) ≡ Some (Operate (binary o) 2 (Some 1))
 reads_binary operator.Add t to = refl

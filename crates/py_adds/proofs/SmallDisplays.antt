@@ -10,9 +10,9 @@ use Rattle.py_forms.specs.Elements.{Element, Single, Spread, starred, bare, grou
 use Rattle.py_forms.specs.Form.{Interp, VForm, VOp, VNone, VMore}
 use Rattle.py_forms.specs.Code.{labels_v, code_v, code_vs}
 use Rattle.py_forms.specs.TableParts.{counted, parts_of, built, unpacked, display, updated, dict_form, value_or, slice_form, joined_form}
-use Rattle.codegen.proofs.Burden.{burden, burden-append}
-use Rattle.codegen.proofs.Together.{Together, Possible, OneElement, push_together, bare_together}
-use Rattle.codegen.proofs.Small.{FormSmall, parts_small, operation_small}
+use Rattle.py_adds.proofs.Burden.{burden, burden-append}
+use Rattle.py_adds.proofs.Together.{Together, Possible, OneElement, push_together, bare_together}
+use Rattle.py_adds.proofs.Small.{FormSmall, parts_small, operation_small}
 
 module _ (i : Interp Object) where
   abbrev pub PartsSmall : List VForm → ℕ → Type 0

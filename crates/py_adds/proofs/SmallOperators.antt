@@ -11,9 +11,9 @@ use Rattle.py_bytecode.specs.Values.{flip}
 use Rattle.py_forms.specs.Form.{Interp, VChoice}
 use Rattle.py_forms.specs.Code.{labels_v, labels_t, code_v, code_ss, code_ls, code_t, code_ts}
 use Rattle.py_forms.specs.TableParts.{ExprForms, shorts_of, part_test, tests_of, bool_forms, unary_forms, unary_operation, links_of, compare_form, comparison_operation, deciding}
-use Rattle.codegen.proofs.Burden.{burden, burden-append}
-use Rattle.codegen.proofs.Together.{Together}
-use Rattle.codegen.proofs.Small.{FormSmall, Small, tested_small, one_small, two_small}
+use Rattle.py_adds.proofs.Burden.{burden, burden-append}
+use Rattle.py_adds.proofs.Together.{Together}
+use Rattle.py_adds.proofs.Small.{FormSmall, Small, tested_small, one_small, two_small}
 
 module _ (i : Interp Object) where
   -- `and` and `or`
