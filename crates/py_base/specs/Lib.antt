@@ -1,3 +1,4 @@
 pub mod Shapes
 pub mod Literal
+pub mod Mangle
 pub mod formers

@@ -4,15 +4,15 @@
 pub mod limits;
 pub mod list;
 pub mod location;
+pub mod mangle;
 pub mod operators;
 pub mod shapes;
-#[cfg(test)]
-mod tests;
 pub mod text;
 
 pub use limits::TreeLimit;
 pub use list::List;
 pub use location::{LocatedError, OneIndexed, SourceLocation};
+pub use mangle::{mangle_name, same_mangled};
 pub use operators::{BoolOp, CmpOp, ConversionFlag, Operator, UnaryOp};
 pub use shapes::Malformed;
 pub use text::Text;

@@ -23,4 +23,3 @@ pub mod Refusals
 pub mod Symbols
 pub mod SymbolList
 pub mod Registered
-pub mod Mangle

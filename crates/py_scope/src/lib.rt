@@ -11,7 +11,6 @@ pub mod globals;
 pub mod kinds;
 pub mod laws;
 pub mod lifts;
-pub mod mangle;
 pub mod marks;
 pub mod outward;
 pub mod refusal;
@@ -24,15 +23,13 @@ pub mod symbols;
 pub mod table;
 pub mod table_type;
 pub mod tables;
-#[cfg(test)]
-mod tests;
 
 pub use builder::ScopeBuilder;
 pub use error::{ScanFault, SymbolTableError};
 pub use flags::SymbolFlags;
 pub use flat::{FlatScopes, ScopeEntry};
 pub use kinds::SymbolScope;
-pub use mangle::mangle_name;
+pub use py_base::mangle_name;
 pub use roles::Role;
 pub use stack::StackStack;
 pub use steps::Steps;
