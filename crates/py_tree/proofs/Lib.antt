@@ -1,3 +1,2 @@
-pub mod Checks
-pub mod Rows
 pub mod View
+pub mod Defaults

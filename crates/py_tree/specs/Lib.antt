@@ -1,7 +1,4 @@
-pub mod Limits
-pub mod Nesting
 pub mod PythonName
-pub mod Size
 pub mod Tree
-pub mod Valid
 pub mod View
+pub mod Parameters

@@ -1,34 +1,29 @@
-//! The syntax tree that the compiler reads, its limits and its shapes.
+//! The syntax tree that the compiler reads: its kinds of nodes, and where each starts.
 #![tactic(auto)]
 
-pub mod depth;
+mod arguments;
 pub mod expressions;
 pub mod modules;
 mod python_name;
-pub mod size;
 pub mod statements;
-#[cfg(test)]
-mod tests;
-pub mod validity;
 
-pub use depth::{depth_of_body, depth_of_expr, depth_of_tree};
 pub use expressions::{
-    Constant, Expr, ExprAttribute, ExprAttributeOf, ExprBinOp, ExprBinOpOf, ExprBoolOp,
-    ExprBoolOpOf, ExprCall, ExprCallOf, ExprCompare, ExprCompareOf, ExprConstant, ExprDict,
-    ExprDictOf, ExprFormattedValue, ExprFormattedValueOf, ExprIfExp, ExprIfExpOf, ExprJoinedStr,
-    ExprJoinedStrOf, ExprList, ExprListOf, ExprName, ExprNamedExpr, ExprNamedExprOf, ExprSet,
-    ExprSetOf, ExprSlice, ExprSliceOf, ExprStarred, ExprStarredOf, ExprSubscript, ExprSubscriptOf,
-    ExprTuple, ExprTupleOf, ExprUnaryOp, ExprUnaryOpOf, Exprs, Keyword, KeywordOf,
+    Arg, ArgWithDefault, Arguments, Comprehension, Constant, Expr, ExprAttribute, ExprAwait,
+    ExprBinOp, ExprBoolOp, ExprCall, ExprCompare, ExprConstant, ExprDict, ExprDictComp,
+    ExprFormattedValue, ExprGeneratorExp, ExprIfExp, ExprJoinedStr, ExprLambda, ExprList,
+    ExprListComp, ExprName, ExprNamedExpr, ExprSet, ExprSetComp, ExprSlice, ExprStarred,
+    ExprSubscript, ExprTuple, ExprUnaryOp, ExprYield, ExprYieldFrom, Exprs, Keyword,
 };
-pub use modules::{Mod, ModExpression, ModModule, Mode};
+pub use modules::{Mod, ModExpression, ModFunctionType, ModInteractive, ModModule, Mode};
 pub use py_base::{
     BoolOp, CmpOp, ConversionFlag, List, LocatedError, Malformed, Names, OneIndexed, Operator,
     SourceLocation, Text, TreeLimit, UnaryOp,
 };
-pub use size::{size_of_body, size_of_expr, size_of_tree};
 pub use statements::{
-    Stmt, StmtAnnAssign, StmtAnnAssignOf, StmtAssign, StmtAssignOf, StmtAugAssign, StmtAugAssignOf,
-    StmtBreak, StmtContinue, StmtDelete, StmtDeleteOf, StmtExpr, StmtExprOf, StmtIf, StmtIfOf,
-    StmtPass, StmtWhile, StmtWhileOf, Stmts,
+    Alias, ExceptHandler, MatchCase, Stmt, StmtAnnAssign, StmtAssert, StmtAssign, StmtAsyncFor,
+    StmtAsyncFunctionDef, StmtAsyncWith, StmtAugAssign, StmtBreak, StmtClassDef, StmtContinue,
+    StmtDelete, StmtExpr, StmtFor, StmtFunctionDef, StmtGlobal, StmtIf, StmtImport, StmtImportFrom,
+    StmtMatch, StmtNonlocal, StmtPass, StmtRaise, StmtReturn, StmtTry, StmtTryStar, StmtTypeAlias,
+    StmtWhile, StmtWith, Stmts, TypeParam, TypeParamParamSpec, TypeParamTypeVar,
+    TypeParamTypeVarTuple, WithItem,
 };
-pub use validity::{valid, valid_body, valid_expr};

@@ -1,18 +1,36 @@
 ghost use Rattle.std.specs.Prelude.{◌≡◌};
-ghost use Rattle.py_tree.specs.Tree.{stmt_location};
-ghost use Rattle.py_tree.specs.View.{stmt_tree};
+ghost use Rattle.py_tree.specs.Tree.{stmt_location, type_param_location};
+ghost use Rattle.py_tree.specs.View.{stmt_tree, type_param_tree};
 
-use crate::{Expr, List, Operator, SourceLocation};
+use crate::{Arguments, Expr, Keyword, List, Names, Operator, SourceLocation, Text};
 
 /// A statement.
 #[derive(Drop)]
 pub enum Stmt {
+    FunctionDef(StmtFunctionDefOf<Stmt>),
+    AsyncFunctionDef(StmtAsyncFunctionDefOf<Stmt>),
+    ClassDef(StmtClassDefOf<Stmt>),
+    Return(StmtReturnOf<Expr>),
     Delete(StmtDeleteOf<Expr>),
     Assign(StmtAssignOf<Expr>),
+    TypeAlias(StmtTypeAliasOf<Expr>),
     AugAssign(StmtAugAssignOf<Expr>),
     AnnAssign(StmtAnnAssignOf<Expr>),
+    For(StmtForOf<Stmt>),
+    AsyncFor(StmtAsyncForOf<Stmt>),
     While(StmtWhileOf<Stmt>),
     If(StmtIfOf<Stmt>),
+    With(StmtWithOf<Stmt>),
+    AsyncWith(StmtAsyncWithOf<Stmt>),
+    Match(StmtMatchOf<Stmt>),
+    Raise(StmtRaiseOf<Expr>),
+    Try(StmtTryOf<Stmt>),
+    TryStar(StmtTryStarOf<Stmt>),
+    Assert(StmtAssertOf<Expr>),
+    Import(StmtImport),
+    ImportFrom(StmtImportFrom),
+    Global(StmtGlobal),
+    Nonlocal(StmtNonlocal),
     Expr(StmtExprOf<Expr>),
     Pass(StmtPass),
     Break(StmtBreak),
@@ -21,6 +39,57 @@ pub enum Stmt {
 
 /// Statements in order.
 pub type Stmts = List<Stmt>;
+
+/// `def name(args): body`.
+#[derive(Drop)]
+pub struct StmtFunctionDefOf<S> {
+    pub location: SourceLocation,
+    pub name: Text,
+    pub args: Box<Arguments>,
+    pub body: List<S>,
+    pub decorator_list: List<Expr>,
+    pub returns: Option<Box<Expr>>,
+    pub type_params: List<TypeParam>,
+}
+
+pub type StmtFunctionDef = StmtFunctionDefOf<Stmt>;
+
+/// `async def name(args): body`.
+#[derive(Drop)]
+pub struct StmtAsyncFunctionDefOf<S> {
+    pub location: SourceLocation,
+    pub name: Text,
+    pub args: Box<Arguments>,
+    pub body: List<S>,
+    pub decorator_list: List<Expr>,
+    pub returns: Option<Box<Expr>>,
+    pub type_params: List<TypeParam>,
+}
+
+pub type StmtAsyncFunctionDef = StmtAsyncFunctionDefOf<Stmt>;
+
+/// `class name(bases, keywords): body`.
+#[derive(Drop)]
+pub struct StmtClassDefOf<S> {
+    pub location: SourceLocation,
+    pub name: Text,
+    pub bases: List<Expr>,
+    pub keywords: List<Keyword>,
+    pub body: List<S>,
+    pub decorator_list: List<Expr>,
+    pub type_params: List<TypeParam>,
+}
+
+pub type StmtClassDef = StmtClassDefOf<Stmt>;
+
+/// `return value`.
+#[derive(Drop)]
+pub struct StmtReturnOf<E> {
+    pub location: SourceLocation,
+    pub value: Option<Box<E>>,
+}
+
+pub type StmtReturn = StmtReturnOf<Expr>;
 
 /// `del targets`.
 #[derive(Drop)]
@@ -40,6 +109,17 @@ pub struct StmtAssignOf<E> {
 }
 
 pub type StmtAssign = StmtAssignOf<Expr>;
+
+/// `type name = value`.
+#[derive(Drop)]
+pub struct StmtTypeAliasOf<E> {
+    pub location: SourceLocation,
+    pub name: Box<E>,
+    pub type_params: List<TypeParam>,
+    pub value: Box<E>,
+}
+
+pub type StmtTypeAlias = StmtTypeAliasOf<Expr>;
 
 /// `target op= value`.
 #[derive(Drop)]
@@ -64,6 +144,30 @@ pub struct StmtAnnAssignOf<E> {
 
 pub type StmtAnnAssign = StmtAnnAssignOf<Expr>;
 
+/// `for target in iter: body`, with an else part.
+#[derive(Drop)]
+pub struct StmtForOf<S> {
+    pub location: SourceLocation,
+    pub target: Box<Expr>,
+    pub iter: Box<Expr>,
+    pub body: List<S>,
+    pub orelse: List<S>,
+}
+
+pub type StmtFor = StmtForOf<Stmt>;
+
+/// `async for target in iter: body`, with an else part.
+#[derive(Drop)]
+pub struct StmtAsyncForOf<S> {
+    pub location: SourceLocation,
+    pub target: Box<Expr>,
+    pub iter: Box<Expr>,
+    pub body: List<S>,
+    pub orelse: List<S>,
+}
+
+pub type StmtAsyncFor = StmtAsyncForOf<Stmt>;
+
 /// `while test: body`, with an else part.
 #[derive(Drop)]
 pub struct StmtWhileOf<S> {
@@ -85,6 +189,110 @@ pub struct StmtIfOf<S> {
 }
 
 pub type StmtIf = StmtIfOf<Stmt>;
+
+/// `with items: body`.
+#[derive(Drop)]
+pub struct StmtWithOf<S> {
+    pub location: SourceLocation,
+    pub items: List<WithItem>,
+    pub body: List<S>,
+}
+
+pub type StmtWith = StmtWithOf<Stmt>;
+
+/// `async with items: body`.
+#[derive(Drop)]
+pub struct StmtAsyncWithOf<S> {
+    pub location: SourceLocation,
+    pub items: List<WithItem>,
+    pub body: List<S>,
+}
+
+pub type StmtAsyncWith = StmtAsyncWithOf<Stmt>;
+
+/// `match subject: cases`.
+#[derive(Drop)]
+pub struct StmtMatchOf<S> {
+    pub location: SourceLocation,
+    pub subject: Box<Expr>,
+    pub cases: List<MatchCaseOf<S>>,
+}
+
+pub type StmtMatch = StmtMatchOf<Stmt>;
+
+/// `raise exc from cause`.
+#[derive(Drop)]
+pub struct StmtRaiseOf<E> {
+    pub location: SourceLocation,
+    pub exc: Option<Box<E>>,
+    pub cause: Option<Box<E>>,
+}
+
+pub type StmtRaise = StmtRaiseOf<Expr>;
+
+/// `try: body`, with its handlers, an else part and a `finally` part.
+#[derive(Drop)]
+pub struct StmtTryOf<S> {
+    pub location: SourceLocation,
+    pub body: List<S>,
+    pub handlers: List<ExceptHandlerOf<S>>,
+    pub orelse: List<S>,
+    pub finalbody: List<S>,
+}
+
+pub type StmtTry = StmtTryOf<Stmt>;
+
+/// `try: body`, with handlers `except*`.
+#[derive(Drop)]
+pub struct StmtTryStarOf<S> {
+    pub location: SourceLocation,
+    pub body: List<S>,
+    pub handlers: List<ExceptHandlerOf<S>>,
+    pub orelse: List<S>,
+    pub finalbody: List<S>,
+}
+
+pub type StmtTryStar = StmtTryStarOf<Stmt>;
+
+/// `assert test, msg`.
+#[derive(Drop)]
+pub struct StmtAssertOf<E> {
+    pub location: SourceLocation,
+    pub test: Box<E>,
+    pub msg: Option<Box<E>>,
+}
+
+pub type StmtAssert = StmtAssertOf<Expr>;
+
+/// `import names`.
+#[derive(Drop)]
+pub struct StmtImport {
+    pub location: SourceLocation,
+    pub names: List<Alias>,
+}
+
+/// `from module import names`, with as many dots before it as `level` says.
+#[derive(Drop)]
+pub struct StmtImportFrom {
+    pub location: SourceLocation,
+    pub module: Option<Text>,
+    pub names: List<Alias>,
+    pub level: u32,
+}
+
+/// `global names`.
+#[derive(Drop)]
+pub struct StmtGlobal {
+    pub location: SourceLocation,
+    pub names: Names,
+}
+
+/// `nonlocal names`.
+#[derive(Drop)]
+pub struct StmtNonlocal {
+    pub location: SourceLocation,
+    pub names: Names,
+}
 
 /// An expression as a statement.
 #[derive(Drop)]
@@ -113,6 +321,70 @@ pub struct StmtContinue {
     pub location: SourceLocation,
 }
 
+/// What a `with` enters, and its target.
+#[derive(Drop)]
+pub struct WithItemOf<E> {
+    pub context_expr: Box<E>,
+    pub optional_vars: Option<Box<E>>,
+}
+
+pub type WithItem = WithItemOf<Expr>;
+
+/// `except type_ as name: body`.
+#[derive(Drop)]
+pub struct ExceptHandlerOf<S> {
+    pub type_: Option<Box<Expr>>,
+    pub name: Option<Text>,
+    pub body: List<S>,
+}
+
+pub type ExceptHandler = ExceptHandlerOf<Stmt>;
+
+/// A `case` of a `match`, without its pattern.
+#[derive(Drop)]
+pub struct MatchCaseOf<S> {
+    pub body: List<S>,
+}
+
+pub type MatchCase = MatchCaseOf<Stmt>;
+
+/// A module or a name that is imported, as `name as asname`.
+#[derive(Drop)]
+pub struct Alias {
+    pub name: Text,
+    pub asname: Option<Text>,
+}
+
+/// A type parameter.
+#[derive(Drop)]
+pub enum TypeParam {
+    TypeVar(TypeParamTypeVar),
+    ParamSpec(TypeParamParamSpec),
+    TypeVarTuple(TypeParamTypeVarTuple),
+}
+
+/// `name: bound`.
+#[derive(Drop)]
+pub struct TypeParamTypeVar {
+    pub location: SourceLocation,
+    pub name: Text,
+    pub bound: Option<Box<Expr>>,
+}
+
+/// `**name`.
+#[derive(Drop)]
+pub struct TypeParamParamSpec {
+    pub location: SourceLocation,
+    pub name: Text,
+}
+
+/// `*name`.
+#[derive(Drop)]
+pub struct TypeParamTypeVarTuple {
+    pub location: SourceLocation,
+    pub name: Text,
+}
+
 impl Stmt {
     /// Where the statement starts in the source.
     #[tactic(auto, using(crate::proofs::View::trees))]
@@ -120,16 +392,47 @@ impl Stmt {
         ensures { result ≡ stmt_location (stmt_tree self.now) }
     {
         match self {
+            Stmt::FunctionDef(s) => s.location,
+            Stmt::AsyncFunctionDef(s) => s.location,
+            Stmt::ClassDef(s) => s.location,
+            Stmt::Return(s) => s.location,
             Stmt::Delete(s) => s.location,
             Stmt::Assign(s) => s.location,
+            Stmt::TypeAlias(s) => s.location,
             Stmt::AugAssign(s) => s.location,
             Stmt::AnnAssign(s) => s.location,
+            Stmt::For(s) => s.location,
+            Stmt::AsyncFor(s) => s.location,
             Stmt::While(s) => s.location,
             Stmt::If(s) => s.location,
+            Stmt::With(s) => s.location,
+            Stmt::AsyncWith(s) => s.location,
+            Stmt::Match(s) => s.location,
+            Stmt::Raise(s) => s.location,
+            Stmt::Try(s) => s.location,
+            Stmt::TryStar(s) => s.location,
+            Stmt::Assert(s) => s.location,
+            Stmt::Import(s) => s.location,
+            Stmt::ImportFrom(s) => s.location,
+            Stmt::Global(s) => s.location,
+            Stmt::Nonlocal(s) => s.location,
             Stmt::Expr(s) => s.location,
             Stmt::Pass(s) => s.location,
             Stmt::Break(s) => s.location,
             Stmt::Continue(s) => s.location,
+        }
+    }
+}
+
+impl TypeParam {
+    /// Where the type parameter starts in the source.
+    pub fn location(&self) -> SourceLocation
+        ensures { result ≡ type_param_location (type_param_tree self.now) }
+    {
+        match self {
+            TypeParam::TypeVar(p) => p.location,
+            TypeParam::ParamSpec(p) => p.location,
+            TypeParam::TypeVarTuple(p) => p.location,
         }
     }
 }

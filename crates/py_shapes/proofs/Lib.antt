@@ -1,0 +1,4 @@
+pub mod Checks
+pub mod Repeated
+mod Rows
+pub mod Steps
