@@ -22,8 +22,8 @@ raising_fits P (suc (suc zero)) h = refl
 raising_fits P (suc (suc (suc n))) h = absurd (omega arith)
 
 -- the closure's flag and the others
-flags_apart : (n : ℕ) → n < 16 → (choose (n % 2 == 1) 1 0 + bits_of (n - n % 2)) ≡ bits_of n
-flags_apart = each _ 15 (each _ 14 (each _ 13 (each _ 12 (each _ 11 (each _ 10 (each _ 9 (each _ 8 (each _ 7 (each _ 6 (each _ 5 (each _ 4 (each _ 3 (each _ 2 (each _ 1 (each _ 0 (λ n h. absurd (omega arith)) refl) refl) refl) refl) refl) refl) refl) refl) refl) refl) refl) refl) refl) refl) refl) refl
+flags_apart : (n : ℕ) → n < 32 → (choose (n % 2 == 1) 1 0 + bits_of (n - n % 2)) ≡ bits_of n
+flags_apart = each _ 31 (each _ 30 (each _ 29 (each _ 28 (each _ 27 (each _ 26 (each _ 25 (each _ 24 (each _ 23 (each _ 22 (each _ 21 (each _ 20 (each _ 19 (each _ 18 (each _ 17 (each _ 16 (each _ 15 (each _ 14 (each _ 13 (each _ 12 (each _ 11 (each _ 10 (each _ 9 (each _ 8 (each _ 7 (each _ 6 (each _ 5 (each _ 4 (each _ 3 (each _ 2 (each _ 1 (each _ 0 (λ n h. absurd (omega arith)) refl) refl) refl) refl) refl) refl) refl) refl) refl) refl) refl) refl) refl) refl) refl) refl) refl) refl) refl) refl) refl) refl) refl) refl) refl) refl) refl) refl) refl) refl) refl) refl
 
 module _ {P : Type 0} where
   -- what holds of each instruction that may come of an entry
@@ -103,7 +103,7 @@ module _ {P : Type 0} where
   fits t to op.UnpackSequence n x e = of_below (Fits op.UnpackSequence n) (2 ^ 30) n _ x (λ h. omega (arith, ints)) e
   fits t to op.UnpackEx n x e = of_below (Fits op.UnpackEx n) (2 ^ 16) n _ x (λ h. omega (arith, ints)) e
   fits t to op.FormatValue n x e = of_below (Fits op.FormatValue n) 4 n _ x (λ h. refl) e
-  fits t to op.MakeFunction n x e = of_below (Fits op.MakeFunction n) 16 n _ x (λ h. let f = flags_apart n h in omega (arith, ints)) e
+  fits t to op.MakeFunction n x e = of_below (Fits op.MakeFunction n) 32 n _ x (λ h. let f = flags_apart n h in omega (arith, ints)) e
   fits t to op.YieldValue n x e = of_below (Fits op.YieldValue n) 1 n _ x (λ h. refl) e
   fits t to op.YieldFrom n x e = of_below (Fits op.YieldFrom n) 1 n _ x (λ h. refl) e
   fits t to op.SetupAnnotation n x e = of_below (Fits op.SetupAnnotation n) 1 n _ x (λ h. refl) e
@@ -130,3 +130,5 @@ module _ {P : Type 0} where
   fits t to op.SetupExcept n x e = of_some (Fits op.SetupExcept n) to _ x (λ a. refl) e
   fits t to op.SetupFinally n x e = of_some (Fits op.SetupFinally n) to _ x (λ a. refl) e
   fits t to op.SetupWith n x e = of_some (Fits op.SetupWith n) to _ x (λ a. refl) e
+  fits t to op.TypeVar n x e = of_below (Fits op.TypeVar n) 1 n _ x (λ h. refl) e
+  fits t to op.TypeVarWithBound n x e = of_below (Fits op.TypeVarWithBound n) 1 n _ x (λ h. refl) e

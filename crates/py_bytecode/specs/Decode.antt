@@ -154,3 +154,5 @@ module _ {P : Type 0} where
   instr_of t to op.SetupExcept n = jumping to (λ p. SetupExcept p)
   instr_of t to op.SetupFinally n = jumping to (λ p. SetupFinally p)
   instr_of t to op.SetupWith n = jumping to (λ p. SetupWith p)
+  instr_of t to op.TypeVar n = bare n (Operate (operation op.TypeVar Bare) 1 (Some 1))
+  instr_of t to op.TypeVarWithBound n = bare n (Operate (operation op.TypeVarWithBound Bare) 2 (Some 1))

@@ -9,7 +9,7 @@ abbrev pub minus : ℕ → ℤ
 minus n = pos 0 -ℤ pos n
 
 abbrev pub bits_of : ℕ → ℕ
-bits_of n = n % 2 + n / 2 % 2 + n / 4 % 2 + n / 8
+bits_of n = n % 2 + n / 2 % 2 + n / 4 % 2 + n / 8 % 2 + n / 16
 
 abbrev pub raise_of : ℕ → ℤ
 raise_of n = if n == 0 then negsuc 0 else (if n == 1 then negsuc 1 else pos 0)
@@ -18,7 +18,7 @@ raise_of n = if n == 0 then negsuc 0 else (if n == 1 then negsuc 1 else pos 0)
 abbrev pub range_of : OperandKind → Option ℕ
 range_of kind.None = Some 1
 range_of kind.Count = Some (2 ^ 30)
-range_of kind.Flags = Some 16
+range_of kind.Flags = Some 32
 range_of kind.Pair = Some (2 ^ 16)
 range_of kind.Bit = Some 2
 range_of kind.Unary = Some 4
@@ -36,7 +36,7 @@ range_of kind.Label = None
 -- the operand is in its kind's range, where the kind counts or enumerates
 abbrev pub InKind : OperandKind → ℕ → Type 0
 InKind kind.Count n = n < 2 ^ 30
-InKind kind.Flags n = n < 16
+InKind kind.Flags n = n < 32
 InKind kind.Pair n = n < 2 ^ 16
 InKind kind.Bit n = n < 2
 InKind kind.Unary n = n < 4
@@ -160,6 +160,8 @@ row_of op.Continue = row kind.Label (λ n. pos 0) (λ n. pos 0) leaves (codes "C
 row_of op.SetupExcept = row kind.Label (λ n. pos 0) (λ n. pos 1) goes (codes "SetupExcept")
 row_of op.SetupFinally = row kind.Label (λ n. pos 0) (λ n. pos 0) goes (codes "SetupFinally")
 row_of op.SetupWith = row kind.Label (λ n. pos 1) (λ n. pos 0) goes (codes "SetupWith")
+row_of op.TypeVar = row kind.None (λ n. pos 0) (λ n. pos 0) goes (codes "TypeVar")
+row_of op.TypeVarWithBound = row kind.None (λ n. negsuc 0) (λ n. negsuc 0) goes (codes "TypeVarWithBound")
 
 abbrev pub is_label : OperandKind → Bool
 is_label kind.None = false

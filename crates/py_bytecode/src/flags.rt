@@ -89,6 +89,8 @@ impl MakeFunctionFlags {
     pub const KW_ONLY_DEFAULTS: MakeFunctionFlags = MakeFunctionFlags(0x04);
     /// A tuple of defaults of positional parameters.
     pub const DEFAULTS: MakeFunctionFlags = MakeFunctionFlags(0x08);
+    /// A tuple of type parameters.
+    pub const TYPE_PARAMS: MakeFunctionFlags = MakeFunctionFlags(0x10);
 
     const FLAGS: &'static [Flag<MakeFunctionFlags>] = &[
         Flag {
@@ -107,6 +109,10 @@ impl MakeFunctionFlags {
             name: "DEFAULTS",
             value: MakeFunctionFlags::DEFAULTS,
         },
+        Flag {
+            name: "TYPE_PARAMS",
+            value: MakeFunctionFlags::TYPE_PARAMS,
+        },
     ];
 }
 
@@ -115,7 +121,7 @@ impl Flags for MakeFunctionFlags {
 
     ghost exact = { ⊤ };
 
-    ghost table = { (codes "CLOSURE", 1) ∷ (codes "ANNOTATIONS", 2) ∷ (codes "KW_ONLY_DEFAULTS", 4) ∷ (codes "DEFAULTS", 8) ∷ [] };
+    ghost table = { (codes "CLOSURE", 1) ∷ (codes "ANNOTATIONS", 2) ∷ (codes "KW_ONLY_DEFAULTS", 4) ∷ (codes "DEFAULTS", 8) ∷ (codes "TYPE_PARAMS", 16) ∷ [] };
 
     ghost set_of = { λ f. f.0 };
 

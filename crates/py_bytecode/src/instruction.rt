@@ -97,6 +97,8 @@ pub enum Instruction {
     SetupExcept,
     SetupFinally,
     SetupWith,
+    TypeVar,
+    TypeVarWithBound,
 }
 
 /// What an operand is: a place in a table of the code, the start of a block, a number, or the number of an
@@ -232,6 +234,8 @@ macro_rules! instruction_table {
             SetupExcept: Label, (0), (1), goes_on;
             SetupFinally: Label, (0), (0), goes_on;
             SetupWith: Label, (1), (0), goes_on;
+            TypeVar: None, (0), (0), goes_on;
+            TypeVarWithBound: None, (-1), (-1), goes_on;
         }
     };
 }
@@ -314,12 +318,12 @@ impl Instruction {
     }
 }
 
-/// How many of the four lowest bits are set.
+/// How many of the five lowest bits are set.
 fn bits(n: u32) -> i32
-    requires { n < 16 }
+    requires { n < 32 }
     ensures { result ≡ pos (bits_of n) }
 {
-    (n % 2 + n / 2 % 2 + n / 4 % 2 + n / 8) as i32
+    (n % 2 + n / 2 % 2 + n / 4 % 2 + n / 8 % 2 + n / 16) as i32
 }
 
 /// The effect of a raise of each kind.

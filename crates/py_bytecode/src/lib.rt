@@ -12,8 +12,6 @@ pub mod laws;
 mod lines;
 pub mod operand;
 mod quote;
-#[cfg(test)]
-mod tests;
 
 pub use code::{CodeObject, ConstantData};
 pub use disassembly::listing;

@@ -137,3 +137,5 @@ module _ {P Q : Type 0} (f : P → Q) where
   decode_at t to op.SetupExcept n = jump_at to _ _ (λ p. refl)
   decode_at t to op.SetupFinally n = jump_at to _ _ (λ p. refl)
   decode_at t to op.SetupWith n = jump_at to _ _ (λ p. refl)
+  decode_at t to op.TypeVar n = within_at kind.None n _ _ refl
+  decode_at t to op.TypeVarWithBound n = within_at kind.None n _ _ refl

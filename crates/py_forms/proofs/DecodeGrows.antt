@@ -105,3 +105,5 @@ module _ {P : Type 0} where
   decode_grows t u g to op.SetupExcept n i e = e
   decode_grows t u g to op.SetupFinally n i e = e
   decode_grows t u g to op.SetupWith n i e = e
+  decode_grows t u g to op.TypeVar n i e = e
+  decode_grows t u g to op.TypeVarWithBound n i e = e

@@ -132,6 +132,8 @@ module _ {P : Type 0} where
   stays_so t to op.SetupExcept n = some_so to _ (λ p. refl)
   stays_so t to op.SetupFinally n = some_so to _ (λ p. refl)
   stays_so t to op.SetupWith n = some_so to _ (λ p. refl)
+  stays_so t to op.TypeVar n = within_so kind.None n _ refl
+  stays_so t to op.TypeVarWithBound n = within_so kind.None n _ refl
 
   pub stays_row : (t : Tables) (to : Option P) (o : Instruction) (n : ℕ) (i : Instr Object P) → instr_of t to o n ≡ Some i → stays i ≡ flip (row_of o).leaves
   stays_row t to o n i e = subst (StaysSo (flip (row_of o).leaves)) e (stays_so t to o n)

@@ -96,7 +96,7 @@ module _ {P : Type 0} where
   in_range t p op.UnpackSequence n h e = if_there (nat_lt n (2 ^ 30)) (Unpack (operation op.UnpackSequence (Number n)) n) h
   in_range t p op.UnpackEx n h e = if_there (nat_lt n (2 ^ 16)) (Unpack (operation op.UnpackEx (Number n)) (n % 256 + n / 256 + 1)) h
   in_range t p op.FormatValue n h e = if_there (nat_lt n 4) (Operate (operation op.FormatValue (Number n)) 2 (Some 1)) h
-  in_range t p op.MakeFunction n h e = if_there (nat_lt n 16) (MakeFunction (n - n % 2) (n % 2 == 1) (bits_of (n - n % 2))) h
+  in_range t p op.MakeFunction n h e = if_there (nat_lt n 32) (MakeFunction (n - n % 2) (n % 2 == 1) (bits_of (n - n % 2))) h
   in_range t p op.YieldValue n h e = if_there (nat_lt n 1) (Operate (operation op.YieldValue Bare) 1 (Some 1)) h
   in_range t p op.YieldFrom n h e = if_there (nat_lt n 1) (Operate (operation op.YieldFrom Bare) 2 (Some 1)) h
   in_range t p op.SetupAnnotation n h e = if_there (nat_lt n 1) (Operate (operation op.SetupAnnotation Bare) 0 (Some 0)) h
@@ -123,3 +123,5 @@ module _ {P : Type 0} where
   in_range t p op.SetupExcept n h e = λ z. absurd (cc)
   in_range t p op.SetupFinally n h e = λ z. absurd (cc)
   in_range t p op.SetupWith n h e = λ z. absurd (cc)
+  in_range t p op.TypeVar n h e = if_there (nat_lt n 1) (Operate (operation op.TypeVar Bare) 1 (Some 1)) h
+  in_range t p op.TypeVarWithBound n h e = if_there (nat_lt n 1) (Operate (operation op.TypeVarWithBound Bare) 2 (Some 1)) h

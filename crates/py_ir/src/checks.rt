@@ -49,7 +49,7 @@ fn in_range(lens: TableLens, kind: OperandKind, n: u32) -> bool
         OperandKind::Label => true,
         OperandKind::None => n < 1,
         OperandKind::Count => n < 1 << 30,
-        OperandKind::Flags => n < 16,
+        OperandKind::Flags => n < 32,
         OperandKind::Pair => n < 1 << 16,
         OperandKind::Bit => n < 2,
         OperandKind::Unary => n < 4,

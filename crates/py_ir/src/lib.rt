@@ -11,8 +11,6 @@ pub mod flat_code;
 pub mod info;
 pub mod sets;
 pub mod taking;
-#[cfg(test)]
-mod tests;
 
 pub use blocks::{Block, Blocks};
 pub use error::FinalizeError;

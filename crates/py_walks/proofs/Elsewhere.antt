@@ -95,7 +95,7 @@ module _ {P Q : Type 0} (f : P → Q) where
   same_at t to to1 op.UnpackSequence n m h = if_at (nat_lt n (2 ^ 30)) (Unpack (operation op.UnpackSequence (Number n)) n) (Unpack (operation op.UnpackSequence (Number n)) n) refl
   same_at t to to1 op.UnpackEx n m h = if_at (nat_lt n (2 ^ 16)) (Unpack (operation op.UnpackEx (Number n)) (n % 256 + n / 256 + 1)) (Unpack (operation op.UnpackEx (Number n)) (n % 256 + n / 256 + 1)) refl
   same_at t to to1 op.FormatValue n m h = if_at (nat_lt n 4) (Operate (operation op.FormatValue (Number n)) 2 (Some 1)) (Operate (operation op.FormatValue (Number n)) 2 (Some 1)) refl
-  same_at t to to1 op.MakeFunction n m h = if_at (nat_lt n 16) (MakeFunction (n - n % 2) (n % 2 == 1) (bits_of (n - n % 2))) (MakeFunction (n - n % 2) (n % 2 == 1) (bits_of (n - n % 2))) refl
+  same_at t to to1 op.MakeFunction n m h = if_at (nat_lt n 32) (MakeFunction (n - n % 2) (n % 2 == 1) (bits_of (n - n % 2))) (MakeFunction (n - n % 2) (n % 2 == 1) (bits_of (n - n % 2))) refl
   same_at t to to1 op.YieldValue n m h = if_at (nat_lt n 1) (Operate (operation op.YieldValue Bare) 1 (Some 1)) (Operate (operation op.YieldValue Bare) 1 (Some 1)) refl
   same_at t to to1 op.YieldFrom n m h = if_at (nat_lt n 1) (Operate (operation op.YieldFrom Bare) 2 (Some 1)) (Operate (operation op.YieldFrom Bare) 2 (Some 1)) refl
   same_at t to to1 op.SetupAnnotation n m h = if_at (nat_lt n 1) (Operate (operation op.SetupAnnotation Bare) 0 (Some 0)) (Operate (operation op.SetupAnnotation Bare) 0 (Some 0)) refl
@@ -122,6 +122,8 @@ module _ {P Q : Type 0} (f : P → Q) where
   same_at t to to1 op.SetupExcept n m h = jump_at to to1 (λ p. SetupExcept p) (λ p. SetupExcept p) (h refl) (λ p. refl)
   same_at t to to1 op.SetupFinally n m h = jump_at to to1 (λ p. SetupFinally p) (λ p. SetupFinally p) (h refl) (λ p. refl)
   same_at t to to1 op.SetupWith n m h = jump_at to to1 (λ p. SetupWith p) (λ p. SetupWith p) (h refl) (λ p. refl)
+  same_at t to to1 op.TypeVar n m h = if_at (nat_lt n 1) (Operate (operation op.TypeVar Bare) 1 (Some 1)) (Operate (operation op.TypeVar Bare) 1 (Some 1)) refl
+  same_at t to to1 op.TypeVarWithBound n m h = if_at (nat_lt n 1) (Operate (operation op.TypeVarWithBound Bare) 2 (Some 1)) (Operate (operation op.TypeVarWithBound Bare) 2 (Some 1)) refl
 
   -- a jump's own operand is not looked at
   jump_operand : (t : Tables) (to : Option Q) (o : Instruction) (n m : ℕ) → is_jump o ≡ true → instr_of t to o m ≡ instr_of t to o n

@@ -117,7 +117,7 @@ module _ (P : Type 0) where
   row_is t to op.UnpackSequence n i e = if_row (RowIs to op.UnpackSequence n) (nat_lt n (2 ^ 30)) (Unpack (operation op.UnpackSequence (Number n)) n) i (record { flow = refl; target = refl; proper = tt }) e
   row_is t to op.UnpackEx n i e = if_row (RowIs to op.UnpackEx n) (nat_lt n (2 ^ 16)) (Unpack (operation op.UnpackEx (Number n)) (n % 256 + n / 256 + 1)) i (record { flow = refl; target = refl; proper = tt }) e
   row_is t to op.FormatValue n i e = if_row (RowIs to op.FormatValue n) (nat_lt n 4) (Operate (operation op.FormatValue (Number n)) 2 (Some 1)) i (record { flow = refl; target = refl; proper = λ q. absurd (cc) }) e
-  row_is t to op.MakeFunction n i e = if_row (RowIs to op.MakeFunction n) (nat_lt n 16) (MakeFunction (n - n % 2) (n % 2 == 1) (bits_of (n - n % 2))) i (record { flow = refl; target = refl; proper = tt }) e
+  row_is t to op.MakeFunction n i e = if_row (RowIs to op.MakeFunction n) (nat_lt n 32) (MakeFunction (n - n % 2) (n % 2 == 1) (bits_of (n - n % 2))) i (record { flow = refl; target = refl; proper = tt }) e
   row_is t to op.YieldValue n i e = if_row (RowIs to op.YieldValue n) (nat_lt n 1) (Operate (operation op.YieldValue Bare) 1 (Some 1)) i (record { flow = refl; target = refl; proper = λ q. absurd (cc) }) e
   row_is t to op.YieldFrom n i e = if_row (RowIs to op.YieldFrom n) (nat_lt n 1) (Operate (operation op.YieldFrom Bare) 2 (Some 1)) i (record { flow = refl; target = refl; proper = λ q. absurd (cc) }) e
   row_is t to op.SetupAnnotation n i e = if_row (RowIs to op.SetupAnnotation n) (nat_lt n 1) (Operate (operation op.SetupAnnotation Bare) 0 (Some 0)) i (record { flow = refl; target = refl; proper = λ q. absurd (cc) }) e
@@ -144,6 +144,8 @@ module _ (P : Type 0) where
   row_is t to op.SetupExcept n i e = jump_row op.SetupExcept n to (λ p. SetupExcept p) i (λ p. record { flow = refl; target = refl; proper = tt }) e
   row_is t to op.SetupFinally n i e = jump_row op.SetupFinally n to (λ p. SetupFinally p) i (λ p. record { flow = refl; target = refl; proper = tt }) e
   row_is t to op.SetupWith n i e = jump_row op.SetupWith n to (λ p. SetupWith p) i (λ p. record { flow = refl; target = refl; proper = tt }) e
+  row_is t to op.TypeVar n i e = if_row (RowIs to op.TypeVar n) (nat_lt n 1) (Operate (operation op.TypeVar Bare) 1 (Some 1)) i (record { flow = refl; target = refl; proper = λ q. absurd (cc) }) e
+  row_is t to op.TypeVarWithBound n i e = if_row (RowIs to op.TypeVarWithBound n) (nat_lt n 1) (Operate (operation op.TypeVarWithBound Bare) 2 (Some 1)) i (record { flow = refl; target = refl; proper = λ q. absurd (cc) }) e
 
 -- the next instruction follows exactly where the table says so
 pub falls_leaves : (o : Instruction) (n : ℕ) → (flow_at o n).falls ≡ true → (row_of o).leaves ≡ false
@@ -237,3 +239,5 @@ falls_leaves op.Continue n e = absurd (cc)
 falls_leaves op.SetupExcept n e = refl
 falls_leaves op.SetupFinally n e = refl
 falls_leaves op.SetupWith n e = refl
+falls_leaves op.TypeVar n e = refl
+falls_leaves op.TypeVarWithBound n e = refl

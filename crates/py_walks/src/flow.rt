@@ -251,7 +251,7 @@ fn made(n: u64) -> u64
     requires { n < 2 ^ 32 }
     ensures { result ≡ made_of n }
 {
-    2 + n % 2 + n / 2 % 2 + n / 4 % 2 + n / 8
+    2 + n % 2 + n / 2 % 2 + n / 4 % 2 + n / 8 % 2 + n / 16
 }
 
 /// The flow of an instruction without jump and block.
@@ -269,7 +269,8 @@ fn values(instr: Instruction, n: u64) -> Flow
         | Instruction::TestOperation
         | Instruction::DictUpdate
         | Instruction::FormatValue
-        | Instruction::YieldFrom => Flow::goes_on(2, 0, 1),
+        | Instruction::YieldFrom
+        | Instruction::TypeVarWithBound => Flow::goes_on(2, 0, 1),
         Instruction::ImportStar
         | Instruction::StoreFast
         | Instruction::StoreLocal
@@ -292,7 +293,8 @@ fn values(instr: Instruction, n: u64) -> Flow
         Instruction::LoadAttr
         | Instruction::UnaryOperation
         | Instruction::GetIter
-        | Instruction::YieldValue => Flow::goes_on(1, 0, 1),
+        | Instruction::YieldValue
+        | Instruction::TypeVar => Flow::goes_on(1, 0, 1),
         Instruction::LoadMethod => Flow::goes_on(1, 0, 3),
         Instruction::Rotate2 => Flow::goes_on(2, 0, 2),
         Instruction::Rotate3 => Flow::goes_on(3, 0, 3),
