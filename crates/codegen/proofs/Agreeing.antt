@@ -46,7 +46,7 @@ listed_of (c ∷ cs) = ap (λ l. c ∷ l) (listed_of cs)
 -- a tree's scope is an outermost one
 outermost : (t : tree.Mod) (m : Mode) (l : ℕ) → MkScope outer_head (form_of (body t m l)) ≡ body t m l
 outermost (tree.Module stmts) m l = refl
-outermost (tree.Expression e) m l = refl
+outermost other m l = refl
 
 fuel_more : (a b : ℕ) (answers : List Answer) → a ≤ b → fuel a answers ≤ fuel b answers
 fuel_more a b answers h = let le : 2 * a + 2 ≤ 2 * b + 2 = omega (arith, h) in mul-le-mul_left (length answers + 1) le

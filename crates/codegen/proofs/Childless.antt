@@ -36,6 +36,7 @@ module _ (l : ℕ) where
     expr_childless (tree.List at elts) = tested_childless _ (display_childless op.BuildList op.BuildListUnpack _ (elements_childless (all_forms l elts) (exprs_childless elts)))
     expr_childless (tree.Tuple at elts) = tested_childless _ (display_childless op.BuildTuple op.BuildTupleUnpack _ (elements_childless (all_forms l elts) (exprs_childless elts)))
     expr_childless (tree.Slice at lower upper step) = tested_childless _ (slice_childless (opt_form l lower) (opt_form l upper) (opt_form l step) (opt_childless lower) (opt_childless upper) (opt_childless step))
+    expr_childless other = tested_childless _ refl
 
     exprs_childless : (ts : tree.Exprs) → AllChildless (all_forms l ts)
     exprs_childless tree.no_exprs = tt
@@ -113,9 +114,7 @@ module _ (l : ℕ) where
     stmt_childless (tree.If at t body (tree.more_stmts s ss)) = both_none _ _ (expr_childless t).test (both_none _ _ (stmts_childless body) (stmts_childless (tree.more_stmts s ss)))
     stmt_childless (tree.While at t body orelse) = both_none _ _ (expr_childless t).test (both_none _ _ (stmts_childless body) (stmts_childless orelse))
     stmt_childless (tree.StmtExpr at value) = both_none _ _ (expr_childless value).value refl
-    stmt_childless (tree.Break at) = refl
-    stmt_childless (tree.Continue at) = refl
-    stmt_childless (tree.Pass at) = refl
+    stmt_childless other = refl
 
     stmts_childless : (ts : tree.Stmts) → kids (stmts_form l ts) ≡ []
     stmts_childless tree.no_stmts = refl
@@ -132,3 +131,4 @@ setup_childless true = refl
 pub body_childless : (t : tree.Mod) (m : Mode) (l : ℕ) → kids (form_of (body t m l)) ≡ []
 body_childless (tree.Module stmts) m l = both_none _ _ (doc_childless (doc_of l stmts)) (both_none _ _ (setup_childless (annotated (after_doc stmts))) (both_none _ _ (stmts_childless l (after_doc stmts)) refl))
 body_childless (tree.Expression e) m l = (expr_childless l e).value
+body_childless other m l = refl

@@ -2,7 +2,7 @@
 use Rattle.std.proofs.Common.{◌∙◌, ◌≡◌, ℕ, List, [], ◌∷◌, ◌++◌, Bool, true, false, Option, Some, None, codes, refl}
 use Rattle.std.specs.Prelude.{nat_eq, if◌then◌else◌}
 use Rattle.py_tree.specs.Tree as tree
-use Rattle.py_tree.specs.Valid.{when, count, expr_shapes, exprs_shapes, opt_expr_shapes, stmt_shapes, stmts_shapes, shapes}
+use Rattle.py_shapes.specs.Valid.{when, count, expr_shapes, exprs_shapes, opt_expr_shapes, stmt_shapes, stmts_shapes, shapes}
 use Rattle.py_base.specs.declared.location.SourceLocation.{SourceLocation}
 use Rattle.py_tree.specs.declared.modules.Mode.{Mode}
 use Rattle.py_base.specs.declared.shapes.Malformed.TheVariants as shape
@@ -51,7 +51,7 @@ while_ends {test = test} {body = body} {orelse = orelse} t x y =
     let turned = last_ends (then_ends tested (x (record { on_break = end; on_continue = start }))) (jump_passes op.Jump start) in
     then_ends (last_ends (last_ends turned (begin_passes other)) (emit_passes op.PopBlock 0)) y)))
 
-module _ (l : ℕ) where
+module _ (l : ℕ) (class : Option (List ℕ)) where
   -- a statement ends as its faults say, in a loop or not, and goes on from some place
   record StmtEnds (t : tree.Stmt) (p : SourceLocation) : Type 0 where
     place : SourceLocation
@@ -62,43 +62,44 @@ module _ (l : ℕ) where
     ends : (x : Option LoopBlocks) → EndsAs (emission_of_stmts l x ts) p place (stmts_faults (held x) ts)
 
   mutual
-    stmt_ends : (p : SourceLocation) (t : tree.Stmt) → stmt_shapes t ≡ [] → StmtEnds t p
-    stmt_ends p (tree.Delete at targets) h = record { place = deletes_end at targets; ends = λ x. moved_ends at (deletions_end l at targets h) }
+    stmt_ends : (p : SourceLocation) (t : tree.Stmt) → stmt_shapes class t ≡ [] → StmtEnds t p
+    stmt_ends p (tree.Delete at targets) h = record { place = deletes_end at targets; ends = λ x. moved_ends at (deletions_end l class at targets h) }
     stmt_ends p (tree.Assign at targets value) h =
-        let s = both_none (when (nat_eq (count targets) 0) shape.NoTarget ++ exprs_shapes targets) (expr_shapes value) h in
-        let t = both_none (when (nat_eq (count targets) 0) shape.NoTarget) (exprs_shapes targets) s.0 in
-        let y = assign_ends l (expr_end value) targets t.0 t.1 in
-        record { place = y.place; ends = λ x. moved_ends at (then_ends ((expr_ends l value s.1).value at) y.ends) }
+        let s = both_none (when (nat_eq (count targets) 0) shape.NoTarget ++ exprs_shapes class targets) (expr_shapes class value) h in
+        let t = both_none (when (nat_eq (count targets) 0) shape.NoTarget) (exprs_shapes class targets) s.0 in
+        let y = assign_ends l class (expr_end value) targets t.0 t.1 in
+        record { place = y.place; ends = λ x. moved_ends at (then_ends ((expr_ends l class value s.1).value at) y.ends) }
     stmt_ends p (tree.AugAssign at target o value) h =
-        let s = both_none (expr_shapes target) (expr_shapes value) h in
-        let y = augment_ends l at target o value s.0 s.1 in
+        let s = both_none (expr_shapes class target) (expr_shapes class value) h in
+        let y = augment_ends l class at target o value s.0 s.1 in
         record { place = y.place; ends = λ x. moved_ends at y.ends }
     stmt_ends p (tree.AnnAssign at target annotation value simple) h =
-        let s = both_none (expr_shapes target ++ expr_shapes annotation) (opt_expr_shapes value) h in
-        let t = both_none (expr_shapes target) (expr_shapes annotation) s.0 in
-        let y = annotated_ends l at target annotation value t.0 t.1 s.1 in
+        let s = both_none (expr_shapes class target ++ expr_shapes class annotation) (opt_expr_shapes class value) h in
+        let t = both_none (expr_shapes class target) (expr_shapes class annotation) s.0 in
+        let y = annotated_ends l class at target annotation value t.0 t.1 s.1 in
         record { place = y.place; ends = λ x. moved_ends at y.ends }
     stmt_ends p (tree.If at t body orelse) h =
-        let s = both_none (expr_shapes t ++ stmts_shapes body) (stmts_shapes orelse) h in
-        let q = both_none (expr_shapes t) (stmts_shapes body) s.0 in
+        let s = both_none (expr_shapes class t ++ stmts_shapes class body) (stmts_shapes class orelse) h in
+        let q = both_none (expr_shapes class t) (stmts_shapes class body) s.0 in
         let y = stmts_end (expr_end t) body q.1 in
         let z = stmts_end y.place orelse s.1 in
-        record { place = z.place; ends = λ x. moved_ends at (parts_end l x orelse ((expr_ends l t q.0).test at) (y.ends x) (z.ends x)) }
+        record { place = z.place; ends = λ x. moved_ends at (parts_end l x orelse ((expr_ends l class t q.0).test at) (y.ends x) (z.ends x)) }
     stmt_ends p (tree.While at t body orelse) h =
-        let s = both_none (expr_shapes t ++ stmts_shapes body) (stmts_shapes orelse) h in
-        let q = both_none (expr_shapes t) (stmts_shapes body) s.0 in
+        let s = both_none (expr_shapes class t ++ stmts_shapes class body) (stmts_shapes class orelse) h in
+        let q = both_none (expr_shapes class t) (stmts_shapes class body) s.0 in
         let y = stmts_end (expr_end t) body q.1 in
         let z = stmts_end y.place orelse s.1 in
-        record { place = z.place; ends = λ x. moved_ends at (while_ends ((expr_ends l t q.0).test at) (λ own. y.ends (Some own)) (z.ends x)) }
-    stmt_ends p (tree.StmtExpr at v) h = record { place = expr_end v; ends = λ x. moved_ends at (last_ends ((expr_ends l v h).value at) (emit_passes op.Pop 0)) }
+        record { place = z.place; ends = λ x. moved_ends at (while_ends ((expr_ends l class t q.0).test at) (λ own. y.ends (Some own)) (z.ends x)) }
+    stmt_ends p (tree.StmtExpr at v) h = record { place = expr_end v; ends = λ x. moved_ends at (last_ends ((expr_ends l class v h).value at) (emit_passes op.Pop 0)) }
     stmt_ends p (tree.Break at) h = record { place = at; ends = λ x. moved_ends at (leave_ends at op.Break (λ y. y.on_break) error.InvalidBreak x) }
     stmt_ends p (tree.Continue at) h = record { place = at; ends = λ x. moved_ends at (leave_ends at op.Continue (λ y. y.on_continue) error.InvalidContinue x) }
     stmt_ends p (tree.Pass at) h = record { place = at; ends = λ x. moved_ends at nothing_passes }
+    stmt_ends p other h = record { place = tree.stmt_location other; ends = λ x. moved_ends (tree.stmt_location other) (refusal_ends error.NotImplementedYet []) }
 
-    stmts_end : (p : SourceLocation) (ts : tree.Stmts) → stmts_shapes ts ≡ [] → StmtsEnd ts p
+    stmts_end : (p : SourceLocation) (ts : tree.Stmts) → stmts_shapes class ts ≡ [] → StmtsEnd ts p
     stmts_end p tree.no_stmts h = record { place = p; ends = λ x. nothing_passes }
     stmts_end p (tree.more_stmts t ts) h =
-        let s = both_none (stmt_shapes t) (stmts_shapes ts) h in
+        let s = both_none (stmt_shapes class t) (stmts_shapes class ts) h in
         let y = stmt_ends p t s.0 in
         let z = stmts_end y.place ts s.1 in
         record { place = z.place; ends = λ x. then_ends (y.ends x) (z.ends x) }
@@ -110,11 +111,11 @@ module _ (l : ℕ) where
   text_returned p (Some text) es x = constant_passes op.ReturnConst (const.str text)
   text_returned p None es x = last_ends (last_ends (turn_ends l p es x) (count_passes op.BuildString _)) (emit_passes op.ReturnValue 0)
 
-  return_ends : (p : SourceLocation) (e : tree.Expr) → expr_shapes e ≡ [] → EndsAs (emission_of_return l e) p (expr_end e) (expr_faults e)
+  return_ends : (p : SourceLocation) (e : tree.Expr) → expr_shapes class e ≡ [] → EndsAs (emission_of_return l e) p (expr_end e) (expr_faults e)
   return_ends p (tree.Constant at v) h = moved_ends at (constant_passes op.ReturnConst (constant_of v))
-  return_ends p (tree.JoinedStr at parts) h = moved_ends at (text_returned at (texts_of parts) parts (exprs_end l parts h))
+  return_ends p (tree.JoinedStr at parts) h = moved_ends at (text_returned at (texts_of parts) parts (exprs_end l class parts h))
   return_ends p (tree.Name at x) h = moved_ends at (named x)
-  return_ends p other h = last_ends ((expr_ends l other h).value p) (emit_passes op.ReturnValue 0)
+  return_ends p other h = last_ends ((expr_ends l class other h).value p) (emit_passes op.ReturnValue 0)
 
   -- a docstring and what it leaves, and room for annotations
   doc_passes : {p : SourceLocation} (text : Option (List ℕ)) → Passes (emission_of_doc text) p
@@ -125,17 +126,21 @@ module _ (l : ℕ) where
   setup_passes false = nothing_passes
   setup_passes true = emit_passes op.SetupAnnotation 0
 
-  left_shapes : (text : Option (List ℕ)) (ts : tree.Stmts) → stmts_shapes ts ≡ [] → stmts_shapes (unless_text text ts) ≡ []
+  left_shapes : (text : Option (List ℕ)) (ts : tree.Stmts) → stmts_shapes class ts ≡ [] → stmts_shapes class (unless_text text ts) ≡ []
   left_shapes None ts h = h
   left_shapes (Some text) tree.no_stmts h = h
-  left_shapes (Some text) (tree.more_stmts t ts) h = (both_none (stmt_shapes t) (stmts_shapes ts) h).1
+  left_shapes (Some text) (tree.more_stmts t ts) h = (both_none (stmt_shapes class t) (stmts_shapes class ts) h).1
 
-  tree_ends : (t : tree.Mod) (m : Mode) → shapes t m ≡ [] → (q : SourceLocation) × Ends Done (compile_faults t) q (emitted t l)
-  tree_ends (tree.Module body) m h =
-      let y = stmts_end nothing.location (after_doc body) (left_shapes (first_text body) body h) in
-      let all = then_ends (doc_passes (doc_of l body)) (then_ends (setup_passes (annotated (after_doc body))) (last_ends (y.ends None) (constant_passes op.ReturnConst const.none))) in
+-- a file, and an expression
+module _ (l : ℕ) where
+  file_ends : (ts : tree.Stmts) → stmts_shapes None ts ≡ [] → (q : SourceLocation) × Ends Done (compile_faults (tree.Module ts)) q (emitted (tree.Module ts) l)
+  file_ends ts h =
+      let y = stmts_end l None nothing.location (after_doc ts) (left_shapes l None (first_text ts) ts h) in
+      let all = then_ends (doc_passes l None (doc_of l ts)) (then_ends (setup_passes l None (annotated (after_doc ts))) (last_ends (y.ends None) (constant_passes op.ReturnConst const.none))) in
       (y.place, all.ends Done nothing refl)
-  tree_ends (tree.Expression e) m h = (expr_end e, (return_ends nothing.location e h).ends Done nothing refl)
+
+  value_ends : (e : tree.Expr) → expr_shapes None e ≡ [] → (q : SourceLocation) × Ends Done (compile_faults (tree.Expression e)) q (emitted (tree.Expression e) l)
+  value_ends e h = (expr_end e, (return_ends l None nothing.location e h).ends Done nothing refl)
 
 refused_by : (q : SourceLocation) (fs : List Fault) (o : Outcome) (e : CodegenErrorType) (at : Option SourceLocation) → Ends Done fs q o → o ≡ Refused e at → (rest : List Fault) × (fs ≡ record { error = e; location = at } ∷ rest)
 refused_by q fs o e at (Wide p) r = absurd cc
@@ -152,8 +157,15 @@ done_by q fs o r (GoesOn t p g f) d = f
 
 -- a refusal is the first fault
 pub refusal_heads : (t : tree.Mod) (m : Mode) (l : ℕ) (e : CodegenErrorType) (at : Option SourceLocation) → shapes t m ≡ [] → emitted t l ≡ Refused e at → (rest : List Fault) × (compile_faults t ≡ record { error = e; location = at } ∷ rest)
-refusal_heads t m l e at h r = let y = tree_ends l t m h in refused_by y.0 (compile_faults t) (emitted t l) e at y.1 r
+refusal_heads (tree.Module ts) m l e at h r = let y = file_ends l ts h in refused_by y.0 _ _ e at y.1 r
+refusal_heads (tree.Expression v) m l e at h r = let y = value_ends l v h in refused_by y.0 _ _ e at y.1 r
+refusal_heads other m l e at h r =
+    let same : error.NotImplementedYet ≡ e = cc in
+    let place : None ≡ at = cc in
+    ([], λ i. record { error = same i; location = place i } ∷ [])
 
 -- what is emitted to its end has none
 pub done_faultless : (t : tree.Mod) (m : Mode) (l : ℕ) (r : State) → shapes t m ≡ [] → emitted t l ≡ Done r → compile_faults t ≡ []
-done_faultless t m l r h d = let y = tree_ends l t m h in done_by y.0 (compile_faults t) (emitted t l) r y.1 d
+done_faultless (tree.Module ts) m l r h d = let y = file_ends l ts h in done_by y.0 _ _ r y.1 d
+done_faultless (tree.Expression v) m l r h d = let y = value_ends l v h in done_by y.0 _ _ r y.1 d
+done_faultless other m l r h d = absurd cc

@@ -16,14 +16,15 @@ use Rattle.py_forms.specs.Agree.{exactly}
 use Rattle.py_forms.specs.Elements.{pairs}
 use Rattle.py_meaning.specs.Texts.{texts_of}
 use Rattle.py_forms.specs.TableParts as table
-use Rattle.py_forms.specs.TableParts.{binary, binary_case, conversion_case, counted, constant_of, debug_constant, is_debug, name_form}
+use Rattle.py_forms.specs.TableParts.{binary, binary_case, conversion_case, counted, constant_of, debug_constant, is_debug, name_form, no_operand}
 use Rattle.py_meaning.specs.Table.{expr_forms, all_forms, opt_form, opt_forms, keyword_forms, target_forms, all_targets}
+use Rattle.py_meaning.specs.Table.{unbuilt as empty}
 use Rattle.py_meaning.specs.Meaning.{outer_head}
 use Rattle.py_forms.specs.declared.errors.CodegenErrorType.TheVariants as error
 use Rattle.py_forms.specs.EmissionParts as emitting
 use Rattle.py_forms.specs.Emitting.{Next, refuse, emit, emit_name, emit_constant, move}
 use Rattle.py_forms.specs.EmissionParts.{emission_of_name, no_assignment, lone_star}
-use Rattle.py_meaning.specs.Emission.{emissions, all_emissions, opt_emission, opt_emissions, keyword_emissions, stores, all_stores}
+use Rattle.py_meaning.specs.Emission.{emissions, all_emissions, opt_emission, opt_emissions, keyword_emissions, stores, all_stores, unbuilt}
 use Rattle.py_emit.proofs.States.{never_refused}
 use Rattle.py_adds.proofs.Emitting.{comes_moved}
 use Rattle.py_adds.proofs.Instructions.{binary_adds, conversion_adds, name_adds, local_adds, attribute_adds, attribute_put_adds, subscript_adds, subscript_put_adds, constant_adds, list_builds, list_unpacks, set_builds, set_unpacks, tuple_builds, tuple_unpacks}
@@ -77,6 +78,10 @@ module _ (c : Scope → Object) (f : SForm) (l : ℕ) where
       let own : ValueAdds within (λ k. move at (refuse error.InvalidStarExpr)) (VAt at g) = λ n k s o b e. comes_moved at (refuse error.InvalidStarExpr) k s o _ _ e (λ r q u. absurd (never_refused _ r o u)) in
       record { value = own; test = truth_adds within (λ k. move at (refuse error.InvalidStarExpr)) (VAt at g) own; element = h.value; callee = own }
 
+  -- nothing is added for what is not compiled yet
+  unbuilt_adds : (at : SourceLocation) → AddsForms within (emitting.tested (unbuilt at)) (empty at)
+  unbuilt_adds at = value_adds at (λ k. refuse error.NotImplementedYet) no_operand (λ n k s o b e. absurd (never_refused _ s o e))
+
   -- a value is stored under a name
   name_store_adds : (x : List ℕ) → TargetAdds within (emit_name op.StoreLocal x) (GStore Resolved x)
   name_store_adds x n k s o b e = local_adds x k s o e
@@ -122,6 +127,7 @@ module _ (c : Scope → Object) (f : SForm) (l : ℕ) where
     expr_adds (tree.List at elts) = value_adds at _ _ (display_adds within op.BuildList op.BuildListUnpack list_builds list_unpacks _ _ (all_elements_add within (all_emissions l elts) (all_forms l elts) (exprs_add elts)))
     expr_adds (tree.Tuple at elts) = value_adds at _ _ (display_adds within op.BuildTuple op.BuildTupleUnpack tuple_builds tuple_unpacks _ _ (all_elements_add within (all_emissions l elts) (all_forms l elts) (exprs_add elts)))
     expr_adds (tree.Slice at lower upper step) = value_adds at _ _ (slice_adds within (opt_emission l lower) (opt_emission l upper) (opt_emission l step) (opt_form l lower) (opt_form l upper) (opt_form l step) (opt_adds lower) (opt_adds upper) (opt_adds step))
+    expr_adds other = unbuilt_adds (tree.expr_location other)
 
     pub exprs_add : (ts : tree.Exprs) → AllAddForms (outer c f) (all_emissions l ts) (all_forms l ts)
     exprs_add tree.no_exprs = tt

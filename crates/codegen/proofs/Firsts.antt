@@ -2,9 +2,9 @@
 use Rattle.std.proofs.Common.{◌≡◌, ℕ, ◌<◌, ◌≤◌, ◌^◌, List, [], ◌∷◌, ◌++◌, Bool, true, false, Some, None, refl, sym, ap, ◌∙◌, append_assoc, rules}
 use Rattle.std.specs.Prelude.{nat_lt, if◌then◌else◌}
 use Rattle.py_tree.specs.Tree as tree
-use Rattle.py_tree.specs.Nesting.{nesting}
-use Rattle.py_tree.specs.Size.{size_of}
-use Rattle.py_tree.specs.Valid.{shapes, first}
+use Rattle.py_limits.specs.Nesting.{nesting}
+use Rattle.py_limits.specs.Size.{size_of}
+use Rattle.py_shapes.specs.Valid.{shapes, first}
 use Rattle.py_base.specs.declared.location.LocatedError.{LocatedError}
 use Rattle.py_tree.specs.declared.modules.Mode.{Mode}
 use Rattle.py_base.specs.declared.shapes.Malformed.{Malformed}

@@ -2,6 +2,7 @@ pub mod ExprAdds
 pub mod StmtAdds
 pub mod Programs
 pub mod Childless
+pub mod Described
 pub mod Heights
 pub mod Agreeing
 pub mod Sizes

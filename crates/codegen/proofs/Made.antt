@@ -1,7 +1,7 @@
 -- The code object of an emitter that emitted a tree.
 use Rattle.std.proofs.Common.{◌≡◌, ◌<◌, ◌^◌, ℕ, List, Result, Ok, Err, IfOk, IfErr, None, refl, sym, ap, ◌∙◌, subst}
 use Rattle.py_tree.specs.Tree as tree
-use Rattle.py_tree.specs.Size.{size_of}
+use Rattle.py_limits.specs.Size.{size_of}
 use Rattle.py_tree.specs.declared.modules.Mode.TheVariants.{Exec}
 use Rattle.py_base.specs.declared.location.LocatedError.{LocatedError}
 use Rattle.py_bytecode.specs.declared.code.CodeObject.{CodeObject}

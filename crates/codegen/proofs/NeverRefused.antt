@@ -2,7 +2,7 @@
 use Rattle.std.proofs.Common.{◌≡◌, ℕ, ◌+◌, ◌<◌, ◌≤◌, ◌^◌, inl, inr, List, [], length, map, false, None, refl, sym, ap, ◌∙◌, subst, arith, append-nil}
 use Rattle.std.proofs.lemmas.List.{length-map, length-append}
 use Rattle.py_tree.specs.Tree as tree
-use Rattle.py_tree.specs.Size.{size_of}
+use Rattle.py_limits.specs.Size.{size_of}
 use Rattle.py_tree.specs.declared.modules.Mode.{Mode}
 use Rattle.py_bytecode.specs.Objects.{Object, object_of, no_consts}
 use Rattle.py_bytecode.specs.View.{constant}

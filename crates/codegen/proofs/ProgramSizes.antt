@@ -2,7 +2,7 @@
 use Rattle.std.proofs.Common.{ℕ, suc, ◌+◌, ◌*◌, ◌≤◌, ◌≡◌, List, [], ◌∷◌, Bool, true, false, Option, Some, None, refl, arith, append-nil}
 use Rattle.std.specs.Prelude.{nat_lt, if◌then◌else◌}
 use Rattle.py_tree.specs.Tree as tree
-use Rattle.py_tree.specs.Size.{expr_size, stmt_size, stmts_size, size_of}
+use Rattle.py_limits.specs.Size.{expr_size, stmt_size, stmts_size, size_of}
 use Rattle.py_tree.specs.declared.modules.Mode.{Mode}
 use Rattle.py_bytecode.specs.Objects.{Object}
 use Rattle.py_bytecode.specs.Machine.{ReturnValue}
@@ -41,7 +41,7 @@ module _ (i : Interp Object) (l : ℕ) where
     stmt_small (tree.StmtExpr at v) x n = let p = (expr_small i l v).value n in simp burden-append (omega (arith, p))
     stmt_small (tree.Break at) x n = omega arith
     stmt_small (tree.Continue at) x n = omega arith
-    stmt_small (tree.Pass at) x n = omega arith
+    stmt_small other x n = omega arith
 
     stmts_small : (ts : tree.Stmts) → CodeSmall i l (stmts_form l ts) (stmts_size ts)
     stmts_small tree.no_stmts x n = omega arith
@@ -65,16 +65,8 @@ module _ (i : Interp Object) (l : ℕ) where
 
 -- a docstring that is kept has less than its statement
 stmt_some : (t : tree.Stmt) → 1 ≤ stmt_size t
-stmt_some (tree.Delete at targets) = omega arith
-stmt_some (tree.Assign at targets value) = omega arith
-stmt_some (tree.AugAssign at target o value) = omega arith
-stmt_some (tree.AnnAssign at target annotation value simple) = omega arith
-stmt_some (tree.If at t body orelse) = omega arith
-stmt_some (tree.While at t body orelse) = omega arith
-stmt_some (tree.StmtExpr at v) = omega arith
-stmt_some (tree.Break at) = omega arith
-stmt_some (tree.Continue at) = omega arith
 stmt_some (tree.Pass at) = omega arith
+stmt_some other = omega arith
 
 module _ (i : Interp Object) (x : Loops) (n : ℕ) where
   doc_if : (b : Bool) (text : Option (List ℕ)) (stmts : tree.Stmts) → first_text stmts ≡ text → burden (code i (doc_form (if b then text else None)) x n) + 8 * stmts_size (unless_text text stmts) ≤ 8 * stmts_size stmts
@@ -105,3 +97,4 @@ body_small i (tree.Expression e) m l =
     let p = (expr_small i l e).value 1 in
     let q = return_small i l (expr_form l e) 1 (burden (code_v i (expr_form l e) 1)) (omega arith) in
     simp append-nil (omega (arith, p, q))
+body_small i other m l = omega arith

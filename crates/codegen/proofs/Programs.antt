@@ -145,6 +145,7 @@ module _ (c : Scope → Object) (f : SForm) (l : ℕ) where
       let k : Next = emit op.ReturnValue 0 Done in
       let r = even_only within (nat_eq (length ops) 0) (nat_eq (length ops) (length (all_emissions l others))) (comparisons (emissions l left).value ops (all_emissions l others) k) (error.MalformedTree shape.NoOperand) (error.MalformedTree shape.UnevenLists) (located at s) o (unmoved at (emission_of_compare (emissions l left).value ops (all_emissions l others) k) s o h) in
       valued (tree.Compare at left ops others) (no_constant (expr_form l left) ops others (search (rules, r.0)) (search (rules, r.1))) n s o b h
+  return_is other n s o b h = comes_moved (tree.expr_location other) (refuse error.NotImplementedYet) Done s o _ _ h (λ r q g. absurd (never_refused _ r o g))
 
   -- a docstring is stored
   doc_adds : (text : Option (List ℕ)) (loops : Loops) (n : ℕ) (k : Next) (s o : State) → emission_of_doc text k s ≡ Done o → Comes k s o (code within (doc_form text) loops n) (labels (doc_form text))
@@ -202,3 +203,4 @@ tree_adds c (tree.Expression e) m l o h =
       adds = adds_all nothing o _ _ (comes_as Done nothing o code (code ++ []) (labels_v (expr_form l e)) (labels_v (expr_form l e)) (sym (append-nil code)) refl (return_is c f l e 1 nothing o refl h));
       looped = tt;
     }
+tree_adds c other m l o h = absurd cc

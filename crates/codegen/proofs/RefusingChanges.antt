@@ -1,8 +1,8 @@
 -- Deletions and assignments end as the faults of their targets and values say.
-use Rattle.std.proofs.Common.{◌≡◌, ℕ, List, [], ◌++◌, codes, append_assoc, sym}
+use Rattle.std.proofs.Common.{◌≡◌, ℕ, List, Option, [], ◌++◌, codes, append_assoc, sym}
 use Rattle.std.specs.Prelude.{nat_eq}
 use Rattle.py_tree.specs.Tree as tree
-use Rattle.py_tree.specs.Valid.{when, count, name_shapes, expr_shapes, exprs_shapes, opt_expr_shapes}
+use Rattle.py_shapes.specs.Valid.{when, count, name_shapes, expr_shapes, exprs_shapes, opt_expr_shapes}
 use Rattle.py_base.specs.declared.location.SourceLocation.{SourceLocation}
 use Rattle.py_base.specs.declared.operators.Operator.{Operator}
 use Rattle.py_base.specs.declared.shapes.Malformed.TheVariants as shape
@@ -29,52 +29,52 @@ leaves {q = q} x = record { place = q; ends = x }
 then_leaves : {a b : Next → Next} {p q : SourceLocation} {fs gs : List Fault} → EndsAs a p q fs → Leaves b q gs → Leaves (λ k. a (b k)) p (fs ++ gs)
 then_leaves x y = leaves (then_ends x y.ends)
 
-module _ (l : ℕ) where
-  value_ends : (p : SourceLocation) (e : tree.Expr) → expr_shapes e ≡ [] → EndsAs (emission l e) p (expr_end e) (expr_faults e)
-  value_ends p e h = (expr_ends l e h).value p
+module _ (l : ℕ) (class : Option (List ℕ)) where
+  value_ends : (p : SourceLocation) (e : tree.Expr) → expr_shapes class e ≡ [] → EndsAs (emission l e) p (expr_end e) (expr_faults e)
+  value_ends p e h = (expr_ends l class e h).value p
 
   mutual
-    delete_ends : (p : SourceLocation) (e : tree.Expr) → expr_shapes e ≡ [] → EndsAs (emission_of_delete l e) p (delete_end p e) (delete_faults p e)
+    delete_ends : (p : SourceLocation) (e : tree.Expr) → expr_shapes class e ≡ [] → EndsAs (emission_of_delete l e) p (delete_end p e) (delete_faults p e)
     delete_ends p (tree.Name at x) h = unless_debug_last no_deletion x (name_passes op.DeleteLocal x)
     delete_ends p (tree.Attribute at value attr) h =
-        let s = both_none (name_shapes attr) (expr_shapes value) h in
+        let s = both_none (name_shapes attr) (expr_shapes class value) h in
         unless_debug_ends no_deletion attr (last_ends (value_ends p value s.1) (name_passes op.DeleteAttr attr))
     delete_ends p (tree.Subscript at value slice) h =
-        let s = both_none (expr_shapes value) (expr_shapes slice) h in
+        let s = both_none (expr_shapes class value) (expr_shapes class slice) h in
         last_ends (then_ends (value_ends p value s.0) (value_ends (expr_end value) slice s.1)) (emit_passes op.DeleteSubscript 0)
     delete_ends p (tree.List at elts) h = deletions_end p elts h
     delete_ends p (tree.Tuple at elts) h = deletions_end p elts h
     delete_ends p other h = refusal_ends (error.Delete (deletion_name other)) []
 
-    pub deletions_end : (p : SourceLocation) (es : tree.Exprs) → exprs_shapes es ≡ [] → EndsAs (emission_of_deletes l es) p (deletes_end p es) (deletes_faults p es)
+    pub deletions_end : (p : SourceLocation) (es : tree.Exprs) → exprs_shapes class es ≡ [] → EndsAs (emission_of_deletes l es) p (deletes_end p es) (deletes_faults p es)
     deletions_end p tree.no_exprs h = nothing_passes
     deletions_end p (tree.more_exprs e es) h =
-        let s = both_none (expr_shapes e) (exprs_shapes es) h in
+        let s = both_none (expr_shapes class e) (exprs_shapes class es) h in
         then_ends (delete_ends p e s.0) (deletions_end (delete_end p e) es s.1)
 
   -- there is a target
-  some_assign_ends : (p : SourceLocation) (e : tree.Expr) (es : tree.Exprs) → expr_shapes e ≡ [] → exprs_shapes es ≡ [] → Leaves (emission_of_assign l (tree.more_exprs e es)) p (assign_faults p (tree.more_exprs e es))
-  some_assign_ends p e tree.no_exprs h s = leaves (then_ends (store_ends l p e h).alone nothing_passes)
+  some_assign_ends : (p : SourceLocation) (e : tree.Expr) (es : tree.Exprs) → expr_shapes class e ≡ [] → exprs_shapes class es ≡ [] → Leaves (emission_of_assign l (tree.more_exprs e es)) p (assign_faults p (tree.more_exprs e es))
+  some_assign_ends p e tree.no_exprs h s = leaves (then_ends (store_ends l class p e h).alone nothing_passes)
   some_assign_ends p e (tree.more_exprs g es) h s =
-      let t = both_none (expr_shapes g) (exprs_shapes es) s in
-      then_leaves (then_ends (emit_passes op.Duplicate 0) (store_ends l p e h).alone) (some_assign_ends (store_end p e) g es t.0 t.1)
+      let t = both_none (expr_shapes class g) (exprs_shapes class es) s in
+      then_leaves (then_ends (emit_passes op.Duplicate 0) (store_ends l class p e h).alone) (some_assign_ends (store_end p e) g es t.0 t.1)
 
-  pub assign_ends : (p : SourceLocation) (es : tree.Exprs) → when (nat_eq (count es) 0) shape.NoTarget ≡ [] → exprs_shapes es ≡ [] → Leaves (emission_of_assign l es) p (assign_faults p es)
+  pub assign_ends : (p : SourceLocation) (es : tree.Exprs) → when (nat_eq (count es) 0) shape.NoTarget ≡ [] → exprs_shapes class es ≡ [] → Leaves (emission_of_assign l es) p (assign_faults p es)
   assign_ends p tree.no_exprs some h = absurd cc
-  assign_ends p (tree.more_exprs e es) some h = let s = both_none (expr_shapes e) (exprs_shapes es) h in some_assign_ends p e es s.0 s.1
+  assign_ends p (tree.more_exprs e es) some h = let s = both_none (expr_shapes class e) (exprs_shapes class es) h in some_assign_ends p e es s.0 s.1
 
-  pub augment_ends : (p : SourceLocation) (target : tree.Expr) (o : Operator) (value : tree.Expr) → expr_shapes target ≡ [] → expr_shapes value ≡ [] → Leaves (emission_of_augment l target o (emission l value)) p (augment_faults p target value)
+  pub augment_ends : (p : SourceLocation) (target : tree.Expr) (o : Operator) (value : tree.Expr) → expr_shapes class target ≡ [] → expr_shapes class value ≡ [] → Leaves (emission_of_augment l target o (emission l value)) p (augment_faults p target value)
   augment_ends p (tree.Name at x) o value h v =
       let result = last_ends (then_ends (name_load_passes l x) (value_ends p value v)) (emit_passes op.BinaryOperationInplace (binary_case o)) in
       leaves (then_ends result (unless_debug_last no_assignment x (name_passes op.StoreLocal x)))
   augment_ends p (tree.Attribute at object attr) o value h v =
-      let s = both_none (name_shapes attr) (expr_shapes object) h in
+      let s = both_none (name_shapes attr) (expr_shapes class object) h in
       let present = last_ends (last_ends (value_ends p object s.1) (emit_passes op.Duplicate 0)) (name_passes op.LoadAttr attr) in
       let result = last_ends (then_ends present (value_ends (expr_end object) value v)) (emit_passes op.BinaryOperationInplace (binary_case o)) in
       let stored = unless_debug_ends no_assignment attr (last_ends (last_ends result (emit_passes op.Rotate2 0)) (name_passes op.StoreAttr attr)) in
       leaves (ends_so (sym (append_assoc _ (expr_faults object) (expr_faults value))) stored)
   augment_ends p (tree.Subscript at object slice) o value h v =
-      let s = both_none (expr_shapes object) (expr_shapes slice) h in
+      let s = both_none (expr_shapes class object) (expr_shapes class slice) h in
       let place = then_ends (value_ends p object s.0) (value_ends (expr_end object) slice s.1) in
       let present = last_ends (last_ends place (emit_passes op.Duplicate2 0)) (emit_passes op.Subscript 0) in
       let result = last_ends (then_ends present (value_ends (expr_end slice) value v)) (emit_passes op.BinaryOperationInplace (binary_case o)) in
@@ -82,15 +82,15 @@ module _ (l : ℕ) where
   augment_ends p other o value h v = leaves (no_target {q = p} p other)
 
   -- an annotated target
-  declared_ends : (p : SourceLocation) (target : tree.Expr) (value : tree.OptExpr) → expr_shapes target ≡ [] → opt_expr_shapes value ≡ [] → Leaves (emission_of_declared l target value) p (declared_faults target value)
+  declared_ends : (p : SourceLocation) (target : tree.Expr) (value : tree.OptExpr) → expr_shapes class target ≡ [] → opt_expr_shapes class value ≡ [] → Leaves (emission_of_declared l target value) p (declared_faults target value)
   declared_ends p target tree.no_expr h v = leaves nothing_passes
-  declared_ends p target (tree.some_expr e) h v = leaves (then_ends (value_ends p e v) (store_ends l (expr_end e) target h).alone)
+  declared_ends p target (tree.some_expr e) h v = leaves (then_ends (value_ends p e v) (store_ends l class (expr_end e) target h).alone)
 
   annotation_passes : {p : SourceLocation} (target : tree.Expr) → Passes (emission_of_annotation target) p
   annotation_passes (tree.Name at x) = then_ends (name_passes op.LoadNameAny (codes "__annotations__")) (then_ends (constant_passes op.LoadConst (const.str x)) (emit_passes op.StoreSubscript 0))
   annotation_passes other = emit_passes op.Pop 0
 
-  pub annotated_ends : (p : SourceLocation) (target annotation : tree.Expr) (value : tree.OptExpr) → expr_shapes target ≡ [] → expr_shapes annotation ≡ [] → opt_expr_shapes value ≡ [] → Leaves (λ k. emission_of_declared l target value (emission l annotation (emission_of_annotation target k))) p (declared_faults target value ++ expr_faults annotation)
+  pub annotated_ends : (p : SourceLocation) (target annotation : tree.Expr) (value : tree.OptExpr) → expr_shapes class target ≡ [] → expr_shapes class annotation ≡ [] → opt_expr_shapes class value ≡ [] → Leaves (λ k. emission_of_declared l target value (emission l annotation (emission_of_annotation target k))) p (declared_faults target value ++ expr_faults annotation)
   annotated_ends p target annotation value h a v =
       let x = declared_ends p target value h v in
       leaves (last_ends (then_ends x.ends (value_ends x.place annotation a)) (annotation_passes target))

@@ -3,7 +3,7 @@ use Rattle.std.proofs.Common.{ℕ, ◌+◌, ◌≤◌, List, [], ◌∷◌, Bool
 use Rattle.std.specs.Prelude.{if◌then◌else◌}
 use Rattle.py_tree.specs.Tree as tree
 use Rattle.py_base.specs.declared.location.SourceLocation.{SourceLocation}
-use Rattle.py_tree.specs.Size.{expr_size, exprs_size, opt_expr_size, key_size, keys_size, keywords_size}
+use Rattle.py_limits.specs.Size.{expr_size, exprs_size, opt_expr_size, key_size, keys_size, keywords_size}
 use Rattle.py_bytecode.specs.declared.instruction.Instruction.{Instruction}
 use Rattle.py_bytecode.specs.declared.instruction.Instruction.TheVariants as op
 use Rattle.py_bytecode.specs.Objects as const
@@ -12,8 +12,8 @@ use Rattle.py_bytecode.specs.Values.{Bare, operation}
 use Rattle.py_forms.specs.Form.{Interp, VForm, VConst, VLoad, VOp, VNone, VMore, VAt, VKeep, GPut, Resolved}
 use Rattle.py_meaning.specs.Texts.{texts_of}
 use Rattle.py_forms.specs.Code.{labels_v}
-use Rattle.py_forms.specs.TableParts.{ExprForms, tested, values, elements, parts_of, conversion_case, counted, named, binary, display, value_or, debug_constant, is_debug, unpacked_to}
-use Rattle.py_meaning.specs.Table.{expr_forms, all_forms, opt_form, opt_forms, keyword_forms, target_forms, all_targets}
+use Rattle.py_forms.specs.TableParts.{ExprForms, tested, values, elements, parts_of, conversion_case, counted, named, binary, display, value_or, debug_constant, is_debug, no_operand, unpacked_to}
+use Rattle.py_meaning.specs.Table.{expr_forms, all_forms, opt_form, opt_forms, keyword_forms, target_forms, all_targets, unbuilt}
 use Rattle.py_adds.proofs.Burden.{burden-append}
 use Rattle.py_adds.proofs.Together.{Together, Possible, OneElement}
 use Rattle.py_adds.proofs.Small.{FormSmall, TargetSmall, Small, SmallTarget, tested_small, plain_small, values_small, elements_small, one_small, two_small}
@@ -24,25 +24,8 @@ use Rattle.py_adds.proofs.SmallTargets.{store_small, drop_small, put_one_small, 
 
 -- no expression is without a size
 pub expr_some : (t : tree.Expr) → 1 ≤ expr_size t
-expr_some (tree.BoolOp at o es) = omega arith
-expr_some (tree.NamedExpr at x y) = omega arith
-expr_some (tree.BinOp at x o y) = omega arith
-expr_some (tree.UnaryOp at o x) = omega arith
-expr_some (tree.IfExp at x y z) = omega arith
-expr_some (tree.Dict at ks es) = omega arith
-expr_some (tree.Set at es) = omega arith
-expr_some (tree.Compare at x os es) = omega arith
-expr_some (tree.Call at x es ks) = omega arith
-expr_some (tree.FormattedValue at x c o) = omega arith
-expr_some (tree.JoinedStr at es) = omega arith
-expr_some (tree.Constant at v) = omega arith
-expr_some (tree.Attribute at x n) = omega arith
-expr_some (tree.Subscript at x y) = omega arith
-expr_some (tree.Starred at x) = omega arith
 expr_some (tree.Name at n) = omega arith
-expr_some (tree.List at es) = omega arith
-expr_some (tree.Tuple at es) = omega arith
-expr_some (tree.Slice at x y z) = omega arith
+expr_some other = omega arith
 
 module _ (i : Interp Object) where
   pub named_small : (l : ℕ) (b : Bool) (x : List ℕ) → FormSmall i (if b then VConst (debug_constant l) else VLoad Resolved x) 2
@@ -61,6 +44,10 @@ module _ (i : Interp Object) where
 
   displayed_small : (at : SourceLocation) (build unpack : Instruction) (fs : List ExprForms) (s : ℕ) → Together (Small i) fs s → Small i (tested (VAt at (display build unpack (elements fs)))) (s + 1)
   displayed_small at build unpack fs s h = tested_small i (VAt at (display build unpack (elements fs))) (s + 1) (display_small i build unpack (elements fs) s (elements_small i fs s h))
+
+  -- a constant stands for what is not compiled yet
+  unbuilt_small : (at : SourceLocation) (s : ℕ) → 1 ≤ s → Small i (unbuilt at) s
+  unbuilt_small at s some = tested_small i (VAt at no_operand) s (λ n. omega (arith, some))
 
   mutual
     pub expr_small : (l : ℕ) (t : tree.Expr) → Small i (expr_forms l t) (expr_size t)
@@ -108,6 +95,7 @@ module _ (i : Interp Object) where
     expr_small l (tree.Tuple at elts) = displayed_small at op.BuildTuple op.BuildTupleUnpack (all_forms l elts) (exprs_size elts) (exprs_small l elts)
     expr_small l (tree.Slice at lower upper step) =
         tested_small i _ _ (slice_small i (opt_form l lower) (opt_form l upper) (opt_form l step) (opt_expr_size lower) (opt_expr_size upper) (opt_expr_size step) (opt_small l lower) (opt_small l upper) (opt_small l step))
+    expr_small l other = unbuilt_small (tree.expr_location other) (expr_size other) (expr_some other)
 
     pub exprs_small : (l : ℕ) (ts : tree.Exprs) → Together (Small i) (all_forms l ts) (exprs_size ts)
     exprs_small l tree.no_exprs = tt

@@ -1,7 +1,7 @@
 -- What assignments and deletions weigh.
 use Rattle.std.proofs.Common.{ℕ, ◌+◌, ◌*◌, ◌≤◌, None, arith}
 use Rattle.py_tree.specs.Tree as tree
-use Rattle.py_tree.specs.Size.{expr_size, exprs_size, opt_expr_size}
+use Rattle.py_limits.specs.Size.{expr_size, exprs_size, opt_expr_size}
 use Rattle.py_base.specs.declared.operators.Operator.{Operator}
 use Rattle.py_bytecode.specs.Objects.{Object}
 use Rattle.py_forms.specs.Form.{Interp, VForm, VKeep, Target, SForm, SThen, SInto}

@@ -11,8 +11,8 @@ use Rattle.py_forms.specs.Fit.{Loops}
 use Rattle.py_forms.specs.Code.{Item, Do, Label, labels_t, labels, code_t, code}
 use Rattle.py_forms.specs.Looped.{Looped}
 use Rattle.py_meaning.specs.Table.{stmt_form, stmts_form, expr_form, test_form, target_form, removals, assign_form, augment_form, declared_form, annotation_target}
-use Rattle.py_forms.specs.Emitting.{LoopBlocks, State, Done, Next, emit, jump, begin, with_block, located, new_block, move}
-use Rattle.py_meaning.specs.Emission.{emission, emission_of_test, emission_of_deletes, emission_of_assign, emission_of_augment, emission_of_declared, emission_of_annotation, leave_loop, emission_of_stmt, emission_of_stmts}
+use Rattle.py_forms.specs.Emitting.{LoopBlocks, State, Done, Next, emit, jump, begin, with_block, located, new_block, move, refuse}
+use Rattle.py_meaning.specs.Emission.{emission, emission_of_test, emission_of_deletes, emission_of_assign, emission_of_augment, emission_of_declared, emission_of_annotation, leave_loop, emission_of_stmt, emission_of_stmts, unbuilt}
 use Rattle.py_forms.specs.declared.errors.CodegenErrorType.{CodegenErrorType}
 use Rattle.py_forms.specs.declared.errors.CodegenErrorType.TheVariants as error
 use Rattle.py_emit.proofs.States.{never_refused}
@@ -191,6 +191,10 @@ module _ (c : Scope → Object) (f : SForm) (l : ℕ) where
   annotated_stmt_adds at t annotation v simple x b n k s o q w e =
       act_adds at (λ j. emission_of_declared l t v (emission l annotation (emission_of_annotation t j))) (SThen (declared_form l (target_form l t) v) (SInto (expr_form l annotation) (annotation_target t))) (annotated_adds c f l t annotation v) (λ z. (declared_unlooped l (target_form l t) v z, tt)) x b n k s o q e
 
+  -- nothing is added for what is not compiled yet
+  unbuilt_adds : (at : SourceLocation) (k : Next) (s o : State) (is : List (Item Object)) (m : ℕ) (P : Type 0) → unbuilt at k s ≡ Done o → P → Follows k s o is m P
+  unbuilt_adds at k s o is m P e p = record { comes = comes_moved at (refuse error.NotImplementedYet) k s o is m e (λ r q g. absurd (never_refused _ r o g)); holds = p }
+
   mutual
     pub stmt_adds : (t : tree.Stmt) → StmtAdds t
     stmt_adds (tree.Delete at ts) = delete_adds at ts
@@ -204,6 +208,7 @@ module _ (c : Scope → Object) (f : SForm) (l : ℕ) where
     stmt_adds (tree.Break at) = λ x b n k s o q w e. follows_moved at (leave_loop op.Break (λ y. y.on_break) error.InvalidBreak x k) k s o _ _ _ e (λ r p g. break_adds x b error.InvalidBreak k r o (loop_more x b n r.blocks w (λ z u. omega (arith, u, q, p))) g)
     stmt_adds (tree.Continue at) = λ x b n k s o q w e. follows_moved at (leave_loop op.Continue (λ y. y.on_continue) error.InvalidContinue x k) k s o _ _ _ e (λ r p g. continue_adds x b error.InvalidContinue k r o (loop_more x b n r.blocks w (λ z u. omega (arith, u, q, p))) g)
     stmt_adds (tree.Pass at) = λ x b n k s o q w e. record { comes = comes_moved at k k s o [] 0 e (λ r p g. comes_nothing k r o g); holds = tt }
+    stmt_adds other = λ x b n k s o q w e. unbuilt_adds (tree.stmt_location other) k s o _ _ _ e tt
 
     pub stmts_add : (ts : tree.Stmts) → StmtsAdd ts
     stmts_add tree.no_stmts = λ x b n k s o q w e. record { comes = comes_nothing k s o e; holds = tt }

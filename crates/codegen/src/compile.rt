@@ -1,12 +1,12 @@
 //! The compile calls.
 
-ghost use Rattle.std.specs.Prelude.{◌≡◌, [], ◌<◌, ◌^◌, None, IfOk, IfErr, OnOk};
-ghost use Rattle.py_tree.specs.Size.{size_of};
+ghost use Rattle.std.specs.Prelude.{◌≡◌, [], ◌<◌, ◌^◌, None, IfOk, IfErr, OnOk, length};
+ghost use Rattle.py_limits.specs.Size.{size_of};
 ghost use Rattle.py_tree.specs.View.{mod_tree};
 ghost use Rattle.py_bytecode.specs.View.{object};
 ghost use Rattle.py_forms.specs.Agreement.{Agree, AgreeFull};
 ghost use Rattle.py_forms.specs.Emitting.{Done};
-ghost use Rattle.py_meaning.specs.Emission.{emission_of_mod, emitted};
+ghost use Rattle.py_meaning.specs.Emission.{emission_of_mod, emitted, unbuilt_tree};
 ghost use Rattle.py_meaning.specs.Faults.{faults};
 ghost use Rattle.py_meaning.specs.Meaning.{body};
 ghost use Rattle.codegen.specs.Compiled.{AlwaysEnds, IsFirst, IsRefused, NoHigher};
@@ -19,7 +19,9 @@ pub use py_emit::CompileOpts;
 use py_emit::Emitter;
 use py_expr::compile_return;
 use py_forms::{CodegenError, CodegenErrorType};
-use py_tree::{LocatedError, Mod, Mode, Text, TreeLimit, depth_of_tree, size_of_tree, valid};
+use py_limits::{depth_of_tree, size_of_tree};
+use py_shapes::valid;
+use py_tree::{LocatedError, Mod, Mode, Text, TreeLimit};
 use std::alloc::Global;
 
 /// The nesting that no accepted tree reaches.
@@ -44,6 +46,8 @@ pub fn compile_top(
     ensures emission { IfOk result (λ code. IsEmitted code source_path opts.optimize (emitted (mod_tree ast.now) opts.optimize)) }
     ensures ends { IfOk result (λ code. AlwaysEnds (object code)) }
     ensures depth { IfOk result (λ code. NoHigher (object code)) }
+    ensures named { IfOk result (λ code. code.source_path ≡ source_path) }
+    ensures located { IfOk result (λ code. length code.locations ≡ length code.instructions) }
     ensures clean { OnOk result (faults (mod_tree ast.now) mode opts.optimize ≡ []) }
     ensures first { IfErr result (λ e. IsFirst e (faults (mod_tree ast.now) mode opts.optimize)) }
     ensures path { IfErr result (λ e. e.source_path ≡ source_path) }
@@ -99,6 +103,18 @@ fn emit_mod(em: &mut Emitter, ast: &Mod) -> Result<(), CodegenError>
 {
     match ast {
         Mod::Module(m) => emit_program(em, &m.body),
+        Mod::Interactive(_) => refuse_tree(em),
         Mod::Expression(m) => compile_return(em, &m.body),
+        Mod::FunctionType(_) => refuse_tree(em),
     }
+}
+
+/// Refuses a tree of a kind that is not compiled yet.
+fn refuse_tree(em: &mut Emitter) -> Result<(), CodegenError>
+    ensures goes { Goes result (Done (state em.new)) (unbuilt_tree (state em.old)) }
+    ensures same { Same result (rest em.new) (rest em.old) }
+{
+    let mut error = em.error(CodegenErrorType::NotImplementedYet);
+    error.location = None;
+    Err(error)
 }

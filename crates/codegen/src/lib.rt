@@ -8,8 +8,6 @@ mod docs;
 pub mod error;
 mod program;
 mod statements;
-#[cfg(test)]
-mod tests;
 
 pub use annotations::find_ann;
 pub use compile::CompileOpts;

@@ -11,7 +11,7 @@ use crate::assignments::{
 };
 use py_bytecode::Instruction;
 use py_emit::{EmitContext, Emitter, emit, refuse};
-use py_expr::{compile_expression, compile_jump_if};
+use py_expr::{compile_expression, compile_jump_if, refuse_unbuilt};
 use py_forms::{CodegenError, CodegenErrorType};
 use py_ir::BlockIdx;
 use py_tree::{Stmt, StmtBreak, StmtContinue, StmtExpr, StmtIf, StmtPass, StmtWhile};
@@ -37,12 +37,30 @@ fn compile_statement(em: &mut Emitter, statement: &Stmt) -> Result<(), CodegenEr
     ensures same { Same result (rest em.new) (rest em.old) }
 {
     match statement {
+        Stmt::FunctionDef(s) => refuse_unbuilt(em, s.location),
+        Stmt::AsyncFunctionDef(s) => refuse_unbuilt(em, s.location),
+        Stmt::ClassDef(s) => refuse_unbuilt(em, s.location),
+        Stmt::Return(s) => refuse_unbuilt(em, s.location),
         Stmt::Delete(s) => compile_delete_statement(em, s),
         Stmt::Assign(s) => compile_assign(em, s),
+        Stmt::TypeAlias(s) => refuse_unbuilt(em, s.location),
         Stmt::AugAssign(s) => compile_aug_assign(em, s),
         Stmt::AnnAssign(s) => compile_ann_assign(em, s),
-        Stmt::If(s) => compile_if(em, s),
+        Stmt::For(s) => refuse_unbuilt(em, s.location),
+        Stmt::AsyncFor(s) => refuse_unbuilt(em, s.location),
         Stmt::While(s) => compile_while(em, s),
+        Stmt::If(s) => compile_if(em, s),
+        Stmt::With(s) => refuse_unbuilt(em, s.location),
+        Stmt::AsyncWith(s) => refuse_unbuilt(em, s.location),
+        Stmt::Match(s) => refuse_unbuilt(em, s.location),
+        Stmt::Raise(s) => refuse_unbuilt(em, s.location),
+        Stmt::Try(s) => refuse_unbuilt(em, s.location),
+        Stmt::TryStar(s) => refuse_unbuilt(em, s.location),
+        Stmt::Assert(s) => refuse_unbuilt(em, s.location),
+        Stmt::Import(s) => refuse_unbuilt(em, s.location),
+        Stmt::ImportFrom(s) => refuse_unbuilt(em, s.location),
+        Stmt::Global(s) => refuse_unbuilt(em, s.location),
+        Stmt::Nonlocal(s) => refuse_unbuilt(em, s.location),
         Stmt::Expr(s) => compile_expr_statement(em, s),
         Stmt::Break(s) => compile_break(em, s),
         Stmt::Continue(s) => compile_continue(em, s),

@@ -142,6 +142,8 @@ fits_so t to op.Continue n = anyway (instr_of t to op.Continue n) refl
 fits_so t to op.SetupExcept n = anyway (instr_of t to op.SetupExcept n) refl
 fits_so t to op.SetupFinally n = anyway (instr_of t to op.SetupFinally n) refl
 fits_so t to op.SetupWith n = anyway (instr_of t to op.SetupWith n) refl
+fits_so t to op.TypeVar n = within_so kind.None n _
+fits_so t to op.TypeVarWithBound n = within_so kind.None n _
 
 pub operand_within : (t : Tables) (to : Option ℕ) (o : Instruction) (n : ℕ) (i : Instr Object ℕ) → instr_of t to o n ≡ Some i → in_kind (lens_of t) (row_of o).kind n ≡ true
 operand_within t to o n i e = subst (So (in_kind (lens_of t) (row_of o).kind n)) e (fits_so t to o n)

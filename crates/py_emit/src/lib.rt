@@ -9,8 +9,6 @@ mod macros;
 mod names;
 mod refusals;
 mod tables;
-#[cfg(test)]
-mod tests;
 
 pub use context::{CompileOpts, EmitContext, NameUsage, ScopeHead};
 pub use emitter::Emitter;

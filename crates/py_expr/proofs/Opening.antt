@@ -17,7 +17,7 @@ use Rattle.py_forms.specs.declared.errors.CodegenErrorType.{CodegenErrorType}
 use Rattle.py_forms.specs.declared.errors.CodegenErrorType.TheVariants as error
 use Rattle.py_forms.specs.Emitting.{State, Begin, with_step, with_block, located, Outcome, Done, Next, LoopBlocks, refuse, emit, emit_name, emit_constant, jump, begin, new_block}
 use Rattle.py_forms.specs.EmissionParts.{Emissions, in_turn, values, elements, value_or, shorts, tests, bool_value, links, first_comparison, chain, only, choice, comparisons, emission_of_compare, lone_star, no_assignment, no_deletion, unless_debug, emission_of_name}
-use Rattle.py_meaning.specs.Emission.{opt_emission, opt_emissions, emission, emission_of_test, emissions, all_emissions, leave_loop, emission_of_stmt, emission_of_stmts, all_stores, stores, keyword_emissions, deletion_name, emission_of_assign, emission_of_annotation, emission_of_augment, emission_of_declared, emission_of_delete, emission_of_deletes, none}
+use Rattle.py_meaning.specs.Emission.{opt_emission, opt_emissions, emission, emission_of_test, emissions, all_emissions, leave_loop, emission_of_stmt, emission_of_stmts, all_stores, stores, keyword_emissions, deletion_name, emission_of_assign, emission_of_annotation, emission_of_augment, emission_of_declared, emission_of_delete, emission_of_deletes, none, unbuilt}
 use Rattle.py_emit.specs.Steps.{IsOpen}
 use Rattle.py_emit.proofs.States.{never_refused}
 use Rattle.py_expr.proofs.Keeping.{From, Keeps, EachKeeps, AllKeep, grows_same, grows_block, grows_located, begun_other, still_open, emit_keeps, jump_keeps, begin_keeps, new_from, move_keeps, name_keeps, constant_keeps, either_keeps, ordinary_keeps, then_keeps, truth_keeps, shorts_keep, tests_keep, bool_test_keeps, bool_value_keeps, tested_keeps, moved_keeps, unary_keeps, comparison_keeps, links_keep}
@@ -83,6 +83,10 @@ begun_opens : (s : State) (b c : ℕ) → b ≢ c → IsOpen b s → IsOpen b (w
 unfolding with_step
 begun_opens s b c n i = record { made = i.made; later = i.later; not_begun = λ h. i.not_begun (begun_other b c s.steps n h) }
 
+-- nothing follows what is not compiled yet
+unbuilt_keeps : (at : SourceLocation) → Keeps (unbuilt at)
+unbuilt_keeps at = moved_keeps at (λ k. refuse error.NotImplementedYet) (refuse_keeps error.NotImplementedYet)
+
 module _ (l : ℕ) where
   mutual
     pub expr_keeps : (t : tree.Expr) → EachKeeps (emissions l t)
@@ -113,6 +117,7 @@ module _ (l : ℕ) where
     expr_keeps (tree.List at elts) = tested_keeps _ (moved_keeps at _ (display_keeps op.BuildList op.BuildListUnpack (elements (all_emissions l elts)) (elements_keep (all_emissions l elts) (exprs_keep elts))))
     expr_keeps (tree.Tuple at elts) = tested_keeps _ (moved_keeps at _ (display_keeps op.BuildTuple op.BuildTupleUnpack (elements (all_emissions l elts)) (elements_keep (all_emissions l elts) (exprs_keep elts))))
     expr_keeps (tree.Slice at lower upper step) = tested_keeps _ (moved_keeps at _ (slice_keeps (opt_emission l lower) (opt_emission l upper) (opt_emission l step) (opt_keeps lower) (opt_keeps upper) (opt_keeps step)))
+    expr_keeps t = tested_keeps (unbuilt (tree.expr_location t)) (unbuilt_keeps (tree.expr_location t))
 
     pub exprs_keep : (ts : tree.Exprs) → AllKeep (all_emissions l ts)
     exprs_keep tree.no_exprs = tt
@@ -238,6 +243,7 @@ module _ (l : ℕ) where
     stmt_keeps (tree.Break at) x = moved_keeps at _ (leave_keeps op.Break (λ y. y.on_break) error.InvalidBreak x)
     stmt_keeps (tree.Continue at) x = moved_keeps at _ (leave_keeps op.Continue (λ y. y.on_continue) error.InvalidContinue x)
     stmt_keeps (tree.Pass at) x = move_keeps at
+    stmt_keeps t x = unbuilt_keeps (tree.stmt_location t)
 
     pub stmts_keep : (ts : tree.Stmts) (x : Option LoopBlocks) → Keeps (emission_of_stmts l x ts)
     stmts_keep tree.no_stmts x = idle_keeps

@@ -1,17 +1,24 @@
--- Whether an await stands in an expression.
-use Rattle.std.specs.Prelude.{Bool, false, ◌||◌}
+-- Whether an await stands in an expression: in the bodies of lambdas, and in the elements and iterables of comprehensions, too, but not in the targets or conditions of their clauses, nor in defaults.
+use Rattle.std.specs.Prelude.{Bool, true, false, ◌||◌}
 use Rattle.py_tree.specs.Tree as tree
 
--- no kind of node is an await yet
 abbrev mutual
   pub awaits : tree.Expr → Bool
   awaits (tree.BoolOp at op values) = any_awaits values
   awaits (tree.NamedExpr at target value) = awaits target || awaits value
   awaits (tree.BinOp at left op right) = awaits left || awaits right
   awaits (tree.UnaryOp at op operand) = awaits operand
+  awaits (tree.Lambda at params body) = awaits body
   awaits (tree.IfExp at test body orelse) = awaits test || awaits body || awaits orelse
   awaits (tree.Dict at keys values) = any_key_awaits keys || any_awaits values
   awaits (tree.Set at elts) = any_awaits elts
+  awaits (tree.ListComp at elt clauses) = awaits elt || iter_awaits clauses
+  awaits (tree.SetComp at elt clauses) = awaits elt || iter_awaits clauses
+  awaits (tree.DictComp at key value clauses) = awaits key || awaits value || iter_awaits clauses
+  awaits (tree.GeneratorExp at elt clauses) = awaits elt || iter_awaits clauses
+  awaits (tree.Await at value) = true
+  awaits (tree.Yield at value) = part_awaits value
+  awaits (tree.YieldFrom at value) = awaits value
   awaits (tree.Compare at left ops comparators) = awaits left || any_awaits comparators
   awaits (tree.Call at func args named) = awaits func || any_awaits args || any_keyword_awaits named
   awaits (tree.FormattedValue at value conversion format_spec) = awaits value || part_awaits format_spec
@@ -41,3 +48,8 @@ abbrev mutual
   pub any_keyword_awaits : tree.Keywords → Bool
   any_keyword_awaits tree.no_keywords = false
   any_keyword_awaits (tree.more_keywords arg value ks) = awaits value || any_keyword_awaits ks
+
+  -- an iterable does
+  pub iter_awaits : tree.Generators → Bool
+  iter_awaits tree.no_generators = false
+  iter_awaits (tree.more_generators target iter ifs is_async gs) = awaits iter || iter_awaits gs

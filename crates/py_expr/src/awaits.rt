@@ -1,12 +1,12 @@
 //! Whether an expression awaits.
 ghost use Rattle.std.specs.Prelude.{◌≡◌, ◌||◌};
-ghost use Rattle.py_tree.specs.View.{exprs, expr_tree, keywords, opt_box, opt_expr, opt_exprs};
-ghost use Rattle.py_expr.specs.Awaits.{any_awaits, any_keyword_awaits, any_key_awaits, awaits, part_awaits};
+ghost use Rattle.py_tree.specs.View.{exprs, expr_tree, generators, keywords, opt_box, opt_expr, opt_exprs};
+ghost use Rattle.py_expr.specs.Awaits.{any_awaits, any_keyword_awaits, any_key_awaits, awaits, iter_awaits, part_awaits};
 
-use py_tree::{Expr, Keyword};
+use py_tree::{Comprehension, Expr, Keyword};
 
-/// Whether an `await` stands in the expression, within its operands, elements, arguments or parts. No kind of node that
-/// the tree has today is one.
+/// Whether an `await` stands in the expression, within its operands, elements, arguments or parts, in the body of a lambda,
+/// or in an element or an iterable of a comprehension.
 #[cycle(awaits)]
 #[tactic(auto, using(py_tree::proofs::View::trees))]
 pub fn contains_await(expr: &Expr) -> bool
@@ -17,6 +17,7 @@ pub fn contains_await(expr: &Expr) -> bool
         Expr::NamedExpr(e) => contains_await(&e.target) || contains_await(&e.value),
         Expr::BinOp(e) => contains_await(&e.left) || contains_await(&e.right),
         Expr::UnaryOp(e) => contains_await(&e.operand),
+        Expr::Lambda(e) => contains_await(&e.body),
         Expr::IfExp(e) => {
             contains_await(&e.test) || contains_await(&e.body) || contains_await(&e.orelse)
         }
@@ -24,6 +25,23 @@ pub fn contains_await(expr: &Expr) -> bool
             any_key_contains_await(e.keys.as_slice()) || any_contains_await(e.values.as_slice())
         }
         Expr::Set(e) => any_contains_await(e.elts.as_slice()),
+        Expr::ListComp(e) => {
+            contains_await(&e.elt) || any_iter_contains_await(e.generators.as_slice())
+        }
+        Expr::SetComp(e) => {
+            contains_await(&e.elt) || any_iter_contains_await(e.generators.as_slice())
+        }
+        Expr::DictComp(e) => {
+            contains_await(&e.key)
+                || contains_await(&e.value)
+                || any_iter_contains_await(e.generators.as_slice())
+        }
+        Expr::GeneratorExp(e) => {
+            contains_await(&e.elt) || any_iter_contains_await(e.generators.as_slice())
+        }
+        Expr::Await(_) => true,
+        Expr::Yield(e) => part_contains_await(&e.value),
+        Expr::YieldFrom(e) => contains_await(&e.value),
         Expr::Compare(e) => {
             contains_await(&e.left) || any_contains_await(e.comparators.as_slice())
         }
@@ -100,6 +118,18 @@ fn any_keyword_contains_await(items: &[Keyword]) -> bool
 {
     for keyword in items {
         if contains_await(&keyword.value) {
+            return true;
+        }
+    }
+    false
+}
+
+#[cycle(awaits)]
+fn any_iter_contains_await(clauses: &[Comprehension]) -> bool
+    ensures { result ≡ iter_awaits (generators expr_tree clauses.now) }
+{
+    for clause in clauses {
+        if contains_await(&clause.iter) {
             return true;
         }
     }

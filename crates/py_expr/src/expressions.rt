@@ -1,9 +1,9 @@
-//! The expressions that open no scope.
+//! Expressions: those that open no scope are compiled, the others are refused.
 ghost use Rattle.std.specs.Prelude.{◌≡◌};
 ghost use Rattle.py_tree.specs.View.{attribute_tree, bin_op_tree, expr_tree, exprs, if_exp_tree, name_tree, starred_tree, subscript_tree, unary_op_tree};
 ghost use Rattle.py_forms.specs.TableParts.{binary_case, unary_case};
 ghost use Rattle.py_forms.specs.Emitting.{Next};
-ghost use Rattle.py_meaning.specs.Emission.{emission, emission_of_exprs};
+ghost use Rattle.py_meaning.specs.Emission.{emission, emission_of_exprs, unbuilt};
 ghost use Rattle.py_emit.specs.States.{Goes, Same, rest, state};
 
 use crate::calls::compile_call;
@@ -17,7 +17,7 @@ use py_emit::{Emitter, NameUsage, emit, refuse};
 use py_forms::{CodegenError, CodegenErrorType};
 use py_tree::{
     Expr, ExprAttribute, ExprBinOp, ExprIfExp, ExprName, ExprStarred, ExprSubscript, ExprUnaryOp,
-    Operator, UnaryOp,
+    Operator, SourceLocation, UnaryOp,
 };
 
 /// Emits the code that pushes an expression's value.
@@ -35,9 +35,17 @@ pub fn compile_expression(em: &mut Emitter, expr: &Expr) -> Result<(), CodegenEr
         Expr::NamedExpr(e) => compile_named_expr(em, e),
         Expr::BinOp(e) => compile_bin_op(em, e),
         Expr::UnaryOp(e) => compile_unary_op(em, e),
+        Expr::Lambda(e) => refuse_unbuilt(em, e.location),
         Expr::IfExp(e) => compile_if_exp(em, e),
         Expr::Dict(e) => compile_dict(em, e),
         Expr::Set(e) => compile_set(em, e),
+        Expr::ListComp(e) => refuse_unbuilt(em, e.location),
+        Expr::SetComp(e) => refuse_unbuilt(em, e.location),
+        Expr::DictComp(e) => refuse_unbuilt(em, e.location),
+        Expr::GeneratorExp(e) => refuse_unbuilt(em, e.location),
+        Expr::Await(e) => refuse_unbuilt(em, e.location),
+        Expr::Yield(e) => refuse_unbuilt(em, e.location),
+        Expr::YieldFrom(e) => refuse_unbuilt(em, e.location),
         Expr::Compare(e) => compile_compare(em, e),
         Expr::Call(e) => compile_call(em, e),
         Expr::FormattedValue(e) => compile_formatted_value(em, e),
@@ -51,6 +59,16 @@ pub fn compile_expression(em: &mut Emitter, expr: &Expr) -> Result<(), CodegenEr
         Expr::Tuple(e) => compile_tuple(em, e),
         Expr::Slice(e) => compile_slice(em, e),
     }
+}
+
+/// Refuses a node that stands there, of a kind that is not compiled yet.
+#[tactic(auto, using(crate::proofs::Steps::steps))]
+pub fn refuse_unbuilt(em: &mut Emitter, location: SourceLocation) -> Result<(), CodegenError>
+    ensures goes { (k : Next) → Goes result (k (state em.new)) (unbuilt location k (state em.old)) }
+    ensures same { Same result (rest em.new) (rest em.old) }
+{
+    em.set_location(location);
+    refuse!(em, CodegenErrorType::NotImplementedYet);
 }
 
 #[cycle(code)]

@@ -16,7 +16,7 @@ mod texts;
 pub use awaits::contains_await;
 pub use calls::{CallType, compile_call_inner, emit_call};
 pub use conditions::compile_jump_if;
-pub use expressions::{case_of, compile_expression};
+pub use expressions::{case_of, compile_expression, refuse_unbuilt};
 pub use returns::compile_return;
 pub use targets::{compile_delete, compile_deletes, compile_store, refuse_store};
 pub use texts::text_of;

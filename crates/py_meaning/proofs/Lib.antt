@@ -1,1 +1,2 @@
 mod MeaningSamples
+mod UnbuiltSamples

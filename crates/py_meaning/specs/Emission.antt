@@ -2,6 +2,7 @@
 use Rattle.std.specs.Prelude.{ℕ, List, [], ◌∷◌, Bool, true, false, Option, Some, None, codes, if◌then◌else◌}
 use Rattle.py_tree.specs.PythonName.{python_name}
 use Rattle.py_tree.specs.Tree as tree
+use Rattle.py_base.specs.declared.location.SourceLocation.{SourceLocation}
 use Rattle.py_base.specs.declared.operators.Operator.{Operator}
 use Rattle.py_base.specs.declared.shapes.Malformed.TheVariants as shape
 use Rattle.py_bytecode.specs.declared.instruction.Instruction.{Instruction}
@@ -14,12 +15,16 @@ use Rattle.py_forms.specs.Elements.{Element, Single, Spread, Function, Method, p
 use Rattle.py_meaning.specs.Texts.{after_doc, doc_of, texts_of}
 use Rattle.py_forms.specs.TableParts.{binary_case, conversion_case, constant_of, is_debug, debug_constant}
 use Rattle.py_meaning.specs.Table.{annotated}
-use Rattle.py_forms.specs.Emitting.{Done, LoopBlocks, Next, Outcome, begin, emit, emit_constant, emit_name, jump, move, new_block, nothing, refuse}
+use Rattle.py_forms.specs.Emitting.{Done, LoopBlocks, Next, Outcome, Refused, begin, emit, emit_constant, emit_name, jump, move, new_block, nothing, refuse}
 use Rattle.py_forms.specs.EmissionParts.{Emissions, Keywords, Stores, bool_emissions, built, choice, dict_value, display, elements, emission_of_call, emission_of_compare, emission_of_name, in_turn, joined_value, lone_star, no_assignment, no_deletion, only, plain_store, slice_value, tested, truth_of, unary_emissions, unless_debug, unpack, value_or, values}
 
 abbrev pub none : tree.Stmts → Bool
 none tree.no_stmts = true
 none (tree.more_stmts s ss) = false
+
+-- a node that is not compiled yet
+abbrev pub unbuilt : SourceLocation → Next → Next
+unbuilt at k = move at (refuse error.NotImplementedYet)
 
 abbrev mutual
   pub emissions : (level : ℕ) → tree.Expr → Emissions
@@ -46,6 +51,7 @@ abbrev mutual
   emissions l (tree.List at elts) = tested (λ k. move at (display op.BuildList op.BuildListUnpack (elements (all_emissions l elts)) k))
   emissions l (tree.Tuple at elts) = tested (λ k. move at (display op.BuildTuple op.BuildTupleUnpack (elements (all_emissions l elts)) k))
   emissions l (tree.Slice at lower upper step) = tested (λ k. move at (slice_value (opt_emission l lower) (opt_emission l upper) (opt_emission l step) k))
+  emissions l other = tested (unbuilt (tree.expr_location other))
 
   pub all_emissions : (level : ℕ) → tree.Exprs → List Emissions
   all_emissions l tree.no_exprs = []
@@ -158,6 +164,7 @@ abbrev mutual
   emission_of_stmt l loops (tree.Break at) k = move at (leave_loop op.Break (λ x. x.on_break) error.InvalidBreak loops k)
   emission_of_stmt l loops (tree.Continue at) k = move at (leave_loop op.Continue (λ x. x.on_continue) error.InvalidContinue loops k)
   emission_of_stmt l loops (tree.Pass at) k = move at k
+  emission_of_stmt l loops other k = unbuilt (tree.stmt_location other) k
 
   pub emission_of_stmts : (level : ℕ) → (loops : Option LoopBlocks) → tree.Stmts → Next → Next
   emission_of_stmts l loops tree.no_stmts k = k
@@ -188,9 +195,14 @@ emission_of_return l (tree.JoinedStr at parts) k = move at (joined_return (texts
 emission_of_return l (tree.Name at id) k = move at (if is_debug id then emit_constant op.ReturnConst (debug_constant l) k else emit_name op.LoadNameAny id (emit op.ReturnValue 0 k))
 emission_of_return l e k = emission l e (emit op.ReturnValue 0 k)
 
+-- a tree that is not compiled yet, which is at fault as a whole
+abbrev pub unbuilt_tree : Next
+unbuilt_tree s = Refused error.NotImplementedYet None
+
 abbrev pub emission_of_mod : (level : ℕ) → tree.Mod → Next
 emission_of_mod l (tree.Module body) = emission_of_program l body
 emission_of_mod l (tree.Expression body) = emission_of_return l body Done
+emission_of_mod l other = unbuilt_tree
 
 abbrev pub emitted : tree.Mod → (level : ℕ) → Outcome
 emitted t level = emission_of_mod level t nothing

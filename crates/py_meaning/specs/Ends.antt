@@ -44,6 +44,7 @@ abbrev mutual
   expr_end (tree.List at elts) = last_of at (ends_of elts)
   expr_end (tree.Tuple at elts) = last_of at (ends_of elts)
   expr_end (tree.Slice at lower upper step) = last_of at (some_of (opt_end lower) ++ (some_of (opt_end upper) ++ some_of (opt_end step)))
+  expr_end other = tree.expr_location other
 
   pub ends_of : tree.Exprs → List SourceLocation
   ends_of tree.no_exprs = []

@@ -1,10 +1,10 @@
 -- The faults of a tree, the first of which decides.
 use Rattle.std.specs.Prelude.{ℕ, ◌^◌, List, [], ◌∷◌, ◌++◌, Bool, true, false, not, Option, Some, None, nat_eq, nat_lt, if◌then◌else◌}
 use Rattle.py_tree.specs.Tree as tree
-use Rattle.py_tree.specs.Nesting.{nesting}
+use Rattle.py_limits.specs.Nesting.{nesting}
 use Rattle.py_tree.specs.PythonName.{python_name}
-use Rattle.py_tree.specs.Size.{size_of}
-use Rattle.py_tree.specs.Valid.{shapes}
+use Rattle.py_limits.specs.Size.{size_of}
+use Rattle.py_shapes.specs.Valid.{shapes}
 use Rattle.py_tree.specs.declared.modules.Mode.{Mode}
 use Rattle.py_base.specs.declared.shapes.Malformed.{Malformed}
 use Rattle.py_base.specs.declared.limits.TreeLimit.TheVariants as limit
@@ -52,6 +52,14 @@ fault_at e at = record { error = e; location = Some at }
 -- one fault, where the test holds
 abbrev pub when : Bool → Fault → List Fault
 when b f = if b then f ∷ [] else []
+
+-- a node that is not compiled yet, whatever stands within it
+abbrev pub unbuilt : SourceLocation → List Fault
+unbuilt at = fault_at error.NotImplementedYet at ∷ []
+
+-- a tree that is not compiled yet
+abbrev pub unbuilt_tree : Fault
+unbuilt_tree = record { error = error.NotImplementedYet; location = None }
 
 -- a change of `__debug__`
 abbrev pub debug_faults : (text : List ℕ) → SourceLocation → (name : List ℕ) → List Fault
@@ -131,6 +139,7 @@ abbrev mutual
   faults_in (tree.List at elts) = either (in_order (elements (all_faults elts)))
   faults_in (tree.Tuple at elts) = either (in_order (elements (all_faults elts)))
   faults_in (tree.Slice at lower upper step) = either (if_any (opt_faults lower) ++ if_any (opt_faults upper) ++ if_any (opt_faults step))
+  faults_in other = either (unbuilt (tree.expr_location other))
 
   pub all_faults : tree.Exprs → List ExprFaults
   all_faults tree.no_exprs = []
@@ -209,6 +218,7 @@ abbrev mutual
   stmt_faults b (tree.Break at) = only_in_loop b error.InvalidBreak at
   stmt_faults b (tree.Continue at) = only_in_loop b error.InvalidContinue at
   stmt_faults b (tree.Pass at) = []
+  stmt_faults b other = unbuilt (tree.stmt_location other)
 
   pub stmts_faults : (in_loop : Bool) → tree.Stmts → List Fault
   stmts_faults b tree.no_stmts = []
@@ -218,6 +228,7 @@ abbrev mutual
 abbrev pub compile_faults : tree.Mod → List Fault
 compile_faults (tree.Module body) = stmts_faults false (after_doc body)
 compile_faults (tree.Expression value) = expr_faults value
+compile_faults other = unbuilt_tree ∷ []
 
 -- a shape that no tree of a program has
 abbrev pub malformed : List Malformed → List Fault

@@ -1,6 +1,7 @@
 -- What form each node of the tree is.
 use Rattle.std.specs.Prelude.{ℕ, List, [], ◌∷◌, ◌||◌, Bool, true, false, Option, Some, None, codes}
 use Rattle.py_tree.specs.Tree as tree
+use Rattle.py_base.specs.declared.location.SourceLocation.{SourceLocation}
 use Rattle.py_base.specs.declared.operators.Operator.{Operator}
 use Rattle.py_bytecode.specs.declared.instruction.Instruction.TheVariants as op
 use Rattle.py_bytecode.specs.Objects as const
@@ -9,7 +10,11 @@ use Rattle.py_bytecode.specs.Values.{operation, Bare}
 use Rattle.py_forms.specs.Elements.{Element, Single, Spread, Function, Method, pairs}
 use Rattle.py_meaning.specs.Texts.{after_doc, doc_of, texts_of}
 use Rattle.py_forms.specs.Form.{VForm, VConst, VLoad, VOp, VChoice, VKeep, VAt, VNone, VMore, TForm, TTruth, Resolved, FixedByName, FixedGlobal, Target, GDrop, GStore, GPut, SForm, SSkip, SThen, SDo, SInto, SRemove, SIf, SIfElse, SWhile, SBreak, SContinue, SReturn, SAugment, SAugmentTwo, SAt}
-use Rattle.py_forms.specs.TableParts.{ExprForms, Keywords, TargetForms, binary, bool_forms, call_form, compare_form, constant_of, conversion_case, counted, dict_form, display, elements, inplace, joined_form, name_form, named, plain_target, slice_form, tested, unary_forms, unpacked_to, value_or, values}
+use Rattle.py_forms.specs.TableParts.{ExprForms, Keywords, TargetForms, binary, bool_forms, call_form, compare_form, constant_of, conversion_case, counted, dict_form, display, elements, inplace, joined_form, name_form, named, no_operand, plain_target, slice_form, tested, unary_forms, unpacked_to, value_or, values}
+
+-- what stands for an expression that is not compiled yet, which no code has
+abbrev pub unbuilt : SourceLocation → ExprForms
+unbuilt at = tested (VAt at no_operand)
 
 abbrev mutual
   pub expr_forms : (level : ℕ) → tree.Expr → ExprForms
@@ -37,6 +42,7 @@ abbrev mutual
   expr_forms l (tree.List at elts) = tested (VAt at (display op.BuildList op.BuildListUnpack (elements (all_forms l elts))))
   expr_forms l (tree.Tuple at elts) = tested (VAt at (display op.BuildTuple op.BuildTupleUnpack (elements (all_forms l elts))))
   expr_forms l (tree.Slice at lower upper step) = tested (VAt at (slice_form (opt_form l lower) (opt_form l upper) (opt_form l step)))
+  expr_forms l other = unbuilt (tree.expr_location other)
 
   pub all_forms : (level : ℕ) → tree.Exprs → List ExprForms
   all_forms l tree.no_exprs = []
@@ -117,7 +123,7 @@ abbrev pub annotation_target : tree.Expr → Target
 annotation_target (tree.Name at id) = GPut (operation op.StoreSubscript Bare) (VMore (VLoad FixedByName (codes "__annotations__")) (VMore (VConst (const.str id)) VNone))
 annotation_target other = GDrop
 
--- an expression statement drops its value
+-- an expression statement drops its value; nothing stands for a statement that is not compiled yet
 abbrev mutual
   pub stmt_form : (level : ℕ) → tree.Stmt → SForm
   stmt_form l (tree.Delete at targets) = SAt at (removals l targets)
@@ -131,6 +137,7 @@ abbrev mutual
   stmt_form l (tree.Break at) = SAt at SBreak
   stmt_form l (tree.Continue at) = SAt at SContinue
   stmt_form l (tree.Pass at) = SAt at SSkip
+  stmt_form l other = SAt (tree.stmt_location other) SSkip
 
   pub stmts_form : (level : ℕ) → tree.Stmts → SForm
   stmts_form l tree.no_stmts = SSkip

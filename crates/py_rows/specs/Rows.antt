@@ -34,7 +34,8 @@ abbrev pub rows_from : ℕ → Items → List Slot → Result (List Slot) RowsEr
 rows_from n no_items slots = Ok slots
 rows_from n (item row rows) slots = row_slot n row slots >>= λ (slot, rest). rows_from (n + 1) rows (rest ++ slot ∷ [])
 
-abbrev mod_in : Node → Option tree.Mod
+-- the program that a row made, if it is one
+abbrev pub mod_in : Node → Option tree.Mod
 mod_in (Mod m) = Some m
 mod_in (Stmt s) = None
 mod_in (Expr e) = None

@@ -2,8 +2,9 @@ ghost use Rattle.std.specs.Prelude.{◌≡◌, ◌<◌, ◌^◌, length, map, []
 ghost use Rattle.std.specs.Option.{option_map};
 ghost use Rattle.serde_json.specs.View.{view, items_view};
 ghost use Rattle.py_tree.specs.View.{mod_tree};
-ghost use Rattle.py_rows.specs.Gives.{Gives};
-ghost use Rattle.py_rows.specs.Rows.{checked, mod_of, row_slot, rows_from, slot_of, whole};
+ghost use Rattle.py_rows.specs.Gives.{Gives, or_fault};
+ghost use Rattle.py_rows.specs.declared.error.RowsError.TheVariants.{NoMod};
+ghost use Rattle.py_rows.specs.Rows.{checked, mod_in, mod_of, row_slot, rows_from, slot_of, whole};
 ghost use Rattle.py_rows.specs.Slots.{node_view, slot_view, sort_of};
 
 use crate::error::RowsError;
@@ -93,6 +94,19 @@ pub fn whole(mut slots: Vec<Slot>) -> Result<Mod, RowsError>
     }
 }
 
+/// The tree, where the row made one.
+fn tree_of(node: Node) -> Result<Mod, RowsError>
+    ensures { Gives mod_tree result (or_fault NoMod (mod_in (node_view node))) }
+{
+    match node {
+        Node::Mod(tree) => Ok(tree),
+        Node::Stmt(_) => Err(RowsError::NoMod),
+        Node::Expr(_) => Err(RowsError::NoMod),
+        Node::Constant(_) => Err(RowsError::NoMod),
+        Node::Keyword(_) => Err(RowsError::NoMod),
+    }
+}
+
 fn mod_of(last: Option<Slot>) -> Result<Mod, RowsError>
     ensures { Gives mod_tree result (mod_of (option_map slot_view last)) }
 {
@@ -100,8 +114,8 @@ fn mod_of(last: Option<Slot>) -> Result<Mod, RowsError>
         return Err(RowsError::NoMod);
     };
     match slot.node {
-        Some(Node::Mod(tree)) => Ok(tree),
-        _ => Err(RowsError::NoMod),
+        Some(node) => Ok(tree_of(node)?),
+        None => Err(RowsError::NoMod),
     }
 }
 

@@ -2,14 +2,10 @@
 #![tactic(auto)]
 
 mod buffer;
-#[cfg(test)]
-mod choices;
 mod clean;
-#[cfg(test)]
-mod displays;
 mod engine;
 #[cfg(test)]
-mod examples;
+mod interrupted;
 mod lines;
 mod memory;
 mod preparing;
@@ -18,8 +14,6 @@ mod report;
 mod sink;
 mod source;
 mod standard;
-#[cfg(test)]
-mod targets;
 #[cfg(test)]
 mod tests;
 mod words;

@@ -1,6 +1,12 @@
+//! The readers and writers of std as a source and as sinks. As in std, a call that a signal interrupts is made again.
+ghost use Rattle.std.specs.Prelude.{◌≢◌, IfErr};
+ghost use Rattle.std.specs.Io.{ReadsAtMost, WritesAtMost};
+ghost use Rattle.std.specs.Io.KnownBytes.{ReadConsumes, WriteAppends};
+ghost use Rattle.std.specs.IoError.{error_kind};
+
 use crate::sink::{Sink, WriteAnswer};
 use crate::source::{ReadAnswer, Source};
-use std::io::{Read, Write};
+use std::io::{self, ErrorKind, Read, Write};
 
 /// Any reader of std, as standard input.
 #[derive(Drop)]
@@ -25,7 +31,7 @@ impl<R: Read + Drop> Source for StdSource<R> {
     ghost counts_failures = { true };
 
     fn read(&mut self, buf: &mut [u8]) -> ReadAnswer {
-        match self.inner.read(buf) {
+        match read_again(&mut self.inner, buf) {
             Ok(0) => ReadAnswer::End,
             Ok(count) => ReadAnswer::Got(count),
             Err(_) => {
@@ -61,8 +67,8 @@ impl<W: Write + Drop> Sink for StdSink<W> {
     ghost counts_failures = { true };
 
     fn write(&mut self, bytes: &[u8]) -> WriteAnswer {
-        match self.inner.write(bytes) {
-            Ok(count) if 0 < count || bytes.is_empty() => match self.inner.flush() {
+        match write_again(&mut self.inner, bytes) {
+            Ok(count) if 0 < count || bytes.is_empty() => match flush_again(&mut self.inner) {
                 Ok(()) => WriteAnswer::Took(count),
                 Err(_) => {
                     self.faults = self.faults.saturating_add(1);
@@ -75,4 +81,56 @@ impl<W: Write + Drop> Sink for StdSink<W> {
             }
         }
     }
+}
+
+/// One read, made again while a signal interrupts it.
+///
+/// # Errors
+/// What the read failed of, which is no signal. `TimedOut` after 2^64 - 1 signals.
+fn read_again<R: Read>(reader: &mut R, buf: &mut [u8]) -> io::Result<usize>
+    ensures within { ReadsAtMost result buf.new }
+    ensures bytes { ReadConsumes (R.remaining reader.old) (R.remaining reader.new) result buf.new }
+    ensures again { IfErr result (λ e. error_kind e ≢ ErrorKind.Interrupted) }
+{
+    'tries: for _ in 0..u64::MAX {
+        match reader.read(buf) {
+            Err(e) if e.kind() == ErrorKind::Interrupted => {}
+            answer => return answer,
+        }
+    }
+    Err(ErrorKind::TimedOut.into())
+}
+
+/// One write, made again while a signal interrupts it.
+///
+/// # Errors
+/// What the write failed of, which is no signal. `TimedOut` after 2^64 - 1 signals.
+fn write_again<W: Write>(writer: &mut W, bytes: &[u8]) -> io::Result<usize>
+    ensures within { WritesAtMost result bytes.now }
+    ensures bytes { WriteAppends (W.contents writer.old) (W.contents writer.new) result bytes.now }
+    ensures again { IfErr result (λ e. error_kind e ≢ ErrorKind.Interrupted) }
+{
+    'tries: for _ in 0..u64::MAX {
+        match writer.write(bytes) {
+            Err(e) if e.kind() == ErrorKind::Interrupted => {}
+            answer => return answer,
+        }
+    }
+    Err(ErrorKind::TimedOut.into())
+}
+
+/// One flush, made again while a signal interrupts it.
+///
+/// # Errors
+/// What the flush failed of, which is no signal. `TimedOut` after 2^64 - 1 signals.
+fn flush_again<W: Write>(writer: &mut W) -> io::Result<()>
+    ensures again { IfErr result (λ e. error_kind e ≢ ErrorKind.Interrupted) }
+{
+    'tries: for _ in 0..u64::MAX {
+        match writer.flush() {
+            Err(e) if e.kind() == ErrorKind::Interrupted => {}
+            answer => return answer,
+        }
+    }
+    Err(ErrorKind::TimedOut.into())
 }

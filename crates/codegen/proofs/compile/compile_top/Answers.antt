@@ -1,8 +1,8 @@
-use Rattle.std.proofs.Common.{◌≡◌, ℕ, ◌≤◌, ◌<◌, [], true, false, Option, None, Some, Result, Ok, Err, IfOk, IfErr, OnOk, sym, ◌∙◌}
+use Rattle.std.proofs.Common.{◌≡◌, ℕ, ◌≤◌, ◌<◌, [], length, true, false, Option, None, Some, Result, Ok, Err, IfOk, IfErr, OnOk, sym, ◌∙◌}
 use Rattle.std.specs.Option.{is_some}
-use Rattle.py_tree.specs.Limits.{IsBelow}
-use Rattle.py_tree.specs.Size.{size_of}
-use Rattle.py_tree.specs.Nesting.{nesting}
+use Rattle.py_limits.specs.Limits.{IsBelow}
+use Rattle.py_limits.specs.Size.{size_of}
+use Rattle.py_limits.specs.Nesting.{nesting}
 use Rattle.py_tree.specs.View.{mod_tree}
 use Rattle.py_bytecode.specs.View.{object}
 use Rattle.py_forms.specs.Agreement.{Agree, AgreeFull}
@@ -12,6 +12,7 @@ use Rattle.py_meaning.specs.Meaning.{body}
 use Rattle.codegen.specs.Compiled.{AlwaysEnds, IsFirst, IsRefused, NoHigher}
 use Rattle.py_emit.specs.Emitted.{IsEmitted}
 use Rattle.codegen.proofs.Agreeing.{agrees}
+use Rattle.codegen.proofs.Described.{locations_are, path_is}
 use Rattle.codegen.proofs.Firsts.{deep_first, large_first, malformed_first, refused_first, emitted_clean}
 use Rattle.codegen.proofs.compile.compile_top.Goals as goal
 
@@ -76,6 +77,18 @@ returns-in-None-clause-depth c =
     let t = mod_tree c.args.ast.now in
     let l = c.args.opts.optimize in
     on_ok c.compile_mod.result (λ code. IsEmitted code c.args.source_path l (emitted t l)) (λ code. NoHigher (object code)) (λ code e. (agrees code c.args.source_path c.args.mode l t e).3) c.compile_mod.ensures.emission
+
+pub returns-in-None-clause-named : goal.returns-in-None-clause-named
+returns-in-None-clause-named c =
+    let t = mod_tree c.args.ast.now in
+    let l = c.args.opts.optimize in
+    on_ok c.compile_mod.result (λ code. IsEmitted code c.args.source_path l (emitted t l)) (λ code. code.source_path ≡ c.args.source_path) (λ code e. path_is code c.args.source_path l (emitted t l) e) c.compile_mod.ensures.emission
+
+pub returns-in-None-clause-located : goal.returns-in-None-clause-located
+returns-in-None-clause-located c =
+    let t = mod_tree c.args.ast.now in
+    let l = c.args.opts.optimize in
+    on_ok c.compile_mod.result (λ code. IsEmitted code c.args.source_path l (emitted t l)) (λ code. length code.locations ≡ length code.instructions) (λ code e. locations_are code c.args.source_path l (emitted t l) e) c.compile_mod.ensures.emission
 
 pub returns-in-None-clause-clean : goal.returns-in-None-clause-clean
 returns-in-None-clause-clean c =

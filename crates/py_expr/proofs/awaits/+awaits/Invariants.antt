@@ -1,6 +1,6 @@
 use Rattle.std.proofs.Common.{drop, ◌≡◌, ◌+◌, ◌*◌}
-use Rattle.py_tree.specs.View.{expr_tree, exprs, keywords, opt_exprs}
-use Rattle.py_expr.specs.Awaits.{any_awaits, any_key_awaits, any_keyword_awaits}
+use Rattle.py_tree.specs.View.{expr_tree, exprs, generators, keywords, opt_exprs}
+use Rattle.py_expr.specs.Awaits.{any_awaits, any_key_awaits, any_keyword_awaits, iter_awaits}
 use Rattle.py_expr.proofs.awaits.+awaits.Given as goal
 
 abbrev pub invariant-any_contains_await-loop-e : goal.invariant-any_contains_await-loop-e
@@ -11,6 +11,9 @@ invariant-any_key_contains_await-loop-key l = any_key_awaits (opt_exprs expr_tre
 
 abbrev pub invariant-any_keyword_contains_await-loop-keyword : goal.invariant-any_keyword_contains_await-loop-keyword
 invariant-any_keyword_contains_await-loop-keyword l = any_keyword_awaits (keywords expr_tree (drop l.keyword-index l.items)) ≡ any_keyword_awaits (keywords expr_tree l.items)
+
+abbrev pub invariant-any_iter_contains_await-loop-clause : goal.invariant-any_iter_contains_await-loop-clause
+invariant-any_iter_contains_await-loop-clause l = iter_awaits (generators expr_tree (drop l.clause-index l.clauses)) ≡ iter_awaits (generators expr_tree l.clauses)
 
 abbrev pub decreases-contains_await : goal.decreases-contains_await
 decreases-contains_await l = 3 * goal.size-contains_await l
@@ -29,3 +32,6 @@ decreases-any_key_contains_await l = 3 * goal.size-any_key_contains_await l + 2
 
 abbrev pub decreases-any_keyword_contains_await : goal.decreases-any_keyword_contains_await
 decreases-any_keyword_contains_await l = 3 * goal.size-any_keyword_contains_await l + 2
+
+abbrev pub decreases-any_iter_contains_await : goal.decreases-any_iter_contains_await
+decreases-any_iter_contains_await l = 3 * goal.size-any_iter_contains_await l + 2

@@ -1,0 +1,11 @@
+use Rattle.std.proofs.Common.{ap, sym}
+use Rattle.py_expr.specs.Turns.{is_spread}
+use Rattle.py_expr.proofs.Otherwise.{plain_element}
+use Rattle.py_expr.proofs.Stores.{plain_target}
+use Rattle.py_expr.proofs.elements.is_star.Goals as goal
+
+pub returns-in_default : goal.returns-in_default
+returns-in_default c = record {
+  element = λ l. ap is_spread (sym (plain_element l c.args.elt.now c.in_default.not-Starred));
+  target = λ l. ap is_spread (sym (plain_target l c.args.elt.now c.in_default.not-Starred));
+}

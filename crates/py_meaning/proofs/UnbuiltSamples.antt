@@ -1,0 +1,72 @@
+-- What is not compiled yet: what is emitted of it, and its faults.
+use Rattle.std.proofs.Common.{◌≡◌, refl, ℕ, List, [], ◌∷◌, None, Some, codes, pos}
+use Rattle.py_base.specs.Literal as literal
+use Rattle.py_tree.specs.Tree as tree
+use Rattle.py_base.specs.declared.location.SourceLocation.{SourceLocation}
+use Rattle.py_base.specs.declared.shapes.Malformed.TheVariants.{WrongMode}
+use Rattle.py_tree.specs.declared.modules.Mode.TheVariants.{Exec, Eval, Single, BlockExpr}
+use Rattle.py_forms.specs.declared.errors.CodegenErrorType.TheVariants as error
+use Rattle.py_forms.specs.Emitting.{Refused, located, move, refuse}
+use Rattle.py_meaning.specs.Emission.{emitted}
+use Rattle.py_meaning.specs.Faults.{Fault, fault_at, faults, unbuilt_tree}
+
+abbrev at : ℕ → SourceLocation
+at column = record { row = 1; column = column }
+
+abbrev no_arguments : tree.Arguments
+no_arguments = tree.arguments tree.no_args tree.no_args tree.no_arg tree.no_args tree.no_arg
+
+abbrev one : tree.Stmt → tree.Stmts
+one s = tree.more_stmts s tree.no_stmts
+
+-- `def f(): break`
+abbrev def_f : SourceLocation → tree.Stmt
+def_f place = tree.FunctionDef place (codes "f") no_arguments (one (tree.Break (at 10))) tree.no_exprs tree.no_expr tree.no_type_params
+
+-- `lambda: 1`
+abbrev constant_lambda : SourceLocation → tree.Expr
+constant_lambda place = tree.Lambda place no_arguments (tree.Constant (at 9) (literal.Int (pos 1)))
+
+abbrev not_yet : SourceLocation → Fault
+not_yet place = fault_at error.NotImplementedYet place
+
+-- a def is at fault where it stands, and nothing within it is told
+def_alone : faults (tree.Module (one (def_f (at 1)))) Exec 0 ≡ not_yet (at 1) ∷ []
+def_alone = refl
+
+def_refused : emitted (tree.Module (one (def_f (at 1)))) 0 ≡ Refused error.NotImplementedYet (Some (at 1))
+unfolding move refuse located
+def_refused = refl
+
+-- what is at fault before it comes first
+break_before : faults (tree.Module (tree.more_stmts (tree.Break (at 1)) (one (def_f (at 8))))) Exec 0 ≡ fault_at error.InvalidBreak (at 1) ∷ not_yet (at 8) ∷ []
+break_before = refl
+
+break_decides : emitted (tree.Module (tree.more_stmts (tree.Break (at 1)) (one (def_f (at 8))))) 0 ≡ Refused error.InvalidBreak (Some (at 1))
+unfolding move refuse located
+break_decides = refl
+
+-- an expression too
+lambda_called : faults (tree.Module (one (tree.StmtExpr (at 1) (tree.Call (at 1) (constant_lambda (at 2)) tree.no_exprs tree.no_keywords)))) Exec 0 ≡ not_yet (at 2) ∷ []
+lambda_called = refl
+
+-- as a target it is none
+lambda_stored : faults (tree.Module (one (tree.Assign (at 1) (tree.more_exprs (constant_lambda (at 1)) tree.no_exprs) (tree.Name (at 13) (codes "x"))))) Exec 0 ≡ fault_at (error.Assign (codes "lambda")) (at 13) ∷ []
+lambda_stored = refl
+
+-- an interactive tree is at fault as a whole, where its mode is one of a prompt
+prompted : faults (tree.Interactive tree.no_stmts) Single 0 ≡ unbuilt_tree ∷ []
+prompted = refl
+
+blocked : faults (tree.Interactive tree.no_stmts) BlockExpr 0 ≡ unbuilt_tree ∷ []
+blocked = refl
+
+prompt_refused : emitted (tree.Interactive tree.no_stmts) 0 ≡ Refused error.NotImplementedYet None
+prompt_refused = refl
+
+-- the wrong mode comes first
+not_prompted : faults (tree.Interactive tree.no_stmts) Eval 0 ≡ record { error = error.MalformedTree WrongMode; location = None } ∷ unbuilt_tree ∷ []
+not_prompted = refl
+
+typed : faults (tree.FunctionType tree.no_exprs (tree.Name (at 1) (codes "x"))) Single 0 ≡ record { error = error.MalformedTree WrongMode; location = None } ∷ unbuilt_tree ∷ []
+typed = refl
