@@ -1,0 +1,13 @@
+mod Ranges
+mod Objects
+mod Seeing
+mod Comings
+mod Exiting
+mod Listing
+mod Prefixes
+mod Settling
+mod Sounding
+mod Lawful
+mod Paths
+mod Searched
+mod Deciding

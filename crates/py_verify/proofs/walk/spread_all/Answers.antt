@@ -1,0 +1,6 @@
+use Rattle.py_bytecode.specs.View.{object}
+use Rattle.py_verify.proofs.Settling.{settled_all}
+use Rattle.py_verify.proofs.walk.spread_all.Goals as goal
+
+pub returns-then-not-branch-clause-settled : goal.returns-then-not-branch-clause-settled
+returns-then-not-branch-clause-settled c = settled_all (object c.args.code.now) c.spread.new.progress c.in_ok-spread.ensures.working.0 (c.in_ok-spread.ensures.done c.if-not-branch.true)

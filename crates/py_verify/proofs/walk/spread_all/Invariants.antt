@@ -1,0 +1,14 @@
+use Rattle.py_bytecode.specs.View.{object}
+use Rattle.py_walks.specs.Known.{unknown}
+use Rattle.py_walks.specs.Shown.{Grows}
+use Rattle.py_verify.specs.Stepping.{IsWorking}
+use Rattle.py_verify.proofs.walk.spread_all.Given as goal
+
+abbrev pub invariant-loop : goal.invariant-loop
+invariant-loop l = record {
+  working : IsWorking (object l.code) l.progress;
+  grows : Grows l.initial.progress.states.items l.progress.states.items;
+}
+
+abbrev pub decreases-loop : goal.decreases-loop
+decreases-loop l = unknown l.progress.states.items
