@@ -1,9 +1,10 @@
-"""Writes the table of scope trees that crates/py_scope/src/tests.rt compares with.
+"""Writes crates/scope_vectors/src/programs.rt: small programs, with the tables of their scopes.
 
 usage: scope_tables.py MODEL_FOLDER
 
+The text on standard output is the file, before `rt fmt`.
 MODEL_FOLDER holds a Python model of the scan (`scopes.py`) and a reader of Python sources (`py2rows.py`).
-Each source below gives one line: the calls of a scan, ` => `, and the tables of the model, or its refusal.
+Each source below gives one entry: the calls of its scan, and the tables of the model, or its refusal.
 A call is `+` with a letter for the kind, and the name, of a scope that is entered, `-` for one that is left,
 or a letter for a role and the name that is used.
 """
@@ -80,15 +81,20 @@ SOURCES = [
     "def f(__class__):\n class A:\n  def g(self): return __class__",
     "for i in range(3):\n with open(i) as g: print(g)\nwhile i: pass",
 ]
-# the calls of programs with type parameters: `def f[T](x: T): return T`, `class A[T]: x = T`, methods of a class whose
-# type parameters use its names, and a function whose type parameters stand between a name and its binder
-CALLS = [
-    "+T <f>|a T|+F f|n x|u T|-|u T|-|a f",
-    "+T <A>|a T|+C A|a __module__|a __qualname__|a __doc__|a __class__|a x|u T|-|-|a A",
-    "+C A|a __module__|a __qualname__|a __doc__|a __class__|a y|+T <m>|a T|+F m|p self|n z|-|u y|-|a m|-|a A",
-    "+C A|a __module__|a __qualname__|a __doc__|a __class__|a y|+T <m>|u int|a T|+F m|p self|n z|u y|-|u T|-|a m|-|a A",
-    "+F f|p a|+T <g>|a T|+F g|n b|u a|-|u a|-|a g|u g|-|a f",
-    "+F f|p a|+C A|a a|+T <g>|a T|+F g|u a|-|-|a g|-|-|a f",
+# programs with type parameters, and the calls of their scans
+TYPED = [
+    ("def f[T](x: T): return T",
+     "+T <f>|a T|+F f|n x|u T|-|u T|-|a f"),
+    ("class A[T]: x = T",
+     "+T <A>|a T|+C A|a __module__|a __qualname__|a __doc__|a __class__|u T|a x|-|-|a A"),
+    ("class A:\n y = 1\n def m[T](self, z: y): pass",
+     "+C A|a __module__|a __qualname__|a __doc__|a __class__|a y|+T <m>|a T|+F m|p self|n z|-|u y|-|a m|-|a A"),
+    ("class A:\n y = 1\n def m[T: int](self, z: T): y",
+     "+C A|a __module__|a __qualname__|a __doc__|a __class__|a y|+T <m>|u int|a T|+F m|p self|n z|u y|-|u T|-|a m|-|a A"),
+    ("def f(a):\n def g[T](b: a): return a\n return g",
+     "+F f|p a|+T <g>|a T|+F g|n b|u a|-|u a|-|a g|u g|-|a f"),
+    ("def f(a):\n class A:\n  a = 1\n  def g[T](): return a",
+     "+F f|p a|+C A|a __module__|a __qualname__|a __doc__|a __class__|a a|+T <g>|a T|+F g|u a|-|-|a g|-|a A|-|a f"),
 ]
 
 
@@ -117,24 +123,26 @@ def dump(scope):
     return KINDS[scope.typ] + scope.name + "{" + symbols + "}[" + "".join(dump(c) for c in scope.children) + "]"
 
 
-def line(calls, scan, fault):
+def answer(scan, fault):
+    """The tables of a scan, or why it is refused."""
     try:
-        answer = dump(scopes.build(scopes.Scan(scan.root, scan.uses, fault)))
+        return dump(scopes.build(scopes.Scan(scan.root, scan.uses, fault)))
     except scopes.Fault as f:
-        answer = "refused: " + f.text
-    return calls + " => " + answer
+        return "refused: " + f.text
 
 
-def row(source):
+def scanned(source):
+    """The calls of the scan of a source, and their answer."""
     recorder, fault = Recorder(False), None
     try:
         recorder.body(tree_of(source).f["body"])
     except scopes.Fault as f:
         fault = f
-    return line("|".join(recorder.calls), recorder, fault)
+    return "|".join(recorder.calls), answer(recorder, fault)
 
 
-def replay(calls):
+def replayed(calls):
+    """The answer to these calls."""
     scanner, fault = scopes.Scanner(True), None
     kinds = {v: k for k, v in KINDS.items()}
     roles = {v: k for k, v in ROLES.items()}
@@ -148,10 +156,22 @@ def replay(calls):
                 scanner.register(call[2:], roles[call[0]], None)
     except scopes.Fault as f:
         fault = f
-    return line(calls, scanner, fault)
+    return answer(scanner, fault)
 
 
+def entry(source, calls, want):
+    print("\n" + source.replace("\n", "\\n"))
+    print(calls)
+    print(want)
+
+
+print("""//! Small programs with the tables of their scopes. The file is made by tools/scope_tables.py.
+
+/// Of each program: a line with its source, one with the calls of the scan over it, and one with its tables or why it is
+/// refused.
+pub const PROGRAMS: &'static str = r\"""", end="")
 for source in SOURCES:
-    print(row(source))
-for calls in CALLS:
-    print(replay(calls))
+    entry(source, *scanned(source))
+for source, calls in TYPED:
+    entry(source, calls, replayed(calls))
+print('";')

@@ -1,10 +1,10 @@
-"""Writes a file of tests of crates/pyc/src: small programs, with what a run writes over their rows.
+"""Writes a table of crates/codegen_vectors/src: small programs, with the listing of their code or why they are refused.
 
 usage: source_tables.py MODEL_FOLDER choices|displays|targets
 
 The text on standard output is the file choices.rt, displays.rt or targets.rt, before `rt fmt`.
-MODEL_FOLDER holds a Python model of the program (`pyc.py`) and a reader of Python sources (`py2rows.py`).
-Each source below gives one entry: the words of a run, the rows of the source, and what the model writes over them.
+MODEL_FOLDER holds a Python model of the compiler (`pyc.py`) and a reader of Python sources (`py2rows.py`).
+Each source below gives one entry: how it is compiled, its rows, and what the model writes over them.
 The levels 0, 1 and 2 follow one another in each table, unless an entry names its own.
 A source that Python's parser does not read as the tree that is wanted is a pair: what it is called, and its rows.
 """
@@ -79,6 +79,9 @@ CHOICES = {
             "if a: b\nelif c: d\nelif e: f\nelse: g",
             "if a:\n if b: c\n else: d\nelse:\n if e: pass",
             "pass\npass",
+            "1\nTrue\n1",
+            *at_each("__debug__"),
+            rows_of("an expression as a file", [["Name", 1, 1, "a"], ["Expression", 0]]),
             "if b if a else c: d",
         ],
         "TESTS": [
@@ -90,13 +93,16 @@ CHOICES = {
             "if not (not a or b) and c: pass",
             "if a < b <= c != d: e\nelse: f",
             "if (a and b) < c or -d: e",
+            "if True or False or False: pass",
+            "if True and False and False: pass",
+            "if (True and False) or (False and True): pass",
         ],
         "LOOPS": [
             "while a: pass",
             "while a: b\nelse: c",
             "while a:\n if b: break\n c\nelse: d",
             "while a:\n if b: continue\n c\nelse: d",
-            "while a: break",
+            *at_each("while a: break"),
             "while a:\n continue\n b",
             "while a < b < c: d",
             "while __debug__:\n if not __debug__: break",
@@ -145,6 +151,7 @@ CHOICES = {
             "a if not (b or c) else d",
             "f(a and b, c < d, e if g else None) or ...",
             "a if 1 < b < 2 else -1",
+            rows_of("a file as an expression", [["Name", 1, 1, "a"], ["Expr", 1, 1, 0], ["Module", [1]]]),
         ],
     },
 }
@@ -407,19 +414,6 @@ TARGETS = {
 }
 
 
-def lines_of(text):
-    """The lines of a text, as they stand in a literal."""
-    lines = text.replace("\\", "\\\\").replace('"', '\\"').split("\n")
-    while lines and not lines[-1]:
-        lines.pop()
-    return lines
-
-
-def listing(text):
-    """A text that ends in a line feed, each of its lines on a line."""
-    return '"' + "\\n\\\n            ".join(lines_of(text)) + '\\n"'
-
-
 def entry(source, mode, level):
     if isinstance(source, At):
         source, level = source.source, source.level
@@ -427,43 +421,23 @@ def entry(source, mode, level):
         source, rows = source
     else:
         rows = rows_text(source, mode)
-    assert '"#' not in rows
     status, out, err, _ = pyc.run([mode, level, "m.py"], rows.encode())
     assert status in (0, 1), (source, err)
-    print("    Example {")
-    print('        source: "' + "\\n".join(lines_of(source)) + '",')
-    print(f'        mode: "{mode}",')
-    print(f'        level: "{level}",')
-    print('        rows: r#"' + rows + '"#,')
-    print("        want: " + listing(out if status == 0 else err) + ",")
-    print("    },")
+    print()
+    print(mode, level, source.replace("\\", "\\\\").replace("\n", "\\n"))
+    print(rows)
+    print(out if status == 0 else err, end="")
 
 
-def table(name, sources, mode):
-    print(f"\nconst {name}: [Example; {len(sources)}] = [")
-    for i, source in enumerate(sources):
-        entry(source, mode, "012"[i % 3])
-    print("];")
+group = {"choices": CHOICES, "displays": DISPLAYS, "targets": TARGETS}[sys.argv[2]]
+print(f"""//! {group["about"]}. The file is made by tools/source_tables.py.
 
-
-def test(name):
-    print(f"""
-#[test]
-fn {name.lower()}(rt: HostRuntime) -> Result<(), Fail> {{
-    Ok(check(&rt, rt.alloc(), &{name})?)
-}}""")
-
-
-groups = {"choices": CHOICES, "displays": DISPLAYS, "targets": TARGETS}[sys.argv[2]]
-print(f"""//! {groups["about"]}: small programs with what a run
-//! writes over their rows. The file is made by tools/source_tables.py.
-
-use crate::examples::{{Example, check}};
-use std::test::Fail;""")
-modes = [(mode, groups[mode]) for mode in groups if mode != "about"]
-for mode, tables in modes:
-    for name in tables:
-        test(name)
-for mode, tables in modes:
-    for name, sources in tables.items():
-        table(name, sources, mode)
+/// Of each program: a line with its mode, its level and its source, one with its rows, and the listing of its code or the
+/// line that says why it is refused.
+pub const {sys.argv[2].upper()}: &'static str = r#\"""", end="")
+for mode in group:
+    if mode != "about":
+        for sources in group[mode].values():
+            for i, source in enumerate(sources):
+                entry(source, mode, "012"[i % 3])
+print('"#;')

@@ -1,0 +1,71 @@
+//! Calls of an emitter, one after the other.
+
+use crate::fixtures::{at, text};
+use py_bytecode::{ConstantData, Instruction, OpArg};
+use py_emit::{CompileOpts, Emitter};
+use py_forms::CodegenErrorType;
+use py_ir::BlockIdx;
+use std::alloc::Global;
+use std::process::Abort;
+use std::test::Fail;
+
+fn emitter(alloc: Global) -> Result<Emitter, Fail> {
+    Ok(Emitter::new(alloc, CompileOpts::default(), text(alloc, "m.py")?)?)
+}
+
+/// Takes the last instruction out, which is this one, with no target, at this column.
+fn takes(rt: &impl Abort, em: &mut Emitter, instr: Instruction, arg: u32, column: u32) {
+    match em.take_last() {
+        Some(last) => {
+            assert_eq!(rt; last.instr, instr);
+            assert_eq!(rt; last.arg, OpArg(arg));
+            assert_eq!(rt; last.target, BlockIdx::NULL);
+            assert_eq!(rt; last.location, at(1, column));
+        }
+        None => panic!(rt; "an empty block"),
+    }
+}
+
+#[test]
+fn a_constant_is_returned_where_it_is_loaded(rt: HostRuntime) -> Result<(), Fail> {
+    let mut em = emitter(rt.alloc())?;
+    em.set_location(at(1, 3));
+    em.load_const(ConstantData::None)?;
+    em.load_const(ConstantData::Ellipsis)?;
+    em.set_location(at(1, 5));
+    em.return_value()?;
+    takes(&rt, &mut em, Instruction::ReturnConst, 1, 3);
+    takes(&rt, &mut em, Instruction::LoadConst, 0, 3);
+    assert!(rt; em.take_last().is_none());
+    Ok(())
+}
+
+#[test]
+fn another_value_is_returned_after_it(rt: HostRuntime) -> Result<(), Fail> {
+    let mut em = emitter(rt.alloc())?;
+    em.set_location(at(1, 3));
+    em.emit_arg(Instruction::UnaryOperation, 1)?;
+    em.set_location(at(1, 5));
+    em.return_value()?;
+    takes(&rt, &mut em, Instruction::ReturnValue, 0, 5);
+    takes(&rt, &mut em, Instruction::UnaryOperation, 1, 3);
+    assert!(rt; em.take_last().is_none());
+    Ok(())
+}
+
+#[test]
+fn debug_is_no_name_of_its_own(rt: HostRuntime) -> Result<(), Fail> {
+    let mut em = emitter(rt.alloc())?;
+    em.set_location(at(1, 7));
+    let Err(error) = em.varname("__debug__") else {
+        panic!(rt; "a name");
+    };
+    assert_eq!(rt; error.location, Some(at(1, 7)));
+    match &error.error {
+        CodegenErrorType::SyntaxError(text) => {
+            assert_eq!(rt; text.as_str(), "cannot assign to __debug__");
+        }
+        _ => panic!(rt; "another error"),
+    }
+    Ok(())
+}

@@ -1,0 +1,13 @@
+//! Tests of what lies below the tree: py_base, py_bytecode, py_ir and py_emit.
+#![tactic(auto)]
+
+#[cfg(test)]
+mod base;
+#[cfg(test)]
+mod blocks;
+#[cfg(test)]
+mod bytecode;
+#[cfg(test)]
+mod emit;
+#[cfg(test)]
+mod fixtures;
