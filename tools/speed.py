@@ -75,9 +75,6 @@ def show_cpython(rows, source):
     print(json.dumps(found))
 
 
-SILENT = {"stdout": subprocess.DEVNULL, "stderr": subprocess.DEVNULL}
-
-
 class Bench:
     """The program, how often each run is made, and a folder for files."""
 
@@ -127,17 +124,12 @@ def growth(points):
 
 def gather(program, library, together):
     """Writes the files of a folder that the program compiles into one, one after the other, and prints their number."""
-    import rows  # Here alone, since it takes memory, which a process that is started counts as its own.
+    # Here alone, since they take memory, which a process that is started counts as its own.
+    import rows
+    import stdlib
 
-    texts = []
-    for file in sorted(it for it in pathlib.Path(library).glob("**/*.py") if "site-packages" not in it.parts):
-        try:
-            text = rows.rows_text(file.read_bytes())
-        except rows.Fault:
-            continue
-        ended = subprocess.run([program, "exec", "0", "m.py"], input=text.encode("utf-8"), **SILENT)
-        if ended.returncode == 0:
-            texts.append(rows.text_of(file.read_bytes()) + "\n")
+    files = [it for it in stdlib.library_files(pathlib.Path(library)) if stdlib.ending(program, it)[0] == "compiled"]
+    texts = [rows.text_of(it.read_bytes()) + "\n" for it in files]
     # Encodings are named in the first two lines alone.
     pathlib.Path(together).write_text("\n\n" + "".join(texts), encoding="utf-8")
     print(len(texts))

@@ -21,6 +21,11 @@ import rows
 PROGRAM = pathlib.Path(__file__).resolve().parent.parent / "crates" / "pyc" / "out" / "pyc"
 
 
+def library_files(folder):
+    """The files of Python of a folder, in order, without installed packages."""
+    return (it for it in sorted(folder.glob("**/*.py")) if "site-packages" not in it.parts)
+
+
 def ending(program, file):
     """How a file ends, and the seconds of rows and of the program."""
     start = time.perf_counter()
@@ -48,9 +53,7 @@ def main():
     if not os.access(words.program, os.X_OK):
         sys.exit("stdlib.py: there is no program %s: sh pyc.sh builds it" % words.program)
     counts, seconds = collections.Counter(), [0.0, 0.0]
-    for file in sorted(words.folder.glob("**/*.py")):
-        if "site-packages" in file.parts:
-            continue
+    for file in library_files(words.folder):
         how, *took = ending(words.program.resolve(), file)
         if words.files:
             print("%s  %s" % (how, file), flush=True)
