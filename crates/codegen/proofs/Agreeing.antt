@@ -24,7 +24,7 @@ use Rattle.py_forms.specs.Agree.{runs_code, form_of, exactly}
 use Rattle.py_forms.specs.Agreement.{Agree, AgreeFull}
 use Rattle.py_meaning.specs.Meaning.{outer_head, body}
 use Rattle.py_forms.specs.Emitting.{State, Outcome, Done, TooWide, Refused, nothing}
-use Rattle.py_meaning.specs.Emission.{emitted}
+use Rattle.py_meaning.specs.EmissionStmts.{emitted}
 use Rattle.py_forms.proofs.CodeObjects.{childless_agrees}
 use Rattle.py_forms.proofs.LaidOut.{laid_runs}
 use Rattle.py_forms.proofs.Laws.{scope_ends}
@@ -35,9 +35,9 @@ use Rattle.py_adds.proofs.Adding.{Begins, AllRead, AllInside, Adds}
 use Rattle.py_emit.proofs.Chains.{Leads, chain_leads, chain_short}
 use Rattle.py_adds.proofs.Laying.{Lays, lay}
 use Rattle.py_adds.proofs.Counting.{few, units_enough}
-use Rattle.codegen.proofs.Childless.{body_childless}
+use Rattle.py_agree.proofs.Childless.{body_childless}
 use Rattle.codegen.proofs.Heights.{no_higher}
-use Rattle.codegen.proofs.Programs.{tree_adds}
+use Rattle.py_agree.proofs.Programs.{tree_adds}
 
 listed_of : (cs : List Const) → listed (consts_of cs) ≡ cs
 listed_of [] = refl
@@ -68,8 +68,8 @@ module _ (code : CodeObject) (path : List ℕ) (m : Mode) (l : ℕ) (t : tree.Mo
   abbrev blocks : List Blk
   blocks = map plain made.info.blocks
 
-  adds : Adds nothing s items (labels (form_of scope))
-  adds = subst (λ x. Adds nothing s (body_code (exactly no_child x) (form_of scope)) (labels (form_of scope))) (outermost t m l) (tree_adds no_child t m l s done).adds
+  adds : Adds (nothing l) s items (labels (form_of scope))
+  adds = subst (λ x. Adds (nothing l) s (body_code (exactly no_child x) (form_of scope)) (labels (form_of scope))) (outermost t m l) (tree_adds no_child t m l s done).adds
 
   looped : Looped false (form_of scope)
   looped = (tree_adds no_child t m l s done).looped

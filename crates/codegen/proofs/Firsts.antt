@@ -10,13 +10,13 @@ use Rattle.py_tree.specs.declared.modules.Mode.{Mode}
 use Rattle.py_base.specs.declared.shapes.Malformed.{Malformed}
 use Rattle.py_bytecode.specs.declared.code.CodeObject.{CodeObject}
 use Rattle.py_forms.specs.Emitting.{Outcome, Done, TooWide, Refused}
-use Rattle.py_meaning.specs.Emission.{emitted}
+use Rattle.py_meaning.specs.EmissionStmts.{emitted}
 use Rattle.py_meaning.specs.Faults.{Fault, faults, whole, too_deep, too_large, malformed, compile_faults}
 use Rattle.py_forms.specs.declared.errors.CodegenErrorType.{CodegenErrorType}
 use Rattle.py_forms.specs.declared.errors.CodegenErrorType.TheVariants as error
 use Rattle.codegen.specs.Compiled.{IsFirst, IsRefused}
 use Rattle.py_emit.specs.Emitted.{IsEmitted}
-use Rattle.codegen.proofs.Ending.{refusal_heads, done_faultless}
+use Rattle.py_agree.proofs.Ending.{refusal_heads, done_faultless}
 
 abbrev fault_of : LocatedError CodegenErrorType → Fault
 fault_of e = record { error = e.error; location = e.location }

@@ -1,26 +1,25 @@
 -- The code object of an emitter that emitted a tree.
-use Rattle.std.proofs.Common.{◌≡◌, ◌<◌, ◌^◌, ℕ, List, Result, Ok, Err, IfOk, IfErr, None, refl, sym, ap, ◌∙◌, subst}
+use Rattle.std.proofs.Common.{◌≡◌, ◌<◌, ◌^◌, ℕ, List, Result, sym, ap, ◌∙◌, subst}
 use Rattle.py_tree.specs.Tree as tree
 use Rattle.py_limits.specs.Size.{size_of}
 use Rattle.py_tree.specs.declared.modules.Mode.TheVariants.{Exec}
 use Rattle.py_base.specs.declared.location.LocatedError.{LocatedError}
 use Rattle.py_bytecode.specs.declared.code.CodeObject.{CodeObject}
 use Rattle.py_ir.specs.Final.{IsFinal}
-use Rattle.py_forms.specs.Emitting.{Done, Outcome, nothing}
-use Rattle.py_meaning.specs.Emission.{emission_of_mod, emitted}
+use Rattle.py_forms.specs.Emitting.{Done, State, nothing}
+use Rattle.py_meaning.specs.EmissionStmts.{emission_of_mod, emitted}
 use Rattle.py_forms.specs.declared.errors.CodegenErrorType.{CodegenErrorType}
-use Rattle.py_emit.specs.Emitted.{IsEmitted, IsMade, Holds}
-use Rattle.py_emit.specs.States.{Goes, IsUnrefused, Rest, Same, first_rest, info, module_head, rest, state}
+use Rattle.py_emit.specs.Emitted.{IsEmitted, Holds}
+use Rattle.py_emit.specs.States.{Goes, IsUnrefused, Rest, first_rest, info, rest, state}
 use Rattle.py_emit.specs.declared.context.CompileOpts.{CompileOpts}
 use Rattle.py_emit.specs.declared.emitter.Emitter.{Emitter}
 use Rattle.py_emit.proofs.States.{info_holds}
-use Rattle.codegen.specs.Compiled.{IsRefused}
-use Rattle.codegen.proofs.NeverRefused.{never_refused}
+use Rattle.py_agree.proofs.NeverRefused.{never_refused}
 
 -- an emitter before anything is emitted, and one that emitted a tree
-module _ (t : tree.Mod) (opts : CompileOpts) (path : List ℕ) (first : Emitter) (s : state first ≡ nothing) (r : rest first ≡ first_rest opts path) where
-  pub goes_first : {A : Type 0} (x : Result A (LocatedError CodegenErrorType)) (after : Outcome) → Goes x after (emission_of_mod (rest first).opts.optimize t (state first)) → Goes x after (emitted t opts.optimize)
-  goes_first x after h = subst (λ q. Goes x after (emission_of_mod opts.optimize t q)) s (subst (λ (q : Rest). Goes x after (emission_of_mod q.opts.optimize t (state first))) r h)
+module _ (t : tree.Mod) (opts : CompileOpts) (path : List ℕ) (first : Emitter) (s : state first ≡ nothing opts.optimize) (r : rest first ≡ first_rest opts path) where
+  pub goes_first : {A : Type 0} (x : Result A (LocatedError CodegenErrorType)) (after : State) → Goes x after (emission_of_mod t (state first)) → Goes x after (emitted t opts.optimize)
+  goes_first x after h = subst (λ q. Goes x after (emission_of_mod t q)) s h
 
   module _ (last : Emitter) (same : rest last ≡ rest first) (is : emitted t opts.optimize ≡ Done (state last)) where
     level_is : (rest last).opts.optimize ≡ opts.optimize

@@ -5,13 +5,12 @@ ghost use Rattle.py_limits.specs.Size.{size_of};
 ghost use Rattle.py_tree.specs.View.{mod_tree};
 ghost use Rattle.py_bytecode.specs.View.{object};
 ghost use Rattle.py_forms.specs.Agreement.{Agree, AgreeFull};
-ghost use Rattle.py_forms.specs.Emitting.{Done};
-ghost use Rattle.py_meaning.specs.Emission.{emission_of_mod, emitted, unbuilt_tree};
+ghost use Rattle.py_meaning.specs.EmissionStmts.{emission_of_mod, emitted, unbuilt_tree};
 ghost use Rattle.py_meaning.specs.Faults.{faults};
 ghost use Rattle.py_meaning.specs.Meaning.{body};
 ghost use Rattle.codegen.specs.Compiled.{AlwaysEnds, IsFirst, IsRefused, NoHigher};
 ghost use Rattle.py_emit.specs.Emitted.{IsEmitted};
-ghost use Rattle.py_emit.specs.States.{AreMade, Goes, Same, loop_blocks, rest, state};
+ghost use Rattle.py_emit.specs.States.{AreMade, Goes, Same, rest, state};
 
 use crate::program::emit_program;
 use py_bytecode::CodeObject;
@@ -97,8 +96,7 @@ fn compile_mod(
 /// Emits a whole tree.
 fn emit_mod(em: &mut Emitter, ast: &Mod) -> Result<(), CodegenError>
     requires loops { AreMade (rest em.old).context.loop_blocks }
-    requires outside { loop_blocks (rest em.old).context.loop_blocks ≡ None }
-    ensures goes { Goes result (Done (state em.new)) (emission_of_mod (rest em.old).opts.optimize (mod_tree ast.now) (state em.old)) }
+    ensures goes { Goes result (state em.new) (emission_of_mod (mod_tree ast.now) (state em.old)) }
     ensures same { Same result (rest em.new) (rest em.old) }
 {
     match ast {
@@ -111,7 +109,7 @@ fn emit_mod(em: &mut Emitter, ast: &Mod) -> Result<(), CodegenError>
 
 /// Refuses a tree of a kind that is not compiled yet.
 fn refuse_tree(em: &mut Emitter) -> Result<(), CodegenError>
-    ensures goes { Goes result (Done (state em.new)) (unbuilt_tree (state em.old)) }
+    ensures goes { Goes result (state em.new) (unbuilt_tree (state em.old)) }
     ensures same { Same result (rest em.new) (rest em.old) }
 {
     let mut error = em.error(CodegenErrorType::NotImplementedYet);

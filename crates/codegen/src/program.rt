@@ -1,25 +1,22 @@
 //! The code of a file.
-ghost use Rattle.std.specs.Prelude.{◌≡◌, ◌≤◌, None, Option as Optional, drop, length, IfOk};
+ghost use Rattle.std.specs.Prelude.{◌≡◌, ◌≤◌, drop, length, IfOk};
 ghost use Rattle.py_tree.specs.View.{stmt_tree, stmts};
-ghost use Rattle.py_forms.specs.Emitting.{Done, Next, emit_constant};
-ghost use Rattle.py_meaning.specs.Emission.{emission_of_doc, emission_of_program, emission_of_setup, emission_of_stmts};
+ghost use Rattle.py_forms.specs.Emitting.{◌▸◌, by_level, emit_constant};
+ghost use Rattle.py_meaning.specs.EmissionStmts.{emission_of_doc, emission_of_program, emission_of_setup, emission_of_stmts};
 ghost use Rattle.py_bytecode.specs.Objects.{none};
-ghost use Rattle.py_meaning.specs.Texts.{after_doc, doc_of};
-ghost use Rattle.py_emit.specs.States.{AreMade, Goes, Same, loop_blocks, rest, state};
+ghost use Rattle.py_emission.specs.Texts.{after_doc, doc_of};
+ghost use Rattle.py_emit.specs.States.{AreMade, Goes, Same, rest, state};
 
-use crate::annotations::find_ann;
-use crate::docs::{split_doc, statements_from};
-use crate::statements::compile_statements;
 use py_bytecode::{ConstantData, Instruction};
 use py_emit::{Emitter, emit, refuse};
 use py_forms::{CodegenError, CodegenErrorType};
+use py_stmt::{compile_statements, find_ann, split_doc, statements_from};
 use py_tree::{Stmt, Stmts, Text};
 
 /// Emits the statements of a file, its docstring first, and the return of None.
 pub(crate) fn emit_program(em: &mut Emitter, body: &Stmts) -> Result<(), CodegenError>
     requires loops { AreMade (rest em.old).context.loop_blocks }
-    requires outside { loop_blocks (rest em.old).context.loop_blocks ≡ None }
-    ensures goes { Goes result (Done (state em.new)) (emission_of_program (rest em.old).opts.optimize (stmts stmt_tree body.now) (state em.old)) }
+    ensures goes { Goes result (state em.new) (emission_of_program (stmts stmt_tree body.now) (state em.old)) }
     ensures same { Same result (rest em.new) (rest em.old) }
 {
     let from = emit_doc(em, body)?;
@@ -32,7 +29,7 @@ pub(crate) fn emit_program(em: &mut Emitter, body: &Stmts) -> Result<(), Codegen
 #[tactic(auto, using(py_bytecode::proofs::View::views))]
 fn emit_rest(em: &mut Emitter, body: &[Stmt]) -> Result<(), CodegenError>
     requires loops { AreMade (rest em.old).context.loop_blocks }
-    ensures goes { Goes result (Done (state em.new)) (emission_of_stmts (rest em.old).opts.optimize (loop_blocks (rest em.old).context.loop_blocks) (stmts stmt_tree body.now) (emit_constant Instruction.ReturnConst none Done) (state em.old)) }
+    ensures goes { Goes result (state em.new) ((emission_of_stmts (stmts stmt_tree body.now) ▸ emit_constant Instruction.ReturnConst none) (state em.old)) }
     ensures same { Same result (rest em.new) (rest em.old) }
 {
     compile_statements(em, body)?;
@@ -40,8 +37,9 @@ fn emit_rest(em: &mut Emitter, body: &[Stmt]) -> Result<(), CodegenError>
 }
 
 /// Emits what stores the docstring, where one is kept. Answers the place at which the other statements begin.
+#[tactic(auto, unfolding(py_forms::specs::Emitting::by_level, py_emit::specs::States::rest))]
 fn emit_doc(em: &mut Emitter, body: &Stmts) -> Result<usize, CodegenError>
-    ensures goes { (k : Next) → Goes result (k (state em.new)) (emission_of_doc (doc_of (rest em.old).opts.optimize (stmts stmt_tree body.now)) k (state em.old)) }
+    ensures goes { Goes result (state em.new) (by_level (λ l. emission_of_doc (doc_of l (stmts stmt_tree body.now))) (state em.old)) }
     ensures from { IfOk result (λ from. stmts stmt_tree (drop from body.now) ≡ after_doc (stmts stmt_tree body.now)) }
     ensures within { IfOk result (λ from. from ≤ length body.now) }
     ensures same { Same result (rest em.new) (rest em.old) }
@@ -58,7 +56,7 @@ fn emit_doc(em: &mut Emitter, body: &Stmts) -> Result<usize, CodegenError>
 /// Emits what stores a docstring, where there is one.
 #[tactic(auto, using(py_bytecode::proofs::View::views))]
 fn store_doc(em: &mut Emitter, doc: Option<Text>) -> Result<(), CodegenError>
-    ensures goes { (k : Next) → Goes result (k (state em.new)) (emission_of_doc doc k (state em.old)) }
+    ensures goes { Goes result (state em.new) (emission_of_doc doc (state em.old)) }
     ensures same { Same result (rest em.new) (rest em.old) }
 {
     match doc {
@@ -72,7 +70,7 @@ fn store_doc(em: &mut Emitter, doc: Option<Text>) -> Result<(), CodegenError>
 
 /// Emits the instruction that makes room for annotations, where there are any.
 fn emit_setup(em: &mut Emitter, annotated: bool) -> Result<(), CodegenError>
-    ensures goes { (k : Next) → Goes result (k (state em.new)) (emission_of_setup annotated k (state em.old)) }
+    ensures goes { Goes result (state em.new) (emission_of_setup annotated (state em.old)) }
     ensures same { Same result (rest em.new) (rest em.old) }
 {
     if annotated {

@@ -1,6 +1,5 @@
 -- What an emission adds: steps that read as the code of the node's form, in all tables that begin with those so far.
-use Rattle.std.proofs.Common.{◌≡◌, ℕ, ◌+◌, ◌<◌, ◌≤◌, ◌^◌, List, [], ◌∷◌, ◌++◌, false, Option, Some, None, refl, sym, ap, ◌∙◌, arith, append_assoc, append-nil}
-use Rattle.py_base.specs.declared.location.SourceLocation.{SourceLocation}
+use Rattle.std.proofs.Common.{◌≡◌, ℕ, ◌+◌, ◌<◌, ◌≤◌, ◌^◌, List, [], ◌∷◌, ◌++◌, false, Option, Some, None, refl, sym, ap, ◌∙◌, subst, arith, append_assoc, append-nil}
 use Rattle.py_bytecode.specs.declared.instruction.Instruction.{Instruction}
 use Rattle.py_bytecode.specs.Objects as const
 use Rattle.py_bytecode.specs.Objects.{Const, Object, codes_in}
@@ -8,7 +7,7 @@ use Rattle.py_bytecode.specs.Machine.{Instr}
 use Rattle.py_bytecode.specs.Decode.{Tables, instr_of}
 use Rattle.py_walks.specs.Flat.{is_jump}
 use Rattle.py_forms.specs.Code.{Item, Do, Label}
-use Rattle.py_forms.specs.Emitting.{Step, Put, Begin, State, located}
+use Rattle.py_forms.specs.Emitting.{Step, Put, Begin, State, with_step}
 
 -- tables that begin with those of a state
 pub record Begins (s : State) (t : Tables) : Type 0 where
@@ -93,6 +92,7 @@ pub record Adds (s s1 : State) (is : List (Item Object)) (m : ℕ) : Type 0 wher
   pub steps_are : s1.steps ≡ s.steps ++ steps
   pub reads : (t : Tables) → Begins s1 t → AllRead t steps is
   pub inside : AllInside s1.blocks steps
+  pub context_are : s1.context ≡ s.context
 
 -- tables that begin with the second begin with the first
 pub begins_before : (s s1 : State) (is : List (Item Object)) (m : ℕ) (t : Tables) → Adds s s1 is m → Begins s1 t → Begins s t
@@ -115,6 +115,7 @@ adds_join s s1 s2 is js m n a b = record {
   steps_are = b.steps_are ∙ ap (λ x. x ++ b.steps) a.steps_are ∙ append_assoc s.steps a.steps b.steps;
   reads = λ t h. read_join t a.steps b.steps is js (a.reads t (begins_before s1 s2 js n t b h)) (b.reads t h);
   inside = inside_join s2.blocks a.steps b.steps (all_inside_more a.steps s1.blocks s2.blocks (let q = b.blocks_are in omega arith) a.inside) b.inside;
+  context_are = b.context_are ∙ a.context_are;
 }
 
 pub adds_nothing : (s : State) → Adds s s [] 0
@@ -129,9 +130,25 @@ adds_nothing s = record {
   steps_are = sym (append-nil s.steps);
   reads = λ t b. tt;
   inside = tt;
+  context_are = refl;
 }
 
--- where it stands in the source is no part of it
-pub adds_located : (at : SourceLocation) (s s1 : State) (is : List (Item Object)) (m : ℕ) → Adds (located at s) s1 is m → Adds s s1 is m
-unfolding located
-adds_located at s s1 is m a = record { names = a.names; names_are = a.names_are; constants = a.constants; constants_are = a.constants_are; no_codes = a.no_codes; blocks_are = a.blocks_are; steps = a.steps; steps_are = a.steps_are; reads = a.reads; inside = a.inside }
+-- one step
+pub adds_step : (x : Step) (s : State) (i : Item Object) → ((t : Tables) → Begins s t → StepReads t x i) → Inside s.blocks x → Adds s (with_step x s) (i ∷ []) 0
+unfolding with_step
+adds_step x s i r n = record {
+  names = [];
+  names_are = sym (append-nil s.names);
+  constants = [];
+  constants_are = sym (append-nil s.constants);
+  no_codes = refl;
+  blocks_are = omega arith;
+  steps = x ∷ [];
+  steps_are = refl;
+  reads = λ t b. (r t (record { names = b.names; names_are = b.names_are; constants = b.constants; constants_are = b.constants_are }), tt);
+  inside = (n, tt);
+  context_are = refl;
+}
+
+pub adds_as : (s r : State) (is js : List (Item Object)) (m n : ℕ) → is ≡ js → m ≡ n → Adds s r is m → Adds s r js n
+adds_as s r is js m n e f a = subst (λ l. Adds s r l n) e (subst (λ x. Adds s r is x) f a)

@@ -10,11 +10,12 @@ use Rattle.py_forms.specs.Elements.{Element, starred, bare, groups}
 use Rattle.py_forms.specs.TableParts as table
 use Rattle.py_forms.specs.TableParts.{parts_of, counted}
 use Rattle.py_forms.specs.EmissionParts as emitting
-use Rattle.py_forms.specs.Emitting.{Next, emit_count}
+use Rattle.py_forms.specs.Emitting.{Context, Emission, emit_count}
 use Rattle.py_forms.specs.EmissionParts.{in_turn}
 use Rattle.py_adds.proofs.Pairwise.{same_length, same_starred, bare_alike, groups_alike}
+use Rattle.py_adds.proofs.Steps.{StepAdds}
 use Rattle.py_adds.proofs.Instructions.{Builds, tuple_builds}
-use Rattle.py_adds.proofs.FormAdds.{ValueAdds, StepAdds, AllValuesAdd, AllElementsAdd, as_many, either_adds, values_add, operation_adds}
+use Rattle.py_adds.proofs.FormAdds.{ValueAdds, AllValuesAdd, AllElementsAdd, as_many, either_adds, values_add, operation_adds}
 
 -- what is built of so many values as there are forms
 pub builds_as : (x : Instruction) → Builds x → (n : ℕ) (fs : List VForm) → n ≡ length fs → StepAdds (emit_count x n) (Operate (counted x (length fs)) (form_count (parts_of fs)) (Some 1))
@@ -22,19 +23,19 @@ builds_as x builds n fs few =
     let step : StepAdds (emit_count x n) (Operate (counted x (length fs)) (length fs) (Some 1)) = subst (λ m. StepAdds (emit_count x n) (Operate (counted x m) m (Some 1))) few (builds n) in
     subst (λ m. StepAdds (emit_count x n) (Operate (counted x (length fs)) m (Some 1))) (sym (as_many fs)) step
 
-module _ (i : Interp Object) where
+module _ (i : Interp Object) (c : Context) where
   -- values, and what is built of them
-  pub built_adds : (x : Instruction) → Builds x → (vs : List (Next → Next)) (fs : List VForm) → AllValuesAdd i vs fs → ValueAdds i (emitting.built x vs) (table.built x fs)
+  pub built_adds : (x : Instruction) → Builds x → (vs : List Emission) (fs : List VForm) → AllValuesAdd i c vs fs → ValueAdds i c (emitting.built x vs) (table.built x fs)
   built_adds x builds vs fs a =
-      operation_adds i (counted x (length fs)) (in_turn vs) (emit_count x (length vs)) (parts_of fs) (values_add i vs fs a) (builds_as x builds (length vs) fs (same_length (ValueAdds i) vs fs a))
+      operation_adds i c (counted x (length fs)) (in_turn vs) (emit_count x (length vs)) (parts_of fs) (values_add i c vs fs a) (builds_as x builds (length vs) fs (same_length (ValueAdds i c) vs fs a))
 
   -- a tuple of each run of plain elements, and the starred values
-  pub groups_add : (es : List (Element (Next → Next) (Next → Next))) (fs : List (Element VForm VForm)) → AllElementsAdd i es fs → AllValuesAdd i (groups (emitting.built op.BuildTuple) [] es) (groups (table.built op.BuildTuple) [] fs)
-  groups_add es fs a = groups_alike (ValueAdds i) (ValueAdds i) (emitting.built op.BuildTuple) (table.built op.BuildTuple) (built_adds op.BuildTuple tuple_builds) es fs [] [] tt a
+  pub groups_add : (es : List (Element Emission Emission)) (fs : List (Element VForm VForm)) → AllElementsAdd i c es fs → AllValuesAdd i c (groups (emitting.built op.BuildTuple) [] es) (groups (table.built op.BuildTuple) [] fs)
+  groups_add es fs a = groups_alike (ValueAdds i c) (ValueAdds i c) (emitting.built op.BuildTuple) (table.built op.BuildTuple) (built_adds op.BuildTuple tuple_builds) es fs [] [] tt a
 
-  unpacked_adds : (x : Instruction) → Builds x → (es : List (Element (Next → Next) (Next → Next))) (fs : List (Element VForm VForm)) → AllElementsAdd i es fs → ValueAdds i (emitting.unpacked x es) (table.unpacked x fs)
+  unpacked_adds : (x : Instruction) → Builds x → (es : List (Element Emission Emission)) (fs : List (Element VForm VForm)) → AllElementsAdd i c es fs → ValueAdds i c (emitting.unpacked x es) (table.unpacked x fs)
   unpacked_adds x builds es fs a = built_adds x builds (groups (emitting.built op.BuildTuple) [] es) (groups (table.built op.BuildTuple) [] fs) (groups_add es fs a)
 
-  pub display_adds : (build unpack : Instruction) → Builds build → Builds unpack → (es : List (Element (Next → Next) (Next → Next))) (fs : List (Element VForm VForm)) → AllElementsAdd i es fs → ValueAdds i (emitting.display build unpack es) (table.display build unpack fs)
+  pub display_adds : (build unpack : Instruction) → Builds build → Builds unpack → (es : List (Element Emission Emission)) (fs : List (Element VForm VForm)) → AllElementsAdd i c es fs → ValueAdds i c (emitting.display build unpack es) (table.display build unpack fs)
   display_adds build unpack builds unpacks es fs a =
-      either_adds i (starred es) (starred fs) (emitting.unpacked unpack es) (emitting.built build (bare es)) (table.unpacked unpack fs) (table.built build (bare fs)) (same_starred (ValueAdds i) (ValueAdds i) es fs a) (unpacked_adds unpack unpacks es fs a) (built_adds build builds (bare es) (bare fs) (bare_alike (ValueAdds i) es fs a))
+      either_adds i c (starred es) (starred fs) (emitting.unpacked unpack es) (emitting.built build (bare es)) (table.unpacked unpack fs) (table.built build (bare fs)) (same_starred (ValueAdds i c) (ValueAdds i c) es fs a) (unpacked_adds unpack unpacks es fs a) (built_adds build builds (bare es) (bare fs) (bare_alike (ValueAdds i c) es fs a))

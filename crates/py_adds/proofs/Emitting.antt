@@ -1,188 +1,183 @@
--- What each step of an emission adds.
-use Rattle.std.proofs.Common.{◌≡◌, ℕ, zero, suc, ◌+◌, ◌<◌, ◌^◌, List, [], ◌∷◌, ◌++◌, length, Bool, true, false, Some, None, refl, sym, ap, ◌∙◌, subst, arith, rules, append-nil, append_assoc}
-use Rattle.std.specs.List.{list_any}
-use Rattle.std.specs.Prelude.{nat_lt, slice_get, if◌then◌else◌}
+-- What emissions add, one after another: each adds items and so many blocks where it is done, and then a fact holds.
+use Rattle.std.proofs.Common.{◌≡◌, ℕ, ◌+◌, List, [], ◌++◌, Option, Some, refl, sym, ap, ◌∙◌, subst, arith, append-nil}
 use Rattle.py_base.specs.declared.location.SourceLocation.{SourceLocation}
-use Rattle.py_bytecode.specs.declared.instruction.Instruction.{Instruction}
-use Rattle.py_bytecode.specs.Objects as const
-use Rattle.py_bytecode.specs.Objects.{Const, Object, codes_in}
-use Rattle.py_bytecode.specs.Equality.{const_eq, text_eq, entered}
-use Rattle.py_bytecode.specs.Values.{Constant}
-use Rattle.py_bytecode.specs.Machine.{Instr}
-use Rattle.py_bytecode.specs.Decode.{Tables, instr_of, value_of}
-use Rattle.py_bytecode.proofs.Joining.{get_left}
-use Rattle.py_walks.specs.Flat.{is_jump}
-use Rattle.py_forms.specs.Code.{Item, Do, Label}
-use Rattle.py_forms.specs.Emitting.{Step, Put, Begin, State, Done, TooWide, Next, with_step, with_block, with_name, with_constant, located, emit, jump, begin, new_block, move}
-use Rattle.py_adds.proofs.Adding.{Begins, StepReads, Inside, Adds, adds_join, adds_nothing, adds_located, codes_join}
+use Rattle.py_bytecode.specs.Objects.{Object}
+use Rattle.py_forms.specs.Code.{Item}
+use Rattle.py_forms.specs.declared.errors.CodegenErrorType.{CodegenErrorType}
+use Rattle.py_forms.specs.Emitting.{State, Outcome, Done, TooWide, Refused, Context, LoopBlocks, Emission, ◌▸◌, go_on, keep, with_block, with_loops, located, by_level, by_loops, in_loop, new_block, move, nothing, refuse}
+use Rattle.py_adds.proofs.Adding.{Adds, adds_as, adds_join, adds_nothing}
 
--- an emission comes to a state with these items more, from which what follows comes to its end
-pub record Comes (k : Next) (s o : State) (is : List (Item Object)) (m : ℕ) : Type 0 where
-  pub reached : State
-  pub adds : Adds s reached is m
-  pub goes_on : k reached ≡ Done o
+-- the state between two emissions
+went_on : (o : Outcome) (b : Emission) (r : State) → go_on o b ≡ Done r → (m : State) × (o ≡ Done m) × (b m ≡ Done r)
+went_on (Done m) b r e = (m, refl, e)
+went_on TooWide b r e = absurd cc
+went_on (Refused d at) b r e = absurd cc
 
-pub comes_as : (k : Next) (s o : State) (is js : List (Item Object)) (m n : ℕ) → is ≡ js → m ≡ n → Comes k s o is m → Comes k s o js n
-comes_as k s o is js m n e f c = subst (λ l. Comes k s o l n) e (subst (λ x. Comes k s o is x) f c)
+pub both : (a b : Emission) (s r : State) → (a ▸ b) s ≡ Done r → (m : State) × (a s ≡ Done m) × (b m ≡ Done r)
+both a b s r e = went_on (a s) b r e
+
+pub done_is : (s r : State) → ◌≡◌ {A = Outcome} (Done s) (Done r) → s ≡ r
+done_is s r e = cc
+
+-- where it is done from n blocks, in this context, it has added these items and m blocks, and this holds
+pub record Gives (c : Context) (n : ℕ) (v : Emission) (items : List (Item Object)) (m : ℕ) (P : Type 0) : Type 0 where
+  pub run : (s r : State) → n ≡ s.blocks → c ≡ s.context → v s ≡ Done r → Adds s r items m × P
+
+-- and nothing else holds
+abbrev pub Yields : Context → ℕ → Emission → List (Item Object) → ℕ → Type 0
+Yields c n v items m = Gives c n v items m (Unit {0})
+
+pub yields : {c : Context} {n : ℕ} {v : Emission} {p : List (Item Object)} {m : ℕ} → ((s r : State) → n ≡ s.blocks → c ≡ s.context → v s ≡ Done r → Adds s r p m) → Yields c n v p m
+yields f = record { run = λ s r b z e. (f s r b z e, tt) }
+
+pub so : {c : Context} {n : ℕ} {v : Emission} {p : List (Item Object)} {m : ℕ} {P Q : Type 0} → (P → Q) → Gives c n v p m P → Gives c n v p m Q
+so f a = record { run = λ s r b z e. let d = a.run s r b z e in (d.0, f d.1) }
+
+pub gives_as : {c : Context} {n : ℕ} {v : Emission} {p q : List (Item Object)} {m j : ℕ} {P : Type 0} → p ≡ q → m ≡ j → Gives c n v p m P → Gives c n v q j P
+gives_as {p = p} {q = q} {m = m} {j = j} e f a = record { run = λ s r b z h. let d = a.run s r b z h in (adds_as s r p q m j e f d.0, d.1) }
+
+-- what holds says what the items are
+pub items_so : {c : Context} {n : ℕ} {v : Emission} {p q : List (Item Object)} {m : ℕ} {P : Type 0} → (P → p ≡ q) → Gives c n v p m P → Yields c n v q m
+items_so {p = p} {q = q} {m = m} f a = record { run = λ s r b z h. let d = a.run s r b z h in (adds_as s r p q m m (f d.1) refl d.0, tt) }
+
+pub counts_as : {c : Context} {n : ℕ} {v : Emission} {p : List (Item Object)} {m j : ℕ} {P : Type 0} → m ≡ j → Gives c n v p m P → Gives c n v p j P
+counts_as e a = gives_as refl e a
+
+pub from_as : {c : Context} {n k : ℕ} {v : Emission} {p : List (Item Object)} {m : ℕ} {P : Type 0} → n ≡ k → Gives c n v p m P → Gives c k v p m P
+from_as e a = record { run = λ s r b z h. a.run s r (e ∙ b) z h }
 
 -- one emission after another
-pub comes_then : (k a : Next) (s o : State) (is js : List (Item Object)) (m n : ℕ) → (c : Comes a s o is m) → ((r : State) → r.blocks ≡ s.blocks + m → a r ≡ Done o → Comes k r o js n) → Comes k s o (is ++ js) (m + n)
-comes_then k a s o is js m n c next =
-    let d = next c.reached c.adds.blocks_are c.goes_on in
-    record { reached = d.reached; adds = adds_join s c.reached d.reached is js m n c.adds d.adds; goes_on = d.goes_on }
+pub then_gives : {c : Context} {n : ℕ} {v w : Emission} {p q : List (Item Object)} {m j : ℕ} {P Q : Type 0} → Gives c n v p m P → Gives c (n + m) w q j Q → Gives c n (v ▸ w) (p ++ q) (m + j) (P × Q)
+then_gives {n = n} {v = v} {w = w} {p = p} {q = q} {m = m} {j = j} a b = record {
+  run = λ s r f z e.
+      let h = both v w s r e in
+      let x = a.run s h.0 f z h.1 in
+      let d = x.0.blocks_are in
+      let y = b.run h.0 r (omega (arith, f, d)) (z ∙ sym x.0.context_are) h.2 in
+      (adds_join s h.0 r p q m j x.0 y.0, (x.1, y.1));
+}
 
--- an instruction, and what follows
-pub comes_more : (k a : Next) (s o : State) (i : Item Object) (js : List (Item Object)) (n : ℕ) → Comes a s o (i ∷ []) 0 → ((r : State) → r.blocks ≡ s.blocks → a r ≡ Done o → Comes k r o js n) → Comes k s o (i ∷ js) n
-comes_more k a s o i js n c next = comes_as k s o (i ∷ js) (i ∷ js) (0 + n) n refl (omega arith) (comes_then k a s o (i ∷ []) js 0 n c (λ r e g. next r (omega (arith, e)) g))
+pub then_yields : {c : Context} {n : ℕ} {v w : Emission} {p q : List (Item Object)} {m j : ℕ} {Q : Type 0} → Yields c n v p m → Gives c (n + m) w q j Q → Gives c n (v ▸ w) (p ++ q) (m + j) Q
+then_yields a b = so (λ h. h.1) (then_gives a b)
 
-pub comes_nothing : (k : Next) (s o : State) → k s ≡ Done o → Comes k s o [] 0
-comes_nothing k s o e = record { reached = s; adds = adds_nothing s; goes_on = e }
+pub and_yields : {c : Context} {n : ℕ} {v w : Emission} {p q : List (Item Object)} {m j : ℕ} {P : Type 0} → Gives c n v p m P → Yields c (n + m) w q j → Gives c n (v ▸ w) (p ++ q) (m + j) P
+and_yields a b = so (λ h. h.0) (then_gives a b)
 
--- the location moves first
-pub comes_moved : (at : SourceLocation) (a k : Next) (s o : State) (is : List (Item Object)) (m : ℕ) → move at a s ≡ Done o → ((r : State) → r.blocks ≡ s.blocks → a r ≡ Done o → Comes k r o is m) → Comes k s o is m
+-- and then nothing
+pub kept_on : (o : Outcome) → go_on o keep ≡ o
+kept_on (Done s) = refl
+kept_on TooWide = refl
+kept_on (Refused e at) = refl
+
+pub then_keep : {c : Context} {n : ℕ} {v : Emission} {p : List (Item Object)} {m : ℕ} {P : Type 0} → Gives c n v p m P → Gives c n (v ▸ keep) p m P
+then_keep {v = v} a = record { run = λ s r b z e. a.run s r b z (sym (kept_on (v s)) ∙ e) }
+
+-- one after the first two, or after the second
+pub grouped : (o : Outcome) (w u : Emission) → go_on o (w ▸ u) ≡ go_on (go_on o w) u
+grouped (Done s) w u = refl
+grouped TooWide w u = refl
+grouped (Refused e at) w u = refl
+
+grouped_late : (o : Outcome) (w u x : Emission) → go_on o (w ▸ u ▸ x) ≡ go_on o ((w ▸ u) ▸ x)
+grouped_late (Done s) w u x = grouped (w s) u x
+grouped_late TooWide w u x = refl
+grouped_late (Refused e at) w u x = refl
+
+pub regroup : {c : Context} {n : ℕ} {p : List (Item Object)} {m : ℕ} {P : Type 0} (v w u : Emission) → Gives c n ((v ▸ w) ▸ u) p m P → Gives c n (v ▸ w ▸ u) p m P
+regroup v w u a = record { run = λ s r b z e. a.run s r b z (sym (grouped (v s) w u) ∙ e) }
+
+pub ungroup : {c : Context} {n : ℕ} {p : List (Item Object)} {m : ℕ} {P : Type 0} (v w u : Emission) → Gives c n (v ▸ w ▸ u) p m P → Gives c n ((v ▸ w) ▸ u) p m P
+ungroup v w u a = record { run = λ s r b z e. a.run s r b z (grouped (v s) w u ∙ e) }
+
+pub regroup_late : {c : Context} {n : ℕ} {p : List (Item Object)} {m : ℕ} {P : Type 0} (v w u x : Emission) → Gives c n ((v ▸ w ▸ u) ▸ x) p m P → Gives c n (v ▸ w ▸ u ▸ x) p m P
+regroup_late v w u x a = record { run = λ s r b z e. a.run s r b z (sym (grouped (v s) (w ▸ u) x) ∙ sym (grouped_late (v s) w u x) ∙ e) }
+
+-- after or before items that make no block
+pub after_these : {c : Context} {n : ℕ} {v w : Emission} {is q : List (Item Object)} {j : ℕ} {Q : Type 0} → Yields c n v is 0 → Gives c n w q j Q → Gives c n (v ▸ w) (is ++ q) j Q
+after_these {n = n} a b = counts_as (omega arith) (then_yields a (from_as (let e : n ≡ n + 0 = omega arith in e) b))
+
+pub then_these : {c : Context} {n : ℕ} {v w : Emission} {p is : List (Item Object)} {m : ℕ} {P : Type 0} → Gives c n v p m P → Yields c (n + m) w is 0 → Gives c n (v ▸ w) (p ++ is) m P
+then_these a b = counts_as (omega arith) (and_yields a b)
+
+pub keep_yields : {c : Context} {n : ℕ} → Yields c n keep [] 0
+keep_yields = yields (λ s r b z e. subst (λ t. Adds s t [] 0) (done_is s r e) (adds_nothing s))
+
+-- what follows stands elsewhere in the source
+pub move_yields : {c : Context} {n : ℕ} (at : SourceLocation) → Yields c n (move at) [] 0
 unfolding move located
-comes_moved at a k s o is m e next =
-    let c = next (located at s) refl e in
-    record { reached = c.reached; adds = adds_located at s c.reached is m c.adds; goes_on = c.goes_on }
-
--- a block is made first, whose number is that of those before it
-pub comes_new : (a : ℕ → Next) (k : Next) (s o : State) (is : List (Item Object)) (m n : ℕ) → n ≡ s.blocks → new_block a s ≡ Done o → ((r : State) → r.blocks ≡ 1 + n → a n r ≡ Done o → Comes k r o is m) → Comes k s o is (suc m)
-unfolding new_block with_block
-comes_new a k s o is m n b e next =
-    let c = next (with_block s) (let z = b in omega arith) (subst (λ z. a z (with_block s) ≡ Done o) (sym b) e) in
-    let d = c.adds in
-    record {
-      reached = c.reached;
-      adds = record { names = d.names; names_are = d.names_are; constants = d.constants; constants_are = d.constants_are; no_codes = d.no_codes; blocks_are = (let b = d.blocks_are in omega arith); steps = d.steps; steps_are = d.steps_are; reads = d.reads; inside = d.inside };
-      goes_on = c.goes_on;
-    }
-
--- one step
-adds_step : (x : Step) (s : State) (i : Item Object) → ((t : Tables) → Begins s t → StepReads t x i) → Inside s.blocks x → Adds s (with_step x s) (i ∷ []) 0
-unfolding with_step
-adds_step x s i r n = record {
+move_yields at = yields (λ s r b z e. subst (λ t. Adds s t [] 0) (done_is (located at s) r e) (record {
   names = [];
   names_are = sym (append-nil s.names);
   constants = [];
   constants_are = sym (append-nil s.constants);
   no_codes = refl;
   blocks_are = omega arith;
-  steps = x ∷ [];
-  steps_are = refl;
-  reads = λ t b. (r t (record { names = b.names; names_are = b.names_are; constants = b.constants; constants_are = b.constants_are }), tt);
-  inside = (n, tt);
+  steps = [];
+  steps_are = sym (append-nil s.steps);
+  reads = λ t h. tt;
+  inside = tt;
+  context_are = refl;
+}))
+
+pub moved_gives : {c : Context} {n : ℕ} {v : Emission} {p : List (Item Object)} {m : ℕ} {P : Type 0} (at : SourceLocation) → Gives c n v p m P → Gives c n (move at ▸ v) p m P
+moved_gives at a = after_these (move_yields at) a
+
+-- a refusal is not done
+pub refused_gives : {c : Context} {n : ℕ} {p : List (Item Object)} {m : ℕ} {P : Type 0} (e : CodegenErrorType) → Gives c n (refuse e) p m P
+unfolding refuse
+refused_gives e = record { run = λ s r b z h. absurd cc }
+
+-- nor what follows it
+pub never_on : {c : Context} {n : ℕ} {v : Emission} {p : List (Item Object)} {m : ℕ} {P : Type 0} (w : Emission) → Gives c n v [] 0 ⊥ → Gives c n (v ▸ w) p m P
+never_on {v = v} w a = record { run = λ s r b z e. let h = both v w s r e in absurd (a.run s h.0 b z h.1).1 }
+
+pub moved_refused : {c : Context} {n : ℕ} {p : List (Item Object)} {m : ℕ} {P : Type 0} (at : SourceLocation) (e : CodegenErrorType) → Gives c n (move at ▸ refuse e) p m P
+moved_refused at e = moved_gives at (refused_gives e)
+
+-- a block is made first, whose number is that of those before it
+pub block_gives : {c : Context} {n : ℕ} {p : List (Item Object)} {m : ℕ} {P : Type 0} (a : ℕ → Emission) → Gives c (1 + n) (a n) p m P → Gives c n (new_block a) p (1 + m) P
+unfolding new_block with_block
+block_gives {c = c} {n = n} {p = p} {m = m} {P = P} a h = record {
+  run = λ s r b z e.
+      let d = h.run (with_block s) r (omega (arith, b)) z (subst (λ x. a x (with_block s) ≡ Done r) (sym b) e) in
+      let x = d.0 in
+      (record { names = x.names; names_are = x.names_are; constants = x.constants; constants_are = x.constants_are; no_codes = x.no_codes; blocks_are = (let f = x.blocks_are in omega (arith, f)); steps = x.steps; steps_are = x.steps_are; reads = x.reads; inside = x.inside; context_are = x.context_are }, d.1);
 }
 
-fits_if : (b : Bool) (x o : State) (k : Next) → (if b then k x else TooWide) ≡ Done o → (b ≡ true) × (k x ≡ Done o)
-fits_if true x o k e = (refl, e)
-fits_if false x o k e = absurd cc
+pub two_blocks_give : {c : Context} {n : ℕ} {p : List (Item Object)} {m : ℕ} {P : Type 0} (a : ℕ → ℕ → Emission) → Gives c (2 + n) (a n (1 + n)) p m P → Gives c n (new_block (λ x. new_block (λ y. a x y))) p (2 + m) P
+two_blocks_give {n = n} a h = counts_as (omega arith) (block_gives (λ x. new_block (λ y. a x y)) (block_gives (λ y. a n y) (from_as (let e : 2 + n ≡ 1 + (1 + n) = omega arith in e) h)))
 
--- what follows an instruction whose operand fits
-pub record Emits (i : Instruction) (n : ℕ) (k : Next) (s o : State) : Type 0 where
-  pub fits : n < 2 ^ 32
-  pub goes_on : k (with_step (Put i n None s.location) s) ≡ Done o
+pub three_blocks_give : {c : Context} {n : ℕ} {p : List (Item Object)} {m : ℕ} {P : Type 0} (a : ℕ → ℕ → ℕ → Emission) → Gives c (3 + n) (a n (1 + n) (2 + n)) p m P → Gives c n (new_block (λ x. new_block (λ y. new_block (λ z. a x y z)))) p (3 + m) P
+three_blocks_give {c = c} {n = n} {p = p} {m = m} {P = P} a h =
+    let f : 2 + n ≡ 1 + (1 + n) = omega arith in
+    let g : 3 + n ≡ 2 + (1 + n) = omega arith in
+    counts_as (omega arith) (block_gives (λ x. new_block (λ y. new_block (λ z. a x y z))) (two_blocks_give (a n) (subst (λ k. Gives c (2 + (1 + n)) (a n (1 + n) k) p m P) f (from_as g h))))
 
-pub emits : (i : Instruction) (n : ℕ) (k : Next) (s o : State) → emit i n k s ≡ Done o → Emits i n k s o
-unfolding emit
-emits i n k s o e =
-    let p = fits_if (nat_lt n (2 ^ 32)) (with_step (Put i n None s.location) s) o k e in
-    record { fits = search (rules, p.0); goes_on = p.1 }
+-- what the level and the loops decide
+pub level_gives : {c : Context} {n : ℕ} {p : List (Item Object)} {m : ℕ} {P : Type 0} (a : ℕ → Emission) → Gives c n (a c.level) p m P → Gives c n (by_level a) p m P
+unfolding by_level
+level_gives a h = record { run = λ s r b z e. h.run s r b z (subst (λ (x : Context). a x.level s ≡ Done r) (sym z) e) }
 
--- an instruction that reads so in all tables that begin with those so far
-pub emit_adds : (i : Instruction) (n : ℕ) (x : Instr Object ℕ) → (k : Next) (s o : State) → ((t : Tables) → Begins s t → instr_of t None i n ≡ Some x) → emit i n k s ≡ Done o → Comes k s o (Do x ∷ []) 0
-emit_adds i n x k s o is e =
-    let p = emits i n k s o e in
-    record {
-      reached = with_step (Put i n None s.location) s;
-      adds = adds_step (Put i n None s.location) s (Do x) (λ t b. record { fits = p.fits; is = is t b; aims = λ z. refl }) tt;
-      goes_on = p.goes_on;
-    }
+pub loops_give : {c : Context} {n : ℕ} {p : List (Item Object)} {m : ℕ} {P : Type 0} (a : Option LoopBlocks → Emission) → Gives c n (a c.loops) p m P → Gives c n (by_loops a) p m P
+unfolding by_loops
+loops_give a h = record { run = λ s r b z e. h.run s r b z (subst (λ (x : Context). a x.loops s ≡ Done r) (sym z) e) }
 
-pub jump_adds : (i : Instruction) (b : ℕ) (x : Instr Object ℕ) → is_jump i ≡ true → ((t : Tables) → instr_of t (Some b) i 0 ≡ Some x) → (k : Next) (s o : State) → b < s.blocks → jump i b k s ≡ Done o → Comes k s o (Do x ∷ []) 0
-unfolding jump
-jump_adds i b x j is k s o lt e = record {
-  reached = with_step (Put i 0 (Some b) s.location) s;
-  adds = adds_step (Put i 0 (Some b) s.location) s (Do x) (λ t h. record { fits = omega arith; is = is t; aims = λ z. absurd (cc (j, z)) }) lt;
-  goes_on = e;
+-- what stands around a whole tree
+abbrev pub outside : (level : ℕ) → Context
+outside l = (nothing l).context
+
+-- the same context, in another loop
+abbrev pub looping : LoopBlocks → Context → Context
+looping x c = record c { loops = Some x }
+
+pub loop_gives : {c : Context} {n : ℕ} {v : Emission} {p : List (Item Object)} {m : ℕ} {P : Type 0} (x : LoopBlocks) → Gives (looping x c) n v p m P → Gives c n (in_loop x v) p m P
+unfolding in_loop with_loops
+loop_gives {c = c} {v = v} {p = p} {m = m} x h = record {
+  run = λ s r b z e.
+      let inner : State = with_loops (Some x) s in
+      let g = went_on (v inner) (λ t. Done (with_loops s.context.loops t)) r e in
+      let d = h.run inner g.0 b (ap (looping x) z) g.1 in
+      let y = d.0 in
+      let back : with_loops s.context.loops g.0 ≡ r = done_is (with_loops s.context.loops g.0) r g.2 in
+      (subst (λ t. Adds s t p m) back (record { names = y.names; names_are = y.names_are; constants = y.constants; constants_are = y.constants_are; no_codes = y.no_codes; blocks_are = y.blocks_are; steps = y.steps; steps_are = y.steps_are; reads = λ t w. y.reads t (record { names = w.names; names_are = w.names_are; constants = w.constants; constants_are = w.constants_are }); inside = y.inside; context_are = ap (λ (u : Context). record u { loops = s.context.loops }) y.context_are }), d.1);
 }
-
-pub begin_adds : (b : ℕ) (k : Next) (s o : State) → b < s.blocks → begin b k s ≡ Done o → Comes k s o (Label b ∷ []) 0
-unfolding begin
-begin_adds b k s o lt e = record { reached = with_step (Begin b) s; adds = adds_step (Begin b) s (Label b) (λ t h. refl) lt; goes_on = e }
-
--- a table's entry stays where more entries follow
-within_list : {A : Type 0} (xs : List A) (n : ℕ) (x : A) → slice_get xs n ≡ Some x → n < length xs
-within_list [] n x e = absurd cc
-within_list (y ∷ ys) zero x e = omega arith
-within_list (y ∷ ys) (suc n) x e = let r = within_list ys n x e in omega arith
-
-pub entry_stays : {A : Type 0} (xs ys zs : List A) (n : ℕ) (x : A) → slice_get xs n ≡ Some x → zs ≡ xs ++ ys → slice_get zs n ≡ Some x
-entry_stays xs ys zs n x e z = ap (λ l. slice_get l n) z ∙ get_left xs ys n (within_list xs n x e) ∙ e
-
--- a value that is entered, and the tables after it
-abbrev enters_if : {A : Type 0} (b : Bool) (xs : List A) (x : A) → (more : List A) × ((if b then xs else xs ++ x ∷ []) ≡ xs ++ more)
-enters_if true xs x = ([], sym (append-nil xs))
-enters_if false xs x = (x ∷ [], refl)
-
-abbrev enters : {A : Type 0} (eq : A → A → Bool) (xs : List A) (x : A) → (more : List A) × (entered eq xs x ≡ xs ++ more)
-enters eq xs x = enters_if (list_any (eq x) xs) xs x
-
--- a name that is entered adds nothing else
-pub comes_named : (x : List ℕ) (k : Next) (s o : State) (is : List (Item Object)) (m : ℕ) → Comes k (with_name x s) o is m → Comes k s o is m
-unfolding with_name
-comes_named x k s o is m c =
-    let a = c.adds in
-    let n = enters text_eq s.names x in
-    record {
-      reached = c.reached;
-      adds = record {
-        names = n.0 ++ a.names;
-        names_are = a.names_are ∙ ap (λ l. l ++ a.names) n.1 ∙ append_assoc s.names n.0 a.names;
-        constants = a.constants;
-        constants_are = a.constants_are;
-        no_codes = a.no_codes;
-        blocks_are = a.blocks_are;
-        steps = a.steps;
-        steps_are = a.steps_are;
-        reads = a.reads;
-        inside = a.inside;
-      };
-      goes_on = c.goes_on;
-    }
-
-plain_codes : (c : Const) → value_of c ≡ Constant c → codes_in (c ∷ []) ≡ []
-plain_codes const.none v = refl
-plain_codes (const.boolean b) v = refl
-plain_codes (const.str t) v = refl
-plain_codes (const.bytes bs) v = refl
-plain_codes (const.integer z) v = refl
-plain_codes (const.tuple cs) v = refl
-plain_codes const.ellipsis v = refl
-plain_codes (const.code o) v = absurd cc
-
-plain_if : (b : Bool) (xs : List Const) (c : Const) → value_of c ≡ Constant c → codes_in (enters_if b xs c).0 ≡ []
-plain_if true xs c v = refl
-plain_if false xs c v = plain_codes c v
-
--- nor does a constant that is no code
-pub comes_constant : (c : Const) → value_of c ≡ Constant c → (k : Next) (s o : State) (is : List (Item Object)) (m : ℕ) → Comes k (with_constant c s) o is m → Comes k s o is m
-unfolding with_constant
-comes_constant c v k s o is m g =
-    let a = g.adds in
-    let n = enters const_eq s.constants c in
-    record {
-      reached = g.reached;
-      adds = record {
-        names = a.names;
-        names_are = a.names_are;
-        constants = n.0 ++ a.constants;
-        constants_are = a.constants_are ∙ ap (λ l. l ++ a.constants) n.1 ∙ append_assoc s.constants n.0 a.constants;
-        no_codes = codes_join n.0 a.constants ∙ ap (λ x. x ++ codes_in a.constants) (plain_if (list_any (const_eq c) s.constants) s.constants c v) ∙ a.no_codes;
-        blocks_are = a.blocks_are;
-        steps = a.steps;
-        steps_are = a.steps_are;
-        reads = a.reads;
-        inside = a.inside;
-      };
-      goes_on = g.goes_on;
-    }

@@ -1,6 +1,7 @@
 pub mod Texts
 pub mod Adding
 pub mod Emitting
+pub mod Steps
 pub mod Instructions
 pub mod Laying
 pub mod Counting
@@ -20,6 +21,7 @@ pub mod SmallOperators
 pub mod SmallCalls
 pub mod SmallTargets
 pub mod Pairwise
+pub mod Shapes
 pub mod OperatorAdds
 pub mod CallAdds
 pub mod TargetAdds

@@ -1,6 +1,7 @@
 pub mod Chains
 pub mod Holding
 pub mod States
+pub mod Joined
 pub mod Taking
 pub mod Listed
 pub mod Sealed

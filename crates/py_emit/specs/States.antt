@@ -14,7 +14,7 @@ use Rattle.py_ir.specs.BlockList.{one_block}
 use Rattle.py_ir.specs.FlatCode.{info_of}
 use Rattle.py_ir.specs.declared.flat_code.FlatCode.{FlatCode}
 use Rattle.py_ir.specs.Refusals.{TooLong, Refused as IsRefused}
-use Rattle.py_forms.specs.Emitting.{State, LoopBlocks, Outcome, Refused}
+use Rattle.py_forms.specs.Emitting.{Context, State, LoopBlocks, Outcome, Done, Refused}
 use Rattle.py_forms.specs.Sealed.{Head}
 use Rattle.py_forms.specs.declared.errors.CodegenErrorType.{CodegenErrorType}
 use Rattle.py_forms.specs.declared.errors.CodegenErrorType.TheVariants as error
@@ -23,8 +23,24 @@ use Rattle.py_emit.specs.declared.context.EmitContext.{EmitContext}
 use Rattle.py_emit.specs.declared.emitter.Emitter.{Emitter}
 use Rattle.py_emit.specs.Steps.{steps_in}
 
+-- the blocks to which the innermost loop goes
+abbrev pub loop_blocks : Option (BlockIdx × BlockIdx) → Option LoopBlocks
+loop_blocks None = None
+loop_blocks (Some blocks) = Some (record { on_break = blocks.1.0; on_continue = blocks.0.0 })
+
+-- what stands around the present node
+abbrev pub around : CompileOpts → EmitContext → Context
+around opts context = record { level = opts.optimize; loops = loop_blocks context.loop_blocks }
+
 abbrev pub state : Emitter → State
-state e = record { steps = steps_in (map plain e.code.body.blocks); blocks = length e.code.body.blocks; names = e.code.name_cache; constants = map constant e.code.constants; location = e.location }
+state e = record {
+  steps = steps_in (map plain e.code.body.blocks);
+  blocks = length e.code.body.blocks;
+  names = e.code.name_cache;
+  constants = map constant e.code.constants;
+  location = e.location;
+  context = around e.opts e.context;
+}
 
 abbrev pub head_of : FlatCode → Head
 head_of c = record {
@@ -78,11 +94,6 @@ with_varname x r = record r { head = record r.head { varnames = entered text_eq 
 unfoldable pub info : Emitter → CodeInfo
 info e = info_of e.code
 
--- the blocks to which the innermost loop goes
-abbrev pub loop_blocks : Option (BlockIdx × BlockIdx) → Option LoopBlocks
-loop_blocks None = None
-loop_blocks (Some blocks) = Some (record { on_break = blocks.1.0; on_continue = blocks.0.0 })
-
 -- these blocks are made
 abbrev pub AreMade : Option (BlockIdx × BlockIdx) → Type 0
 AreMade None = Unit {0}
@@ -99,12 +110,12 @@ pub record IsStarved (e : LocatedError CodegenErrorType) (path : List ℕ) : Typ
   pub location_is : e.location ≡ None
   pub path_is : e.source_path ≡ path
 
--- where a step is Ok, what is left to do comes to the same as the whole did before; where it is not, the whole is refused so, unless memory is wanting
-abbrev pub Goes : {A : Type 0} → Result A (LocatedError CodegenErrorType) → Outcome → Outcome → Type 0
-Goes (Ok a) after before = before ≡ after
-Goes (Err e) after before = e.error ≢ error.OutOfMemory → before ≡ Refused e.error e.location
+-- where a call is Ok, the emission has come to this state; where it is not, the emission is refused so, unless memory is wanting
+abbrev pub Goes : {A : Type 0} → Result A (LocatedError CodegenErrorType) → State → Outcome → Type 0
+Goes (Ok a) s o = o ≡ Done s
+Goes (Err e) s o = e.error ≢ error.OutOfMemory → o ≡ Refused e.error e.location
 
--- where a step is Ok, the rest is as it was; where it is not, the error names the path
+-- where a call is Ok, the rest is as it was; where it is not, the error names the path
 abbrev pub Same : {A : Type 0} → Result A (LocatedError CodegenErrorType) → (after before : Rest) → Type 0
 Same (Ok a) after before = after ≡ before
 Same (Err e) after before = e.source_path ≡ before.path

@@ -3,9 +3,9 @@ ghost use Rattle.std.specs.Prelude.{◌≡◌, ◌≢◌, ◌<◌, None, Some, I
 ghost use Rattle.py_bytecode.specs.View.{object};
 ghost use Rattle.py_ir.specs.Chain.{block_number};
 ghost use Rattle.py_ir.specs.Final.{IsFinal};
-ghost use Rattle.py_forms.specs.Emitting.{Begin, Next, Put, emit as emission_of, emit_count, jump as jumping, located, nothing, with_block, with_step};
+ghost use Rattle.py_forms.specs.Emitting.{Begin, Put, emit as emission_of, emit_count, jump as jumping, located, nothing, with_block, with_loops, with_step};
 ghost use Rattle.py_forms.specs.Sealed.{sealed};
-ghost use Rattle.py_emit.specs.States.{Goes, Same, IsFirst, IsStarved, IsUnrefused, first_rest, info, placed_error, rest, state, with_context};
+ghost use Rattle.py_emit.specs.States.{Goes, Same, IsFirst, IsStarved, IsUnrefused, first_rest, info, loop_blocks, placed_error, rest, state, with_context};
 ghost use Rattle.py_emit.specs.Steps.{IsOpen, step_of};
 
 use crate::context::{CompileOpts, EmitContext};
@@ -39,7 +39,7 @@ impl Emitter {
     /// OutOfMemory alone.
     #[tactic(auto, unfolding(crate::specs::States::rest))]
     pub fn new(alloc: Global, opts: CompileOpts, source_path: Text) -> Result<Emitter, CodegenError>
-        ensures state { IfOk result (λ em. state em ≡ nothing) }
+        ensures state { IfOk result (λ em. state em ≡ nothing opts.optimize) }
         ensures rest { IfOk result (λ em. rest em ≡ first_rest opts source_path) }
         ensures err { IfErr result (λ e. IsStarved e source_path) }
     {
@@ -82,10 +82,10 @@ impl Emitter {
     }
 
     /// Another context. Answers the old one.
-    #[tactic(auto, unfolding(crate::specs::States::rest))]
+    #[tactic(auto, unfolding(py_forms::specs::Emitting::with_loops, crate::specs::States::rest))]
     pub fn set_context(&mut self, context: EmitContext) -> EmitContext
         ensures old { result ≡ (rest self.old).context }
-        ensures state { state self.new ≡ state self.old }
+        ensures state { state self.new ≡ with_loops (loop_blocks context.loop_blocks) (state self.old) }
         ensures rest { rest self.new ≡ with_context context (rest self.old) }
     {
         mem::replace(&mut self.context, context)
@@ -161,7 +161,7 @@ impl Emitter {
     /// OutOfMemory alone.
     #[tactic(auto, unfolding(py_forms::specs::Emitting::emit))]
     pub fn emit_arg(&mut self, instr: Instruction, arg: u32) -> Result<(), CodegenError>
-        ensures goes { (k : Next) → Goes result (k (state self.new)) (emission_of instr arg k (state self.old)) }
+        ensures goes { Goes result (state self.new) (emission_of instr arg (state self.old)) }
         ensures same { Same result (rest self.new) (rest self.old) }
     {
         self.emit(instr, OpArg(arg), BlockIdx::NULL)
@@ -174,7 +174,7 @@ impl Emitter {
     /// OutOfMemory alone.
     #[tactic(auto, unfolding(py_forms::specs::Emitting::emit_count))]
     pub fn emit_count(&mut self, instr: Instruction, count: usize) -> Result<(), CodegenError>
-        ensures goes { (k : Next) → Goes result (k (state self.new)) (emit_count instr count k (state self.old)) }
+        ensures goes { Goes result (state self.new) (emit_count instr count (state self.old)) }
         ensures same { Same result (rest self.new) (rest self.old) }
     {
         if count >= COUNT_LIMIT {
@@ -190,7 +190,7 @@ impl Emitter {
     #[tactic(auto, unfolding(py_forms::specs::Emitting::jump))]
     pub fn emit_jump(&mut self, instr: Instruction, target: BlockIdx) -> Result<(), CodegenError>
         requires { target.0 < 0xffff_ffff }
-        ensures goes { (k : Next) → Goes result (k (state self.new)) (jumping instr target.0 k (state self.old)) }
+        ensures goes { Goes result (state self.new) (jumping instr target.0 (state self.old)) }
         ensures same { Same result (rest self.new) (rest self.old) }
     {
         self.emit(instr, OpArg(0), target)

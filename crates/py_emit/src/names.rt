@@ -1,7 +1,7 @@
 //! Accesses to names.
 ghost use Rattle.std.specs.Prelude.{◌≡◌, ◌≢◌, IfOk, IfErr, OnOk};
 ghost use Rattle.py_bytecode.specs.View.{constant};
-ghost use Rattle.py_forms.specs.Emitting.{Next, Refused, emit_name, refuse};
+ghost use Rattle.py_forms.specs.Emitting.{Refused, emit_name, refuse};
 ghost use Rattle.py_forms.specs.EmissionParts.{emission_of_name, unless_debug};
 ghost use Rattle.py_forms.specs.TableParts.{debug_constant as constant_debug, is_debug as named_debug};
 ghost use Rattle.py_emit.specs.Access.{emission_of_access};
@@ -37,7 +37,7 @@ impl Emitter {
     /// # Errors
     /// SyntaxError where `__debug__` is stored or deleted, at the present location, or OutOfMemory.
     pub fn compile_name(&mut self, usage: NameUsage, name: &str) -> Result<(), CodegenError>
-        ensures goes { (k : Next) → Goes result (k (state self.new)) (emission_of_access usage (rest self.old).opts.optimize name.now k (state self.old)) }
+        ensures goes { Goes result (state self.new) (emission_of_access usage name.now (state self.old)) }
         ensures same { Same result (rest self.new) (rest self.old) }
     {
         match usage {
@@ -55,8 +55,9 @@ impl Emitter {
         }
     }
 
+    #[tactic(auto, unfolding(py_forms::specs::Emitting::by_level, crate::specs::States::rest))]
     fn load_name(&mut self, name: &str) -> Result<(), CodegenError>
-        ensures goes { (k : Next) → Goes result (k (state self.new)) (emission_of_name (rest self.old).opts.optimize name.now k (state self.old)) }
+        ensures goes { Goes result (state self.new) (emission_of_name name.now (state self.old)) }
         ensures same { Same result (rest self.new) (rest self.old) }
     {
         if is_debug(name) {
@@ -73,7 +74,7 @@ impl Emitter {
         name: &str,
         text: &str,
     ) -> Result<(), CodegenError>
-        ensures goes { (k : Next) → Goes result (k (state self.new)) (unless_debug text.now name.now (emit_name instr name.now) k (state self.old)) }
+        ensures goes { Goes result (state self.new) (unless_debug text.now name.now (emit_name instr name.now) (state self.old)) }
         ensures same { Same result (rest self.new) (rest self.old) }
     {
         if is_debug(name) {

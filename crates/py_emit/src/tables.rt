@@ -2,7 +2,7 @@
 ghost use Rattle.std.specs.Prelude.{◌≡◌, ◌≢◌, true, false, IfOk, IfErr, OnOk};
 ghost use Rattle.py_bytecode.specs.Equality.{const_eq, text_eq};
 ghost use Rattle.py_bytecode.specs.View.{constant as constant_of};
-ghost use Rattle.py_forms.specs.Emitting.{Next, Refused, emit_constant, emit_name as emission_of_name, place_in, refuse, with_constant, with_name};
+ghost use Rattle.py_forms.specs.Emitting.{Refused, emit_constant, emit_name as emission_of_name, place_in, refuse, with_constant, with_name};
 ghost use Rattle.py_forms.specs.EmissionParts.{no_assignment};
 ghost use Rattle.py_forms.specs.TableParts.{is_debug as named_debug};
 ghost use Rattle.py_emit.specs.States.{Goes, Same, IsStarved, rest, state, with_varname};
@@ -93,7 +93,7 @@ impl Emitter {
     /// OutOfMemory alone.
     #[tactic(auto, unfolding(py_forms::specs::Emitting::emit_constant))]
     pub fn load_const(&mut self, constant: ConstantData) -> Result<(), CodegenError>
-        ensures goes { (k : Next) → Goes result (k (state self.new)) (emit_constant Instruction.LoadConst (constant_of constant) k (state self.old)) }
+        ensures goes { Goes result (state self.new) (emit_constant Instruction.LoadConst (constant_of constant) (state self.old)) }
         ensures same { Same result (rest self.new) (rest self.old) }
     {
         let place = self.add_constant(constant)?;
@@ -106,7 +106,7 @@ impl Emitter {
     /// OutOfMemory alone.
     #[tactic(auto, unfolding(py_forms::specs::Emitting::emit_constant))]
     pub fn return_const(&mut self, constant: ConstantData) -> Result<(), CodegenError>
-        ensures goes { (k : Next) → Goes result (k (state self.new)) (emit_constant Instruction.ReturnConst (constant_of constant) k (state self.old)) }
+        ensures goes { Goes result (state self.new) (emit_constant Instruction.ReturnConst (constant_of constant) (state self.old)) }
         ensures same { Same result (rest self.new) (rest self.old) }
     {
         let place = self.add_constant(constant)?;
@@ -119,7 +119,7 @@ impl Emitter {
     /// OutOfMemory alone.
     #[tactic(auto, unfolding(py_forms::specs::Emitting::emit_name))]
     pub fn emit_name(&mut self, instr: Instruction, name: &str) -> Result<(), CodegenError>
-        ensures goes { (k : Next) → Goes result (k (state self.new)) (emission_of_name instr name.now k (state self.old)) }
+        ensures goes { Goes result (state self.new) (emission_of_name instr name.now (state self.old)) }
         ensures same { Same result (rest self.new) (rest self.old) }
     {
         let place = self.name(name)?;

@@ -5,102 +5,87 @@ use Rattle.py_bytecode.specs.declared.instruction.Instruction.TheVariants as op
 use Rattle.py_bytecode.specs.Objects as const
 use Rattle.py_bytecode.specs.Objects.{Const}
 use Rattle.py_forms.specs.Elements.{Element, Single, Spread, starred, bare, grouped, groups, pairs, keyed, unkeyed, sides}
-use Rattle.py_forms.specs.Emitting.{Next, emit, emit_count}
+use Rattle.py_forms.specs.Emitting.{Emission, emit, emit_count}
 use Rattle.py_forms.specs.EmissionParts.{Emissions, built, dict_value, display, elements, in_turn, joined_value, slice_step, slice_value, unpacked, updates, value_or, values}
-use Rattle.py_expr.proofs.Keeping.{Keeps, ElementKeeps, AllKeep, constant_keeps, count_keeps, either_keeps, emit_keeps, then_keeps}
+use Rattle.py_expr.proofs.Keeping.{Keeps, constant_keeps, count_keeps, either_keeps, emit_keeps, idle_keeps, then_keeps}
+use Rattle.py_expr.proofs.KeptParts.{ElementKeeps, AllKeep, TurnsKeep, turn_keeps}
 
--- nothing is emitted
-pub idle_keeps : Keeps (λ k. k)
-idle_keeps z s o k g e = record { reached = s; grows = g; goes_on = e }
-
-abbrev pub TurnsKeep : List (Next → Next) → Type 0
-TurnsKeep [] = Unit {0}
-TurnsKeep (v ∷ vs) = Keeps v × TurnsKeep vs
-
-abbrev pub ElementsKeep : List (Element (Next → Next) (Next → Next)) → Type 0
+abbrev pub ElementsKeep : List (Element Emission Emission) → Type 0
 ElementsKeep [] = Unit {0}
 ElementsKeep (e ∷ es) = ElementKeeps e × ElementsKeep es
 
-abbrev pub MaybeKeeps : Option (Next → Next) → Type 0
+abbrev pub MaybeKeeps : Option Emission → Type 0
 MaybeKeeps None = Unit {0}
 MaybeKeeps (Some v) = Keeps v
 
-abbrev pub MaybesKeep : List (Option (Next → Next)) → Type 0
+abbrev pub MaybesKeep : List (Option Emission) → Type 0
 MaybesKeep [] = Unit {0}
 MaybesKeep (v ∷ vs) = MaybeKeeps v × MaybesKeep vs
-
-pub turn_keeps : (vs : List (Next → Next)) → TurnsKeep vs → Keeps (in_turn vs)
-turn_keeps [] a = idle_keeps
-turn_keeps (v ∷ vs) a = then_keeps v (in_turn vs) a.0 (turn_keeps vs a.1)
-
-pub values_keep : (es : List Emissions) → AllKeep es → TurnsKeep (values es)
-values_keep [] a = tt
-values_keep (e ∷ es) a = (a.0.value, values_keep es a.1)
 
 pub elements_keep : (es : List Emissions) → AllKeep es → ElementsKeep (elements es)
 elements_keep [] a = tt
 elements_keep (e ∷ es) a = (a.0.element, elements_keep es a.1)
 
-pub bare_keep : (es : List (Element (Next → Next) (Next → Next))) → ElementsKeep es → TurnsKeep (bare es)
+pub bare_keep : (es : List (Element Emission Emission)) → ElementsKeep es → TurnsKeep (bare es)
 bare_keep [] a = tt
 bare_keep (Single v ∷ es) a = (a.0, bare_keep es a.1)
 bare_keep (Spread v ∷ es) a = (a.0, bare_keep es a.1)
 
-pub append_keep : (vs ws : List (Next → Next)) → TurnsKeep vs → TurnsKeep ws → TurnsKeep (vs ++ ws)
+pub append_keep : (vs ws : List Emission) → TurnsKeep vs → TurnsKeep ws → TurnsKeep (vs ++ ws)
 append_keep [] ws a b = b
 append_keep (v ∷ vs) ws a b = (a.0, append_keep vs ws a.1 b)
 
-pub built_keeps : (i : Instruction) (vs : List (Next → Next)) → TurnsKeep vs → Keeps (built i vs)
+pub built_keeps : (i : Instruction) (vs : List Emission) → TurnsKeep vs → Keeps (built i vs)
 built_keeps i vs a = then_keeps (in_turn vs) (emit_count i (length vs)) (turn_keeps vs a) (count_keeps i (length vs))
 
-grouped_keep : (run : List (Next → Next)) → TurnsKeep run → TurnsKeep (grouped (built op.BuildTuple) run)
+grouped_keep : (run : List Emission) → TurnsKeep run → TurnsKeep (grouped (built op.BuildTuple) run)
 grouped_keep [] a = tt
 grouped_keep (v ∷ vs) a = (built_keeps op.BuildTuple (v ∷ vs) a, tt)
 
-pub groups_keep : (run : List (Next → Next)) (es : List (Element (Next → Next) (Next → Next))) → TurnsKeep run → ElementsKeep es → TurnsKeep (groups (built op.BuildTuple) run es)
+pub groups_keep : (run : List Emission) (es : List (Element Emission Emission)) → TurnsKeep run → ElementsKeep es → TurnsKeep (groups (built op.BuildTuple) run es)
 groups_keep run [] r a = grouped_keep run r
 groups_keep run (Single v ∷ es) r a = groups_keep (run ++ v ∷ []) es (append_keep run (v ∷ []) r (a.0, tt)) a.1
 groups_keep run (Spread v ∷ es) r a = append_keep (grouped (built op.BuildTuple) run) (v ∷ groups (built op.BuildTuple) [] es) (grouped_keep run r) (a.0, groups_keep [] es tt a.1)
 
-unpacked_keeps : (i : Instruction) (es : List (Element (Next → Next) (Next → Next))) → ElementsKeep es → Keeps (unpacked i es)
+unpacked_keeps : (i : Instruction) (es : List (Element Emission Emission)) → ElementsKeep es → Keeps (unpacked i es)
 unpacked_keeps i es a = built_keeps i (groups (built op.BuildTuple) [] es) (groups_keep [] es tt a)
 
-pub display_keeps : (build unpack : Instruction) (es : List (Element (Next → Next) (Next → Next))) → ElementsKeep es → Keeps (display build unpack es)
+pub display_keeps : (build unpack : Instruction) (es : List (Element Emission Emission)) → ElementsKeep es → Keeps (display build unpack es)
 display_keeps build unpack es a = either_keeps (starred es) (unpacked unpack es) (built build (bare es)) (unpacked_keeps unpack es a) (built_keeps build (bare es) (bare_keep es a))
 
-updates_keep : (vs : List (Next → Next)) → TurnsKeep vs → Keeps (updates vs)
+updates_keep : (vs : List Emission) → TurnsKeep vs → Keeps (updates vs)
 updates_keep [] a = idle_keeps
 updates_keep (v ∷ vs) a = then_keeps v _ a.0 (then_keeps (emit op.DictUpdate 0) (updates vs) (emit_keeps op.DictUpdate 0) (updates_keep vs a.1))
 
-sides_keep : (ks : List (Option (Next → Next))) (vs : List (Next → Next)) → MaybesKeep ks → TurnsKeep vs → TurnsKeep (sides (keyed (pairs ks vs)))
+sides_keep : (ks : List (Option Emission)) (vs : List Emission) → MaybesKeep ks → TurnsKeep vs → TurnsKeep (sides (keyed (pairs ks vs)))
 sides_keep [] vs a b = tt
 sides_keep (k ∷ ks) [] a b = tt
 sides_keep (None ∷ ks) (v ∷ vs) a b = sides_keep ks vs a.1 b.1
 sides_keep (Some k ∷ ks) (v ∷ vs) a b = (a.0, (b.0, sides_keep ks vs a.1 b.1))
 
-unkeyed_keep : (ks : List (Option (Next → Next))) (vs : List (Next → Next)) → MaybesKeep ks → TurnsKeep vs → TurnsKeep (unkeyed (pairs ks vs))
+unkeyed_keep : (ks : List (Option Emission)) (vs : List Emission) → MaybesKeep ks → TurnsKeep vs → TurnsKeep (unkeyed (pairs ks vs))
 unkeyed_keep [] vs a b = tt
 unkeyed_keep (k ∷ ks) [] a b = tt
 unkeyed_keep (None ∷ ks) (v ∷ vs) a b = (b.0, unkeyed_keep ks vs a.1 b.1)
 unkeyed_keep (Some k ∷ ks) (v ∷ vs) a b = unkeyed_keep ks vs a.1 b.1
 
-pub dict_keeps : (ks : List (Option (Next → Next))) (vs : List (Next → Next)) → MaybesKeep ks → TurnsKeep vs → Keeps (dict_value (pairs ks vs))
+pub dict_keeps : (ks : List (Option Emission)) (vs : List Emission) → MaybesKeep ks → TurnsKeep vs → Keeps (dict_value (pairs ks vs))
 dict_keeps ks vs a b =
     then_keeps (in_turn (sides (keyed (pairs ks vs)))) _ (turn_keeps (sides (keyed (pairs ks vs))) (sides_keep ks vs a b))
     (then_keeps (emit_count op.BuildMap (length (keyed (pairs ks vs)))) (updates (unkeyed (pairs ks vs))) (count_keeps op.BuildMap (length (keyed (pairs ks vs)))) (updates_keep (unkeyed (pairs ks vs)) (unkeyed_keep ks vs a b)))
 
-pub value_or_keeps : (c : Const) (v : Option (Next → Next)) → MaybeKeeps v → Keeps (value_or c v)
+pub value_or_keeps : (c : Const) (v : Option Emission) → MaybeKeeps v → Keeps (value_or c v)
 value_or_keeps c None a = constant_keeps op.LoadConst c
 value_or_keeps c (Some v) a = a
 
-step_keeps : (v : Option (Next → Next)) → MaybeKeeps v → Keeps (slice_step v)
+step_keeps : (v : Option Emission) → MaybeKeeps v → Keeps (slice_step v)
 step_keeps None a = emit_keeps op.BuildSlice 0
 step_keeps (Some v) a = then_keeps v (emit op.BuildSlice 1) a (emit_keeps op.BuildSlice 1)
 
-pub slice_keeps : (lower upper step : Option (Next → Next)) → MaybeKeeps lower → MaybeKeeps upper → MaybeKeeps step → Keeps (slice_value lower upper step)
+pub slice_keeps : (lower upper step : Option Emission) → MaybeKeeps lower → MaybeKeeps upper → MaybeKeeps step → Keeps (slice_value lower upper step)
 slice_keeps lower upper step a b c =
     then_keeps (value_or const.none lower) _ (value_or_keeps const.none lower a) (then_keeps (value_or const.none upper) (slice_step step) (value_or_keeps const.none upper b) (step_keeps step c))
 
-pub joined_keeps : (text : Option (List ℕ)) (vs : List (Next → Next)) → TurnsKeep vs → Keeps (joined_value text vs)
+pub joined_keeps : (text : Option (List ℕ)) (vs : List Emission) → TurnsKeep vs → Keeps (joined_value text vs)
 joined_keeps (Some text) vs a = constant_keeps op.LoadConst (const.str text)
 joined_keeps None vs a = built_keeps op.BuildString vs a

@@ -1,6 +1,7 @@
 pub mod Steps
 pub mod Turns
 pub mod Keeping
+pub mod KeptParts
 pub mod KeptDisplays
 pub mod KeptTargets
 pub mod KeptCalls

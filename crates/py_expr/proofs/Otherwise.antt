@@ -17,9 +17,9 @@ use Rattle.py_tree.specs.declared.expressions.ExprStarredOf.{ExprStarredOf}
 use Rattle.py_tree.specs.declared.expressions.ExprUnaryOpOf.{ExprUnaryOpOf}
 use Rattle.py_bytecode.specs.declared.instruction.Instruction.TheVariants as op
 use Rattle.py_forms.specs.Elements.{Single, Function}
-use Rattle.py_forms.specs.Emitting.{Next, emit, jump}
-use Rattle.py_forms.specs.EmissionParts.{testing_jump}
-use Rattle.py_meaning.specs.Emission.{emission, emission_of_return, emission_of_test, emissions}
+use Rattle.py_forms.specs.Emitting.{Emission, ◌▸◌, emit, jump}
+use Rattle.py_forms.specs.EmissionParts.{truth_of}
+use Rattle.py_emission.specs.Emission.{emission, emission_of_return, emission_of_test, emissions}
 
 pub as_layer : (x : Expr) → expr_tree x ≡ expr_layer expr_tree (out-Expr x)
 as_layer x = ap expr_tree (sym (roll-out-Expr x)) ∙ expr_roll (out-Expr x)
@@ -28,33 +28,33 @@ as_layer x = ap expr_tree (sym (roll-out-Expr x)) ∙ expr_roll (out-Expr x)
 pub apart : {A : Type 0} (kind : A → Expr) (x : Expr) → ((e : A) → x ≢ kind e) → (e : A) → roll-Expr (out-Expr x) ≢ kind e
 apart kind x h e q = h e (sym (roll-out-Expr x) ∙ q)
 
-plain_layer : (l : ℕ) (y : Expr-F Expr) → ((e : ExprStarredOf Expr) → roll-Expr y ≢ expr.Starred e) → (emissions l (expr_layer expr_tree y)).element ≡ Single (emissions l (expr_layer expr_tree y)).value
-plain_layer l (kind.Starred e) h = absurd (h e (rolls-Starred e))
-plain_layer l y h = refl
+plain_layer : (y : Expr-F Expr) → ((e : ExprStarredOf Expr) → roll-Expr y ≢ expr.Starred e) → (emissions (expr_layer expr_tree y)).element ≡ Single (emissions (expr_layer expr_tree y)).value
+plain_layer (kind.Starred e) h = absurd (h e (rolls-Starred e))
+plain_layer y h = refl
 
-pub plain_element : (l : ℕ) (x : Expr) → ((e : ExprStarredOf Expr) → x ≢ expr.Starred e) → (emissions l (expr_tree x)).element ≡ Single (emissions l (expr_tree x)).value
-plain_element l x h = subst (λ (t : tree.Expr). (emissions l t).element ≡ Single (emissions l t).value) (sym (as_layer x)) (plain_layer l (out-Expr x) (apart expr.Starred x h))
+pub plain_element : (x : Expr) → ((e : ExprStarredOf Expr) → x ≢ expr.Starred e) → (emissions (expr_tree x)).element ≡ Single (emissions (expr_tree x)).value
+plain_element x h = subst (λ (t : tree.Expr). (emissions t).element ≡ Single (emissions t).value) (sym (as_layer x)) (plain_layer (out-Expr x) (apart expr.Starred x h))
 
-function_layer : (l : ℕ) (y : Expr-F Expr) → ((e : ExprAttributeOf Expr) → roll-Expr y ≢ expr.Attribute e) → (emissions l (expr_layer expr_tree y)).callee ≡ Function (emissions l (expr_layer expr_tree y)).value
-function_layer l (kind.Attribute e) h = absurd (h e (rolls-Attribute e))
-function_layer l y h = refl
+function_layer : (y : Expr-F Expr) → ((e : ExprAttributeOf Expr) → roll-Expr y ≢ expr.Attribute e) → (emissions (expr_layer expr_tree y)).callee ≡ Function (emissions (expr_layer expr_tree y)).value
+function_layer (kind.Attribute e) h = absurd (h e (rolls-Attribute e))
+function_layer y h = refl
 
-pub function_callee : (l : ℕ) (x : Expr) → ((e : ExprAttributeOf Expr) → x ≢ expr.Attribute e) → (emissions l (expr_tree x)).callee ≡ Function (emissions l (expr_tree x)).value
-function_callee l x h = subst (λ (t : tree.Expr). (emissions l t).callee ≡ Function (emissions l t).value) (sym (as_layer x)) (function_layer l (out-Expr x) (apart expr.Attribute x h))
+pub function_callee : (x : Expr) → ((e : ExprAttributeOf Expr) → x ≢ expr.Attribute e) → (emissions (expr_tree x)).callee ≡ Function (emissions (expr_tree x)).value
+function_callee x h = subst (λ (t : tree.Expr). (emissions t).callee ≡ Function (emissions t).value) (sym (as_layer x)) (function_layer (out-Expr x) (apart expr.Attribute x h))
 
-truth_layer : (l : ℕ) (y : Expr-F Expr) → ((e : ExprBoolOpOf Expr) → roll-Expr y ≢ expr.BoolOp e) → ((e : ExprUnaryOpOf Expr) → roll-Expr y ≢ expr.UnaryOp e) → (c : Bool) (to : ℕ) (k : Next) → emission_of_test l (expr_layer expr_tree y) c to k ≡ emission l (expr_layer expr_tree y) (jump (testing_jump c) to k)
-truth_layer l (kind.BoolOp e) h g c to k = absurd (h e (rolls-BoolOp e))
-truth_layer l (kind.UnaryOp e) h g c to k = absurd (g e (rolls-UnaryOp e))
-truth_layer l y h g c to k = refl
+truth_layer : (y : Expr-F Expr) → ((e : ExprBoolOpOf Expr) → roll-Expr y ≢ expr.BoolOp e) → ((e : ExprUnaryOpOf Expr) → roll-Expr y ≢ expr.UnaryOp e) → (c : Bool) (to : ℕ) → emission_of_test (expr_layer expr_tree y) c to ≡ truth_of (emission (expr_layer expr_tree y)) c to
+truth_layer (kind.BoolOp e) h g c to = absurd (h e (rolls-BoolOp e))
+truth_layer (kind.UnaryOp e) h g c to = absurd (g e (rolls-UnaryOp e))
+truth_layer y h g c to = refl
 
-pub truth_test : (l : ℕ) (x : Expr) → ((e : ExprBoolOpOf Expr) → x ≢ expr.BoolOp e) → ((e : ExprUnaryOpOf Expr) → x ≢ expr.UnaryOp e) → (c : Bool) (to : ℕ) (k : Next) → emission_of_test l (expr_tree x) c to k ≡ emission l (expr_tree x) (jump (testing_jump c) to k)
-truth_test l x h g c to k = subst (λ (t : tree.Expr). emission_of_test l t c to k ≡ emission l t (jump (testing_jump c) to k)) (sym (as_layer x)) (truth_layer l (out-Expr x) (apart expr.BoolOp x h) (apart expr.UnaryOp x g) c to k)
+pub truth_test : (x : Expr) → ((e : ExprBoolOpOf Expr) → x ≢ expr.BoolOp e) → ((e : ExprUnaryOpOf Expr) → x ≢ expr.UnaryOp e) → (c : Bool) (to : ℕ) → emission_of_test (expr_tree x) c to ≡ truth_of (emission (expr_tree x)) c to
+truth_test x h g c to = subst (λ (t : tree.Expr). emission_of_test t c to ≡ truth_of (emission t) c to) (sym (as_layer x)) (truth_layer (out-Expr x) (apart expr.BoolOp x h) (apart expr.UnaryOp x g) c to)
 
-value_layer : (l : ℕ) (y : Expr-F Expr) → ((e : ExprJoinedStrOf Expr) → roll-Expr y ≢ expr.JoinedStr e) → ((e : ExprConstant) → roll-Expr y ≢ expr.Constant e) → ((e : ExprName) → roll-Expr y ≢ expr.Name e) → (k : Next) → emission_of_return l (expr_layer expr_tree y) k ≡ emission l (expr_layer expr_tree y) (emit op.ReturnValue 0 k)
-value_layer l (kind.JoinedStr e) h g f k = absurd (h e (rolls-JoinedStr e))
-value_layer l (kind.Constant e) h g f k = absurd (g e (rolls-Constant e))
-value_layer l (kind.Name e) h g f k = absurd (f e (rolls-Name e))
-value_layer l y h g f k = refl
+value_layer : (y : Expr-F Expr) → ((e : ExprJoinedStrOf Expr) → roll-Expr y ≢ expr.JoinedStr e) → ((e : ExprConstant) → roll-Expr y ≢ expr.Constant e) → ((e : ExprName) → roll-Expr y ≢ expr.Name e) → emission_of_return (expr_layer expr_tree y) ≡ emission (expr_layer expr_tree y) ▸ emit op.ReturnValue 0
+value_layer (kind.JoinedStr e) h g f = absurd (h e (rolls-JoinedStr e))
+value_layer (kind.Constant e) h g f = absurd (g e (rolls-Constant e))
+value_layer (kind.Name e) h g f = absurd (f e (rolls-Name e))
+value_layer y h g f = refl
 
-pub value_return : (l : ℕ) (x : Expr) → ((e : ExprJoinedStrOf Expr) → x ≢ expr.JoinedStr e) → ((e : ExprConstant) → x ≢ expr.Constant e) → ((e : ExprName) → x ≢ expr.Name e) → (k : Next) → emission_of_return l (expr_tree x) k ≡ emission l (expr_tree x) (emit op.ReturnValue 0 k)
-value_return l x h g f k = subst (λ (t : tree.Expr). emission_of_return l t k ≡ emission l t (emit op.ReturnValue 0 k)) (sym (as_layer x)) (value_layer l (out-Expr x) (apart expr.JoinedStr x h) (apart expr.Constant x g) (apart expr.Name x f) k)
+pub value_return : (x : Expr) → ((e : ExprJoinedStrOf Expr) → x ≢ expr.JoinedStr e) → ((e : ExprConstant) → x ≢ expr.Constant e) → ((e : ExprName) → x ≢ expr.Name e) → emission_of_return (expr_tree x) ≡ emission (expr_tree x) ▸ emit op.ReturnValue 0
+value_return x h g f = subst (λ (t : tree.Expr). emission_of_return t ≡ emission t ▸ emit op.ReturnValue 0) (sym (as_layer x)) (value_layer (out-Expr x) (apart expr.JoinedStr x h) (apart expr.Constant x g) (apart expr.Name x f))

@@ -1,5 +1,5 @@
 -- One of several values at a time.
-use Rattle.std.proofs.Common.{◌≡◌, ◌≢◌, ◌<◌, ℕ, suc, ◌+◌, ◌-◌, List, [], ◌∷◌, length, drop, get_or, Bool, true, false, Some, Result, Ok, Err, refl, sym, ap, ◌∙◌, subst, arith, rules}
+use Rattle.std.proofs.Common.{◌≡◌, ◌≢◌, ◌<◌, ℕ, suc, ◌+◌, ◌-◌, List, [], ◌∷◌, length, drop, get_or, Bool, true, false, Some, refl, sym, ap, ◌∙◌, arith, rules}
 use Rattle.std.specs.Bool.{beq}
 use Rattle.std.specs.Prelude.{nat_eq, nat_lt, if◌then◌else◌}
 use Rattle.std.proofs.Math.Seq.{drop-cons}
@@ -13,19 +13,16 @@ use Rattle.py_base.specs.declared.shapes.Malformed.{Malformed}
 use Rattle.py_base.specs.declared.shapes.Malformed.TheVariants as shape
 use Rattle.py_forms.specs.declared.errors.CodegenErrorType.{CodegenErrorType}
 use Rattle.py_forms.specs.declared.errors.CodegenErrorType.TheVariants as error
-use Rattle.py_forms.specs.Emitting.{Next, State, Outcome, Refused, refuse}
-use Rattle.py_forms.specs.EmissionParts.{Emissions, chain, comparisons, emission_of_compare, first_comparison, in_turn, links, shorts, some_test, past_tests, tests, values}
-use Rattle.py_meaning.specs.Emission.{all_emissions, emission_of_test}
-use Rattle.py_emit.specs.States.{Goes, Rest, Same, placed_error}
+use Rattle.py_forms.specs.TableParts.{deciding}
+use Rattle.py_forms.specs.Emitting.{Emission, State, Refused, ◌▸◌, jump, refuse}
+use Rattle.py_forms.specs.EmissionParts.{Emissions, chain, comparisons, emission_of_compare, emission_of_link, first_comparison, in_turn, keeping_jump, links, shorts, some_test, past_tests, tests, values}
+use Rattle.py_emission.specs.Emission.{all_emissions, emission, emission_of_test}
+use Rattle.py_emit.specs.States.{placed_error}
+use Rattle.py_emit.proofs.Joined.{joined, keep_last}
 use Rattle.py_expr.specs.Turns.{linked, short}
 use Rattle.py_base.specs.declared.location.LocatedError.{LocatedError}
 use Rattle.py_expr.specs.declared.conditions.JumpIf.{JumpIf}
 use Rattle.py_expr.proofs.Steps.{refuse_goes}
-
--- what is left to do, by another name
-pub goes_as : {A : Type 0} (r : Result A (LocatedError CodegenErrorType)) (after before other : Outcome) → other ≡ before → Goes r after before → Goes r after other
-goes_as (Ok a) after before other e g = e ∙ g
-goes_as (Err x) after before other e g = λ n. e ∙ g n
 
 pub if_so : {A : Type 0} (b : Bool) (x y : A) → b ≡ true → (if b then x else y) ≡ x
 if_so true x y e = refl
@@ -63,64 +60,63 @@ more_left xs i lt =
 one_more : (i : ℕ) → suc i ≡ i + 1
 one_more i = omega arith
 
-module _ (l : ℕ) where
-  shorts_next : (o : BoolOp) (end : ℕ) (x : Expr) (xs : List Expr) (b : Bool) (k : Next) → b ≡ some xs → shorts o end (all_emissions l (exprs expr_tree (x ∷ xs))) k ≡ short l o end b (expr_tree x) (shorts o end (all_emissions l (exprs expr_tree xs)) k)
-  shorts_next o end x [] b k e = ap (λ c. short l o end c (expr_tree x) k) (sym e)
-  shorts_next o end x (y ∷ xs) b k e = ap (λ c. short l o end c (expr_tree x) (shorts o end (all_emissions l (exprs expr_tree (y ∷ xs))) k)) (sym e)
+shorts_next : (o : BoolOp) (end : ℕ) (x : Expr) (xs : List Expr) (b : Bool) → b ≡ some xs → shorts o end (all_emissions (exprs expr_tree (x ∷ xs))) ≡ short o end b (expr_tree x) ▸ shorts o end (all_emissions (exprs expr_tree xs))
+shorts_next o end x [] b e = sym (keep_last (emission (expr_tree x))) ∙ ap (λ c. short o end c (expr_tree x) ▸ shorts o end []) (sym e)
+shorts_next o end x (y ∷ xs) b e =
+    sym (joined (emission (expr_tree x)) (jump (keeping_jump (deciding o)) end) (shorts o end (all_emissions (exprs expr_tree (y ∷ xs)))))
+    ∙ ap (λ c. short o end c (expr_tree x) ▸ shorts o end (all_emissions (exprs expr_tree (y ∷ xs)))) (sym e)
 
-  tests_next : (stop : Bool) (out : ℕ) (c : Bool) (to : ℕ) (x : Expr) (xs : List Expr) (b : Bool) (k : Next) → b ≡ some xs → tests stop out c to (all_emissions l (exprs expr_tree (x ∷ xs))) k ≡ emission_of_test l (expr_tree x) (if b then stop else c) (if b then out else to) (tests stop out c to (all_emissions l (exprs expr_tree xs)) k)
-  tests_next stop out c to x [] b k e = ap (λ d. emission_of_test l (expr_tree x) (if d then stop else c) (if d then out else to) k) (sym e)
-  tests_next stop out c to x (y ∷ xs) b k e = ap (λ d. emission_of_test l (expr_tree x) (if d then stop else c) (if d then out else to) (tests stop out c to (all_emissions l (exprs expr_tree (y ∷ xs))) k)) (sym e)
+tests_next : (stop : Bool) (out : ℕ) (c : Bool) (to : ℕ) (x : Expr) (xs : List Expr) (b : Bool) → b ≡ some xs → tests stop out c to (all_emissions (exprs expr_tree (x ∷ xs))) ≡ emission_of_test (expr_tree x) (if b then stop else c) (if b then out else to) ▸ tests stop out c to (all_emissions (exprs expr_tree xs))
+tests_next stop out c to x [] b e = sym (keep_last (emission_of_test (expr_tree x) c to)) ∙ ap (λ d. emission_of_test (expr_tree x) (if d then stop else c) (if d then out else to) ▸ tests stop out c to []) (sym e)
+tests_next stop out c to x (y ∷ xs) b e = ap (λ d. emission_of_test (expr_tree x) (if d then stop else c) (if d then out else to) ▸ tests stop out c to (all_emissions (exprs expr_tree (y ∷ xs)))) (sym e)
 
-  links_next : (out : ℕ) (o : CmpOp) (ops : List CmpOp) (x : Expr) (xs : List Expr) (b : Bool) (k : Next) → length ops ≡ length xs → b ≡ some xs → links out (o ∷ ops) (all_emissions l (exprs expr_tree (x ∷ xs))) k ≡ linked l out o b (expr_tree x) (links out ops (all_emissions l (exprs expr_tree xs)) k)
-  links_next out o [] x [] b k even e = ap (λ c. linked l out o c (expr_tree x) k) (sym e)
-  links_next out o [] x (y ∷ xs) b k even e = absurd (omega (arith, even))
-  links_next out o (p ∷ ops) x [] b k even e = absurd (omega (arith, even))
-  links_next out o (p ∷ ops) x (y ∷ xs) b k even e = ap (λ c. linked l out o c (expr_tree x) (links out (p ∷ ops) (all_emissions l (exprs expr_tree (y ∷ xs))) k)) (sym e)
+links_next : (out : ℕ) (o : CmpOp) (ops : List CmpOp) (x : Expr) (xs : List Expr) (b : Bool) → length ops ≡ length xs → b ≡ some xs → links out (o ∷ ops) (all_emissions (exprs expr_tree (x ∷ xs))) ≡ linked out o b (expr_tree x) ▸ links out ops (all_emissions (exprs expr_tree xs))
+links_next out o [] x [] b even e = sym (keep_last (linked out o false (expr_tree x))) ∙ ap (λ c. linked out o c (expr_tree x) ▸ links out [] []) (sym e)
+links_next out o [] x (y ∷ xs) b even e = absurd (omega (arith, even))
+links_next out o (p ∷ ops) x [] b even e = absurd (omega (arith, even))
+links_next out o (p ∷ ops) x (y ∷ xs) b even e =
+    sym (joined (emission (expr_tree x)) (emission_of_link o out) (links out (p ∷ ops) (all_emissions (exprs expr_tree (y ∷ xs)))))
+    ∙ ap (λ c. linked out o c (expr_tree x) ▸ links out (p ∷ ops) (all_emissions (exprs expr_tree (y ∷ xs)))) (sym e)
 
-  -- the value at a place
-  pub shorts_at : (o : BoolOp) (end : ℕ) (xs : List Expr) (i : ℕ) (d x : Expr) (k : Next) → x ≡ get_or xs i d → i < length xs → shorts o end (all_emissions l (exprs expr_tree (drop i xs))) k ≡ short l o end (nat_lt (i + 1) (length xs)) (expr_tree x) (shorts o end (all_emissions l (exprs expr_tree (drop (i + 1) xs))) k)
-  shorts_at o end xs i d x k is lt =
-      ap (λ ys. shorts o end (all_emissions l (exprs expr_tree ys)) k) (drop-cons xs i d lt)
-      ∙ shorts_next o end (get_or xs i d) (drop (suc i) xs) (nat_lt (i + 1) (length xs)) k (more_left xs i lt)
-      ∙ ap (λ j. short l o end (nat_lt (i + 1) (length xs)) (expr_tree (get_or xs i d)) (shorts o end (all_emissions l (exprs expr_tree (drop j xs))) k)) (one_more i)
-      ∙ ap (λ y. short l o end (nat_lt (i + 1) (length xs)) (expr_tree y) (shorts o end (all_emissions l (exprs expr_tree (drop (i + 1) xs))) k)) (sym is)
+-- the value at a place
+pub shorts_at : (o : BoolOp) (end : ℕ) (xs : List Expr) (i : ℕ) (d x : Expr) → x ≡ get_or xs i d → i < length xs → shorts o end (all_emissions (exprs expr_tree (drop i xs))) ≡ short o end (nat_lt (i + 1) (length xs)) (expr_tree x) ▸ shorts o end (all_emissions (exprs expr_tree (drop (i + 1) xs)))
+shorts_at o end xs i d x is lt =
+    ap (λ ys. shorts o end (all_emissions (exprs expr_tree ys))) (drop-cons xs i d lt)
+    ∙ shorts_next o end (get_or xs i d) (drop (suc i) xs) (nat_lt (i + 1) (length xs)) (more_left xs i lt)
+    ∙ ap (λ j. short o end (nat_lt (i + 1) (length xs)) (expr_tree (get_or xs i d)) ▸ shorts o end (all_emissions (exprs expr_tree (drop j xs)))) (one_more i)
+    ∙ ap (λ y. short o end (nat_lt (i + 1) (length xs)) (expr_tree y) ▸ shorts o end (all_emissions (exprs expr_tree (drop (i + 1) xs)))) (sym is)
 
-  pub tests_at : (stop : Bool) (out : ℕ) (c : Bool) (to : ℕ) (xs : List Expr) (i : ℕ) (d x : Expr) (k : Next) → x ≡ get_or xs i d → i < length xs → tests stop out c to (all_emissions l (exprs expr_tree (drop i xs))) k ≡ emission_of_test l (expr_tree x) (if nat_lt (i + 1) (length xs) then stop else c) (if nat_lt (i + 1) (length xs) then out else to) (tests stop out c to (all_emissions l (exprs expr_tree (drop (i + 1) xs))) k)
-  tests_at stop out c to xs i d x k is lt =
-      let b = nat_lt (i + 1) (length xs) in
-      ap (λ ys. tests stop out c to (all_emissions l (exprs expr_tree ys)) k) (drop-cons xs i d lt)
-      ∙ tests_next stop out c to (get_or xs i d) (drop (suc i) xs) b k (more_left xs i lt)
-      ∙ ap (λ j. emission_of_test l (expr_tree (get_or xs i d)) (if b then stop else c) (if b then out else to) (tests stop out c to (all_emissions l (exprs expr_tree (drop j xs))) k)) (one_more i)
-      ∙ ap (λ y. emission_of_test l (expr_tree y) (if b then stop else c) (if b then out else to) (tests stop out c to (all_emissions l (exprs expr_tree (drop (i + 1) xs))) k)) (sym is)
+pub tests_at : (stop : Bool) (out : ℕ) (c : Bool) (to : ℕ) (xs : List Expr) (i : ℕ) (d x : Expr) → x ≡ get_or xs i d → i < length xs → tests stop out c to (all_emissions (exprs expr_tree (drop i xs))) ≡ emission_of_test (expr_tree x) (if nat_lt (i + 1) (length xs) then stop else c) (if nat_lt (i + 1) (length xs) then out else to) ▸ tests stop out c to (all_emissions (exprs expr_tree (drop (i + 1) xs)))
+tests_at stop out c to xs i d x is lt =
+    let b = nat_lt (i + 1) (length xs) in
+    ap (λ ys. tests stop out c to (all_emissions (exprs expr_tree ys))) (drop-cons xs i d lt)
+    ∙ tests_next stop out c to (get_or xs i d) (drop (suc i) xs) b (more_left xs i lt)
+    ∙ ap (λ j. emission_of_test (expr_tree (get_or xs i d)) (if b then stop else c) (if b then out else to) ▸ tests stop out c to (all_emissions (exprs expr_tree (drop j xs)))) (one_more i)
+    ∙ ap (λ y. emission_of_test (expr_tree y) (if b then stop else c) (if b then out else to) ▸ tests stop out c to (all_emissions (exprs expr_tree (drop (i + 1) xs)))) (sym is)
 
-  pub links_at : (out : ℕ) (ops : List CmpOp) (o : CmpOp) (xs : List Expr) (i : ℕ) (d x : Expr) (k : Next) → x ≡ get_or xs i d → length ops ≡ length xs → i < length xs → links out (drop i ops) (all_emissions l (exprs expr_tree (drop i xs))) k ≡ linked l out (get_or ops i o) (nat_lt (i + 1) (length xs)) (expr_tree x) (links out (drop (i + 1) ops) (all_emissions l (exprs expr_tree (drop (i + 1) xs))) k)
-  links_at out ops o xs i d x k is even lt =
-      let b = nat_lt (i + 1) (length xs) in
-      let long = length-drop (suc i) xs in
-      let wide = length-drop (suc i) ops in
-      ap (λ ys. links out (drop i ops) (all_emissions l (exprs expr_tree ys)) k) (drop-cons xs i d lt)
-      ∙ ap (λ ps. links out ps (all_emissions l (exprs expr_tree (get_or xs i d ∷ drop (suc i) xs))) k) (drop-cons ops i o (omega (arith, lt, even)))
-      ∙ links_next out (get_or ops i o) (drop (suc i) ops) (get_or xs i d) (drop (suc i) xs) b k (omega (arith, long, wide, even)) (more_left xs i lt)
-      ∙ ap (λ j. linked l out (get_or ops i o) b (expr_tree (get_or xs i d)) (links out (drop j ops) (all_emissions l (exprs expr_tree (drop j xs))) k)) (one_more i)
-      ∙ ap (λ y. linked l out (get_or ops i o) b (expr_tree y) (links out (drop (i + 1) ops) (all_emissions l (exprs expr_tree (drop (i + 1) xs))) k)) (sym is)
+pub links_at : (out : ℕ) (ops : List CmpOp) (o : CmpOp) (xs : List Expr) (i : ℕ) (d x : Expr) → x ≡ get_or xs i d → length ops ≡ length xs → i < length xs → links out (drop i ops) (all_emissions (exprs expr_tree (drop i xs))) ≡ linked out (get_or ops i o) (nat_lt (i + 1) (length xs)) (expr_tree x) ▸ links out (drop (i + 1) ops) (all_emissions (exprs expr_tree (drop (i + 1) xs)))
+links_at out ops o xs i d x is even lt =
+    let b = nat_lt (i + 1) (length xs) in
+    let long = length-drop (suc i) xs in
+    let wide = length-drop (suc i) ops in
+    ap (λ ys. links out (drop i ops) (all_emissions (exprs expr_tree ys))) (drop-cons xs i d lt)
+    ∙ ap (λ ps. links out ps (all_emissions (exprs expr_tree (get_or xs i d ∷ drop (suc i) xs)))) (drop-cons ops i o (omega (arith, lt, even)))
+    ∙ links_next out (get_or ops i o) (drop (suc i) ops) (get_or xs i d) (drop (suc i) xs) b (omega (arith, long, wide, even)) (more_left xs i lt)
+    ∙ ap (λ j. linked out (get_or ops i o) b (expr_tree (get_or xs i d)) ▸ links out (drop j ops) (all_emissions (exprs expr_tree (drop j xs)))) (one_more i)
+    ∙ ap (λ y. linked out (get_or ops i o) b (expr_tree y) ▸ links out (drop (i + 1) ops) (all_emissions (exprs expr_tree (drop (i + 1) xs)))) (sym is)
 
 -- where the deciding truth is the one that jumps
-pub same_test : (stop c : Bool) (es : List Emissions) (to : ℕ) (k : Next) → c ≡ stop → some_test stop c es to k ≡ tests stop to c to es k
-same_test false false es to k e = refl
-same_test true true es to k e = refl
-same_test false true es to k e = absurd cc
-same_test true false es to k e = absurd cc
+pub same_test : (stop c : Bool) (es : List Emissions) (to : ℕ) → c ≡ stop → some_test stop c es to ≡ tests stop to c to es
+same_test false false es to e = refl
+same_test true true es to e = refl
+same_test false true es to e = absurd cc
+same_test true false es to e = absurd cc
 
-pub other_test : (stop c : Bool) (es : List Emissions) (to : ℕ) (k : Next) → beq c stop ≡ false → some_test stop c es to k ≡ past_tests stop c es to k
-other_test false false es to k e = absurd cc
-other_test true true es to k e = absurd cc
-other_test false true es to k e = refl
-other_test true false es to k e = refl
-
--- a refusal of what is left to do, by another name
-pub refuses_as : {A : Type 0} (r : Result A (LocatedError CodegenErrorType)) (x : LocatedError CodegenErrorType) (after before other : Outcome) → r ≡ Err x → other ≡ before → (x.error ≢ error.OutOfMemory → before ≡ Refused x.error x.location) → Goes r after other
-refuses_as r x after before other e q h = subst (λ y. Goes y after other) (sym e) (λ n. q ∙ h n)
+pub other_test : (stop c : Bool) (es : List Emissions) (to : ℕ) → beq c stop ≡ false → some_test stop c es to ≡ past_tests stop c es to
+other_test false false es to e = absurd cc
+other_test true true es to e = absurd cc
+other_test false true es to e = refl
+other_test true false es to e = refl
 
 eq_so : (m n : ℕ) → m ≡ n → nat_eq m n ≡ true
 eq_so m n h = search (rules, h)
@@ -135,26 +131,26 @@ less_not : (m n : ℕ) → ¬ (m < n) → nat_lt m n ≡ false
 less_not m n h = search (rules, h)
 
 -- which of the four a comparison is
-module _ (left : Next → Next) (ops : List CmpOp) (es : List Emissions) (k : Next) where
-  pub no_operand : length ops ≡ 0 → emission_of_compare left ops es k ≡ refuse (error.MalformedTree shape.NoOperand)
+module _ (left : Emission) (ops : List CmpOp) (es : List Emissions) where
+  pub no_operand : length ops ≡ 0 → emission_of_compare left ops es ≡ refuse (error.MalformedTree shape.NoOperand)
   no_operand h = if_so _ _ _ (eq_so (length ops) 0 h)
 
-  pub uneven_lists : length ops ≢ 0 → length ops ≢ length es → emission_of_compare left ops es k ≡ refuse (error.MalformedTree shape.UnevenLists)
+  pub uneven_lists : length ops ≢ 0 → length ops ≢ length es → emission_of_compare left ops es ≡ refuse (error.MalformedTree shape.UnevenLists)
   uneven_lists h g = if_not _ _ _ (eq_not (length ops) 0 h) ∙ if_not _ _ _ (eq_not (length ops) (length es) g)
 
-  even_lists : length ops ≢ 0 → length ops ≡ length es → emission_of_compare left ops es k ≡ comparisons left ops es k
+  even_lists : length ops ≢ 0 → length ops ≡ length es → emission_of_compare left ops es ≡ comparisons left ops es
   even_lists h g = if_not _ _ _ (eq_not (length ops) 0 h) ∙ if_so _ _ _ (eq_so (length ops) (length es) g)
 
-  pub a_chain : length ops ≢ 0 → length ops ≡ length es → 1 < length ops → emission_of_compare left ops es k ≡ chain left ops es k
+  pub a_chain : length ops ≢ 0 → length ops ≡ length es → 1 < length ops → emission_of_compare left ops es ≡ chain left ops es
   a_chain h g f = even_lists h g ∙ if_so _ _ _ (less_so 1 (length ops) f)
 
-  pub one_comparison : length ops ≢ 0 → length ops ≡ length es → ¬ (1 < length ops) → emission_of_compare left ops es k ≡ left (in_turn (values es) (first_comparison ops k))
+  pub one_comparison : length ops ≢ 0 → length ops ≡ length es → ¬ (1 < length ops) → emission_of_compare left ops es ≡ left ▸ in_turn (values es) ▸ first_comparison ops
   one_comparison h g f = even_lists h g ∙ if_not _ _ _ (less_not 1 (length ops) f)
 
 -- a test by one of two jumps
-pub either_jump : (l : ℕ) (t : tree.Expr) (b : Bool) (jump stop last : JumpIf) (k : Next) (s : State) → jump ≡ (if b then stop else last) → emission_of_test l t (if b then stop.truth else last.truth) (if b then stop.block.0 else last.block.0) k s ≡ emission_of_test l t jump.truth jump.block.0 k s
-either_jump l t true jump stop last k s e = ap (λ (j : JumpIf). emission_of_test l t j.truth j.block.0 k s) (sym e)
-either_jump l t false jump stop last k s e = ap (λ (j : JumpIf). emission_of_test l t j.truth j.block.0 k s) (sym e)
+pub either_jump : (t : tree.Expr) (b : Bool) (jump stop last : JumpIf) → jump ≡ (if b then stop else last) → emission_of_test t (if b then stop.truth else last.truth) (if b then stop.block.0 else last.block.0) ≡ emission_of_test t jump.truth jump.block.0
+either_jump t true jump stop last e = ap (λ (j : JumpIf). emission_of_test t j.truth j.block.0) (sym e)
+either_jump t false jump stop last e = ap (λ (j : JumpIf). emission_of_test t j.truth j.block.0) (sym e)
 
 -- a shape is refused at the location of the state
 pub refused_shape : (m : Malformed) (s : State) (path : List ℕ) (r : LocatedError CodegenErrorType) → r ≡ placed_error (error.MalformedTree m) s.location path → refuse (error.MalformedTree m) s ≡ Refused r.error r.location
@@ -162,7 +158,3 @@ refused_shape m s path r e = refused_as (error.MalformedTree m) s r (ap (λ (x :
 
 pub path_of : (m : Malformed) (s : State) (path : List ℕ) (r : LocatedError CodegenErrorType) → r ≡ placed_error (error.MalformedTree m) s.location path → r.source_path ≡ path
 path_of m s path r e = ap (λ (x : LocatedError CodegenErrorType). x.source_path) e
-
--- the error of a step names the path of what was before it
-pub same_error : {A : Type 0} (r : Result A (LocatedError CodegenErrorType)) (x : LocatedError CodegenErrorType) (after before first : Rest) → r ≡ Err x → x.source_path ≡ before.path → before ≡ first → Same r after first
-same_error r x after before first e p q = subst (λ y. Same y after first) (sym e) (p ∙ ap (λ (z : Rest). z.path) q)

@@ -8,17 +8,17 @@ use Rattle.py_base.specs.declared.operators.CmpOp.{CmpOp}
 use Rattle.py_bytecode.specs.declared.instruction.Instruction.TheVariants as op
 use Rattle.py_forms.specs.Elements.{Element, Single, Spread, pairs}
 use Rattle.py_forms.specs.TableParts.{deciding}
-use Rattle.py_forms.specs.Emitting.{Next, emit_count, jump}
+use Rattle.py_forms.specs.Emitting.{Emission, ◌▸◌, emit_count, jump, keep}
 use Rattle.py_forms.specs.EmissionParts.{emission_of_comparison, emission_of_link, keeping_jump, values}
-use Rattle.py_meaning.specs.Emission.{all_emissions, emission, opt_emissions}
+use Rattle.py_emission.specs.Emission.{all_emissions, emission, opt_emissions}
 
 -- a value of `and` or `or`, with a jump to the end where more follow
-abbrev pub short : (level : ℕ) → BoolOp → (end : ℕ) → (more : Bool) → tree.Expr → Next → Next
-short l o end more t k = emission l t (if more then jump (keeping_jump (deciding o)) end k else k)
+abbrev pub short : BoolOp → (end : ℕ) → (more : Bool) → tree.Expr → Emission
+short o end more t = if more then emission t ▸ jump (keeping_jump (deciding o)) end else emission t
 
 -- a value that is compared with the one before it, and kept where more follow
-abbrev pub linked : (level : ℕ) → (out : ℕ) → CmpOp → (more : Bool) → tree.Expr → Next → Next
-linked l out o more t k = emission l t (if more then emission_of_link o out k else emission_of_comparison o k)
+abbrev pub linked : (out : ℕ) → CmpOp → (more : Bool) → tree.Expr → Emission
+linked out o more t = emission t ▸ (if more then emission_of_link o out else emission_of_comparison o)
 
 module _ {B A : Type 0} where
   abbrev pub is_spread : Element B A → Bool
@@ -26,9 +26,9 @@ module _ {B A : Type 0} where
   is_spread (Spread x) = true
 
 -- the tuple of a run of so many elements, where there are any
-abbrev pub closed : (run : ℕ) → Next → Next
-closed zero k = k
-closed (suc n) k = emit_count op.BuildTuple (suc n) k
+abbrev pub closed : (run : ℕ) → Emission
+closed zero = keep
+closed (suc n) = emit_count op.BuildTuple (suc n)
 
 -- how many tuples that is
 abbrev pub runs : (run : ℕ) → ℕ
@@ -36,9 +36,9 @@ runs zero = 0
 runs (suc n) = 1
 
 -- an element behind a run of so many plain ones, which a starred one ends
-abbrev pub element_behind : (run : ℕ) → Element (Next → Next) (Next → Next) → Next → Next
-element_behind n (Single v) k = v k
-element_behind n (Spread v) k = closed n (v k)
+abbrev pub element_behind : (run : ℕ) → Element Emission Emission → Emission
+element_behind n (Single v) = v
+element_behind n (Spread v) = closed n ▸ v
 
 module _ {B A : Type 0} where
   -- how many groups are complete with it
@@ -57,10 +57,10 @@ module _ {B A : Type 0} where
   group_count n (e ∷ es) = groups_by n e + group_count (run_behind n e) es
 
 -- what is left to emit of elements behind a run of so many plain ones
-abbrev pub group_rest : (run : ℕ) → List (Element (Next → Next) (Next → Next)) → Next → Next
-group_rest n [] k = closed n k
-group_rest n (e ∷ es) k = element_behind n e (group_rest (run_behind n e) es k)
+abbrev pub group_rest : (run : ℕ) → List (Element Emission Emission) → Emission
+group_rest n [] = closed n
+group_rest n (e ∷ es) = element_behind n e ▸ group_rest (run_behind n e) es
 
 -- the pairs of a dict display
-abbrev pub pairs_of : (level : ℕ) → List (Option Expr) → List Expr → List (Option (Next → Next) × (Next → Next))
-pairs_of l ks vs = pairs (opt_emissions l (opt_exprs expr_tree ks)) (values (all_emissions l (exprs expr_tree vs)))
+abbrev pub pairs_of : List (Option Expr) → List Expr → List (Option Emission × Emission)
+pairs_of ks vs = pairs (opt_emissions (opt_exprs expr_tree ks)) (values (all_emissions (exprs expr_tree vs)))

@@ -1,9 +1,8 @@
 //! Calls.
 ghost use Rattle.std.specs.Prelude.{◌≡◌, ◌+◌, ◌||◌, ℕ, false, length, IfErr, IfOk, OnOk, if◌then◌else◌};
 ghost use Rattle.py_tree.specs.View.{call_tree, expr_tree, exprs, keywords as keyword_trees};
-ghost use Rattle.py_forms.specs.Emitting.{Next};
 ghost use Rattle.py_forms.specs.EmissionParts.{elements, in_turn};
-ghost use Rattle.py_meaning.specs.Emission.{all_emissions, emission, emissions, keyword_emissions};
+ghost use Rattle.py_emission.specs.Emission.{all_emissions, emission, emissions, keyword_emissions};
 ghost use Rattle.py_forms.specs.Elements.{bare, starred};
 ghost use Rattle.py_emit.specs.States.{Goes, IsStarved, Same, rest, state};
 ghost use Rattle.py_expr.specs.Calling.{argument_tuple, arguments, call_operand, called, callee_value, calling, function_call, is_method, keyworded, method_call, positional, taken, type_of};
@@ -29,7 +28,7 @@ pub enum CallType {
 
 #[cycle(code)]
 pub(crate) fn compile_call(em: &mut Emitter, e: &ExprCall) -> Result<(), CodegenError>
-    ensures goes { (k : Next) → Goes result (k (state em.new)) (emission (rest em.old).opts.optimize (call_tree e.now) k (state em.old)) }
+    ensures goes { Goes result (state em.new) (emission (call_tree e.now) (state em.old)) }
     ensures same { Same result (rest em.new) (rest em.old) }
 {
     em.set_location(e.location);
@@ -39,7 +38,7 @@ pub(crate) fn compile_call(em: &mut Emitter, e: &ExprCall) -> Result<(), Codegen
 /// Emits what is called, its arguments and the call.
 #[cycle(code)]
 fn compile_called(em: &mut Emitter, e: &ExprCall) -> Result<(), CodegenError>
-    ensures goes { (k : Next) → Goes result (k (state em.new)) (called (emissions (rest em.old).opts.optimize (expr_tree e.now.func.value)).callee (elements (all_emissions (rest em.old).opts.optimize (exprs expr_tree e.now.args))) (keyword_emissions (rest em.old).opts.optimize (keyword_trees expr_tree e.now.keywords)) k (state em.old)) }
+    ensures goes { Goes result (state em.new) (called (emissions (expr_tree e.now.func.value)).callee (elements (all_emissions (exprs expr_tree e.now.args))) (keyword_emissions (keyword_trees expr_tree e.now.keywords)) (state em.old)) }
     ensures same { Same result (rest em.new) (rest em.old) }
 {
     let is_method = compile_callee(em, &e.func)?;
@@ -50,8 +49,8 @@ fn compile_called(em: &mut Emitter, e: &ExprCall) -> Result<(), CodegenError>
 /// Emits what is called. Answers whether it is a method.
 #[cycle(code)]
 fn compile_callee(em: &mut Emitter, func: &Expr) -> Result<bool, CodegenError>
-    ensures method { IfOk result (λ b. b ≡ is_method (emissions (rest em.old).opts.optimize (expr_tree func.now)).callee) }
-    ensures goes { (k : Next) → Goes result (k (state em.new)) (callee_value (emissions (rest em.old).opts.optimize (expr_tree func.now)).callee k (state em.old)) }
+    ensures method { IfOk result (λ b. b ≡ is_method (emissions (expr_tree func.now)).callee) }
+    ensures goes { Goes result (state em.new) (callee_value (emissions (expr_tree func.now)).callee (state em.old)) }
     ensures same { Same result (rest em.new) (rest em.old) }
 {
     match func {
@@ -70,8 +69,8 @@ fn compile_callee(em: &mut Emitter, func: &Expr) -> Result<bool, CodegenError>
 /// Emits the arguments of a call. Answers what the call takes.
 #[cycle(code)]
 fn compile_call_arguments(em: &mut Emitter, e: &ExprCall) -> Result<CallType, CodegenError>
-    ensures call { IfOk result (λ c. c ≡ taken 0 (elements (all_emissions (rest em.old).opts.optimize (exprs expr_tree e.now.args))) (keyword_emissions (rest em.old).opts.optimize (keyword_trees expr_tree e.now.keywords))) }
-    ensures goes { (k : Next) → Goes result (k (state em.new)) (arguments 0 (elements (all_emissions (rest em.old).opts.optimize (exprs expr_tree e.now.args))) (keyword_emissions (rest em.old).opts.optimize (keyword_trees expr_tree e.now.keywords)) k (state em.old)) }
+    ensures call { IfOk result (λ c. c ≡ taken 0 (elements (all_emissions (exprs expr_tree e.now.args))) (keyword_emissions (keyword_trees expr_tree e.now.keywords))) }
+    ensures goes { Goes result (state em.new) (arguments 0 (elements (all_emissions (exprs expr_tree e.now.args))) (keyword_emissions (keyword_trees expr_tree e.now.keywords)) (state em.old)) }
     ensures same { Same result (rest em.new) (rest em.old) }
 {
     let args = e.args.as_slice();
@@ -92,8 +91,8 @@ pub fn compile_call_inner(
     args: &Exprs,
     keywords: &List<Keyword>,
 ) -> Result<CallType, CodegenError>
-    ensures call { IfOk result (λ c. c ≡ taken additional (elements (all_emissions (rest em.old).opts.optimize (exprs expr_tree args.now))) (keyword_emissions (rest em.old).opts.optimize (keyword_trees expr_tree keywords.now))) }
-    ensures goes { (k : Next) → Goes result (k (state em.new)) (arguments additional (elements (all_emissions (rest em.old).opts.optimize (exprs expr_tree args.now))) (keyword_emissions (rest em.old).opts.optimize (keyword_trees expr_tree keywords.now)) k (state em.old)) }
+    ensures call { IfOk result (λ c. c ≡ taken additional (elements (all_emissions (exprs expr_tree args.now))) (keyword_emissions (keyword_trees expr_tree keywords.now))) }
+    ensures goes { Goes result (state em.new) (arguments additional (elements (all_emissions (exprs expr_tree args.now))) (keyword_emissions (keyword_trees expr_tree keywords.now)) (state em.old)) }
     ensures same { Same result (rest em.new) (rest em.old) }
 {
     let args = args.as_slice();
@@ -106,7 +105,7 @@ pub fn compile_call_inner(
 
 /// Whether arguments come in one tuple and one map.
 fn is_packed(args: &[Expr], keywords: &[Keyword]) -> bool
-    ensures { (l : ℕ) → result ≡ (starred (elements (all_emissions l (exprs expr_tree args.now))) || starred (keyword_emissions l (keyword_trees expr_tree keywords.now))) }
+    ensures { result ≡ (starred (elements (all_emissions (exprs expr_tree args.now))) || starred (keyword_emissions (keyword_trees expr_tree keywords.now))) }
 {
     has_star(args) || has_double_star(keywords)
 }
@@ -120,8 +119,8 @@ fn compile_positional(
     args: &[Expr],
     keywords: &[Keyword],
 ) -> Result<(), CodegenError>
-    requires plain { (l : ℕ) → packed ≡ false → starred (elements (all_emissions l (exprs expr_tree args.now))) ≡ false }
-    ensures goes { (k : Next) → Goes result (k (state em.new)) (positional packed additional (elements (all_emissions (rest em.old).opts.optimize (exprs expr_tree args.now))) (keyword_emissions (rest em.old).opts.optimize (keyword_trees expr_tree keywords.now)) k (state em.old)) }
+    requires plain { packed ≡ false → starred (elements (all_emissions (exprs expr_tree args.now))) ≡ false }
+    ensures goes { Goes result (state em.new) (positional packed additional (elements (all_emissions (exprs expr_tree args.now))) (keyword_emissions (keyword_trees expr_tree keywords.now)) (state em.old)) }
     ensures same { Same result (rest em.new) (rest em.old) }
 {
     if packed {
@@ -133,8 +132,8 @@ fn compile_positional(
 /// Emits arguments of which none is starred.
 #[cycle(code)]
 fn compile_plain(em: &mut Emitter, args: &[Expr]) -> Result<(), CodegenError>
-    requires plain { (l : ℕ) → starred (elements (all_emissions l (exprs expr_tree args.now))) ≡ false }
-    ensures goes { (k : Next) → Goes result (k (state em.new)) (in_turn (bare (elements (all_emissions (rest em.old).opts.optimize (exprs expr_tree args.now)))) k (state em.old)) }
+    requires plain { starred (elements (all_emissions (exprs expr_tree args.now))) ≡ false }
+    ensures goes { Goes result (state em.new) (in_turn (bare (elements (all_emissions (exprs expr_tree args.now)))) (state em.old)) }
     ensures same { Same result (rest em.new) (rest em.old) }
 {
     compile_expressions(em, args)
@@ -149,7 +148,7 @@ fn compile_argument_tuple(
     args: &[Expr],
     keywords: &[Keyword],
 ) -> Result<(), CodegenError>
-    ensures goes { (k : Next) → Goes result (k (state em.new)) (argument_tuple additional (elements (all_emissions (rest em.old).opts.optimize (exprs expr_tree args.now))) (keyword_emissions (rest em.old).opts.optimize (keyword_trees expr_tree keywords.now)) k (state em.old)) }
+    ensures goes { Goes result (state em.new) (argument_tuple additional (elements (all_emissions (exprs expr_tree args.now))) (keyword_emissions (keyword_trees expr_tree keywords.now)) (state em.old)) }
     ensures same { Same result (rest em.new) (rest em.old) }
 {
     if has_star(args) {
@@ -173,7 +172,7 @@ fn compile_keywords(
     packed: bool,
     keywords: &[Keyword],
 ) -> Result<(), CodegenError>
-    ensures goes { (k : Next) → Goes result (k (state em.new)) (keyworded packed (keyword_emissions (rest em.old).opts.optimize (keyword_trees expr_tree keywords.now)) k (state em.old)) }
+    ensures goes { Goes result (state em.new) (keyworded packed (keyword_emissions (keyword_trees expr_tree keywords.now)) (state em.old)) }
     ensures same { Same result (rest em.new) (rest em.old) }
 {
     if packed {
@@ -209,7 +208,7 @@ fn call_type(
 
 /// Emits the call of what lies below its arguments.
 pub fn emit_call(em: &mut Emitter, is_method: bool, call: CallType) -> Result<(), CodegenError>
-    ensures goes { (k : Next) → Goes result (k (state em.new)) (calling is_method call k (state em.old)) }
+    ensures goes { Goes result (state em.new) (calling is_method call (state em.old)) }
     ensures same { Same result (rest em.new) (rest em.old) }
 {
     em.emit_count(

@@ -1,9 +1,9 @@
 //! Comparisons, one or a chain of them.
 ghost use Rattle.std.specs.Prelude.{◌≡◌, ◌<◌, length};
 ghost use Rattle.py_tree.specs.View.{compare_tree, expr_tree, exprs};
-ghost use Rattle.py_forms.specs.Emitting.{Next, emit as emitting};
+ghost use Rattle.py_forms.specs.Emitting.{◌▸◌, emit as emitting};
 ghost use Rattle.py_forms.specs.EmissionParts.{chain, emission_of_compare, emission_of_comparison, emission_of_link, in_turn, links, first_comparison, values};
-ghost use Rattle.py_meaning.specs.Emission.{all_emissions, emission, emissions};
+ghost use Rattle.py_emission.specs.Emission.{all_emissions, emission, emissions};
 ghost use Rattle.py_emit.specs.States.{Goes, Same, rest, state};
 ghost use Rattle.py_expr.specs.Turns.{linked};
 
@@ -17,7 +17,7 @@ use py_tree::{CmpOp, Expr, ExprCompare, Malformed};
 #[cycle(code)]
 #[tactic(auto, using(crate::proofs::Steps::steps))]
 pub(crate) fn compile_compare(em: &mut Emitter, e: &ExprCompare) -> Result<(), CodegenError>
-    ensures goes { (k : Next) → Goes result (k (state em.new)) (emission (rest em.old).opts.optimize (compare_tree e.now) k (state em.old)) }
+    ensures goes { Goes result (state em.new) (emission (compare_tree e.now) (state em.old)) }
     ensures same { Same result (rest em.new) (rest em.old) }
 {
     em.set_location(e.location);
@@ -27,7 +27,7 @@ pub(crate) fn compile_compare(em: &mut Emitter, e: &ExprCompare) -> Result<(), C
 /// Emits one comparison, or a chain of them.
 #[cycle(code)]
 fn compile_comparisons(em: &mut Emitter, e: &ExprCompare) -> Result<(), CodegenError>
-    ensures goes { (k : Next) → Goes result (k (state em.new)) (emission_of_compare (emissions (rest em.old).opts.optimize (expr_tree e.now.left.value)).value e.now.ops (all_emissions (rest em.old).opts.optimize (exprs expr_tree e.now.comparators)) k (state em.old)) }
+    ensures goes { Goes result (state em.new) (emission_of_compare (emissions (expr_tree e.now.left.value)).value e.now.ops (all_emissions (exprs expr_tree e.now.comparators)) (state em.old)) }
     ensures same { Same result (rest em.new) (rest em.old) }
 {
     let count = e.ops.len();
@@ -47,7 +47,7 @@ fn compile_comparisons(em: &mut Emitter, e: &ExprCompare) -> Result<(), CodegenE
 #[tactic(auto, using(crate::proofs::Steps::steps))]
 fn compile_one_comparison(em: &mut Emitter, e: &ExprCompare) -> Result<(), CodegenError>
     requires { 0 < length e.now.ops }
-    ensures goes { (k : Next) → Goes result (k (state em.new)) ((emissions (rest em.old).opts.optimize (expr_tree e.now.left.value)).value (in_turn (values (all_emissions (rest em.old).opts.optimize (exprs expr_tree e.now.comparators))) (first_comparison e.now.ops k)) (state em.old)) }
+    ensures goes { Goes result (state em.new) (((emissions (expr_tree e.now.left.value)).value ▸ in_turn (values (all_emissions (exprs expr_tree e.now.comparators))) ▸ first_comparison e.now.ops) (state em.old)) }
     ensures same { Same result (rest em.new) (rest em.old) }
 {
     compile_expression(em, &e.left)?;
@@ -57,7 +57,7 @@ fn compile_one_comparison(em: &mut Emitter, e: &ExprCompare) -> Result<(), Codeg
 
 fn compile_first_comparison(em: &mut Emitter, ops: &[CmpOp]) -> Result<(), CodegenError>
     requires { 0 < length ops.now }
-    ensures goes { (k : Next) → Goes result (k (state em.new)) (first_comparison ops.now k (state em.old)) }
+    ensures goes { Goes result (state em.new) (first_comparison ops.now (state em.old)) }
     ensures same { Same result (rest em.new) (rest em.old) }
 {
     compile_comparison(em, ops[0])
@@ -68,7 +68,7 @@ fn compile_first_comparison(em: &mut Emitter, ops: &[CmpOp]) -> Result<(), Codeg
 #[tactic(auto, using(crate::proofs::Steps::steps))]
 fn compile_chain(em: &mut Emitter, e: &ExprCompare) -> Result<(), CodegenError>
     requires { length e.now.ops ≡ length e.now.comparators }
-    ensures goes { (k : Next) → Goes result (k (state em.new)) (chain (emissions (rest em.old).opts.optimize (expr_tree e.now.left.value)).value e.now.ops (all_emissions (rest em.old).opts.optimize (exprs expr_tree e.now.comparators)) k (state em.old)) }
+    ensures goes { Goes result (state em.new) (chain (emissions (expr_tree e.now.left.value)).value e.now.ops (all_emissions (exprs expr_tree e.now.comparators)) (state em.old)) }
     ensures same { Same result (rest em.new) (rest em.old) }
 {
     let out = em.new_block()?;
@@ -93,7 +93,7 @@ fn compile_links(
 ) -> Result<(), CodegenError>
     requires even { length ops.now ≡ length values.now }
     requires below { out.0 < 0xffff_ffff }
-    ensures goes { (k : Next) → Goes result (k (state em.new)) (links out.0 ops.now (all_emissions (rest em.old).opts.optimize (exprs expr_tree values.now)) k (state em.old)) }
+    ensures goes { Goes result (state em.new) (links out.0 ops.now (all_emissions (exprs expr_tree values.now)) (state em.old)) }
     ensures same { Same result (rest em.new) (rest em.old) }
 {
     for (i, value) in values.iter().enumerate() {
@@ -112,7 +112,7 @@ fn compile_linked(
     value: &Expr,
 ) -> Result<(), CodegenError>
     requires below { out.0 < 0xffff_ffff }
-    ensures goes { (k : Next) → Goes result (k (state em.new)) (linked (rest em.old).opts.optimize out.0 op more (expr_tree value.now) k (state em.old)) }
+    ensures goes { Goes result (state em.new) (linked out.0 op more (expr_tree value.now) (state em.old)) }
     ensures same { Same result (rest em.new) (rest em.old) }
 {
     compile_expression(em, value)?;
@@ -125,7 +125,7 @@ fn compile_linked(
 /// Emits a comparison whose right value the next one needs too.
 fn compile_link(em: &mut Emitter, op: CmpOp, out: BlockIdx) -> Result<(), CodegenError>
     requires below { out.0 < 0xffff_ffff }
-    ensures goes { (k : Next) → Goes result (k (state em.new)) (emission_of_link op out.0 k (state em.old)) }
+    ensures goes { Goes result (state em.new) (emission_of_link op out.0 (state em.old)) }
     ensures same { Same result (rest em.new) (rest em.old) }
 {
     emit!(em, Instruction::Duplicate);
@@ -137,7 +137,7 @@ fn compile_link(em: &mut Emitter, op: CmpOp, out: BlockIdx) -> Result<(), Codege
 
 #[tactic(auto, using(crate::proofs::Steps::steps))]
 fn compile_comparison(em: &mut Emitter, op: CmpOp) -> Result<(), CodegenError>
-    ensures goes { (k : Next) → Goes result (k (state em.new)) (emission_of_comparison op k (state em.old)) }
+    ensures goes { Goes result (state em.new) (emission_of_comparison op (state em.old)) }
     ensures same { Same result (rest em.new) (rest em.old) }
 {
     let (instr, case) = comparison_case(op);
@@ -147,7 +147,7 @@ fn compile_comparison(em: &mut Emitter, op: CmpOp) -> Result<(), CodegenError>
 
 /// The instruction of a comparison, with the number of its case.
 fn comparison_case(op: CmpOp) -> (Instruction, u32)
-    ensures { (k : Next) → emission_of_comparison op k ≡ emitting result.0 result.1 k }
+    ensures { emission_of_comparison op ≡ emitting result.0 result.1 }
 {
     match op {
         CmpOp::Lt => (Instruction::CompareOperation, 0),

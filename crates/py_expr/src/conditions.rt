@@ -2,9 +2,9 @@
 ghost use Rattle.std.specs.Prelude.{◌≡◌, ◌<◌, if◌then◌else◌};
 ghost use Rattle.py_tree.specs.View.{bool_op_tree, expr_tree, exprs, unary_op_tree};
 ghost use Rattle.py_forms.specs.TableParts.{deciding};
-ghost use Rattle.py_forms.specs.Emitting.{Next, jump as jumping};
-ghost use Rattle.py_forms.specs.EmissionParts.{bool_test, bool_value, keeping_jump, past_tests, shorts, some_test, some_values, testing_jump, tests, values};
-ghost use Rattle.py_meaning.specs.Emission.{all_emissions, emission, emission_of_test};
+ghost use Rattle.py_forms.specs.Emitting.{jump as jumping};
+ghost use Rattle.py_forms.specs.EmissionParts.{bool_test, bool_value, keeping_jump, past_tests, shorts, some_test, some_values, testing_jump, tests, values, truth_of};
+ghost use Rattle.py_emission.specs.Emission.{all_emissions, emission, emission_of_test};
 ghost use Rattle.py_emit.specs.States.{Goes, Same, rest, state};
 ghost use Rattle.py_expr.specs.Turns.{short};
 
@@ -25,7 +25,7 @@ pub(crate) struct JumpIf {
 #[cycle(code)]
 #[tactic(auto, using(crate::proofs::Steps::steps))]
 pub(crate) fn compile_bool_op(em: &mut Emitter, e: &ExprBoolOp) -> Result<(), CodegenError>
-    ensures goes { (k : Next) → Goes result (k (state em.new)) (emission (rest em.old).opts.optimize (bool_op_tree e.now) k (state em.old)) }
+    ensures goes { Goes result (state em.new) (emission (bool_op_tree e.now) (state em.old)) }
     ensures same { Same result (rest em.new) (rest em.old) }
 {
     em.set_location(e.location);
@@ -35,7 +35,7 @@ pub(crate) fn compile_bool_op(em: &mut Emitter, e: &ExprBoolOp) -> Result<(), Co
 /// Emits a value of `and` or `or`.
 #[cycle(code)]
 fn compile_bool_value(em: &mut Emitter, op: BoolOp, values: &[Expr]) -> Result<(), CodegenError>
-    ensures goes { (k : Next) → Goes result (k (state em.new)) (bool_value op (all_emissions (rest em.old).opts.optimize (exprs expr_tree values.now)) k (state em.old)) }
+    ensures goes { Goes result (state em.new) (bool_value op (all_emissions (exprs expr_tree values.now)) (state em.old)) }
     ensures same { Same result (rest em.new) (rest em.old) }
 {
     if values.is_empty() {
@@ -48,7 +48,7 @@ fn compile_bool_value(em: &mut Emitter, op: BoolOp, values: &[Expr]) -> Result<(
 #[cycle(code)]
 #[tactic(auto, using(crate::proofs::Steps::steps))]
 fn compile_some_values(em: &mut Emitter, op: BoolOp, values: &[Expr]) -> Result<(), CodegenError>
-    ensures goes { (k : Next) → Goes result (k (state em.new)) (some_values op (all_emissions (rest em.old).opts.optimize (exprs expr_tree values.now)) k (state em.old)) }
+    ensures goes { Goes result (state em.new) (some_values op (all_emissions (exprs expr_tree values.now)) (state em.old)) }
     ensures same { Same result (rest em.new) (rest em.old) }
 {
     let end = em.new_block()?;
@@ -66,7 +66,7 @@ fn compile_shorts(
     values: &[Expr],
 ) -> Result<(), CodegenError>
     requires below { end.0 < 0xffff_ffff }
-    ensures goes { (k : Next) → Goes result (k (state em.new)) (shorts op end.0 (all_emissions (rest em.old).opts.optimize (exprs expr_tree values.now)) k (state em.old)) }
+    ensures goes { Goes result (state em.new) (shorts op end.0 (all_emissions (exprs expr_tree values.now)) (state em.old)) }
     ensures same { Same result (rest em.new) (rest em.old) }
 {
     for (i, value) in values.iter().enumerate() {
@@ -85,7 +85,7 @@ fn compile_short(
     value: &Expr,
 ) -> Result<(), CodegenError>
     requires below { end.0 < 0xffff_ffff }
-    ensures goes { (k : Next) → Goes result (k (state em.new)) (short (rest em.old).opts.optimize op end.0 more (expr_tree value.now) k (state em.old)) }
+    ensures goes { Goes result (state em.new) (short op end.0 more (expr_tree value.now) (state em.old)) }
     ensures same { Same result (rest em.new) (rest em.old) }
 {
     compile_expression(em, value)?;
@@ -139,7 +139,7 @@ pub fn compile_jump_if(
     target: BlockIdx,
 ) -> Result<(), CodegenError>
     requires { target.0 < 0xffff_ffff }
-    ensures goes { (k : Next) → Goes result (k (state em.new)) (emission_of_test (rest em.old).opts.optimize (expr_tree expr.now) condition target.0 k (state em.old)) }
+    ensures goes { Goes result (state em.new) (emission_of_test (expr_tree expr.now) condition target.0 (state em.old)) }
     ensures same { Same result (rest em.new) (rest em.old) }
 {
     let jump = JumpIf {
@@ -154,7 +154,7 @@ pub fn compile_jump_if(
 #[tactic(auto, using(py_tree::proofs::View::trees, crate::proofs::Steps::steps))]
 pub(crate) fn compile_test(em: &mut Emitter, expr: &Expr, jump: &JumpIf) -> Result<(), CodegenError>
     requires below { jump.now.block.0 < 0xffff_ffff }
-    ensures goes { (k : Next) → Goes result (k (state em.new)) (emission_of_test (rest em.old).opts.optimize (expr_tree expr.now) jump.now.truth jump.now.block.0 k (state em.old)) }
+    ensures goes { Goes result (state em.new) (emission_of_test (expr_tree expr.now) jump.now.truth jump.now.block.0 (state em.old)) }
     ensures same { Same result (rest em.new) (rest em.old) }
 {
     match expr {
@@ -169,7 +169,7 @@ pub(crate) fn compile_test(em: &mut Emitter, expr: &Expr, jump: &JumpIf) -> Resu
 #[tactic(auto, using(py_tree::proofs::View::trees, crate::proofs::Steps::steps))]
 fn compile_unary_test(em: &mut Emitter, e: &ExprUnaryOp, jump: &JumpIf) -> Result<(), CodegenError>
     requires below { jump.now.block.0 < 0xffff_ffff }
-    ensures goes { (k : Next) → Goes result (k (state em.new)) (emission_of_test (rest em.old).opts.optimize (unary_op_tree e.now) jump.now.truth jump.now.block.0 k (state em.old)) }
+    ensures goes { Goes result (state em.new) (emission_of_test (unary_op_tree e.now) jump.now.truth jump.now.block.0 (state em.old)) }
     ensures same { Same result (rest em.new) (rest em.old) }
 {
     match e.op {
@@ -190,7 +190,7 @@ fn compile_unary_test(em: &mut Emitter, e: &ExprUnaryOp, jump: &JumpIf) -> Resul
 #[cycle(code)]
 fn compile_unary_truth(em: &mut Emitter, e: &ExprUnaryOp, jump: &JumpIf) -> Result<(), CodegenError>
     requires below { jump.now.block.0 < 0xffff_ffff }
-    ensures goes { (k : Next) → Goes result (k (state em.new)) (emission (rest em.old).opts.optimize (unary_op_tree e.now) (jumping (testing_jump jump.now.truth) jump.now.block.0 k) (state em.old)) }
+    ensures goes { Goes result (state em.new) (truth_of (emission (unary_op_tree e.now)) jump.now.truth jump.now.block.0 (state em.old)) }
     ensures same { Same result (rest em.new) (rest em.old) }
 {
     compile_unary_op(em, e)?;
@@ -202,7 +202,7 @@ fn compile_unary_truth(em: &mut Emitter, e: &ExprUnaryOp, jump: &JumpIf) -> Resu
 #[cycle(code)]
 fn compile_truth(em: &mut Emitter, expr: &Expr, jump: &JumpIf) -> Result<(), CodegenError>
     requires below { jump.now.block.0 < 0xffff_ffff }
-    ensures goes { (k : Next) → Goes result (k (state em.new)) (emission (rest em.old).opts.optimize (expr_tree expr.now) (jumping (testing_jump jump.now.truth) jump.now.block.0 k) (state em.old)) }
+    ensures goes { Goes result (state em.new) (truth_of (emission (expr_tree expr.now)) jump.now.truth jump.now.block.0 (state em.old)) }
     ensures same { Same result (rest em.new) (rest em.old) }
 {
     compile_expression(em, expr)?;
@@ -214,7 +214,7 @@ fn compile_truth(em: &mut Emitter, expr: &Expr, jump: &JumpIf) -> Result<(), Cod
 #[cycle(code)]
 fn compile_bool_test(em: &mut Emitter, e: &ExprBoolOp, jump: &JumpIf) -> Result<(), CodegenError>
     requires below { jump.now.block.0 < 0xffff_ffff }
-    ensures goes { (k : Next) → Goes result (k (state em.new)) (bool_test e.now.op (all_emissions (rest em.old).opts.optimize (exprs expr_tree e.now.values)) jump.now.truth jump.now.block.0 k (state em.old)) }
+    ensures goes { Goes result (state em.new) (bool_test e.now.op (all_emissions (exprs expr_tree e.now.values)) jump.now.truth jump.now.block.0 (state em.old)) }
     ensures same { Same result (rest em.new) (rest em.old) }
 {
     let values = e.values.as_slice();
@@ -233,7 +233,7 @@ fn compile_some_test(
     values: &[Expr],
 ) -> Result<(), CodegenError>
     requires below { jump.now.block.0 < 0xffff_ffff }
-    ensures goes { (k : Next) → Goes result (k (state em.new)) (some_test deciding jump.now.truth (all_emissions (rest em.old).opts.optimize (exprs expr_tree values.now)) jump.now.block.0 k (state em.old)) }
+    ensures goes { Goes result (state em.new) (some_test deciding jump.now.truth (all_emissions (exprs expr_tree values.now)) jump.now.block.0 (state em.old)) }
     ensures same { Same result (rest em.new) (rest em.old) }
 {
     if jump.truth == deciding {
@@ -252,7 +252,7 @@ fn compile_past_tests(
     values: &[Expr],
 ) -> Result<(), CodegenError>
     requires below { jump.now.block.0 < 0xffff_ffff }
-    ensures goes { (k : Next) → Goes result (k (state em.new)) (past_tests deciding jump.now.truth (all_emissions (rest em.old).opts.optimize (exprs expr_tree values.now)) jump.now.block.0 k (state em.old)) }
+    ensures goes { Goes result (state em.new) (past_tests deciding jump.now.truth (all_emissions (exprs expr_tree values.now)) jump.now.block.0 (state em.old)) }
     ensures same { Same result (rest em.new) (rest em.old) }
 {
     let end = em.new_block()?;
@@ -275,7 +275,7 @@ fn compile_tests(
 ) -> Result<(), CodegenError>
     requires stop { stop.now.block.0 < 0xffff_ffff }
     requires last { last.now.block.0 < 0xffff_ffff }
-    ensures goes { (k : Next) → Goes result (k (state em.new)) (tests stop.now.truth stop.now.block.0 last.now.truth last.now.block.0 (all_emissions (rest em.old).opts.optimize (exprs expr_tree values.now)) k (state em.old)) }
+    ensures goes { Goes result (state em.new) (tests stop.now.truth stop.now.block.0 last.now.truth last.now.block.0 (all_emissions (exprs expr_tree values.now)) (state em.old)) }
     ensures same { Same result (rest em.new) (rest em.old) }
 {
     for (i, value) in values.iter().enumerate() {

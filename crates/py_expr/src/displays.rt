@@ -3,9 +3,9 @@ ghost use Rattle.std.specs.Prelude.{◌≡◌, ◌≤◌, ◌⊎◌, length, IfO
 ghost use Rattle.py_tree.specs.View.{dict_tree, expr_tree, exprs, list_tree, opt_box, opt_exprs, set_tree, slice_tree, tuple_tree};
 ghost use Rattle.py_bytecode.specs.Objects as object;
 ghost use Rattle.py_forms.specs.Elements.{keyed, pairs, sides, unkeyed};
-ghost use Rattle.py_forms.specs.Emitting.{Next, emit as emitting};
+ghost use Rattle.py_forms.specs.Emitting.{◌▸◌, emit as emitting};
 ghost use Rattle.py_forms.specs.EmissionParts.{display, elements, in_turn, slice_step, updates, value_or, values};
-ghost use Rattle.py_meaning.specs.Emission.{all_emissions, emission, opt_emission, opt_emissions};
+ghost use Rattle.py_emission.specs.Emission.{all_emissions, emission, opt_emission, opt_emissions};
 ghost use Rattle.py_emit.specs.States.{Goes, Same, rest, state};
 
 use crate::elements::{compile_unpacked, has_star};
@@ -18,7 +18,7 @@ use py_tree::{Expr, ExprDict, ExprList, ExprSet, ExprSlice, ExprTuple};
 #[cycle(code)]
 #[tactic(auto, using(crate::proofs::Steps::steps))]
 pub(crate) fn compile_list(em: &mut Emitter, e: &ExprList) -> Result<(), CodegenError>
-    ensures goes { (k : Next) → Goes result (k (state em.new)) (emission (rest em.old).opts.optimize (list_tree e.now) k (state em.old)) }
+    ensures goes { Goes result (state em.new) (emission (list_tree e.now) (state em.old)) }
     ensures same { Same result (rest em.new) (rest em.old) }
 {
     em.set_location(e.location);
@@ -33,7 +33,7 @@ pub(crate) fn compile_list(em: &mut Emitter, e: &ExprList) -> Result<(), Codegen
 #[cycle(code)]
 #[tactic(auto, using(crate::proofs::Steps::steps))]
 pub(crate) fn compile_tuple(em: &mut Emitter, e: &ExprTuple) -> Result<(), CodegenError>
-    ensures goes { (k : Next) → Goes result (k (state em.new)) (emission (rest em.old).opts.optimize (tuple_tree e.now) k (state em.old)) }
+    ensures goes { Goes result (state em.new) (emission (tuple_tree e.now) (state em.old)) }
     ensures same { Same result (rest em.new) (rest em.old) }
 {
     em.set_location(e.location);
@@ -48,7 +48,7 @@ pub(crate) fn compile_tuple(em: &mut Emitter, e: &ExprTuple) -> Result<(), Codeg
 #[cycle(code)]
 #[tactic(auto, using(crate::proofs::Steps::steps))]
 pub(crate) fn compile_set(em: &mut Emitter, e: &ExprSet) -> Result<(), CodegenError>
-    ensures goes { (k : Next) → Goes result (k (state em.new)) (emission (rest em.old).opts.optimize (set_tree e.now) k (state em.old)) }
+    ensures goes { Goes result (state em.new) (emission (set_tree e.now) (state em.old)) }
     ensures same { Same result (rest em.new) (rest em.old) }
 {
     em.set_location(e.location);
@@ -69,7 +69,7 @@ fn compile_display(
     build: Instruction,
     unpack: Instruction,
 ) -> Result<(), CodegenError>
-    ensures goes { (k : Next) → Goes result (k (state em.new)) (display build unpack (elements (all_emissions (rest em.old).opts.optimize (exprs expr_tree elts.now))) k (state em.old)) }
+    ensures goes { Goes result (state em.new) (display build unpack (elements (all_emissions (exprs expr_tree elts.now))) (state em.old)) }
     ensures same { Same result (rest em.new) (rest em.old) }
 {
     if has_star(elts) {
@@ -82,7 +82,7 @@ fn compile_display(
 #[cycle(code)]
 #[tactic(auto, using(crate::proofs::Steps::steps))]
 pub(crate) fn compile_dict(em: &mut Emitter, e: &ExprDict) -> Result<(), CodegenError>
-    ensures goes { (k : Next) → Goes result (k (state em.new)) (emission (rest em.old).opts.optimize (dict_tree e.now) k (state em.old)) }
+    ensures goes { Goes result (state em.new) (emission (dict_tree e.now) (state em.old)) }
     ensures same { Same result (rest em.new) (rest em.old) }
 {
     em.set_location(e.location);
@@ -105,8 +105,8 @@ fn pair_count(e: &ExprDict) -> usize
 /// Emits the pairs that have a key. Answers how many there are.
 #[cycle(code)]
 fn compile_pairs(em: &mut Emitter, e: &ExprDict) -> Result<usize, CodegenError>
-    ensures count { IfOk result (λ n. n ≡ length (keyed (pairs (opt_emissions (rest em.old).opts.optimize (opt_exprs expr_tree e.now.keys)) (values (all_emissions (rest em.old).opts.optimize (exprs expr_tree e.now.values)))))) }
-    ensures goes { (k : Next) → Goes result (k (state em.new)) (in_turn (sides (keyed (pairs (opt_emissions (rest em.old).opts.optimize (opt_exprs expr_tree e.now.keys)) (values (all_emissions (rest em.old).opts.optimize (exprs expr_tree e.now.values)))))) k (state em.old)) }
+    ensures count { IfOk result (λ n. n ≡ length (keyed (pairs (opt_emissions (opt_exprs expr_tree e.now.keys)) (values (all_emissions (exprs expr_tree e.now.values)))))) }
+    ensures goes { Goes result (state em.new) (in_turn (sides (keyed (pairs (opt_emissions (opt_exprs expr_tree e.now.keys)) (values (all_emissions (exprs expr_tree e.now.values)))))) (state em.old)) }
     ensures same { Same result (rest em.new) (rest em.old) }
 {
     let keys = e.keys.as_slice();
@@ -125,7 +125,7 @@ fn compile_pairs(em: &mut Emitter, e: &ExprDict) -> Result<usize, CodegenError>
 /// Emits the values that have no key, each of which is added to the map.
 #[cycle(code)]
 fn compile_updates(em: &mut Emitter, e: &ExprDict) -> Result<(), CodegenError>
-    ensures goes { (k : Next) → Goes result (k (state em.new)) (updates (unkeyed (pairs (opt_emissions (rest em.old).opts.optimize (opt_exprs expr_tree e.now.keys)) (values (all_emissions (rest em.old).opts.optimize (exprs expr_tree e.now.values))))) k (state em.old)) }
+    ensures goes { Goes result (state em.new) (updates (unkeyed (pairs (opt_emissions (opt_exprs expr_tree e.now.keys)) (values (all_emissions (exprs expr_tree e.now.values))))) (state em.old)) }
     ensures same { Same result (rest em.new) (rest em.old) }
 {
     let keys = e.keys.as_slice();
@@ -141,7 +141,7 @@ fn compile_updates(em: &mut Emitter, e: &ExprDict) -> Result<(), CodegenError>
 /// Emits a value that is added to the map below it.
 #[cycle(code)]
 fn compile_update(em: &mut Emitter, value: &Expr) -> Result<(), CodegenError>
-    ensures goes { (k : Next) → Goes result (k (state em.new)) (emission (rest em.old).opts.optimize (expr_tree value.now) (emitting Instruction.DictUpdate 0 k) (state em.old)) }
+    ensures goes { Goes result (state em.new) ((emission (expr_tree value.now) ▸ emitting Instruction.DictUpdate 0) (state em.old)) }
     ensures same { Same result (rest em.new) (rest em.old) }
 {
     compile_expression(em, value)?;
@@ -152,7 +152,7 @@ fn compile_update(em: &mut Emitter, value: &Expr) -> Result<(), CodegenError>
 #[cycle(code)]
 #[tactic(auto, using(crate::proofs::Steps::steps))]
 pub(crate) fn compile_slice(em: &mut Emitter, e: &ExprSlice) -> Result<(), CodegenError>
-    ensures goes { (k : Next) → Goes result (k (state em.new)) (emission (rest em.old).opts.optimize (slice_tree e.now) k (state em.old)) }
+    ensures goes { Goes result (state em.new) (emission (slice_tree e.now) (state em.old)) }
     ensures same { Same result (rest em.new) (rest em.old) }
 {
     em.set_location(e.location);
@@ -165,7 +165,7 @@ pub(crate) fn compile_slice(em: &mut Emitter, e: &ExprSlice) -> Result<(), Codeg
 #[cycle(code)]
 #[tactic(auto, using(py_bytecode::proofs::View::views))]
 fn compile_bound(em: &mut Emitter, bound: &Option<Box<Expr>>) -> Result<(), CodegenError>
-    ensures goes { (k : Next) → Goes result (k (state em.new)) (value_or object.none (opt_emission (rest em.old).opts.optimize (opt_box expr_tree bound.now)) k (state em.old)) }
+    ensures goes { Goes result (state em.new) (value_or object.none (opt_emission (opt_box expr_tree bound.now)) (state em.old)) }
     ensures same { Same result (rest em.new) (rest em.old) }
 {
     match bound {
@@ -177,7 +177,7 @@ fn compile_bound(em: &mut Emitter, bound: &Option<Box<Expr>>) -> Result<(), Code
 /// Emits the step of a slice, where there is one, and the instruction that builds the slice.
 #[cycle(code)]
 fn compile_step(em: &mut Emitter, step: &Option<Box<Expr>>) -> Result<(), CodegenError>
-    ensures goes { (k : Next) → Goes result (k (state em.new)) (slice_step (opt_emission (rest em.old).opts.optimize (opt_box expr_tree step.now)) k (state em.old)) }
+    ensures goes { Goes result (state em.new) (slice_step (opt_emission (opt_box expr_tree step.now)) (state em.old)) }
     ensures same { Same result (rest em.new) (rest em.old) }
 {
     match step {

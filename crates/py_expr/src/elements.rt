@@ -2,9 +2,8 @@
 ghost use Rattle.std.specs.Prelude.{◌≡◌, ◌<◌, ℕ, [], length, IfOk};
 ghost use Rattle.py_tree.specs.View.{expr_tree, exprs};
 ghost use Rattle.py_forms.specs.Elements.{groups, starred};
-ghost use Rattle.py_forms.specs.Emitting.{Next};
 ghost use Rattle.py_forms.specs.EmissionParts.{built, elements, in_turn, unpacked};
-ghost use Rattle.py_meaning.specs.Emission.{all_emissions, emissions, stores};
+ghost use Rattle.py_emission.specs.Emission.{all_emissions, emissions, stores};
 ghost use Rattle.py_emit.specs.States.{Goes, Same, rest, state};
 ghost use Rattle.py_expr.specs.Turns.{is_spread, groups_by, element_behind, run_behind, runs, closed};
 
@@ -16,7 +15,7 @@ use py_tree::Expr;
 
 /// Whether an element is starred.
 pub(crate) fn has_star(elts: &[Expr]) -> bool
-    ensures { (l : ℕ) → result ≡ starred (elements (all_emissions l (exprs expr_tree elts.now))) }
+    ensures { result ≡ starred (elements (all_emissions (exprs expr_tree elts.now))) }
 {
     for elt in elts {
         if is_star(elt) {
@@ -29,8 +28,8 @@ pub(crate) fn has_star(elts: &[Expr]) -> bool
 /// Whether an expression is starred.
 #[tactic(auto, using(py_tree::proofs::View::trees))]
 pub(crate) fn is_star(elt: &Expr) -> bool
-    ensures element { (l : ℕ) → result ≡ is_spread (emissions l (expr_tree elt.now)).element }
-    ensures target { (l : ℕ) → result ≡ is_spread (stores l (expr_tree elt.now)).element }
+    ensures element { result ≡ is_spread (emissions (expr_tree elt.now)).element }
+    ensures target { result ≡ is_spread (stores (expr_tree elt.now)).element }
 {
     match elt {
         Expr::Starred(_) => true,
@@ -45,7 +44,7 @@ pub(crate) fn compile_unpacked(
     elts: &[Expr],
     unpack: Instruction,
 ) -> Result<(), CodegenError>
-    ensures goes { (k : Next) → Goes result (k (state em.new)) (unpacked unpack (elements (all_emissions (rest em.old).opts.optimize (exprs expr_tree elts.now))) k (state em.old)) }
+    ensures goes { Goes result (state em.new) (unpacked unpack (elements (all_emissions (exprs expr_tree elts.now))) (state em.old)) }
     ensures same { Same result (rest em.new) (rest em.old) }
 {
     let groups = compile_groups(em, elts)?;
@@ -56,8 +55,8 @@ pub(crate) fn compile_unpacked(
 /// such groups there are.
 #[cycle(code)]
 pub(crate) fn compile_groups(em: &mut Emitter, elts: &[Expr]) -> Result<usize, CodegenError>
-    ensures count { IfOk result (λ n. n ≡ length (groups (built Instruction.BuildTuple) [] (elements (all_emissions (rest em.old).opts.optimize (exprs expr_tree elts.now))))) }
-    ensures goes { (k : Next) → Goes result (k (state em.new)) (in_turn (groups (built Instruction.BuildTuple) [] (elements (all_emissions (rest em.old).opts.optimize (exprs expr_tree elts.now)))) k (state em.old)) }
+    ensures count { IfOk result (λ n. n ≡ length (groups (built Instruction.BuildTuple) [] (elements (all_emissions (exprs expr_tree elts.now))))) }
+    ensures goes { Goes result (state em.new) (in_turn (groups (built Instruction.BuildTuple) [] (elements (all_emissions (exprs expr_tree elts.now)))) (state em.old)) }
     ensures same { Same result (rest em.new) (rest em.old) }
 {
     let mut groups = 0;
@@ -74,8 +73,8 @@ pub(crate) fn compile_groups(em: &mut Emitter, elts: &[Expr]) -> Result<usize, C
 /// complete now.
 #[cycle(code)]
 fn compile_element(em: &mut Emitter, elt: &Expr, run: usize) -> Result<usize, CodegenError>
-    ensures count { IfOk result (λ n. n ≡ groups_by run (emissions (rest em.old).opts.optimize (expr_tree elt.now)).element) }
-    ensures goes { (k : Next) → Goes result (k (state em.new)) (element_behind run (emissions (rest em.old).opts.optimize (expr_tree elt.now)).element k (state em.old)) }
+    ensures count { IfOk result (λ n. n ≡ groups_by run (emissions (expr_tree elt.now)).element) }
+    ensures goes { Goes result (state em.new) (element_behind run (emissions (expr_tree elt.now)).element (state em.old)) }
     ensures same { Same result (rest em.new) (rest em.old) }
 {
     match elt {
@@ -94,7 +93,7 @@ fn compile_element(em: &mut Emitter, elt: &Expr, run: usize) -> Result<usize, Co
 /// How many plain elements stand together behind an element, where so many stand before it.
 fn run_after(elt: &Expr, run: usize) -> usize
     requires { run < 0xffff_ffff_ffff_ffff }
-    ensures { (l : ℕ) → result ≡ run_behind run (emissions l (expr_tree elt.now)).element }
+    ensures { result ≡ run_behind run (emissions (expr_tree elt.now)).element }
 {
     if is_star(elt) { 0 } else { run + 1 }
 }
@@ -102,7 +101,7 @@ fn run_after(elt: &Expr, run: usize) -> usize
 /// Makes a tuple of a run of so many elements, where there are any. Answers how many tuples that is.
 pub(crate) fn close_run(em: &mut Emitter, run: usize) -> Result<usize, CodegenError>
     ensures count { IfOk result (λ n. n ≡ runs run) }
-    ensures goes { (k : Next) → Goes result (k (state em.new)) (closed run k (state em.old)) }
+    ensures goes { Goes result (state em.new) (closed run (state em.old)) }
     ensures same { Same result (rest em.new) (rest em.old) }
 {
     if run == 0 {

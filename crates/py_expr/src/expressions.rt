@@ -2,8 +2,7 @@
 ghost use Rattle.std.specs.Prelude.{◌≡◌};
 ghost use Rattle.py_tree.specs.View.{attribute_tree, bin_op_tree, expr_tree, exprs, if_exp_tree, name_tree, starred_tree, subscript_tree, unary_op_tree};
 ghost use Rattle.py_forms.specs.TableParts.{binary_case, unary_case};
-ghost use Rattle.py_forms.specs.Emitting.{Next};
-ghost use Rattle.py_meaning.specs.Emission.{emission, emission_of_exprs, unbuilt};
+ghost use Rattle.py_emission.specs.Emission.{emission, emission_of_exprs, unbuilt};
 ghost use Rattle.py_emit.specs.States.{Goes, Same, rest, state};
 
 use crate::calls::compile_call;
@@ -27,7 +26,7 @@ use py_tree::{
 #[cycle(code)]
 #[tactic(auto, using(py_tree::proofs::View::trees))]
 pub fn compile_expression(em: &mut Emitter, expr: &Expr) -> Result<(), CodegenError>
-    ensures goes { (k : Next) → Goes result (k (state em.new)) (emission (rest em.old).opts.optimize (expr_tree expr.now) k (state em.old)) }
+    ensures goes { Goes result (state em.new) (emission (expr_tree expr.now) (state em.old)) }
     ensures same { Same result (rest em.new) (rest em.old) }
 {
     match expr {
@@ -64,7 +63,7 @@ pub fn compile_expression(em: &mut Emitter, expr: &Expr) -> Result<(), CodegenEr
 /// Refuses a node that stands there, of a kind that is not compiled yet.
 #[tactic(auto, using(crate::proofs::Steps::steps))]
 pub fn refuse_unbuilt(em: &mut Emitter, location: SourceLocation) -> Result<(), CodegenError>
-    ensures goes { (k : Next) → Goes result (k (state em.new)) (unbuilt location k (state em.old)) }
+    ensures goes { Goes result (state em.new) (unbuilt location (state em.old)) }
     ensures same { Same result (rest em.new) (rest em.old) }
 {
     em.set_location(location);
@@ -74,7 +73,7 @@ pub fn refuse_unbuilt(em: &mut Emitter, location: SourceLocation) -> Result<(), 
 #[cycle(code)]
 #[tactic(auto, using(crate::proofs::Steps::steps))]
 fn compile_bin_op(em: &mut Emitter, e: &ExprBinOp) -> Result<(), CodegenError>
-    ensures goes { (k : Next) → Goes result (k (state em.new)) (emission (rest em.old).opts.optimize (bin_op_tree e.now) k (state em.old)) }
+    ensures goes { Goes result (state em.new) (emission (bin_op_tree e.now) (state em.old)) }
     ensures same { Same result (rest em.new) (rest em.old) }
 {
     em.set_location(e.location);
@@ -108,7 +107,7 @@ pub fn case_of(op: Operator) -> u32
 #[cycle(code)]
 #[tactic(auto, using(crate::proofs::Steps::steps))]
 pub(crate) fn compile_unary_op(em: &mut Emitter, e: &ExprUnaryOp) -> Result<(), CodegenError>
-    ensures goes { (k : Next) → Goes result (k (state em.new)) (emission (rest em.old).opts.optimize (unary_op_tree e.now) k (state em.old)) }
+    ensures goes { Goes result (state em.new) (emission (unary_op_tree e.now) (state em.old)) }
     ensures same { Same result (rest em.new) (rest em.old) }
 {
     em.set_location(e.location);
@@ -132,7 +131,7 @@ fn unary_case_of(op: UnaryOp) -> u32
 #[cycle(code)]
 #[tactic(auto, using(crate::proofs::Steps::steps))]
 fn compile_if_exp(em: &mut Emitter, e: &ExprIfExp) -> Result<(), CodegenError>
-    ensures goes { (k : Next) → Goes result (k (state em.new)) (emission (rest em.old).opts.optimize (if_exp_tree e.now) k (state em.old)) }
+    ensures goes { Goes result (state em.new) (emission (if_exp_tree e.now) (state em.old)) }
     ensures same { Same result (rest em.new) (rest em.old) }
 {
     em.set_location(e.location);
@@ -154,7 +153,7 @@ fn compile_if_exp(em: &mut Emitter, e: &ExprIfExp) -> Result<(), CodegenError>
 #[cycle(code)]
 #[tactic(auto, using(crate::proofs::Steps::steps))]
 fn compile_attribute(em: &mut Emitter, e: &ExprAttribute) -> Result<(), CodegenError>
-    ensures goes { (k : Next) → Goes result (k (state em.new)) (emission (rest em.old).opts.optimize (attribute_tree e.now) k (state em.old)) }
+    ensures goes { Goes result (state em.new) (emission (attribute_tree e.now) (state em.old)) }
     ensures same { Same result (rest em.new) (rest em.old) }
 {
     em.set_location(e.location);
@@ -165,7 +164,7 @@ fn compile_attribute(em: &mut Emitter, e: &ExprAttribute) -> Result<(), CodegenE
 #[cycle(code)]
 #[tactic(auto, using(crate::proofs::Steps::steps))]
 fn compile_subscript(em: &mut Emitter, e: &ExprSubscript) -> Result<(), CodegenError>
-    ensures goes { (k : Next) → Goes result (k (state em.new)) (emission (rest em.old).opts.optimize (subscript_tree e.now) k (state em.old)) }
+    ensures goes { Goes result (state em.new) (emission (subscript_tree e.now) (state em.old)) }
     ensures same { Same result (rest em.new) (rest em.old) }
 {
     em.set_location(e.location);
@@ -178,7 +177,7 @@ fn compile_subscript(em: &mut Emitter, e: &ExprSubscript) -> Result<(), CodegenE
 /// Refuses a starred expression that is no element.
 #[tactic(auto, using(crate::proofs::Steps::steps))]
 fn compile_starred(em: &mut Emitter, e: &ExprStarred) -> Result<(), CodegenError>
-    ensures goes { (k : Next) → Goes result (k (state em.new)) (emission (rest em.old).opts.optimize (starred_tree e.now) k (state em.old)) }
+    ensures goes { Goes result (state em.new) (emission (starred_tree e.now) (state em.old)) }
     ensures same { Same result (rest em.new) (rest em.old) }
 {
     em.set_location(e.location);
@@ -187,7 +186,7 @@ fn compile_starred(em: &mut Emitter, e: &ExprStarred) -> Result<(), CodegenError
 
 #[tactic(auto, using(crate::proofs::Steps::steps))]
 pub(crate) fn compile_name(em: &mut Emitter, e: &ExprName) -> Result<(), CodegenError>
-    ensures goes { (k : Next) → Goes result (k (state em.new)) (emission (rest em.old).opts.optimize (name_tree e.now) k (state em.old)) }
+    ensures goes { Goes result (state em.new) (emission (name_tree e.now) (state em.old)) }
     ensures same { Same result (rest em.new) (rest em.old) }
 {
     em.set_location(e.location);
@@ -197,7 +196,7 @@ pub(crate) fn compile_name(em: &mut Emitter, e: &ExprName) -> Result<(), Codegen
 /// Emits expressions one after the other.
 #[cycle(code)]
 pub(crate) fn compile_expressions(em: &mut Emitter, items: &[Expr]) -> Result<(), CodegenError>
-    ensures goes { (k : Next) → Goes result (k (state em.new)) (emission_of_exprs (rest em.old).opts.optimize (exprs expr_tree items.now) k (state em.old)) }
+    ensures goes { Goes result (state em.new) (emission_of_exprs (exprs expr_tree items.now) (state em.old)) }
     ensures same { Same result (rest em.new) (rest em.old) }
 {
     for item in items {

@@ -4,9 +4,9 @@ ghost use Rattle.py_tree.specs.View.{expr_tree, keywords as keyword_trees};
 ghost use Rattle.py_bytecode.specs.View.{constant};
 ghost use Rattle.py_bytecode.specs.Objects.{str, tuple};
 ghost use Rattle.py_forms.specs.Elements.{groups, starred};
-ghost use Rattle.py_forms.specs.Emitting.{Next, emit_constant};
+ghost use Rattle.py_forms.specs.Emitting.{emit_constant, keep};
 ghost use Rattle.py_forms.specs.EmissionParts.{checked, in_turn, joined_map, map_of, names_in, no_assignment, unless_debug, values_in};
-ghost use Rattle.py_meaning.specs.Emission.{emission, keyword_emissions};
+ghost use Rattle.py_emission.specs.Emission.{emission, keyword_emissions};
 ghost use Rattle.py_emit.specs.States.{Goes, IsStarved, Same, rest, state};
 ghost use Rattle.py_expr.specs.Calling.{checked_name, closed_map, keyword_behind, keyword_emission, named_if_any, named_values};
 ghost use Rattle.py_expr.specs.Turns.{groups_by, run_behind, runs};
@@ -21,7 +21,7 @@ use std::alloc::{AllocError, Global};
 
 /// Whether a keyword is unpacked.
 pub(crate) fn has_double_star(keywords: &[Keyword]) -> bool
-    ensures { (l : ℕ) → result ≡ starred (keyword_emissions l (keyword_trees expr_tree keywords.now)) }
+    ensures { result ≡ starred (keyword_emissions (keyword_trees expr_tree keywords.now)) }
 {
     for keyword in keywords {
         if keyword.arg.is_none() {
@@ -33,7 +33,7 @@ pub(crate) fn has_double_star(keywords: &[Keyword]) -> bool
 
 /// Leaves where a keyword is named `__debug__`.
 pub(crate) fn check_keywords(em: &mut Emitter, keywords: &[Keyword]) -> Result<(), CodegenError>
-    ensures goes { (l : ℕ) (k : Next) → Goes result (k (state em.new)) (checked (keyword_emissions l (keyword_trees expr_tree keywords.now)) k (state em.old)) }
+    ensures goes { Goes result (state em.new) (checked (keyword_emissions (keyword_trees expr_tree keywords.now)) (state em.old)) }
     ensures same { Same result (rest em.new) (rest em.old) }
 {
     for keyword in keywords {
@@ -43,7 +43,7 @@ pub(crate) fn check_keywords(em: &mut Emitter, keywords: &[Keyword]) -> Result<(
 }
 
 fn check_keyword(em: &mut Emitter, keyword: &Keyword) -> Result<(), CodegenError>
-    ensures goes { (k : Next) → Goes result (k (state em.new)) (checked_name keyword.now.arg k (state em.old)) }
+    ensures goes { Goes result (state em.new) (checked_name keyword.now.arg (state em.old)) }
     ensures same { Same result (rest em.new) (rest em.old) }
 {
     match &keyword.arg {
@@ -53,7 +53,7 @@ fn check_keyword(em: &mut Emitter, keyword: &Keyword) -> Result<(), CodegenError
 }
 
 fn check_name(em: &mut Emitter, name: &Text) -> Result<(), CodegenError>
-    ensures goes { (k : Next) → Goes result (k (state em.new)) (unless_debug no_assignment name.now (λ j. j) k (state em.old)) }
+    ensures goes { Goes result (state em.new) (unless_debug no_assignment name.now keep (state em.old)) }
     ensures same { Same result (rest em.new) (rest em.old) }
 {
     if is_debug(name.as_str()) {
@@ -68,7 +68,7 @@ pub(crate) fn compile_named_values(
     em: &mut Emitter,
     keywords: &[Keyword],
 ) -> Result<(), CodegenError>
-    ensures goes { (k : Next) → Goes result (k (state em.new)) (named_if_any (keyword_emissions (rest em.old).opts.optimize (keyword_trees expr_tree keywords.now)) k (state em.old)) }
+    ensures goes { Goes result (state em.new) (named_if_any (keyword_emissions (keyword_trees expr_tree keywords.now)) (state em.old)) }
     ensures same { Same result (rest em.new) (rest em.old) }
 {
     if keywords.is_empty() {
@@ -79,7 +79,7 @@ pub(crate) fn compile_named_values(
 
 #[cycle(code)]
 fn compile_some_named(em: &mut Emitter, keywords: &[Keyword]) -> Result<(), CodegenError>
-    ensures goes { (k : Next) → Goes result (k (state em.new)) (named_values (keyword_emissions (rest em.old).opts.optimize (keyword_trees expr_tree keywords.now)) k (state em.old)) }
+    ensures goes { Goes result (state em.new) (named_values (keyword_emissions (keyword_trees expr_tree keywords.now)) (state em.old)) }
     ensures same { Same result (rest em.new) (rest em.old) }
 {
     check_keywords(em, keywords)?;
@@ -90,7 +90,7 @@ fn compile_some_named(em: &mut Emitter, keywords: &[Keyword]) -> Result<(), Code
 /// Emits the values of keywords one after the other.
 #[cycle(code)]
 fn compile_values(em: &mut Emitter, keywords: &[Keyword]) -> Result<(), CodegenError>
-    ensures goes { (k : Next) → Goes result (k (state em.new)) (in_turn (values_in (keyword_emissions (rest em.old).opts.optimize (keyword_trees expr_tree keywords.now))) k (state em.old)) }
+    ensures goes { Goes result (state em.new) (in_turn (values_in (keyword_emissions (keyword_trees expr_tree keywords.now))) (state em.old)) }
     ensures same { Same result (rest em.new) (rest em.old) }
 {
     for keyword in keywords {
@@ -101,7 +101,7 @@ fn compile_values(em: &mut Emitter, keywords: &[Keyword]) -> Result<(), CodegenE
 
 /// Emits the tuple of the names of keywords.
 fn load_names(em: &mut Emitter, keywords: &[Keyword]) -> Result<(), CodegenError>
-    ensures goes { (l : ℕ) (k : Next) → Goes result (k (state em.new)) (emit_constant Instruction.LoadConst (tuple (names_in (keyword_emissions l (keyword_trees expr_tree keywords.now)))) k (state em.old)) }
+    ensures goes { Goes result (state em.new) (emit_constant Instruction.LoadConst (tuple (names_in (keyword_emissions (keyword_trees expr_tree keywords.now)))) (state em.old)) }
     ensures same { Same result (rest em.new) (rest em.old) }
 {
     match name_tuple(em.alloc(), keywords) {
@@ -113,7 +113,7 @@ fn load_names(em: &mut Emitter, keywords: &[Keyword]) -> Result<(), CodegenError
 /// The tuple of the names of keywords.
 #[tactic(auto, using(py_bytecode::proofs::View::views))]
 fn name_tuple(alloc: Global, keywords: &[Keyword]) -> Result<ConstantData, AllocError>
-    ensures { IfOk result (λ c. (l : ℕ) → constant c ≡ tuple (names_in (keyword_emissions l (keyword_trees expr_tree keywords.now)))) }
+    ensures { IfOk result (λ c. constant c ≡ tuple (names_in (keyword_emissions (keyword_trees expr_tree keywords.now)))) }
 {
     let mut names = Vec::new(alloc);
     for keyword in keywords {
@@ -131,7 +131,7 @@ pub(crate) fn compile_keyword_map(
     em: &mut Emitter,
     keywords: &[Keyword],
 ) -> Result<(), CodegenError>
-    ensures goes { (k : Next) → Goes result (k (state em.new)) (joined_map (groups map_of [] (keyword_emissions (rest em.old).opts.optimize (keyword_trees expr_tree keywords.now))) k (state em.old)) }
+    ensures goes { Goes result (state em.new) (joined_map (groups map_of [] (keyword_emissions (keyword_trees expr_tree keywords.now))) (state em.old)) }
     ensures same { Same result (rest em.new) (rest em.old) }
 {
     let maps = compile_maps(em, keywords)?;
@@ -145,8 +145,8 @@ pub(crate) fn compile_keyword_map(
 /// maps there are.
 #[cycle(code)]
 fn compile_maps(em: &mut Emitter, keywords: &[Keyword]) -> Result<usize, CodegenError>
-    ensures count { IfOk result (λ n. n ≡ length (groups map_of [] (keyword_emissions (rest em.old).opts.optimize (keyword_trees expr_tree keywords.now)))) }
-    ensures goes { (k : Next) → Goes result (k (state em.new)) (in_turn (groups map_of [] (keyword_emissions (rest em.old).opts.optimize (keyword_trees expr_tree keywords.now))) k (state em.old)) }
+    ensures count { IfOk result (λ n. n ≡ length (groups map_of [] (keyword_emissions (keyword_trees expr_tree keywords.now)))) }
+    ensures goes { Goes result (state em.new) (in_turn (groups map_of [] (keyword_emissions (keyword_trees expr_tree keywords.now))) (state em.old)) }
     ensures same { Same result (rest em.new) (rest em.old) }
 {
     let mut maps = 0;
@@ -163,8 +163,8 @@ fn compile_maps(em: &mut Emitter, keywords: &[Keyword]) -> Result<usize, Codegen
 /// complete now.
 #[cycle(code)]
 fn compile_keyword(em: &mut Emitter, keyword: &Keyword, run: usize) -> Result<usize, CodegenError>
-    ensures count { IfOk result (λ n. n ≡ groups_by run (keyword_emission (rest em.old).opts.optimize keyword.now.arg (expr_tree keyword.now.value))) }
-    ensures goes { (k : Next) → Goes result (k (state em.new)) (keyword_behind run (keyword_emission (rest em.old).opts.optimize keyword.now.arg (expr_tree keyword.now.value)) k (state em.old)) }
+    ensures count { IfOk result (λ n. n ≡ groups_by run (keyword_emission keyword.now.arg (expr_tree keyword.now.value))) }
+    ensures goes { Goes result (state em.new) (keyword_behind run (keyword_emission keyword.now.arg (expr_tree keyword.now.value)) (state em.old)) }
     ensures same { Same result (rest em.new) (rest em.old) }
 {
     match &keyword.arg {
@@ -184,7 +184,7 @@ fn compile_keyword(em: &mut Emitter, keyword: &Keyword, run: usize) -> Result<us
 /// How many named values stand together behind a keyword, where so many stand before it.
 fn run_after(keyword: &Keyword, run: usize) -> usize
     requires { run < 0xffff_ffff_ffff_ffff }
-    ensures { (l : ℕ) → result ≡ run_behind run (keyword_emission l keyword.now.arg (expr_tree keyword.now.value)) }
+    ensures { result ≡ run_behind run (keyword_emission keyword.now.arg (expr_tree keyword.now.value)) }
 {
     if keyword.arg.is_none() { 0 } else { run + 1 }
 }
@@ -192,7 +192,7 @@ fn run_after(keyword: &Keyword, run: usize) -> usize
 /// Makes a map of a run of so many named values, where there are any. Answers how many maps that is.
 fn close_map(em: &mut Emitter, run: usize) -> Result<usize, CodegenError>
     ensures count { IfOk result (λ n. n ≡ runs run) }
-    ensures goes { (k : Next) → Goes result (k (state em.new)) (closed_map run k (state em.old)) }
+    ensures goes { Goes result (state em.new) (closed_map run (state em.old)) }
     ensures same { Same result (rest em.new) (rest em.old) }
 {
     if run == 0 {
@@ -205,7 +205,7 @@ fn close_map(em: &mut Emitter, run: usize) -> Result<usize, CodegenError>
 /// Emits the name of a keyword.
 #[tactic(auto, using(py_bytecode::proofs::View::views))]
 fn load_name(em: &mut Emitter, name: &Text) -> Result<(), CodegenError>
-    ensures goes { (k : Next) → Goes result (k (state em.new)) (emit_constant Instruction.LoadConst (str name.now) k (state em.old)) }
+    ensures goes { Goes result (state em.new) (emit_constant Instruction.LoadConst (str name.now) (state em.old)) }
     ensures same { Same result (rest em.new) (rest em.old) }
 {
     let value = em.text(name.as_str())?;

@@ -1,10 +1,10 @@
 //! The returns of values.
 ghost use Rattle.std.specs.Prelude.{ℕ};
 ghost use Rattle.py_tree.specs.View.{constant_tree, expr_tree, exprs, joined_str_tree, name_tree};
-ghost use Rattle.py_meaning.specs.Texts.{texts_of};
-ghost use Rattle.py_forms.specs.Emitting.{Next, emit as emitting};
+ghost use Rattle.py_emission.specs.Texts.{texts_of};
+ghost use Rattle.py_forms.specs.Emitting.{◌▸◌, emit as emitting};
 ghost use Rattle.py_forms.specs.EmissionParts.{values};
-ghost use Rattle.py_meaning.specs.Emission.{all_emissions, emission, emission_of_return, joined_return};
+ghost use Rattle.py_emission.specs.Emission.{all_emissions, emission, emission_of_return, joined_return, name_return};
 ghost use Rattle.py_emit.specs.States.{Goes, Same, rest, state};
 
 use crate::expressions::compile_expression;
@@ -17,7 +17,7 @@ use py_tree::{Expr, ExprConstant, ExprJoinedStr, ExprName};
 /// Emits the code that returns an expression's value: a constant by one instruction.
 #[tactic(auto, using(py_tree::proofs::View::trees, crate::proofs::Steps::steps))]
 pub fn compile_return(em: &mut Emitter, expr: &Expr) -> Result<(), CodegenError>
-    ensures goes { (k : Next) → Goes result (k (state em.new)) (emission_of_return (rest em.old).opts.optimize (expr_tree expr.now) k (state em.old)) }
+    ensures goes { Goes result (state em.new) (emission_of_return (expr_tree expr.now) (state em.old)) }
     ensures same { Same result (rest em.new) (rest em.old) }
 {
     match expr {
@@ -31,7 +31,7 @@ pub fn compile_return(em: &mut Emitter, expr: &Expr) -> Result<(), CodegenError>
 /// Emits a value and its return.
 #[tactic(auto, using(crate::proofs::Steps::steps))]
 fn return_value(em: &mut Emitter, expr: &Expr) -> Result<(), CodegenError>
-    ensures goes { (k : Next) → Goes result (k (state em.new)) (emission (rest em.old).opts.optimize (expr_tree expr.now) (emitting Instruction.ReturnValue 0 k) (state em.old)) }
+    ensures goes { Goes result (state em.new) ((emission (expr_tree expr.now) ▸ emitting Instruction.ReturnValue 0) (state em.old)) }
     ensures same { Same result (rest em.new) (rest em.old) }
 {
     compile_expression(em, expr)?;
@@ -41,7 +41,7 @@ fn return_value(em: &mut Emitter, expr: &Expr) -> Result<(), CodegenError>
 
 #[tactic(auto, using(crate::proofs::Steps::steps))]
 fn return_constant(em: &mut Emitter, e: &ExprConstant) -> Result<(), CodegenError>
-    ensures goes { (l : ℕ) (k : Next) → Goes result (k (state em.new)) (emission_of_return l (constant_tree e.now) k (state em.old)) }
+    ensures goes { Goes result (state em.new) (emission_of_return (constant_tree e.now) (state em.old)) }
     ensures same { Same result (rest em.new) (rest em.old) }
 {
     em.set_location(e.location);
@@ -51,7 +51,7 @@ fn return_constant(em: &mut Emitter, e: &ExprConstant) -> Result<(), CodegenErro
 
 #[tactic(auto, using(crate::proofs::Steps::steps))]
 fn return_joined_str(em: &mut Emitter, e: &ExprJoinedStr) -> Result<(), CodegenError>
-    ensures goes { (k : Next) → Goes result (k (state em.new)) (emission_of_return (rest em.old).opts.optimize (joined_str_tree e.now) k (state em.old)) }
+    ensures goes { Goes result (state em.new) (emission_of_return (joined_str_tree e.now) (state em.old)) }
     ensures same { Same result (rest em.new) (rest em.old) }
 {
     em.set_location(e.location);
@@ -61,7 +61,7 @@ fn return_joined_str(em: &mut Emitter, e: &ExprJoinedStr) -> Result<(), CodegenE
 /// Emits the code that returns the parts of an f-string joined: one text by one instruction.
 #[tactic(auto, using(py_bytecode::proofs::View::views))]
 fn return_joined(em: &mut Emitter, parts: &[Expr]) -> Result<(), CodegenError>
-    ensures goes { (k : Next) → Goes result (k (state em.new)) (joined_return (texts_of (exprs expr_tree parts.now)) (values (all_emissions (rest em.old).opts.optimize (exprs expr_tree parts.now))) k (state em.old)) }
+    ensures goes { Goes result (state em.new) (joined_return (texts_of (exprs expr_tree parts.now)) (values (all_emissions (exprs expr_tree parts.now))) (state em.old)) }
     ensures same { Same result (rest em.new) (rest em.old) }
 {
     if let Some(value) = whole_text(em, parts)? {
@@ -74,15 +74,24 @@ fn return_joined(em: &mut Emitter, parts: &[Expr]) -> Result<(), CodegenError>
 
 #[tactic(auto, using(crate::proofs::Steps::steps))]
 fn return_name(em: &mut Emitter, e: &ExprName) -> Result<(), CodegenError>
-    ensures goes { (k : Next) → Goes result (k (state em.new)) (emission_of_return (rest em.old).opts.optimize (name_tree e.now) k (state em.old)) }
+    ensures goes { Goes result (state em.new) (emission_of_return (name_tree e.now) (state em.old)) }
     ensures same { Same result (rest em.new) (rest em.old) }
 {
     em.set_location(e.location);
-    if is_debug(e.id.as_str()) {
+    return_access(em, e.id.as_str())
+}
+
+/// Emits the return of what a name stands for, which is a constant where it is `__debug__`.
+#[tactic(auto, unfolding(py_forms::specs::Emitting::by_level, py_emit::specs::States::rest))]
+fn return_access(em: &mut Emitter, name: &str) -> Result<(), CodegenError>
+    ensures goes { Goes result (state em.new) (name_return name.now (state em.old)) }
+    ensures same { Same result (rest em.new) (rest em.old) }
+{
+    if is_debug(name) {
         let opts = em.opts();
         return em.return_const(debug_constant(opts));
     }
-    em.compile_name(NameUsage::Load, e.id.as_str())?;
+    em.compile_name(NameUsage::Load, name)?;
     emit!(em, Instruction::ReturnValue);
     Ok(())
 }

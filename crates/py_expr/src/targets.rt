@@ -4,11 +4,11 @@ ghost use Rattle.std.specs.Prelude.{◌≡◌, ◌<◌, ◌≢◌, ℕ, length};
 ghost use Rattle.py_tree.specs.View.{attribute_tree, expr_tree, exprs, named_expr_tree, subscript_tree};
 ghost use Rattle.py_tree.specs.PythonName.{python_name};
 ghost use Rattle.py_forms.specs.Elements.{after_star, bare, before_star, stars};
-ghost use Rattle.py_forms.specs.Emitting.{Next, Refused, emit_name, refuse, emit as emitting};
-ghost use Rattle.py_forms.specs.EmissionParts.{in_turn, lone_star, unless_debug, unpack, unpack_starred};
-ghost use Rattle.py_meaning.specs.Emission.{all_stores, deletion_name, emission, emission_of_delete, emission_of_deletes, emission_of_store, stores};
+ghost use Rattle.py_forms.specs.Emitting.{◌▸◌, Refused, emit_name, refuse, emit as emitting};
+ghost use Rattle.py_forms.specs.EmissionParts.{in_turn, lone_star, unless_debug, unpack, unpack_starred, unpacking};
+ghost use Rattle.py_emission.specs.Emission.{all_stores, deletion_name, emission, emission_of_delete, emission_of_deletes, emission_of_store, stores};
 ghost use Rattle.py_emit.specs.States.{Goes, Same, rest, state};
-ghost use Rattle.py_expr.specs.Targets.{bare_of, unpacking};
+ghost use Rattle.py_expr.specs.Targets.{bare_of};
 
 use crate::elements::is_star;
 use crate::expressions::compile_expression;
@@ -27,7 +27,7 @@ const MOST_ASIDE: usize = 255;
 #[cycle(code)]
 #[tactic(auto, using(py_tree::proofs::View::trees))]
 pub fn compile_store(em: &mut Emitter, target: &Expr) -> Result<(), CodegenError>
-    ensures goes { (k : Next) → Goes result (k (state em.new)) (emission_of_store (rest em.old).opts.optimize (expr_tree target.now) k (state em.old)) }
+    ensures goes { Goes result (state em.new) (emission_of_store (expr_tree target.now) (state em.old)) }
     ensures same { Same result (rest em.new) (rest em.old) }
 {
     match target {
@@ -54,7 +54,7 @@ fn compile_attribute_change(
     instr: Instruction,
     text: &str,
 ) -> Result<(), CodegenError>
-    ensures goes { (k : Next) → Goes result (k (state em.new)) (unless_debug text.now e.now.attr (λ j. emission (rest em.old).opts.optimize (expr_tree e.now.value.value) (emit_name instr e.now.attr j)) k (state em.old)) }
+    ensures goes { Goes result (state em.new) (unless_debug text.now e.now.attr (emission (expr_tree e.now.value.value) ▸ emit_name instr e.now.attr) (state em.old)) }
     ensures same { Same result (rest em.new) (rest em.old) }
 {
     if is_debug(e.attr.as_str()) {
@@ -71,7 +71,7 @@ fn compile_subscript_change(
     e: &ExprSubscript,
     instr: Instruction,
 ) -> Result<(), CodegenError>
-    ensures goes { (k : Next) → Goes result (k (state em.new)) (emission (rest em.old).opts.optimize (expr_tree e.now.value.value) (emission (rest em.old).opts.optimize (expr_tree e.now.slice.value) (emitting instr 0 k)) (state em.old)) }
+    ensures goes { Goes result (state em.new) ((emission (expr_tree e.now.value.value) ▸ emission (expr_tree e.now.slice.value) ▸ emitting instr 0) (state em.old)) }
     ensures same { Same result (rest em.new) (rest em.old) }
 {
     compile_expression(em, &e.value)?;
@@ -87,7 +87,7 @@ fn compile_unpack(
     location: SourceLocation,
     elts: &[Expr],
 ) -> Result<(), CodegenError>
-    ensures goes { (k : Next) → Goes result (k (state em.new)) (unpack location (all_stores (rest em.old).opts.optimize (exprs expr_tree elts.now)) k (state em.old)) }
+    ensures goes { Goes result (state em.new) (unpack location (all_stores (exprs expr_tree elts.now)) (state em.old)) }
     ensures same { Same result (rest em.new) (rest em.old) }
 {
     emit_unpack(em, location, elts)?;
@@ -100,7 +100,7 @@ fn emit_unpack(
     location: SourceLocation,
     elts: &[Expr],
 ) -> Result<(), CodegenError>
-    ensures goes { (l : ℕ) (k : Next) → Goes result (k (state em.new)) (unpacking location (all_stores l (exprs expr_tree elts.now)) k (state em.old)) }
+    ensures goes { Goes result (state em.new) (unpacking location (all_stores (exprs expr_tree elts.now)) (state em.old)) }
     ensures same { Same result (rest em.new) (rest em.old) }
 {
     let starred = star_count(elts);
@@ -118,8 +118,8 @@ fn emit_starred_unpack(
     starred: usize,
 ) -> Result<(), CodegenError>
     requires some { starred ≢ 0 }
-    requires counted { (l : ℕ) → starred ≡ stars (all_stores l (exprs expr_tree elts.now)) }
-    ensures goes { (l : ℕ) (k : Next) → Goes result (k (state em.new)) (unpack_starred location (all_stores l (exprs expr_tree elts.now)) k (state em.old)) }
+    requires counted { starred ≡ stars (all_stores (exprs expr_tree elts.now)) }
+    ensures goes { Goes result (state em.new) (unpack_starred location (all_stores (exprs expr_tree elts.now)) (state em.old)) }
     ensures same { Same result (rest em.new) (rest em.old) }
 {
     let before = before_star(elts);
@@ -136,7 +136,7 @@ fn emit_starred_unpack(
 
 /// How many targets are starred.
 fn star_count(elts: &[Expr]) -> usize
-    ensures { (l : ℕ) → result ≡ stars (all_stores l (exprs expr_tree elts.now)) }
+    ensures { result ≡ stars (all_stores (exprs expr_tree elts.now)) }
 {
     let mut count = 0;
     for elt in elts {
@@ -149,7 +149,7 @@ fn star_count(elts: &[Expr]) -> usize
 
 /// How many targets stand before the first that is starred.
 fn before_star(elts: &[Expr]) -> usize
-    ensures { (l : ℕ) → result ≡ before_star (all_stores l (exprs expr_tree elts.now)) }
+    ensures { result ≡ before_star (all_stores (exprs expr_tree elts.now)) }
 {
     let mut count = 0;
     for elt in elts {
@@ -164,7 +164,7 @@ fn before_star(elts: &[Expr]) -> usize
 /// Emits the code that stores to each target in turn.
 #[cycle(code)]
 fn compile_stores(em: &mut Emitter, elts: &[Expr]) -> Result<(), CodegenError>
-    ensures goes { (k : Next) → Goes result (k (state em.new)) (in_turn (bare (all_stores (rest em.old).opts.optimize (exprs expr_tree elts.now))) k (state em.old)) }
+    ensures goes { Goes result (state em.new) (in_turn (bare (all_stores (exprs expr_tree elts.now))) (state em.old)) }
     ensures same { Same result (rest em.new) (rest em.old) }
 {
     for elt in elts {
@@ -177,7 +177,7 @@ fn compile_stores(em: &mut Emitter, elts: &[Expr]) -> Result<(), CodegenError>
 #[cycle(code)]
 #[tactic(auto, using(py_tree::proofs::View::trees))]
 fn compile_element_store(em: &mut Emitter, elt: &Expr) -> Result<(), CodegenError>
-    ensures goes { (k : Next) → Goes result (k (state em.new)) (bare_of (stores (rest em.old).opts.optimize (expr_tree elt.now)).element k (state em.old)) }
+    ensures goes { Goes result (state em.new) (bare_of (stores (expr_tree elt.now)).element (state em.old)) }
     ensures same { Same result (rest em.new) (rest em.old) }
 {
     match elt {
@@ -188,7 +188,7 @@ fn compile_element_store(em: &mut Emitter, elt: &Expr) -> Result<(), CodegenErro
 
 /// Refuses a starred target that is no element.
 fn refuse_lone_star(em: &mut Emitter) -> Result<(), CodegenError>
-    ensures goes { (k : Next) → Goes result (k (state em.new)) (refuse (CodegenErrorType.SyntaxError lone_star) (state em.old)) }
+    ensures goes { Goes result (state em.new) (refuse (CodegenErrorType.SyntaxError lone_star) (state em.old)) }
     ensures same { Same result (rest em.new) (rest em.old) }
 {
     refuse!(em, SyntaxError: "starred assignment target must be in a list or tuple");
@@ -197,7 +197,7 @@ fn refuse_lone_star(em: &mut Emitter) -> Result<(), CodegenError>
 /// Refuses an expression that is no target.
 #[tactic(auto, using(crate::proofs::Steps::steps))]
 pub fn refuse_store(em: &mut Emitter, target: &Expr) -> Result<(), CodegenError>
-    ensures goes { (k : Next) → Goes result (k (state em.new)) (refuse (CodegenErrorType.Assign (python_name (expr_tree target.now))) (state em.old)) }
+    ensures goes { Goes result (state em.new) (refuse (CodegenErrorType.Assign (python_name (expr_tree target.now))) (state em.old)) }
     ensures same { Same result (rest em.new) (rest em.old) }
 {
     let name = em.text(target.python_name())?;
@@ -211,7 +211,7 @@ pub fn refuse_store(em: &mut Emitter, target: &Expr) -> Result<(), CodegenError>
 #[cycle(deletions)]
 #[tactic(auto, using(py_tree::proofs::View::trees))]
 pub fn compile_delete(em: &mut Emitter, target: &Expr) -> Result<(), CodegenError>
-    ensures goes { (k : Next) → Goes result (k (state em.new)) (emission_of_delete (rest em.old).opts.optimize (expr_tree target.now) k (state em.old)) }
+    ensures goes { Goes result (state em.new) (emission_of_delete (expr_tree target.now) (state em.old)) }
     ensures same { Same result (rest em.new) (rest em.old) }
 {
     match target {
@@ -235,7 +235,7 @@ pub fn compile_delete(em: &mut Emitter, target: &Expr) -> Result<(), CodegenErro
 /// The first compile fault of the targets as what is deleted, or OutOfMemory.
 #[cycle(deletions)]
 pub fn compile_deletes(em: &mut Emitter, targets: &[Expr]) -> Result<(), CodegenError>
-    ensures goes { (k : Next) → Goes result (k (state em.new)) (emission_of_deletes (rest em.old).opts.optimize (exprs expr_tree targets.now) k (state em.old)) }
+    ensures goes { Goes result (state em.new) (emission_of_deletes (exprs expr_tree targets.now) (state em.old)) }
     ensures same { Same result (rest em.new) (rest em.old) }
 {
     for target in targets {
@@ -247,7 +247,7 @@ pub fn compile_deletes(em: &mut Emitter, targets: &[Expr]) -> Result<(), Codegen
 /// Refuses an expression that cannot be deleted.
 #[tactic(auto, using(crate::proofs::Steps::steps))]
 fn refuse_delete(em: &mut Emitter, target: &Expr) -> Result<(), CodegenError>
-    ensures goes { (k : Next) → Goes result (k (state em.new)) (refuse (CodegenErrorType.Delete (deletion_name (expr_tree target.now))) (state em.old)) }
+    ensures goes { Goes result (state em.new) (refuse (CodegenErrorType.Delete (deletion_name (expr_tree target.now))) (state em.old)) }
     ensures same { Same result (rest em.new) (rest em.old) }
 {
     let name = em.text(deletion_name(target))?;
@@ -270,7 +270,7 @@ fn deletion_name(target: &Expr) -> &'static str
 #[cycle(code)]
 #[tactic(auto, using(crate::proofs::Steps::steps))]
 pub(crate) fn compile_named_expr(em: &mut Emitter, e: &ExprNamedExpr) -> Result<(), CodegenError>
-    ensures goes { (k : Next) → Goes result (k (state em.new)) (emission (rest em.old).opts.optimize (named_expr_tree e.now) k (state em.old)) }
+    ensures goes { Goes result (state em.new) (emission (named_expr_tree e.now) (state em.old)) }
     ensures same { Same result (rest em.new) (rest em.old) }
 {
     em.set_location(e.location);

@@ -3,11 +3,10 @@ ghost use Rattle.std.specs.Prelude.{◌≡◌, ℕ, [], string_bytes, IfOk, IfEr
 ghost use Rattle.py_tree.specs.View.{constant_tree, expr_tree, exprs, formatted_value_tree, joined_str_tree, literal_list, literal_of, opt_box};
 ghost use Rattle.py_bytecode.specs.View.{constant};
 ghost use Rattle.py_bytecode.specs.Objects as object;
-ghost use Rattle.py_meaning.specs.Texts.{text_in, text_of, texts_of};
+ghost use Rattle.py_emission.specs.Texts.{text_in, text_of, texts_of};
 ghost use Rattle.py_forms.specs.TableParts.{constants_of, conversion_case, constant_of as literal_constant};
-ghost use Rattle.py_forms.specs.Emitting.{Next};
 ghost use Rattle.py_forms.specs.EmissionParts.{built, joined_value, value_or, values};
-ghost use Rattle.py_meaning.specs.Emission.{all_emissions, emission, opt_emission};
+ghost use Rattle.py_emission.specs.Emission.{all_emissions, emission, opt_emission};
 ghost use Rattle.py_emit.specs.States.{Goes, IsStarved, Same, rest, state};
 ghost use Rattle.py_expr.specs.Appending.{Appended};
 
@@ -83,7 +82,7 @@ fn push_constant(value: &Constant, text: &mut String) -> Result<bool, AllocError
 
 #[tactic(auto, using(crate::proofs::Steps::steps))]
 pub(crate) fn compile_constant(em: &mut Emitter, e: &ExprConstant) -> Result<(), CodegenError>
-    ensures goes { (l : ℕ) (k : Next) → Goes result (k (state em.new)) (emission l (constant_tree e.now) k (state em.old)) }
+    ensures goes { Goes result (state em.new) (emission (constant_tree e.now) (state em.old)) }
     ensures same { Same result (rest em.new) (rest em.old) }
 {
     em.set_location(e.location);
@@ -156,7 +155,7 @@ fn tuple_data(alloc: Global, items: &[Constant]) -> Result<ConstantData, AllocEr
 #[cycle(code)]
 #[tactic(auto, using(crate::proofs::Steps::steps))]
 pub(crate) fn compile_joined_str(em: &mut Emitter, e: &ExprJoinedStr) -> Result<(), CodegenError>
-    ensures goes { (k : Next) → Goes result (k (state em.new)) (emission (rest em.old).opts.optimize (joined_str_tree e.now) k (state em.old)) }
+    ensures goes { Goes result (state em.new) (emission (joined_str_tree e.now) (state em.old)) }
     ensures same { Same result (rest em.new) (rest em.old) }
 {
     em.set_location(e.location);
@@ -179,7 +178,7 @@ pub(crate) fn whole_text(em: &mut Emitter, parts: &[Expr]) -> Result<Option<Text
 #[cycle(code)]
 #[tactic(auto, using(py_bytecode::proofs::View::views))]
 fn compile_joined(em: &mut Emitter, parts: &[Expr]) -> Result<(), CodegenError>
-    ensures goes { (k : Next) → Goes result (k (state em.new)) (joined_value (texts_of (exprs expr_tree parts.now)) (values (all_emissions (rest em.old).opts.optimize (exprs expr_tree parts.now))) k (state em.old)) }
+    ensures goes { Goes result (state em.new) (joined_value (texts_of (exprs expr_tree parts.now)) (values (all_emissions (exprs expr_tree parts.now))) (state em.old)) }
     ensures same { Same result (rest em.new) (rest em.old) }
 {
     if let Some(value) = whole_text(em, parts)? {
@@ -191,7 +190,7 @@ fn compile_joined(em: &mut Emitter, parts: &[Expr]) -> Result<(), CodegenError>
 /// Emits parts of an f-string and the instruction that joins them.
 #[cycle(code)]
 pub(crate) fn compile_parts(em: &mut Emitter, parts: &[Expr]) -> Result<(), CodegenError>
-    ensures goes { (k : Next) → Goes result (k (state em.new)) (built Instruction.BuildString (values (all_emissions (rest em.old).opts.optimize (exprs expr_tree parts.now))) k (state em.old)) }
+    ensures goes { Goes result (state em.new) (built Instruction.BuildString (values (all_emissions (exprs expr_tree parts.now))) (state em.old)) }
     ensures same { Same result (rest em.new) (rest em.old) }
 {
     compile_expressions(em, parts)?;
@@ -204,7 +203,7 @@ pub(crate) fn compile_formatted_value(
     em: &mut Emitter,
     e: &ExprFormattedValue,
 ) -> Result<(), CodegenError>
-    ensures goes { (k : Next) → Goes result (k (state em.new)) (emission (rest em.old).opts.optimize (formatted_value_tree e.now) k (state em.old)) }
+    ensures goes { Goes result (state em.new) (emission (formatted_value_tree e.now) (state em.old)) }
     ensures same { Same result (rest em.new) (rest em.old) }
 {
     em.set_location(e.location);
@@ -222,7 +221,7 @@ pub(crate) fn compile_formatted_value(
 #[cycle(code)]
 #[tactic(auto, using(py_bytecode::proofs::View::views))]
 fn compile_format_spec(em: &mut Emitter, spec: &Option<Box<Expr>>) -> Result<(), CodegenError>
-    ensures goes { (k : Next) → Goes result (k (state em.new)) (value_or (object.str []) (opt_emission (rest em.old).opts.optimize (opt_box expr_tree spec.now)) k (state em.old)) }
+    ensures goes { Goes result (state em.new) (value_or (object.str []) (opt_emission (opt_box expr_tree spec.now)) (state em.old)) }
     ensures same { Same result (rest em.new) (rest em.old) }
 {
     match spec {

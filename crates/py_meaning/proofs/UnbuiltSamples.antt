@@ -6,8 +6,8 @@ use Rattle.py_base.specs.declared.location.SourceLocation.{SourceLocation}
 use Rattle.py_base.specs.declared.shapes.Malformed.TheVariants.{WrongMode}
 use Rattle.py_tree.specs.declared.modules.Mode.TheVariants.{Exec, Eval, Single, BlockExpr}
 use Rattle.py_forms.specs.declared.errors.CodegenErrorType.TheVariants as error
-use Rattle.py_forms.specs.Emitting.{Refused, located, move, refuse}
-use Rattle.py_meaning.specs.Emission.{emitted}
+use Rattle.py_forms.specs.Emitting.{Refused, by_level, by_loops, located, move, refuse}
+use Rattle.py_meaning.specs.EmissionStmts.{emitted}
 use Rattle.py_meaning.specs.Faults.{Fault, fault_at, faults, unbuilt_tree}
 
 abbrev at : ℕ → SourceLocation
@@ -35,7 +35,7 @@ def_alone : faults (tree.Module (one (def_f (at 1)))) Exec 0 ≡ not_yet (at 1) 
 def_alone = refl
 
 def_refused : emitted (tree.Module (one (def_f (at 1)))) 0 ≡ Refused error.NotImplementedYet (Some (at 1))
-unfolding move refuse located
+unfolding move refuse located by_level by_loops
 def_refused = refl
 
 -- what is at fault before it comes first
@@ -43,7 +43,7 @@ break_before : faults (tree.Module (tree.more_stmts (tree.Break (at 1)) (one (de
 break_before = refl
 
 break_decides : emitted (tree.Module (tree.more_stmts (tree.Break (at 1)) (one (def_f (at 8))))) 0 ≡ Refused error.InvalidBreak (Some (at 1))
-unfolding move refuse located
+unfolding move refuse located by_level by_loops
 break_decides = refl
 
 -- an expression too

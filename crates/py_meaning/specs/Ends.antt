@@ -3,7 +3,7 @@ use Rattle.std.specs.Prelude.{ℕ, List, [], ◌∷◌, ◌++◌, Option, Some, 
 use Rattle.py_tree.specs.Tree as tree
 use Rattle.py_base.specs.declared.location.SourceLocation.{SourceLocation}
 use Rattle.py_forms.specs.Elements.{pairs, keyed, unkeyed, sides}
-use Rattle.py_meaning.specs.Texts.{texts_of}
+use Rattle.py_emission.specs.Texts.{texts_of}
 
 -- the last of them, or where it was before
 abbrev pub last_of : SourceLocation → List SourceLocation → SourceLocation

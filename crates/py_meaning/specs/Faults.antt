@@ -10,10 +10,10 @@ use Rattle.py_base.specs.declared.shapes.Malformed.{Malformed}
 use Rattle.py_base.specs.declared.limits.TreeLimit.TheVariants as limit
 use Rattle.py_forms.specs.Elements.{Element, Single, Spread, stars, pairs, keyed, unkeyed, sides}
 use Rattle.py_forms.specs.EmissionParts.{few_aside, lone_star, no_assignment, no_deletion}
-use Rattle.py_meaning.specs.Emission.{deletion_name}
+use Rattle.py_emission.specs.Emission.{deletion_name}
 use Rattle.py_meaning.specs.Ends.{args_end, delete_end, expr_end, store_end}
 use Rattle.py_forms.specs.TableParts.{is_debug}
-use Rattle.py_meaning.specs.Texts.{after_doc, texts_of}
+use Rattle.py_emission.specs.Texts.{after_doc, texts_of}
 use Rattle.py_forms.specs.declared.errors.CodegenErrorType.TheVariants as error
 use Rattle.py_forms.specs.declared.errors.CodegenErrorType.{CodegenErrorType}
 use Rattle.py_base.specs.declared.location.SourceLocation.{SourceLocation}

@@ -1,6 +1,5 @@
-pub mod Texts
 pub mod Ends
 pub mod Table
 pub mod Meaning
-pub mod Emission
+pub mod EmissionStmts
 pub mod Faults

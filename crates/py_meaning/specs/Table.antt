@@ -8,7 +8,7 @@ use Rattle.py_bytecode.specs.Objects as const
 use Rattle.py_bytecode.specs.Objects.{Const, Consts, no_consts, more_consts}
 use Rattle.py_bytecode.specs.Values.{operation, Bare}
 use Rattle.py_forms.specs.Elements.{Element, Single, Spread, Function, Method, pairs}
-use Rattle.py_meaning.specs.Texts.{after_doc, doc_of, texts_of}
+use Rattle.py_emission.specs.Texts.{after_doc, doc_of, texts_of}
 use Rattle.py_forms.specs.Form.{VForm, VConst, VLoad, VOp, VChoice, VKeep, VAt, VNone, VMore, TForm, TTruth, Resolved, FixedByName, FixedGlobal, Target, GDrop, GStore, GPut, SForm, SSkip, SThen, SDo, SInto, SRemove, SIf, SIfElse, SWhile, SBreak, SContinue, SReturn, SAugment, SAugmentTwo, SAt}
 use Rattle.py_forms.specs.TableParts.{ExprForms, Keywords, TargetForms, binary, bool_forms, call_form, compare_form, constant_of, conversion_case, counted, dict_form, display, elements, inplace, joined_form, name_form, named, no_operand, plain_target, slice_form, tested, unary_forms, unpacked_to, value_or, values}
 

@@ -2,48 +2,47 @@ use Rattle.std.proofs.Common.{◌≡◌, ◌≤◌, ◌+◌, ◌*◌, [], drop, 
 use Rattle.py_bytecode.specs.declared.instruction.Instruction.TheVariants as op
 use Rattle.py_tree.specs.View.{expr_tree, exprs, keywords}
 use Rattle.py_forms.specs.Elements.{bare, groups, keyed, sides, unkeyed}
-use Rattle.py_forms.specs.Emitting.{Next}
 use Rattle.py_forms.specs.EmissionParts.{map_of, values_in, built, elements, in_turn, links, shorts, tests, updates}
-use Rattle.py_meaning.specs.Emission.{all_emissions, all_stores, keyword_emissions, emission_of_exprs}
+use Rattle.py_emission.specs.Emission.{all_emissions, all_stores, keyword_emissions, emission_of_exprs}
 use Rattle.py_emit.specs.States.{rest, state}
 use Rattle.py_expr.specs.Calling.{map_rest}
 use Rattle.py_expr.specs.Turns.{group_count, group_rest, pairs_of}
 use Rattle.py_expr.proofs.+code.Given as goal
 
 abbrev pub invariant-expressions::compile_expressions-loop-item : goal.invariant-expressions::compile_expressions-loop-item
-invariant-expressions::compile_expressions-loop-item l = (rest l.em ≡ rest l.initial.em) × ((k : Next) → emission_of_exprs (rest l.initial.em).opts.optimize (exprs expr_tree l.items) k (state l.initial.em) ≡ emission_of_exprs (rest l.initial.em).opts.optimize (exprs expr_tree (drop l.item-index l.items)) k (state l.em))
+invariant-expressions::compile_expressions-loop-item l = (rest l.em ≡ rest l.initial.em) × (emission_of_exprs (exprs expr_tree l.items) (state l.initial.em) ≡ emission_of_exprs (exprs expr_tree (drop l.item-index l.items)) (state l.em))
 
 abbrev pub invariant-conditions::compile_shorts-loop-i : goal.invariant-conditions::compile_shorts-loop-i
-invariant-conditions::compile_shorts-loop-i l = (rest l.em ≡ rest l.initial.em) × ((k : Next) → shorts l.op l.end.0 (all_emissions (rest l.initial.em).opts.optimize (exprs expr_tree l.values)) k (state l.initial.em) ≡ shorts l.op l.end.0 (all_emissions (rest l.initial.em).opts.optimize (exprs expr_tree (drop l.i l.values))) k (state l.em))
+invariant-conditions::compile_shorts-loop-i l = (rest l.em ≡ rest l.initial.em) × (shorts l.op l.end.0 (all_emissions (exprs expr_tree l.values)) (state l.initial.em) ≡ shorts l.op l.end.0 (all_emissions (exprs expr_tree (drop l.i l.values))) (state l.em))
 
 abbrev pub invariant-comparisons::compile_links-loop-i : goal.invariant-comparisons::compile_links-loop-i
-invariant-comparisons::compile_links-loop-i l = (rest l.em ≡ rest l.initial.em) × ((k : Next) → links l.out.0 l.ops (all_emissions (rest l.initial.em).opts.optimize (exprs expr_tree l.values)) k (state l.initial.em) ≡ links l.out.0 (drop l.i l.ops) (all_emissions (rest l.initial.em).opts.optimize (exprs expr_tree (drop l.i l.values))) k (state l.em))
+invariant-comparisons::compile_links-loop-i l = (rest l.em ≡ rest l.initial.em) × (links l.out.0 l.ops (all_emissions (exprs expr_tree l.values)) (state l.initial.em) ≡ links l.out.0 (drop l.i l.ops) (all_emissions (exprs expr_tree (drop l.i l.values))) (state l.em))
 
 abbrev pub invariant-conditions::compile_tests-loop-i : goal.invariant-conditions::compile_tests-loop-i
-invariant-conditions::compile_tests-loop-i l = (rest l.em ≡ rest l.initial.em) × ((k : Next) → tests l.stop.truth l.stop.block.0 l.last.truth l.last.block.0 (all_emissions (rest l.initial.em).opts.optimize (exprs expr_tree l.values)) k (state l.initial.em) ≡ tests l.stop.truth l.stop.block.0 l.last.truth l.last.block.0 (all_emissions (rest l.initial.em).opts.optimize (exprs expr_tree (drop l.i l.values))) k (state l.em))
+invariant-conditions::compile_tests-loop-i l = (rest l.em ≡ rest l.initial.em) × (tests l.stop.truth l.stop.block.0 l.last.truth l.last.block.0 (all_emissions (exprs expr_tree l.values)) (state l.initial.em) ≡ tests l.stop.truth l.stop.block.0 l.last.truth l.last.block.0 (all_emissions (exprs expr_tree (drop l.i l.values))) (state l.em))
 
 abbrev pub invariant-elements::compile_groups-loop-elt : goal.invariant-elements::compile_groups-loop-elt
 invariant-elements::compile_groups-loop-elt l =
-    let all = elements (all_emissions (rest l.initial.em).opts.optimize (exprs expr_tree l.elts)) in
-    let left = elements (all_emissions (rest l.initial.em).opts.optimize (exprs expr_tree (drop l.elt-index l.elts))) in
+    let all = elements (all_emissions (exprs expr_tree l.elts)) in
+    let left = elements (all_emissions (exprs expr_tree (drop l.elt-index l.elts))) in
     (rest l.em ≡ rest l.initial.em)
-    × ((k : Next) → in_turn (groups (built op.BuildTuple) [] all) k (state l.initial.em) ≡ group_rest l.run left k (state l.em))
+    × (in_turn (groups (built op.BuildTuple) [] all) (state l.initial.em) ≡ group_rest l.run left (state l.em))
     × (length (groups (built op.BuildTuple) [] all) ≡ l.groups + group_count l.run left)
     × (l.groups + l.run ≤ l.elt-index)
 
 abbrev pub invariant-displays::compile_pairs-loop-i : goal.invariant-displays::compile_pairs-loop-i
 invariant-displays::compile_pairs-loop-i l =
-    let all = pairs_of (rest l.initial.em).opts.optimize l.keys l.values in
-    let left = pairs_of (rest l.initial.em).opts.optimize (drop l.i l.keys) (drop l.i l.values) in
+    let all = pairs_of l.keys l.values in
+    let left = pairs_of (drop l.i l.keys) (drop l.i l.values) in
     (rest l.em ≡ rest l.initial.em)
-    × ((k : Next) → in_turn (sides (keyed all)) k (state l.initial.em) ≡ in_turn (sides (keyed left)) k (state l.em))
+    × (in_turn (sides (keyed all)) (state l.initial.em) ≡ in_turn (sides (keyed left)) (state l.em))
     × (length (keyed all) ≡ l.count + length (keyed left))
     × (l.count ≤ l.i)
 
 abbrev pub invariant-displays::compile_updates-loop-i : goal.invariant-displays::compile_updates-loop-i
 invariant-displays::compile_updates-loop-i l =
     (rest l.em ≡ rest l.initial.em)
-    × ((k : Next) → updates (unkeyed (pairs_of (rest l.initial.em).opts.optimize l.keys l.values)) k (state l.initial.em) ≡ updates (unkeyed (pairs_of (rest l.initial.em).opts.optimize (drop l.i l.keys) (drop l.i l.values))) k (state l.em))
+    × (updates (unkeyed (pairs_of l.keys l.values)) (state l.initial.em) ≡ updates (unkeyed (pairs_of (drop l.i l.keys) (drop l.i l.values))) (state l.em))
 
 abbrev pub decreases-expressions::compile_expression : goal.decreases-expressions::compile_expression
 decreases-expressions::compile_expression l = 8 * goal.size-expressions::compile_expression l + 0
@@ -187,17 +186,17 @@ abbrev pub decreases-displays::compile_update : goal.decreases-displays::compile
 decreases-displays::compile_update l = 8 * goal.size-displays::compile_update l + 1
 
 abbrev pub invariant-targets::compile_stores-loop-elt : goal.invariant-targets::compile_stores-loop-elt
-invariant-targets::compile_stores-loop-elt l = (rest l.em ≡ rest l.initial.em) × ((k : Next) → in_turn (bare (all_stores (rest l.initial.em).opts.optimize (exprs expr_tree l.elts))) k (state l.initial.em) ≡ in_turn (bare (all_stores (rest l.initial.em).opts.optimize (exprs expr_tree (drop l.elt-index l.elts)))) k (state l.em))
+invariant-targets::compile_stores-loop-elt l = (rest l.em ≡ rest l.initial.em) × (in_turn (bare (all_stores (exprs expr_tree l.elts))) (state l.initial.em) ≡ in_turn (bare (all_stores (exprs expr_tree (drop l.elt-index l.elts)))) (state l.em))
 
 abbrev pub invariant-keywords::compile_values-loop-keyword : goal.invariant-keywords::compile_values-loop-keyword
-invariant-keywords::compile_values-loop-keyword l = (rest l.em ≡ rest l.initial.em) × ((k : Next) → in_turn (values_in (keyword_emissions (rest l.initial.em).opts.optimize (keywords expr_tree l.keywords))) k (state l.initial.em) ≡ in_turn (values_in (keyword_emissions (rest l.initial.em).opts.optimize (keywords expr_tree (drop l.keyword-index l.keywords)))) k (state l.em))
+invariant-keywords::compile_values-loop-keyword l = (rest l.em ≡ rest l.initial.em) × (in_turn (values_in (keyword_emissions (keywords expr_tree l.keywords))) (state l.initial.em) ≡ in_turn (values_in (keyword_emissions (keywords expr_tree (drop l.keyword-index l.keywords)))) (state l.em))
 
 abbrev pub invariant-keywords::compile_maps-loop-keyword : goal.invariant-keywords::compile_maps-loop-keyword
 invariant-keywords::compile_maps-loop-keyword l =
-    let all = keyword_emissions (rest l.initial.em).opts.optimize (keywords expr_tree l.keywords) in
-    let left = keyword_emissions (rest l.initial.em).opts.optimize (keywords expr_tree (drop l.keyword-index l.keywords)) in
+    let all = keyword_emissions (keywords expr_tree l.keywords) in
+    let left = keyword_emissions (keywords expr_tree (drop l.keyword-index l.keywords)) in
     (rest l.em ≡ rest l.initial.em)
-    × ((k : Next) → in_turn (groups map_of [] all) k (state l.initial.em) ≡ map_rest l.run left k (state l.em))
+    × (in_turn (groups map_of [] all) (state l.initial.em) ≡ map_rest l.run left (state l.em))
     × (length (groups map_of [] all) ≡ l.maps + group_count l.run left)
     × (l.maps + l.run ≤ l.keyword-index)
 

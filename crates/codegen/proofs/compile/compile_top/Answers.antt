@@ -6,13 +6,13 @@ use Rattle.py_limits.specs.Nesting.{nesting}
 use Rattle.py_tree.specs.View.{mod_tree}
 use Rattle.py_bytecode.specs.View.{object}
 use Rattle.py_forms.specs.Agreement.{Agree, AgreeFull}
-use Rattle.py_meaning.specs.Emission.{emitted}
+use Rattle.py_meaning.specs.EmissionStmts.{emitted}
 use Rattle.py_meaning.specs.Faults.{faults}
 use Rattle.py_meaning.specs.Meaning.{body}
 use Rattle.codegen.specs.Compiled.{AlwaysEnds, IsFirst, IsRefused, NoHigher}
 use Rattle.py_emit.specs.Emitted.{IsEmitted}
 use Rattle.codegen.proofs.Agreeing.{agrees}
-use Rattle.codegen.proofs.Described.{locations_are, path_is}
+use Rattle.py_agree.proofs.Described.{locations_are, path_is}
 use Rattle.codegen.proofs.Firsts.{deep_first, large_first, malformed_first, refused_first, emitted_clean}
 use Rattle.codegen.proofs.compile.compile_top.Goals as goal
 

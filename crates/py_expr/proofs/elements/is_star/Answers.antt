@@ -6,6 +6,6 @@ use Rattle.py_expr.proofs.elements.is_star.Goals as goal
 
 pub returns-in_default : goal.returns-in_default
 returns-in_default c = record {
-  element = λ l. ap is_spread (sym (plain_element l c.args.elt.now c.in_default.not-Starred));
-  target = λ l. ap is_spread (sym (plain_target l c.args.elt.now c.in_default.not-Starred));
+  element = ap is_spread (sym (plain_element c.args.elt.now c.in_default.not-Starred));
+  target = ap is_spread (sym (plain_target c.args.elt.now c.in_default.not-Starred));
 }

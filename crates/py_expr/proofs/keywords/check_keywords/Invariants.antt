@@ -1,10 +1,9 @@
 use Rattle.std.proofs.Common.{◌≡◌, ℕ, drop}
 use Rattle.py_tree.specs.View.{expr_tree, keywords}
-use Rattle.py_forms.specs.Emitting.{Next}
 use Rattle.py_forms.specs.EmissionParts.{checked}
-use Rattle.py_meaning.specs.Emission.{keyword_emissions}
+use Rattle.py_emission.specs.Emission.{keyword_emissions}
 use Rattle.py_emit.specs.States.{rest, state}
 use Rattle.py_expr.proofs.keywords.check_keywords.Given as goal
 
 abbrev pub invariant-loop-keyword : goal.invariant-loop-keyword
-invariant-loop-keyword l = (rest l.em ≡ rest l.initial.em) × ((level : ℕ) (k : Next) → checked (keyword_emissions level (keywords expr_tree l.keywords)) k (state l.initial.em) ≡ checked (keyword_emissions level (keywords expr_tree (drop l.keyword-index l.keywords))) k (state l.em))
+invariant-loop-keyword l = (rest l.em ≡ rest l.initial.em) × (checked (keyword_emissions (keywords expr_tree l.keywords)) (state l.initial.em) ≡ checked (keyword_emissions (keywords expr_tree (drop l.keyword-index l.keywords))) (state l.em))

@@ -6,7 +6,7 @@ use Rattle.py_expr.proofs.Mapping.{names_end}
 use Rattle.py_expr.proofs.keywords.name_tuple.Goals as goal
 
 pub returns : goal.returns
-returns c = λ l.
+returns c =
     constant_Tuple c.from_vec-elements.result
     ∙ ap (λ xs. tuple (consts_of (map constant xs))) c.from_vec-elements.ensures
-    ∙ ap tuple (names_end l c.args.keywords.now c.loop-keyword.keyword-index (map constant c.loop-keyword.names.items) c.loop-keyword-test.false (c.loop-keyword.invariant l))
+    ∙ ap tuple (names_end c.args.keywords.now c.loop-keyword.keyword-index (map constant c.loop-keyword.names.items) c.loop-keyword-test.false c.loop-keyword.invariant)

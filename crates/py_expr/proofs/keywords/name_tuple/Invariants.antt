@@ -3,8 +3,8 @@ use Rattle.py_tree.specs.View.{expr_tree, keywords}
 use Rattle.py_bytecode.specs.Objects.{listed}
 use Rattle.py_bytecode.specs.View.{constant}
 use Rattle.py_forms.specs.EmissionParts.{names_in}
-use Rattle.py_meaning.specs.Emission.{keyword_emissions}
+use Rattle.py_emission.specs.Emission.{keyword_emissions}
 use Rattle.py_expr.proofs.keywords.name_tuple.Given as goal
 
 abbrev pub invariant-loop-keyword : goal.invariant-loop-keyword
-invariant-loop-keyword l = (level : ℕ) → listed (names_in (keyword_emissions level (keywords expr_tree l.keywords))) ≡ map constant l.names.items ++ listed (names_in (keyword_emissions level (keywords expr_tree (drop l.keyword-index l.keywords))))
+invariant-loop-keyword l = listed (names_in (keyword_emissions (keywords expr_tree l.keywords))) ≡ map constant l.names.items ++ listed (names_in (keyword_emissions (keywords expr_tree (drop l.keyword-index l.keywords))))

@@ -3,12 +3,11 @@ use Rattle.py_tree.specs.View.{expr_tree}
 use Rattle.py_tree.proofs.View.{tree_Attribute}
 use Rattle.py_tree.specs.Tree as tree
 use Rattle.py_tree.specs.declared.expressions.Expr.{Expr}
-use Rattle.py_meaning.specs.Emission.{emission_of_delete}
-use Rattle.py_emit.specs.States.{rest, state}
-use Rattle.py_expr.proofs.Turns.{goes_as}
+use Rattle.py_emission.specs.Emission.{emission_of_delete}
+use Rattle.py_emit.specs.States.{state}
+use Rattle.py_emit.proofs.Joined.{goes_as}
 use Rattle.py_expr.proofs.targets.+deletions.Goals as goal
 
 pub compile_delete-returns-in-Attribute-clause-goes : goal.compile_delete-returns-in-Attribute-clause-goes
-compile_delete-returns-in-Attribute-clause-goes t c = λ k.
-    let l = (rest c.args.em.now).opts.optimize in
-    goes_as _ _ _ _ (ap (λ (x : Expr). emission_of_delete l (expr_tree x) k (state c.args.em.now)) c.in-Attribute.is ∙ ap (λ (u : tree.Expr). emission_of_delete l u k (state c.args.em.now)) (tree_Attribute c.in-Attribute.e)) (c.compile_attribute_change.ensures.goes k)
+compile_delete-returns-in-Attribute-clause-goes t c =
+    goes_as _ _ _ _ (ap (λ (x : Expr). emission_of_delete (expr_tree x) (state c.args.em.now)) c.in-Attribute.is ∙ ap (λ (u : tree.Expr). emission_of_delete u (state c.args.em.now)) (tree_Attribute c.in-Attribute.e)) c.compile_attribute_change.ensures.goes

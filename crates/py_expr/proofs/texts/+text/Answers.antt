@@ -1,6 +1,6 @@
 use Rattle.std.proofs.Common.{Bool, List, Option, Some, ap, drop, string_bytes, subst, ◌∙◌, ◌+◌, ℕ}
 use Rattle.py_tree.specs.View.{expr_tree, exprs}
-use Rattle.py_meaning.specs.Texts.{joined, text_of, texts_of}
+use Rattle.py_emission.specs.Texts.{joined, text_of, texts_of}
 use Rattle.py_expr.specs.Appending.{Appended}
 use Rattle.py_expr.proofs.Appending.{joined_next, joined_none, texts_at}
 use Rattle.py_expr.proofs.texts.+text.Goals as goal

@@ -1,6 +1,6 @@
 use Rattle.std.proofs.Common.{◌≡◌, Some, drop, string_bytes}
 use Rattle.py_tree.specs.View.{expr_tree, exprs}
-use Rattle.py_meaning.specs.Texts.{joined, texts_of}
+use Rattle.py_emission.specs.Texts.{joined, texts_of}
 use Rattle.py_expr.proofs.texts.+text.Given as goal
 
 abbrev pub invariant-push_texts-loop-part : goal.invariant-push_texts-loop-part

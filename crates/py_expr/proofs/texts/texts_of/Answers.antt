@@ -1,7 +1,7 @@
 use Rattle.std.proofs.Common.{ap, string_bytes, ◌∙◌}
 use Rattle.std.specs.Bool.{then_some}
 use Rattle.py_tree.specs.View.{expr_tree, exprs}
-use Rattle.py_meaning.specs.Texts.{texts_of}
+use Rattle.py_emission.specs.Texts.{texts_of}
 use Rattle.py_expr.proofs.Appending.{told}
 use Rattle.py_expr.proofs.texts.texts_of.Goals as goal
 

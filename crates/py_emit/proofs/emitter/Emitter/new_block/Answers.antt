@@ -13,7 +13,7 @@ returns-in-Ok-clause-ok c =
     blocked (state c.args.self.now) _
     (ap (λ (u : BlockList). steps_in (map plain u.blocks)) c.in-Ok.ensures.ok ∙ new_steps v c.in-Ok.ensures.whole)
     (ap (λ (u : BlockList). length u.blocks) c.in-Ok.ensures.ok ∙ new_long v)
-    refl refl refl
+    refl refl refl refl
 
 pub returns-in-Ok-clause-made : goal.returns-in-Ok-clause-made
 returns-in-Ok-clause-made c =

@@ -13,4 +13,4 @@ returns-in-Ok-clause-ok c =
     stepped (step_of c.args.info) (state c.args.self.now) _
     (ap (λ (u : BlockList). steps_in (map plain u.blocks)) c.in-Ok.ensures.ok ∙ push_steps v c.args.info c.in-Ok.ensures.whole)
     (ap (λ (u : BlockList). length u.blocks) c.in-Ok.ensures.ok ∙ push_long v c.args.info)
-    refl refl refl
+    refl refl refl refl

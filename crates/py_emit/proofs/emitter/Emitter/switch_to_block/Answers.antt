@@ -24,4 +24,4 @@ returns-clause-state c =
     stepped (Begin b.0) (state c.args.self.now) _
     (ap (λ (u : BlockList). steps_in (map plain u.blocks)) c.place.ensures.placed ∙ place_steps v b w free.made (not_in_chain v w b.0 free.later free.not_begun) low)
     (ap (λ (u : BlockList). length u.blocks) c.place.ensures.placed ∙ place_long v b)
-    refl refl refl
+    refl refl refl refl

@@ -13,7 +13,7 @@ returns-clause-taken c = if_some c.pop.result _ (λ info e.
     stepped (step_of info) _ (state c.args.self.now)
     (pop_steps v info c.pop.ensures.whole (subst IsWhole c.pop.ensures.left c.pop.ensures.kept) (sym e ∙ c.pop.ensures.last) ∙ ap (λ (u : BlockList). steps_in (map plain u.blocks) ++ step_of info ∷ []) (sym c.pop.ensures.left))
     (sym (pop_long v) ∙ ap (λ (u : BlockList). length u.blocks) (sym c.pop.ensures.left))
-    refl refl refl)
+    refl refl refl refl)
 
 pub returns-clause-empty : goal.returns-clause-empty
 returns-clause-empty c = if_none c.pop.result _ (λ e. ends_at_begin c.args.self.now.code.body c.pop.ensures.whole (sym e ∙ c.pop.ensures.last))

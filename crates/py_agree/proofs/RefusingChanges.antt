@@ -1,0 +1,97 @@
+-- Deletions and assignments end as the faults of their targets and values say.
+use Rattle.std.proofs.Common.{◌≡◌, ℕ, List, Option, [], ◌++◌, codes, append_assoc, sym}
+use Rattle.std.specs.Prelude.{nat_eq}
+use Rattle.py_tree.specs.Tree as tree
+use Rattle.py_shapes.specs.Valid.{when, count, name_shapes, expr_shapes, exprs_shapes, opt_expr_shapes}
+use Rattle.py_base.specs.declared.location.SourceLocation.{SourceLocation}
+use Rattle.py_base.specs.declared.operators.Operator.{Operator}
+use Rattle.py_base.specs.declared.shapes.Malformed.TheVariants as shape
+use Rattle.py_bytecode.specs.declared.instruction.Instruction.TheVariants as op
+use Rattle.py_bytecode.specs.Objects as const
+use Rattle.py_meaning.specs.Ends.{expr_end, store_end, delete_end, deletes_end}
+use Rattle.py_meaning.specs.Faults.{Fault, expr_faults, delete_faults, deletes_faults, assign_faults, augment_faults, declared_faults}
+use Rattle.py_forms.specs.TableParts.{binary_case}
+use Rattle.py_forms.specs.declared.errors.CodegenErrorType.TheVariants as error
+use Rattle.py_forms.specs.Emitting.{Context, Emission, ◌▸◌}
+use Rattle.py_forms.specs.EmissionParts.{no_assignment, no_deletion}
+use Rattle.py_emission.specs.Emission.{emission, emission_of_delete, emission_of_deletes, deletion_name}
+use Rattle.py_meaning.specs.EmissionStmts.{emission_of_assign, emission_of_augment, emission_of_declared, emission_of_annotation, emission_of_operand}
+use Rattle.py_agree.proofs.Refusing.{EndsAs, Passes, then_ends, three_end, last_ends, alone_ends, ends_so, nothing_passes, emit_passes, name_passes, constant_passes, refusal_ends, unless_debug_ends, unless_debug_last}
+use Rattle.py_agree.proofs.RefusingExprs.{both_none, name_load_passes, no_target, expr_ends, store_ends}
+
+-- in any context an emission ends as the faults say, and goes on from some place
+pub record Leaves (a : Emission) (p : SourceLocation) (fs : List Fault) : Type 0 where
+  pub place : SourceLocation
+  pub ends : (c : Context) → EndsAs c a p place fs
+
+leaves : {a : Emission} {p q : SourceLocation} {fs : List Fault} → ((c : Context) → EndsAs c a p q fs) → Leaves a p fs
+leaves {q = q} x = record { place = q; ends = x }
+
+module _ (c : Context) (class : Option (List ℕ)) where
+  value_ends : (p : SourceLocation) (e : tree.Expr) → expr_shapes class e ≡ [] → EndsAs c (emission e) p (expr_end e) (expr_faults e)
+  value_ends p e h = (expr_ends c class e h).value p
+
+  mutual
+    delete_ends : (p : SourceLocation) (e : tree.Expr) → expr_shapes class e ≡ [] → EndsAs c (emission_of_delete e) p (delete_end p e) (delete_faults p e)
+    delete_ends p (tree.Name at x) h = unless_debug_last no_deletion x (name_passes op.DeleteLocal x)
+    delete_ends p (tree.Attribute at value attr) h =
+        let s = both_none (name_shapes attr) (expr_shapes class value) h in
+        unless_debug_ends no_deletion attr (last_ends (value_ends p value s.1) (name_passes op.DeleteAttr attr))
+    delete_ends p (tree.Subscript at value slice) h =
+        let s = both_none (expr_shapes class value) (expr_shapes class slice) h in
+        then_ends (value_ends p value s.0) (last_ends (value_ends (expr_end value) slice s.1) (emit_passes op.DeleteSubscript 0))
+    delete_ends p (tree.List at elts) h = deletions_end p elts h
+    delete_ends p (tree.Tuple at elts) h = deletions_end p elts h
+    delete_ends p other h = refusal_ends (error.Delete (deletion_name other)) []
+
+    pub deletions_end : (p : SourceLocation) (es : tree.Exprs) → exprs_shapes class es ≡ [] → EndsAs c (emission_of_deletes es) p (deletes_end p es) (deletes_faults p es)
+    deletions_end p tree.no_exprs h = nothing_passes
+    deletions_end p (tree.more_exprs e es) h =
+        let s = both_none (expr_shapes class e) (exprs_shapes class es) h in
+        then_ends (delete_ends p e s.0) (deletions_end (delete_end p e) es s.1)
+
+  -- the operand, and the operation on the present value
+  operand_ends : (p : SourceLocation) (o : Operator) (value : tree.Expr) → expr_shapes class value ≡ [] → EndsAs c (emission_of_operand o (emission value)) p (expr_end value) (expr_faults value)
+  operand_ends p o value v = last_ends (value_ends p value v) (emit_passes op.BinaryOperationInplace (binary_case o))
+
+  annotation_passes : {p : SourceLocation} (target : tree.Expr) → Passes c (emission_of_annotation target) p
+  annotation_passes (tree.Name at x) = then_ends (name_passes op.LoadNameAny (codes "__annotations__")) (then_ends (constant_passes op.LoadConst (const.str x)) (emit_passes op.StoreSubscript 0))
+  annotation_passes other = emit_passes op.Pop 0
+
+module _ (class : Option (List ℕ)) where
+  -- there is a target
+  some_assign_ends : (p : SourceLocation) (e : tree.Expr) (es : tree.Exprs) → expr_shapes class e ≡ [] → exprs_shapes class es ≡ [] → Leaves (emission_of_assign (tree.more_exprs e es)) p (assign_faults p (tree.more_exprs e es))
+  some_assign_ends p e tree.no_exprs h s = leaves (λ c. alone_ends (store_ends c class p e h).alone)
+  some_assign_ends p e (tree.more_exprs g es) h s =
+      let t = both_none (expr_shapes class g) (exprs_shapes class es) s in
+      let rest = some_assign_ends (store_end p e) g es t.0 t.1 in
+      leaves (λ c. then_ends (emit_passes op.Duplicate 0) (then_ends (store_ends c class p e h).alone (rest.ends c)))
+
+  pub assign_ends : (p : SourceLocation) (es : tree.Exprs) → when (nat_eq (count es) 0) shape.NoTarget ≡ [] → exprs_shapes class es ≡ [] → Leaves (emission_of_assign es) p (assign_faults p es)
+  assign_ends p tree.no_exprs some h = absurd cc
+  assign_ends p (tree.more_exprs e es) some h = let s = both_none (expr_shapes class e) (exprs_shapes class es) h in some_assign_ends p e es s.0 s.1
+
+  pub augment_ends : (p : SourceLocation) (target : tree.Expr) (o : Operator) (value : tree.Expr) → expr_shapes class target ≡ [] → expr_shapes class value ≡ [] → Leaves (emission_of_augment target o (emission value)) p (augment_faults p target value)
+  augment_ends p (tree.Name at x) o value h v = leaves (λ c. then_ends (name_load_passes x) (then_ends (operand_ends c class p o value v) (unless_debug_last no_assignment x (name_passes op.StoreLocal x))))
+  augment_ends p (tree.Attribute at object attr) o value h v =
+      let s = both_none (name_shapes attr) (expr_shapes class object) h in
+      leaves (λ c.
+      let result = last_ends (operand_ends c class (expr_end object) o value v) (then_ends (emit_passes op.Rotate2 0) (name_passes op.StoreAttr attr)) in
+      let stored = unless_debug_ends no_assignment attr (then_ends (value_ends c class p object s.1) (then_ends (emit_passes op.Duplicate 0) (then_ends (name_passes op.LoadAttr attr) result))) in
+      ends_so (sym (append_assoc _ (expr_faults object) (expr_faults value))) stored)
+  augment_ends p (tree.Subscript at object slice) o value h v =
+      let s = both_none (expr_shapes class object) (expr_shapes class slice) h in
+      leaves (λ c.
+      let result = last_ends (operand_ends c class (expr_end slice) o value v) (then_ends (emit_passes op.Rotate3 0) (emit_passes op.StoreSubscript 0)) in
+      three_end (value_ends c class p object s.0) (value_ends c class (expr_end object) slice s.1) (then_ends (emit_passes op.Duplicate2 0) (then_ends (emit_passes op.Subscript 0) result)))
+  augment_ends p other o value h v = leaves (λ c. no_target {q = p} p other)
+
+  -- an annotated target
+  declared_ends : (p : SourceLocation) (target : tree.Expr) (value : tree.OptExpr) → expr_shapes class target ≡ [] → opt_expr_shapes class value ≡ [] → Leaves (emission_of_declared target value) p (declared_faults target value)
+  declared_ends p target tree.no_expr h v = leaves (λ c. nothing_passes)
+  declared_ends p target (tree.some_expr e) h v = leaves (λ c. then_ends (value_ends c class p e v) (store_ends c class (expr_end e) target h).alone)
+
+  pub annotated_ends : (p : SourceLocation) (target annotation : tree.Expr) (value : tree.OptExpr) → expr_shapes class target ≡ [] → expr_shapes class annotation ≡ [] → opt_expr_shapes class value ≡ [] → Leaves (emission_of_declared target value ▸ emission annotation ▸ emission_of_annotation target) p (declared_faults target value ++ expr_faults annotation)
+  annotated_ends p target annotation value h a v =
+      let x = declared_ends p target value h v in
+      leaves (λ c. then_ends (x.ends c) (last_ends (value_ends c class x.place annotation a) (annotation_passes c class target)))

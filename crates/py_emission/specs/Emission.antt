@@ -1,0 +1,125 @@
+-- What is emitted for each expression, in which order, and where it stands.
+use Rattle.std.specs.Prelude.{ℕ, List, [], ◌∷◌, Bool, Option, Some, None, codes, if◌then◌else◌}
+use Rattle.py_tree.specs.PythonName.{python_name}
+use Rattle.py_tree.specs.Tree as tree
+use Rattle.py_base.specs.declared.location.SourceLocation.{SourceLocation}
+use Rattle.py_bytecode.specs.declared.instruction.Instruction.TheVariants as op
+use Rattle.py_bytecode.specs.Objects as const
+use Rattle.py_forms.specs.declared.errors.CodegenErrorType.TheVariants as error
+use Rattle.py_forms.specs.Elements.{Element, Single, Spread, Function, Method, pairs}
+use Rattle.py_emission.specs.Texts.{texts_of}
+use Rattle.py_forms.specs.TableParts.{binary_case, conversion_case, constant_of, is_debug, debug_constant}
+use Rattle.py_forms.specs.Emitting.{Emission, ◌▸◌, by_level, emit, emit_constant, emit_name, keep, move, refuse}
+use Rattle.py_forms.specs.EmissionParts.{Emissions, Keywords, Stores, bool_emissions, built, choice, dict_value, display, elements, emission_of_call, emission_of_compare, emission_of_name, in_turn, joined_value, lone_star, no_assignment, no_deletion, plain_store, slice_value, tested, truth_of, unary_emissions, unless_debug, unpack, value_or, values}
+
+-- a node that is not compiled yet
+abbrev pub unbuilt : SourceLocation → Emission
+unbuilt at = move at ▸ refuse error.NotImplementedYet
+
+abbrev mutual
+  pub emissions : tree.Expr → Emissions
+  emissions (tree.BoolOp at o operands) = bool_emissions at o (all_emissions operands)
+  emissions (tree.NamedExpr at target value) = tested (move at ▸ (emissions value).value ▸ emit op.Duplicate 0 ▸ (stores target).alone)
+  emissions (tree.BinOp at left o right) = tested (move at ▸ (emissions left).value ▸ (emissions right).value ▸ emit op.BinaryOperation (binary_case o))
+  emissions (tree.UnaryOp at o operand) = unary_emissions at o (emissions operand)
+  emissions (tree.IfExp at t body orelse) = tested (move at ▸ choice (emissions t).test (emissions body).value (emissions orelse).value)
+  emissions (tree.Dict at keys others) = tested (move at ▸ dict_value (pairs (opt_emissions keys) (values (all_emissions others))))
+  emissions (tree.Set at elts) = tested (move at ▸ display op.BuildSet op.BuildSetUnpack (elements (all_emissions elts)))
+  emissions (tree.Compare at left ops others) = tested (move at ▸ emission_of_compare (emissions left).value ops (all_emissions others))
+  emissions (tree.Call at func args keywords) = tested (move at ▸ emission_of_call (emissions func).callee (elements (all_emissions args)) (keyword_emissions keywords))
+  emissions (tree.FormattedValue at value c spec) = tested (move at ▸ value_or (const.str []) (opt_emission spec) ▸ (emissions value).value ▸ emit op.FormatValue (conversion_case c))
+  emissions (tree.JoinedStr at parts) = tested (move at ▸ joined_value (texts_of parts) (values (all_emissions parts)))
+  emissions (tree.Constant at value) = tested (move at ▸ emit_constant op.LoadConst (constant_of value))
+  emissions (tree.Attribute at value attr) =
+      let v : Emission = move at ▸ (emissions value).value ▸ emit_name op.LoadAttr attr in
+      record { value = v; test = truth_of v; element = Single v; callee = Method attr (emissions value).value }
+  emissions (tree.Subscript at value slice) = tested (move at ▸ (emissions value).value ▸ (emissions slice).value ▸ emit op.Subscript 0)
+  emissions (tree.Starred at value) =
+      let v : Emission = move at ▸ refuse error.InvalidStarExpr in
+      record { value = v; test = truth_of v; element = Spread (emissions value).value; callee = Function v }
+  emissions (tree.Name at id) = tested (move at ▸ emission_of_name id)
+  emissions (tree.List at elts) = tested (move at ▸ display op.BuildList op.BuildListUnpack (elements (all_emissions elts)))
+  emissions (tree.Tuple at elts) = tested (move at ▸ display op.BuildTuple op.BuildTupleUnpack (elements (all_emissions elts)))
+  emissions (tree.Slice at lower upper step) = tested (move at ▸ slice_value (opt_emission lower) (opt_emission upper) (opt_emission step))
+  emissions other = tested (unbuilt (tree.expr_location other))
+
+  pub all_emissions : tree.Exprs → List Emissions
+  all_emissions tree.no_exprs = []
+  all_emissions (tree.more_exprs e es) = emissions e ∷ all_emissions es
+
+  pub opt_emission : tree.OptExpr → Option Emission
+  opt_emission tree.no_expr = None
+  opt_emission (tree.some_expr e) = Some (emissions e).value
+
+  pub opt_emissions : tree.OptExprs → List (Option Emission)
+  opt_emissions tree.no_opts = []
+  opt_emissions (tree.more_opts e es) = opt_emission e ∷ opt_emissions es
+
+  pub keyword_emissions : tree.Keywords → Keywords
+  keyword_emissions tree.no_keywords = []
+  keyword_emissions (tree.more_keywords None e ks) = Spread (emissions e).value ∷ keyword_emissions ks
+  keyword_emissions (tree.more_keywords (Some name) e ks) = Single (name, (emissions e).value) ∷ keyword_emissions ks
+
+  pub stores : tree.Expr → Stores
+  stores (tree.Name at id) = plain_store (unless_debug no_assignment id (emit_name op.StoreLocal id))
+  stores (tree.Attribute at value attr) = plain_store (unless_debug no_assignment attr ((emissions value).value ▸ emit_name op.StoreAttr attr))
+  stores (tree.Subscript at value slice) = plain_store ((emissions value).value ▸ (emissions slice).value ▸ emit op.StoreSubscript 0)
+  stores (tree.List at elts) = plain_store (unpack at (all_stores elts))
+  stores (tree.Tuple at elts) = plain_store (unpack at (all_stores elts))
+  stores (tree.Starred at value) = record { alone = refuse (error.SyntaxError lone_star); element = Spread (stores value).alone }
+  stores other = plain_store (refuse (error.Assign (python_name other)))
+
+  pub all_stores : tree.Exprs → List (Element Emission Emission)
+  all_stores tree.no_exprs = []
+  all_stores (tree.more_exprs e es) = (stores e).element ∷ all_stores es
+
+-- what pushes the value of an expression
+abbrev pub emission : tree.Expr → Emission
+emission e = (emissions e).value
+
+-- what jumps to the block where the truth of the expression is this
+abbrev pub emission_of_test : tree.Expr → (truth : Bool) → (block : ℕ) → Emission
+emission_of_test e = (emissions e).test
+
+abbrev pub emission_of_exprs : tree.Exprs → Emission
+emission_of_exprs es = in_turn (values (all_emissions es))
+
+-- what stores the value that lies there to an expression
+abbrev pub emission_of_store : tree.Expr → Emission
+emission_of_store e = (stores e).alone
+
+-- an operation that cannot be deleted is called an expression
+abbrev pub deletion_name : tree.Expr → List ℕ
+deletion_name (tree.BinOp at left o right) = codes "expression"
+deletion_name (tree.UnaryOp at o operand) = codes "expression"
+deletion_name other = python_name other
+
+-- what deletes an expression, a list or a tuple element by element
+abbrev mutual
+  pub emission_of_delete : tree.Expr → Emission
+  emission_of_delete (tree.Name at id) = unless_debug no_deletion id (emit_name op.DeleteLocal id)
+  emission_of_delete (tree.Attribute at value attr) = unless_debug no_deletion attr (emission value ▸ emit_name op.DeleteAttr attr)
+  emission_of_delete (tree.Subscript at value slice) = emission value ▸ emission slice ▸ emit op.DeleteSubscript 0
+  emission_of_delete (tree.List at elts) = emission_of_deletes elts
+  emission_of_delete (tree.Tuple at elts) = emission_of_deletes elts
+  emission_of_delete other = refuse (error.Delete (deletion_name other))
+
+  pub emission_of_deletes : tree.Exprs → Emission
+  emission_of_deletes tree.no_exprs = keep
+  emission_of_deletes (tree.more_exprs e es) = emission_of_delete e ▸ emission_of_deletes es
+
+-- one text is returned by one instruction
+abbrev pub joined_return : Option (List ℕ) → List Emission → Emission
+joined_return (Some text) vs = emit_constant op.ReturnConst (const.str text)
+joined_return None vs = built op.BuildString vs ▸ emit op.ReturnValue 0
+
+-- the name `__debug__` is a constant too
+abbrev pub name_return : List ℕ → Emission
+name_return x = if is_debug x then by_level (λ l. emit_constant op.ReturnConst (debug_constant l)) else emit_name op.LoadNameAny x ▸ emit op.ReturnValue 0
+
+-- what returns the value of an expression: a constant by one instruction
+abbrev pub emission_of_return : tree.Expr → Emission
+emission_of_return (tree.Constant at value) = move at ▸ emit_constant op.ReturnConst (constant_of value)
+emission_of_return (tree.JoinedStr at parts) = move at ▸ joined_return (texts_of parts) (values (all_emissions parts))
+emission_of_return (tree.Name at id) = move at ▸ name_return id
+emission_of_return e = emission e ▸ emit op.ReturnValue 0

@@ -1,0 +1,2 @@
+//! What is emitted of expressions. No function stands here.
+#![tactic(auto)]

@@ -1,0 +1,103 @@
+-- What is emitted for each statement and for a whole tree, in which order, and where it stands.
+use Rattle.std.specs.Prelude.{ℕ, List, Bool, true, false, Option, Some, None, codes, if◌then◌else◌}
+use Rattle.py_tree.specs.PythonName.{python_name}
+use Rattle.py_tree.specs.Tree as tree
+use Rattle.py_base.specs.declared.operators.Operator.{Operator}
+use Rattle.py_base.specs.declared.shapes.Malformed.TheVariants as shape
+use Rattle.py_bytecode.specs.declared.instruction.Instruction.{Instruction}
+use Rattle.py_bytecode.specs.declared.instruction.Instruction.TheVariants as op
+use Rattle.py_bytecode.specs.Objects as const
+use Rattle.py_forms.specs.declared.errors.CodegenErrorType.{CodegenErrorType}
+use Rattle.py_forms.specs.declared.errors.CodegenErrorType.TheVariants as error
+use Rattle.py_emission.specs.Texts.{after_doc, doc_of}
+use Rattle.py_forms.specs.TableParts.{binary_case}
+use Rattle.py_meaning.specs.Table.{annotated}
+use Rattle.py_forms.specs.Emitting.{Emission, LoopBlocks, Outcome, Refused, ◌▸◌, begin, by_level, by_loops, emit, emit_constant, emit_name, in_loop, jump, keep, move, new_block, nothing, refuse}
+use Rattle.py_forms.specs.EmissionParts.{choice, emission_of_name, no_assignment, only, unless_debug}
+use Rattle.py_emission.specs.Emission.{emission, emission_of_deletes, emission_of_return, emission_of_store, emission_of_test, unbuilt}
+
+abbrev pub none : tree.Stmts → Bool
+none tree.no_stmts = true
+none (tree.more_stmts s ss) = false
+
+-- a value is stored to each target, and kept for those that follow
+abbrev pub emission_of_assign : tree.Exprs → Emission
+emission_of_assign tree.no_exprs = refuse (error.MalformedTree shape.NoTarget)
+emission_of_assign (tree.more_exprs e tree.no_exprs) = emission_of_store e
+emission_of_assign (tree.more_exprs e (tree.more_exprs g es)) = emit op.Duplicate 0 ▸ emission_of_store e ▸ emission_of_assign (tree.more_exprs g es)
+
+-- the operand of an augmented assignment, and its operation on the present value
+abbrev pub emission_of_operand : Operator → Emission → Emission
+emission_of_operand o v = v ▸ emit op.BinaryOperationInplace (binary_case o)
+
+-- the present value, the operand and the result, which goes back to where the first came from
+abbrev pub emission_of_augment : tree.Expr → Operator → Emission → Emission
+emission_of_augment (tree.Name at id) o v = emission_of_name id ▸ emission_of_operand o v ▸ unless_debug no_assignment id (emit_name op.StoreLocal id)
+emission_of_augment (tree.Attribute at value attr) o v =
+    unless_debug no_assignment attr (emission value ▸ emit op.Duplicate 0 ▸ emit_name op.LoadAttr attr ▸ emission_of_operand o v ▸ emit op.Rotate2 0 ▸ emit_name op.StoreAttr attr)
+emission_of_augment (tree.Subscript at value slice) o v =
+    emission value ▸ emission slice ▸ emit op.Duplicate2 0 ▸ emit op.Subscript 0 ▸ emission_of_operand o v ▸ emit op.Rotate3 0 ▸ emit op.StoreSubscript 0
+emission_of_augment other o v = refuse (error.Assign (python_name other))
+
+-- the value of an annotated target, where there is one
+abbrev pub emission_of_declared : tree.Expr → tree.OptExpr → Emission
+emission_of_declared target tree.no_expr = keep
+emission_of_declared target (tree.some_expr e) = emission e ▸ emission_of_store target
+
+-- the annotation of a name is kept in `__annotations__`, that of another target is dropped
+abbrev pub emission_of_annotation : tree.Expr → Emission
+emission_of_annotation (tree.Name at id) = emit_name op.LoadNameAny (codes "__annotations__") ▸ emit_constant op.LoadConst (const.str id) ▸ emit op.StoreSubscript 0
+emission_of_annotation other = emit op.Pop 0
+
+-- a break or a continue, where there is a loop
+abbrev pub leave_loop : Instruction → (LoopBlocks → ℕ) → CodegenErrorType → Option LoopBlocks → Emission
+leave_loop i to e None = refuse e
+leave_loop i to e (Some loops) = jump i (to loops)
+
+abbrev mutual
+  pub emission_of_stmt : tree.Stmt → Emission
+  emission_of_stmt (tree.Delete at targets) = move at ▸ emission_of_deletes targets
+  emission_of_stmt (tree.Assign at targets value) = move at ▸ emission value ▸ emission_of_assign targets
+  emission_of_stmt (tree.AugAssign at target o value) = move at ▸ emission_of_augment target o (emission value)
+  emission_of_stmt (tree.AnnAssign at target annotation value simple) = move at ▸ emission_of_declared target value ▸ emission annotation ▸ emission_of_annotation target
+  emission_of_stmt (tree.If at t body orelse) =
+      move at ▸ (if none orelse then only (emission_of_test t) (emission_of_stmts body) else choice (emission_of_test t) (emission_of_stmts body) (emission_of_stmts orelse))
+  emission_of_stmt (tree.While at t body orelse) =
+      move at ▸ new_block (λ start. new_block (λ other. new_block (λ end.
+      emit op.SetupLoop 0 ▸ begin start ▸ emission_of_test t false other ▸ in_loop (record { on_break = end; on_continue = start }) (emission_of_stmts body) ▸ jump op.Jump start
+      ▸ begin other ▸ emit op.PopBlock 0 ▸ emission_of_stmts orelse ▸ begin end)))
+  emission_of_stmt (tree.StmtExpr at value) = move at ▸ emission value ▸ emit op.Pop 0
+  emission_of_stmt (tree.Break at) = move at ▸ by_loops (leave_loop op.Break (λ x. x.on_break) error.InvalidBreak)
+  emission_of_stmt (tree.Continue at) = move at ▸ by_loops (leave_loop op.Continue (λ x. x.on_continue) error.InvalidContinue)
+  emission_of_stmt (tree.Pass at) = move at
+  emission_of_stmt other = unbuilt (tree.stmt_location other)
+
+  pub emission_of_stmts : tree.Stmts → Emission
+  emission_of_stmts tree.no_stmts = keep
+  emission_of_stmts (tree.more_stmts s ss) = emission_of_stmt s ▸ emission_of_stmts ss
+
+-- a docstring is stored under its name, which is global
+abbrev pub emission_of_doc : Option (List ℕ) → Emission
+emission_of_doc None = keep
+emission_of_doc (Some text) = emit_constant op.LoadConst (const.str text) ▸ emit_name op.StoreGlobal (codes "__doc__")
+
+abbrev pub emission_of_setup : Bool → Emission
+emission_of_setup false = keep
+emission_of_setup true = emit op.SetupAnnotation 0
+
+-- the docstring that is kept, room for annotations where there are any, what follows, and a return of None
+abbrev pub emission_of_program : tree.Stmts → Emission
+emission_of_program body =
+    by_level (λ l. emission_of_doc (doc_of l body)) ▸ emission_of_setup (annotated (after_doc body)) ▸ emission_of_stmts (after_doc body) ▸ emit_constant op.ReturnConst const.none
+
+-- a tree that is not compiled yet, which is at fault as a whole
+abbrev pub unbuilt_tree : Emission
+unbuilt_tree s = Refused error.NotImplementedYet None
+
+abbrev pub emission_of_mod : tree.Mod → Emission
+emission_of_mod (tree.Module body) = emission_of_program body
+emission_of_mod (tree.Expression body) = emission_of_return body
+emission_of_mod other = unbuilt_tree
+
+abbrev pub emitted : tree.Mod → (level : ℕ) → Outcome
+emitted t level = emission_of_mod t (nothing level)

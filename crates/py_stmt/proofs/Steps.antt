@@ -1,0 +1,29 @@
+-- What each step of a statement does to what is emitted so far.
+use Rattle.std.proofs.Common.{◌≡◌, ◌≢◌, ℕ, suc, List, [], ◌∷◌, length, Option, Bool, true, false, refl, sym, arith, rules}
+use Rattle.std.specs.Bool.{IsTrue}
+use Rattle.std.specs.Prelude.{nat_eq}
+use Rattle.py_tree.specs.declared.statements.Stmt.{Stmt}
+use Rattle.py_tree.specs.View.{stmt_tree, stmts}
+use Rattle.py_forms.specs.Emitting.{Emission, LoopBlocks, State, by_loops}
+use Rattle.py_meaning.specs.EmissionStmts.{none}
+use Rattle.py_expr.proofs.Steps.{begin_goes, block_goes, level_goes, located_at, many_emissions, move_goes, refuse_goes}
+
+pub loops_go : (a : Option LoopBlocks → Emission) (s : State) → by_loops a s ≡ a s.context.loops s
+unfolding by_loops
+loops_go a s = refl
+
+pub none_stmts : (xs : List Stmt) → none (stmts stmt_tree xs) ≡ nat_eq (length xs) 0
+none_stmts [] = refl
+none_stmts (x ∷ xs) = go (length xs)
+  where
+    go : (n : ℕ) → false ≡ nat_eq (suc n) 0
+    go n = let h : suc n ≢ 0 = (λ e. absurd (omega (arith, e))) in sym (search (rules, h))
+
+-- where the first of the two says whether there is no statement
+pub none_is : (xs : List Stmt) (b : Bool) → (IsTrue b → xs ≡ []) → (xs ≡ [] → IsTrue b) → none (stmts stmt_tree xs) ≡ b
+none_is [] true f g = refl
+none_is [] false f g = let h = g refl in absurd cc
+none_is (x ∷ xs) true f g = let h = f refl in absurd cc
+none_is (x ∷ xs) false f g = refl
+
+pub ruleset steps = (begin_goes, block_goes, level_goes, located_at, loops_go, many_emissions, move_goes, none_stmts, refuse_goes)

@@ -1,0 +1,208 @@
+//! Assignments and deletions.
+ghost use Rattle.std.specs.Prelude.{◌≡◌};
+ghost use Rattle.py_tree.specs.View.{ann_assign_tree, assign_tree, attribute_tree, aug_assign_tree, delete_tree, expr_tree, exprs, name_tree, opt_box, subscript_tree};
+ghost use Rattle.py_bytecode.specs.Objects.{str};
+ghost use Rattle.py_forms.specs.TableParts.{binary_case};
+ghost use Rattle.py_forms.specs.Emitting.{◌▸◌, emit as emitting, emit_constant, emit_name};
+ghost use Rattle.py_emission.specs.Emission.{emission, emission_of_deletes};
+ghost use Rattle.py_meaning.specs.EmissionStmts.{emission_of_annotation, emission_of_assign, emission_of_augment, emission_of_declared, emission_of_operand, emission_of_stmt};
+ghost use Rattle.py_emit.specs.States.{Goes, Same, rest, state};
+ghost use Rattle.py_stmt.specs.Assigning.{assigned_to};
+
+use py_bytecode::{ConstantData, Instruction};
+use py_emit::{Emitter, NameUsage, emit, is_debug, refuse};
+use py_expr::{case_of, compile_deletes, compile_expression, compile_store, refuse_store};
+use py_forms::{CodegenError, CodegenErrorType};
+use py_tree::{
+    Expr, ExprAttribute, ExprName, ExprSubscript, Malformed, StmtAnnAssign, StmtAssign,
+    StmtAugAssign, StmtDelete,
+};
+
+#[tactic(auto, using(crate::proofs::Steps::steps))]
+pub(crate) fn compile_delete_statement(em: &mut Emitter, s: &StmtDelete) -> Result<(), CodegenError>
+    ensures goes { Goes result (state em.new) (emission_of_stmt (delete_tree s.now) (state em.old)) }
+    ensures same { Same result (rest em.new) (rest em.old) }
+{
+    em.set_location(s.location);
+    compile_deletes(em, s.targets.as_slice())
+}
+
+#[tactic(auto, using(crate::proofs::Steps::steps))]
+pub(crate) fn compile_assign(em: &mut Emitter, s: &StmtAssign) -> Result<(), CodegenError>
+    ensures goes { Goes result (state em.new) (emission_of_stmt (assign_tree s.now) (state em.old)) }
+    ensures same { Same result (rest em.new) (rest em.old) }
+{
+    em.set_location(s.location);
+    compile_expression(em, &s.value)?;
+    compile_targets(em, s.targets.as_slice())
+}
+
+/// Emits what stores the value that lies there to each target.
+fn compile_targets(em: &mut Emitter, targets: &[Expr]) -> Result<(), CodegenError>
+    ensures goes { Goes result (state em.new) (emission_of_assign (exprs expr_tree targets.now) (state em.old)) }
+    ensures same { Same result (rest em.new) (rest em.old) }
+{
+    if targets.is_empty() {
+        refuse!(em, CodegenErrorType::MalformedTree(Malformed::NoTarget));
+    }
+    for (i, target) in targets.iter().enumerate() {
+        compile_target(em, i + 1 < targets.len(), target)?;
+    }
+    Ok(())
+}
+
+/// Emits what stores the value that lies there to a target, and keeps it where more follow.
+fn compile_target(em: &mut Emitter, more: bool, target: &Expr) -> Result<(), CodegenError>
+    ensures goes { Goes result (state em.new) (assigned_to more (expr_tree target.now) (state em.old)) }
+    ensures same { Same result (rest em.new) (rest em.old) }
+{
+    if more {
+        emit!(em, Instruction::Duplicate);
+    }
+    compile_store(em, target)
+}
+
+#[tactic(auto, using(crate::proofs::Steps::steps))]
+pub(crate) fn compile_aug_assign(em: &mut Emitter, s: &StmtAugAssign) -> Result<(), CodegenError>
+    ensures goes { Goes result (state em.new) (emission_of_stmt (aug_assign_tree s.now) (state em.old)) }
+    ensures same { Same result (rest em.new) (rest em.old) }
+{
+    em.set_location(s.location);
+    compile_augmented(em, s)
+}
+
+/// Emits the present value of a target, the operand and the operation, and what stores the result where the first came from.
+#[tactic(auto, using(py_tree::proofs::View::trees))]
+fn compile_augmented(em: &mut Emitter, s: &StmtAugAssign) -> Result<(), CodegenError>
+    ensures goes { Goes result (state em.new) (emission_of_augment (expr_tree s.now.target.value) s.now.op (emission (expr_tree s.now.value.value)) (state em.old)) }
+    ensures same { Same result (rest em.new) (rest em.old) }
+{
+    match &*s.target {
+        Expr::Name(e) => augment_name(em, e, s),
+        Expr::Attribute(e) => augment_attribute(em, e, s),
+        Expr::Subscript(e) => augment_subscript(em, e, s),
+        other => refuse_store(em, other),
+    }
+}
+
+/// Emits the operand of an augmented assignment, and its operation.
+fn compile_operand(em: &mut Emitter, s: &StmtAugAssign) -> Result<(), CodegenError>
+    ensures goes { Goes result (state em.new) (emission_of_operand s.now.op (emission (expr_tree s.now.value.value)) (state em.old)) }
+    ensures same { Same result (rest em.new) (rest em.old) }
+{
+    compile_expression(em, &s.value)?;
+    emit!(em, Instruction::BinaryOperationInplace, case_of(s.op));
+    Ok(())
+}
+
+fn augment_name(em: &mut Emitter, e: &ExprName, s: &StmtAugAssign) -> Result<(), CodegenError>
+    ensures goes { Goes result (state em.new) (emission_of_augment (name_tree e.now) s.now.op (emission (expr_tree s.now.value.value)) (state em.old)) }
+    ensures same { Same result (rest em.new) (rest em.old) }
+{
+    em.compile_name(NameUsage::Load, e.id.as_str())?;
+    compile_operand(em, s)?;
+    em.compile_name(NameUsage::Store, e.id.as_str())
+}
+
+fn augment_attribute(
+    em: &mut Emitter,
+    e: &ExprAttribute,
+    s: &StmtAugAssign,
+) -> Result<(), CodegenError>
+    ensures goes { Goes result (state em.new) (emission_of_augment (attribute_tree e.now) s.now.op (emission (expr_tree s.now.value.value)) (state em.old)) }
+    ensures same { Same result (rest em.new) (rest em.old) }
+{
+    if is_debug(e.attr.as_str()) {
+        refuse!(em, SyntaxError: "cannot assign to __debug__");
+    }
+    compile_expression(em, &e.value)?;
+    emit!(em, Instruction::Duplicate);
+    em.emit_name(Instruction::LoadAttr, e.attr.as_str())?;
+    compile_operand(em, s)?;
+    emit!(em, Instruction::Rotate2);
+    em.emit_name(Instruction::StoreAttr, e.attr.as_str())
+}
+
+fn augment_subscript(
+    em: &mut Emitter,
+    e: &ExprSubscript,
+    s: &StmtAugAssign,
+) -> Result<(), CodegenError>
+    ensures goes { Goes result (state em.new) (emission_of_augment (subscript_tree e.now) s.now.op (emission (expr_tree s.now.value.value)) (state em.old)) }
+    ensures same { Same result (rest em.new) (rest em.old) }
+{
+    compile_expression(em, &e.value)?;
+    compile_expression(em, &e.slice)?;
+    emit!(em, Instruction::Duplicate2);
+    emit!(em, Instruction::Subscript);
+    compile_operand(em, s)?;
+    emit!(em, Instruction::Rotate3);
+    emit!(em, Instruction::StoreSubscript);
+    Ok(())
+}
+
+#[tactic(auto, using(crate::proofs::Steps::steps))]
+pub(crate) fn compile_ann_assign(em: &mut Emitter, s: &StmtAnnAssign) -> Result<(), CodegenError>
+    ensures goes { Goes result (state em.new) (emission_of_stmt (ann_assign_tree s.now) (state em.old)) }
+    ensures same { Same result (rest em.new) (rest em.old) }
+{
+    em.set_location(s.location);
+    compile_declared(em, s)?;
+    compile_expression(em, &s.annotation)?;
+    compile_annotation(em, &s.target)
+}
+
+/// Emits the value of an annotated target and its store, where there is one.
+fn compile_declared(em: &mut Emitter, s: &StmtAnnAssign) -> Result<(), CodegenError>
+    ensures goes { Goes result (state em.new) (emission_of_declared (expr_tree s.now.target.value) (opt_box expr_tree s.now.value) (state em.old)) }
+    ensures same { Same result (rest em.new) (rest em.old) }
+{
+    if let Some(value) = &s.value {
+        compile_expression(em, value)?;
+        compile_store(em, &s.target)?;
+    }
+    Ok(())
+}
+
+/// Emits what keeps the annotation of a name in `__annotations__`, and drops that of another target.
+#[tactic(auto, using(py_tree::proofs::View::trees, py_bytecode::proofs::View::views))]
+fn compile_annotation(em: &mut Emitter, target: &Expr) -> Result<(), CodegenError>
+    ensures goes { Goes result (state em.new) (emission_of_annotation (expr_tree target.now) (state em.old)) }
+    ensures same { Same result (rest em.new) (rest em.old) }
+{
+    match target {
+        Expr::Name(e) => keep_annotation(em, e),
+        _ => {
+            emit!(em, Instruction::Pop);
+            Ok(())
+        }
+    }
+}
+
+fn keep_annotation(em: &mut Emitter, e: &ExprName) -> Result<(), CodegenError>
+    ensures goes { Goes result (state em.new) (emission_of_annotation (name_tree e.now) (state em.old)) }
+    ensures same { Same result (rest em.new) (rest em.old) }
+{
+    store_key(em, "__annotations__", e.id.as_str())
+}
+
+/// Emits what stores the value that lies there under a key, in the map that a name stands for.
+fn store_key(em: &mut Emitter, map: &str, key: &str) -> Result<(), CodegenError>
+    ensures goes { Goes result (state em.new) ((emit_name Instruction.LoadNameAny map.now ▸ emit_constant Instruction.LoadConst (str key.now) ▸ emitting Instruction.StoreSubscript 0) (state em.old)) }
+    ensures same { Same result (rest em.new) (rest em.old) }
+{
+    em.emit_name(Instruction::LoadNameAny, map)?;
+    load_text(em, key)?;
+    emit!(em, Instruction::StoreSubscript);
+    Ok(())
+}
+
+/// Emits the load of a text.
+#[tactic(auto, using(py_bytecode::proofs::View::views))]
+fn load_text(em: &mut Emitter, text: &str) -> Result<(), CodegenError>
+    ensures goes { Goes result (state em.new) (emit_constant Instruction.LoadConst (str text.now) (state em.old)) }
+    ensures same { Same result (rest em.new) (rest em.old) }
+{
+    let value = em.text(text)?;
+    em.load_const(ConstantData::Str { value })
+}

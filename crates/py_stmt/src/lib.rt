@@ -1,0 +1,11 @@
+//! The code of statements.
+#![tactic(auto)]
+
+mod annotations;
+mod assignments;
+mod docs;
+mod statements;
+
+pub use annotations::find_ann;
+pub use docs::{split_doc, statements_from};
+pub use statements::compile_statements;
