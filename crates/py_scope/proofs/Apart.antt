@@ -1,32 +1,27 @@
--- No name of a scope is both a cell and handed on by a class.
-use Rattle.std.proofs.Common.{◌≡◌, refl, sym, ap, ◌∙◌, ℕ, Bool, true, false, ◌||◌, ◌&&◌, List, [], ◌∷◌, nat_eq, if◌then◌else◌, slice_get, Option, Some, None, option_map, ◌⊎◌, inl, inr}
+-- Which names a class hands on.
+use Rattle.std.proofs.Common.{◌≡◌, refl, sym, ap, ◌∙◌, ℕ, Bool, true, false, ◌||◌, ◌&&◌, List, [], ◌∷◌, nat_eq, if◌then◌else◌, slice_get, Option, Some, None, option_map}
 use Rattle.std.specs.List.{list_any}
-use Rattle.py_scope.specs.declared.table_type.SymbolTableType.TheVariants.{Function}
 use Rattle.py_scope.specs.declared.rows.Row.{Row}
 use Rattle.py_scope.specs.declared.rows.Entry.{Entry}
 use Rattle.py_scope.specs.declared.rows.Holds.{Holds}
 use Rattle.py_scope.specs.declared.outward.Meets.{Meets}
 use Rattle.py_scope.specs.declared.outward.Meets.TheVariants.{Past, Binding, Explicit}
 use Rattle.py_scope.specs.Names.{Name, same_name, lookup}
-use Rattle.py_scope.specs.Bits.{is_bound}
-use Rattle.py_scope.specs.Outward.{Touch, Leaves, Passes, Captures, look, touch, touch_here, enclosing, parents, meetings}
+use Rattle.py_scope.specs.Outward.{Touch, Leaves, Passes, Captures, look, touch, touch_here}
 use Rattle.py_scope.specs.Marks.{after, passing, capturing, or_new, looks, settled, touch_by, is_class}
-use Rattle.py_scope.specs.Flags.{captured_opt, is_passes}
+use Rattle.py_scope.specs.Flags.{is_passes}
 use Rattle.py_scope.specs.Needs.{entry_at, entry_of}
 use Rattle.py_scope.specs.Lifts.{Lift, Stays, Through, Holder, after_lift, held_as, holding, or_absent, lift_of, lift_effect, lifted, stages, outward_from, lifts, lifted_all, kind_of}
 use Rattle.py_scope.specs.Scanned.{Scanned, order_of, IsScanned, free_class_opt}
 use Rattle.py_scope.specs.Resolved.{first_fault}
-use Rattle.py_scope.specs.Laws.{after_lifts, after_looks, CellsAreApart}
+use Rattle.py_scope.specs.Resolved.{after_lifts, after_looks}
 use Rattle.py_scope.proofs.Chains.{equal_numbers}
 use Rattle.py_scope.proofs.NameLemmas.{equal_names}
 use Rattle.py_scope.proofs.Settling.{lookup_put}
-use Rattle.py_scope.proofs.Flagging.{from_looks}
-use Rattle.py_scope.proofs.LiftsCapture.{both}
 use Rattle.py_scope.proofs.Lawful.{is_lifted, is_settled}
-use Rattle.py_scope.proofs.Cellular.{there, not_shared, cell_captured, captured_where}
 
 -- the look passes scope t for n
-abbrev passes : List Row → ℕ → Name → ℕ × Name → Bool
+abbrev pub passes : List Row → ℕ → Name → ℕ × Name → Bool
 passes base t n q = same_name n q.1 && is_passes (touch_by base q.0 q.1 t)
 
 or_assoc : (a b c d : Bool) → (a || (b && d)) || (c && d) ≡ a || ((b || c) && d)
@@ -109,7 +104,7 @@ free_lifted base [] t n u = refl
 free_lifted base (q ∷ qs) t n u = free_lifted base qs t n (lift_effect base q t u) ∙ free_lift (lift_of (stages base q.1) t (outward_from base q.0)) (lifted (stages base q.1) (outward_from base q.0)) q.1 n u
 
 -- a scope that a look passes does not stop it
-passed_past : (m : ℕ → Meets) (t : ℕ) (es : List ℕ) → touch m t es ≡ Passes → m t ≡ Past
+pub passed_past : (m : ℕ → Meets) (t : ℕ) (es : List ℕ) → touch m t es ≡ Passes → m t ≡ Past
 passed_past m t [] h = cc
 passed_past m t (e ∷ es) h = by (m e) refl (nat_eq e t) refl h (passed_past m t es)
   where
@@ -120,7 +115,7 @@ passed_past m t (e ∷ es) h = by (m e) refl (nat_eq e t) refl h (passed_past m 
     by Binding q false g z ih = cc
     by Explicit q b g z ih = cc
 
-is_passed : (x : Touch) → is_passes x ≡ true → x ≡ Passes
+pub is_passed : (x : Touch) → is_passes x ≡ true → x ≡ Passes
 is_passed Leaves h = cc
 is_passed Passes h = refl
 is_passed Captures h = cc
@@ -133,27 +128,17 @@ module _ (s : Scanned) (old : IsScanned s) (fine : first_fault s ≡ None) where
       by None h = refl
       by (Some u) h = free_lifted s.rows (lifts s.rows (order_of s)) k n u ∙ h
 
-  pub cells_are_apart : CellsAreApart s
-  cells_are_apart k n e h q = by e.free_class refl
+  -- a name has FREE_CLASS exactly where its scope is a class that a look passes
+  pub class_passes : (k : ℕ) (n : Name) (e : Entry) → entry_at (after_looks s) k n ≡ Some e → e.free_class ≡ list_any (passes (after_lifts s) k n) (looks (after_lifts s) (order_of s)) && is_class (kind_of (slice_get (after_lifts s) k))
+  class_passes k n e h = by (slice_get (after_lifts s) k) refl
     where
-      caught : captured_opt (entry_at (after_looks s) k n) ≡ true
-      caught = ap captured_opt h ∙ cell_captured _ _ e.holds (is_bound e) e.captured (not_shared s old fine k n e q)
-
-      handed : (o : Option Row) → slice_get (after_lifts s) k ≡ o → e.free_class ≡ true → (list_any (passes (after_lifts s) k n) (looks (after_lifts s) (order_of s)) ≡ true) × (is_class (kind_of o) ≡ true)
-      handed None g f = let z : false ≡ true = sym (ap (λ o. free_class_opt (entry_of n o)) (is_settled s old fine k ∙ ap (option_map (settled (after_lifts s) (looks (after_lifts s) (order_of s)) k)) g)) ∙ ap free_class_opt h ∙ f in cc
-      handed (Some u) g f =
-          both _ _ (sym (ap (λ b. b || (list_any (passes (after_lifts s) k n) (looks (after_lifts s) (order_of s)) && is_class u.kind)) (ap (λ o. free_class_opt (entry_of n o)) (sym g) ∙ unpassed k n))
-          ∙ sym (free_settled (after_lifts s) (looks (after_lifts s) (order_of s)) k n u)
-          ∙ ap (λ o. free_class_opt (entry_of n o)) (sym (is_settled s old fine k ∙ ap (option_map (settled (after_lifts s) (looks (after_lifts s) (order_of s)) k)) g)) ∙ ap free_class_opt h ∙ f)
-
-      clash : (kind_of (slice_get (after_lifts s) k) ≡ Function) ⊎ (meetings (after_lifts s) n k ≡ Binding) → (list_any (passes (after_lifts s) k n) (looks (after_lifts s) (order_of s)) ≡ true) × (is_class (kind_of (slice_get (after_lifts s) k)) ≡ true) → ⊥
-      clash (inl g) w = let z : false ≡ true = ap is_class (sym g) ∙ w.1 in cc
-      clash (inr g) w =
-          let f = from_looks (passes (after_lifts s) k n) (after_lifts s) (order_of s) w.0 in
-          let z = both (same_name n f.1) _ f.3 in
-          let past : meetings (after_lifts s) n k ≡ Past = ap (λ m. meetings (after_lifts s) m k) (equal_names n f.1 z.0) ∙ passed_past (meetings (after_lifts s) f.1) k (enclosing (parents (after_lifts s)) f.0) (is_passed _ z.1) in
-          let x : Binding ≡ Past = sym g ∙ past in cc
-
-      by : (b : Bool) → e.free_class ≡ b → b ≡ false
-      by true f = absurd (clash (captured_where s old fine k n (there s old fine k n e h) caught) (handed (slice_get (after_lifts s) k) refl f))
-      by false f = refl
+      by : (o : Option Row) → slice_get (after_lifts s) k ≡ o → e.free_class ≡ list_any (passes (after_lifts s) k n) (looks (after_lifts s) (order_of s)) && is_class (kind_of o)
+      by None g = absurd (none_some (sym (ap (entry_of n) (is_settled s old fine k ∙ ap (option_map (settled (after_lifts s) (looks (after_lifts s) (order_of s)) k)) g)) ∙ h))
+        where
+          none_some : {A : Type 0} {a : A} → None ≡ Some a → ⊥
+          none_some h = cc
+      by (Some u) g =
+          ap free_class_opt (sym h)
+          ∙ ap (λ o. free_class_opt (entry_of n o)) (is_settled s old fine k ∙ ap (option_map (settled (after_lifts s) (looks (after_lifts s) (order_of s)) k)) g)
+          ∙ free_settled (after_lifts s) (looks (after_lifts s) (order_of s)) k n u
+          ∙ ap (λ b. b || (list_any (passes (after_lifts s) k n) (looks (after_lifts s) (order_of s)) && is_class u.kind)) (ap (λ o. free_class_opt (entry_of n o)) (sym g) ∙ unpassed k n)

@@ -75,7 +75,7 @@ asks_both : (a b : Bool) → a ≡ true → (a ≡ true) ⊎ (b ≡ true)
 asks_both a b h = inl h
 
 -- to want a name is to ask for it, or to hold it lifted
-wants_splits : (o : Option Entry) → wants o ≡ true → (asks_opt o ≡ true) ⊎ (is_lifted o ≡ true)
+pub wants_splits : (o : Option Entry) → wants o ≡ true → (asks_opt o ≡ true) ⊎ (is_lifted o ≡ true)
 wants_splits None h = cc
 wants_splits (Some s) h = by s.holds h
   where
@@ -88,7 +88,7 @@ wants_splits (Some s) h = by s.holds h
     by LiftedModule g = cc
     by Passed g = cc
 
-asks_wants : (o : Option Entry) → asks_opt o ≡ true → wants o ≡ true
+pub asks_wants : (o : Option Entry) → asks_opt o ≡ true → wants o ≡ true
 asks_wants None h = cc
 asks_wants (Some s) h = by s.holds h
   where
@@ -101,7 +101,7 @@ asks_wants (Some s) h = by s.holds h
     by LiftedModule g = cc
     by Passed g = cc
 
-lifted_wants : (o : Option Entry) → is_lifted o ≡ true → wants o ≡ true
+pub lifted_wants : (o : Option Entry) → is_lifted o ≡ true → wants o ≡ true
 lifted_wants None h = cc
 lifted_wants (Some s) h = by s.holds h
   where
@@ -115,14 +115,14 @@ lifted_wants (Some s) h = by s.holds h
     by Passed g = cc
 
 module _ (old new : List Row) (numbered : IsNumbered old) (once : IsOnce old) (before : LiftsCaptured old) (all : CapturesAll old new) where
-  asks_to_wants : (r : ℕ) (n : Name) → asks_for old r n ≡ true → wants_for old r n ≡ true
+  pub asks_to_wants : (r : ℕ) (n : Name) → asks_for old r n ≡ true → wants_for old r n ≡ true
   asks_to_wants r n h = by (slice_get old r) (once r) h
     where
       by : (o : Option Row) → AreDistinct (names_of o) → list_any (same_name n) (asking_of o) ≡ true → wants (entry_of n o) ≡ true
       by None d g = cc
       by (Some t) d g = asks_wants (lookup n t.entries) (listed_asks t.entries n d g)
 
-  opt_to_asks : (r : ℕ) (n : Name) → asks_opt (entry_at old r n) ≡ true → asks_for old r n ≡ true
+  pub opt_to_asks : (r : ℕ) (n : Name) → asks_opt (entry_at old r n) ≡ true → asks_for old r n ≡ true
   opt_to_asks r n h = by (slice_get old r) h
     where
       by : (o : Option Row) → asks_opt (entry_of n o) ≡ true → list_any (same_name n) (asking_of o) ≡ true

@@ -1,17 +1,15 @@
 -- The cells of the scopes of a builder without a fault.
-use Rattle.std.proofs.Common.{◌≡◌, refl, sym, ap, ◌∙◌, subst, ℕ, zero, suc, ◌<◌, Bool, true, false, ◌||◌, ◌&&◌, List, [], ◌∷◌, length, nat_eq, if◌then◌else◌, slice_get, Option, Some, None, option_map, ◌⊎◌, inl, inr, ◌↔◌, arith}
+use Rattle.std.proofs.Common.{◌≡◌, refl, sym, ap, ◌∙◌, subst, ℕ, zero, suc, ◌<◌, Bool, true, false, ◌||◌, List, [], ◌∷◌, length, if◌then◌else◌, slice_get, Option, Some, None, option_map, ◌⊎◌, inl, inr, ◌↔◌, arith}
 use Rattle.std.specs.List.{list_any}
 use Rattle.py_scope.specs.declared.table_type.SymbolTableType.{SymbolTableType}
-use Rattle.py_scope.specs.declared.table_type.SymbolTableType.TheVariants.{Module, Class, Function, Comprehension, TypeParams}
+use Rattle.py_scope.specs.declared.table_type.SymbolTableType.TheVariants.{Function}
 use Rattle.py_scope.specs.declared.rows.Row.{Row}
 use Rattle.py_scope.specs.declared.rows.Entry.{Entry}
 use Rattle.py_scope.specs.declared.rows.Holds.{Holds}
-use Rattle.py_scope.specs.declared.rows.Holds.TheVariants.{Plain, DeclaredGlobal, DeclaredNonlocal, LiftedFree, LiftedGlobal, LiftedModule, Passed}
+use Rattle.py_scope.specs.declared.rows.Holds.TheVariants.{Plain, Passed}
 use Rattle.py_scope.specs.declared.outward.Meets.{Meets}
 use Rattle.py_scope.specs.declared.outward.Meets.TheVariants.{Past, Binding, Explicit}
-use Rattle.py_scope.specs.declared.outward.Found.{Found}
-use Rattle.py_scope.specs.declared.outward.Found.TheVariants.{Nowhere, Globally, FreeOf}
-use Rattle.py_scope.specs.declared.kinds.SymbolScope.TheVariants.{GlobalExplicit, Cell}
+use Rattle.py_scope.specs.declared.outward.Found.TheVariants.{FreeOf}
 use Rattle.py_scope.specs.Names.{Name, same_name, lookup}
 use Rattle.py_scope.specs.Bits.{is_bound}
 use Rattle.py_scope.specs.Outward.{Touch, Leaves, Passes, Captures, counts, stop_of, stop_of_entry, look, found_at, enclosing, parents, meetings, meets_of}
@@ -19,13 +17,10 @@ use Rattle.py_scope.specs.Marks.{after, passing, capturing, or_new, looks, settl
 use Rattle.py_scope.specs.Flags.{captured_opt}
 use Rattle.py_scope.specs.Needs.{entry_at, entry_of, look_from, asks_for, ChildNeeds}
 use Rattle.py_scope.specs.Lifts.{lifts, stages, stage_of, outward_from, lifted_all, kind_of}
-use Rattle.py_scope.specs.Kinds.{kind_as, kind_of_entry}
 use Rattle.py_scope.specs.Capture.{hands_on, hands_on_as}
 use Rattle.py_scope.specs.Scanned.{Scanned, order_of, IsScanned}
-use Rattle.py_scope.specs.Tables.{is_plain, global_within, is_shared, kind_in}
 use Rattle.py_scope.specs.Resolved.{first_fault}
-use Rattle.py_scope.specs.Laws.{after_lifts, after_looks, CellsAreNeeded}
-use Rattle.py_scope.proofs.Chains.{equal_numbers}
+use Rattle.py_scope.specs.Resolved.{after_lifts, after_looks}
 use Rattle.py_scope.proofs.NameLemmas.{equal_names}
 use Rattle.py_scope.proofs.LiftKeeps as lifting
 use Rattle.py_scope.proofs.Settling as settling
@@ -74,26 +69,8 @@ pub same_bound_end : (o : Option Entry) → bound_of (Some (capturing (or_new o)
 same_bound_end None = refl
 same_bound_end (Some e) = refl
 
--- a cell's name is bound here, not declared, and captured
-pub cell_captured : (k : SymbolTableType) (f : Found) (h : Holds) (b c : Bool) → kind_as k f h b c ≡ Cell → c ≡ true
-cell_captured k f Plain true true q = refl
-cell_captured k f Plain true false q = cc
-cell_captured Module Nowhere Plain false c q = cc
-cell_captured Class Nowhere Plain false c q = cc
-cell_captured Function Nowhere Plain false c q = cc
-cell_captured Comprehension Nowhere Plain false c q = cc
-cell_captured TypeParams Nowhere Plain false c q = cc
-cell_captured k Globally Plain false c q = cc
-cell_captured k (FreeOf d) Plain false c q = cc
-cell_captured k f DeclaredGlobal b c q = cc
-cell_captured k f DeclaredNonlocal b c q = cc
-cell_captured k f LiftedFree b c q = cc
-cell_captured k f LiftedGlobal b c q = cc
-cell_captured k f LiftedModule b c q = cc
-cell_captured k f Passed b c q = cc
-
 -- the scope where a look ends binds the name
-ends_bound : (m : ℕ → Meets) (es : List ℕ) (t : ℕ) → look m es ≡ FreeOf t → m t ≡ Binding
+pub ends_bound : (m : ℕ → Meets) (es : List ℕ) (t : ℕ) → look m es ≡ FreeOf t → m t ≡ Binding
 ends_bound m [] t h = cc
 ends_bound m (e ∷ es) t h = by (m e) refl h (ends_bound m es t)
   where
@@ -114,9 +91,6 @@ bound_counts n (Some r) h = by (counts r.kind n) h
     by true q = refl
     by false q = cc
 
-never_both : (b : Bool) → b ≡ true → b ≡ false → ⊥
-never_both b h g = cc
-
 module _ (s : Scanned) (old : IsScanned s) (fine : first_fault s ≡ None) where
   abbrev base : List Row
   base = after_lifts s
@@ -124,7 +98,7 @@ module _ (s : Scanned) (old : IsScanned s) (fine : first_fault s ≡ None) where
   abbrev new : List Row
   new = after_looks s
 
-  same_kind : (k : ℕ) → kind_of (slice_get base k) ≡ kind_of (slice_get s.rows k)
+  pub same_kind : (k : ℕ) → kind_of (slice_get base k) ≡ kind_of (slice_get s.rows k)
   same_kind k = lifting.same_kind_of s.rows base (lifts s.rows (order_of s)) (is_lifted s old fine) k
 
   pub there : (k : ℕ) (n : Name) (e : Entry) → entry_at new k n ≡ Some e → k < length base
@@ -167,27 +141,16 @@ module _ (s : Scanned) (old : IsScanned s) (fine : first_fault s ≡ None) where
       by (inl c) = inl (by_lift (slice_get s.rows k) refl c)
       by (inr g) = inr (ends_bound (meetings base n) (enclosing (parents base) g.0) k g.2)
 
-  captured_counts : (k : ℕ) (n : Name) → k < length base → captured_opt (entry_at new k n) ≡ true → counts (kind_of (slice_get base k)) n ≡ true
+  pub captured_counts : (k : ℕ) (n : Name) → k < length base → captured_opt (entry_at new k n) ≡ true → counts (kind_of (slice_get base k)) n ≡ true
   captured_counts k n within h = by (captured_where k n within h)
     where
       by : (kind_of (slice_get base k) ≡ Function) ⊎ (meetings base n k ≡ Binding) → counts (kind_of (slice_get base k)) n ≡ true
       by (inl g) = ap (λ x. counts x n) g
       by (inr g) = bound_counts n (slice_get base k) g
 
-  pub not_shared : (k : ℕ) (n : Name) (e : Entry) → kind_in new k n e ≡ Cell → kind_of_entry (kind_of (slice_get new k)) (look_from new k n) e ≡ Cell
-  not_shared k n e h = by (is_shared new k n e) h
-    where
-      by : (b : Bool) → (if b then GlobalExplicit else kind_of_entry (kind_of (slice_get new k)) (look_from new k n) e) ≡ Cell → kind_of_entry (kind_of (slice_get new k)) (look_from new k n) e ≡ Cell
-      by true q = cc
-      by false q = q
-
-  never : (k : ℕ) (n : Name) (e : Entry) → entry_at new k n ≡ Some e → counts (kind_of (slice_get s.rows k)) n ≡ false → kind_in new k n e ≡ Cell → ⊥
-  never k n e h c q =
-      let caught : e.captured ≡ true = cell_captured _ _ e.holds (is_bound e) e.captured (not_shared k n e q) in
-      never_both (counts (kind_of (slice_get base k)) n) (captured_counts k n (there k n e h) (ap captured_opt h ∙ caught)) (ap (λ x. counts x n) (same_kind k) ∙ c)
-
-  exactly : (k : ℕ) (n : Name) (e : Entry) → entry_at new k n ≡ Some e → e.holds ≡ Plain → is_bound e ≡ true → counts (kind_of (slice_get s.rows k)) n ≡ true → (kind_in new k n e ≡ Cell) ↔ ChildNeeds base k n
-  exactly k n e h p b c = (λ q. where_needed.0 (ap captured_opt h ∙ cell_captured _ _ e.holds (is_bound e) e.captured (not_shared k n e q)), λ q. is_cell (ap captured_opt (sym h) ∙ where_needed.1 q))
+  -- a scope's own name is captured exactly where a scope directly inside needs it
+  pub captured_where_needed : (k : ℕ) (n : Name) (e : Entry) → entry_at new k n ≡ Some e → e.holds ≡ Plain → is_bound e ≡ true → counts (kind_of (slice_get s.rows k)) n ≡ true → (e.captured ≡ true) ↔ ChildNeeds base k n
+  captured_where_needed k n e h p b c = (λ q. where_needed.0 (ap captured_opt h ∙ q), λ q. ap captured_opt (sym h) ∙ where_needed.1 q)
     where
       held_before : held_opt (entry_at base k n) ≡ Plain
       held_before = sym (kept held_opt (λ x o. same_held o x) same_held_end k n) ∙ ap held_opt h ∙ p
@@ -209,16 +172,3 @@ module _ (s : Scanned) (old : IsScanned s) (fine : first_fault s ≡ None) where
 
       where_needed : (captured_opt (entry_at new k n) ≡ true) ↔ ChildNeeds base k n
       where_needed = cells_where_needed base new (numbered s old fine) (once s old fine) (lifts_captured s old fine) (captures s old fine) k n (there k n e h) (binds (slice_get base k) (same_kind k) held_before bound_before) (own (entry_at base k n) held_before)
-
-      not_module : nat_eq k 0 ≡ false
-      not_module = by (nat_eq k 0) refl
-        where
-          by : (z : Bool) → nat_eq k 0 ≡ z → z ≡ false
-          by true q = let m : false ≡ true = ap (λ x. counts x n) (sym (ap (λ x. kind_of (slice_get s.rows x)) (equal_numbers k 0 q) ∙ old.first)) ∙ c in cc
-          by false q = refl
-
-      is_cell : e.captured ≡ true → kind_in new k n e ≡ Cell
-      is_cell q = ap (λ z. if z && ((is_plain e.holds && is_bound e) && global_within new n) then GlobalExplicit else kind_of_entry (kind_of (slice_get new k)) (look_from new k n) e) not_module ∙ (λ j. kind_as (kind_of (slice_get new k)) (look_from new k n) (p j) (b j) (q j))
-
-  pub cells_are_needed : CellsAreNeeded s
-  cells_are_needed = record { exactly = exactly; never = never }

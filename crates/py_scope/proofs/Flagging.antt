@@ -64,7 +64,7 @@ module _ (f : ℕ × Name → Bool) where
   Found_in : List Name → ℕ → Type 0
   Found_in names r = (n : Name) × (list_any (same_name n) names ≡ true) × (f (r, n) ≡ true)
 
-  any_append : (xs ys : List (ℕ × Name)) → list_any f (xs ++ ys) ≡ list_any f xs || list_any f ys
+  pub any_append : (xs ys : List (ℕ × Name)) → list_any f (xs ++ ys) ≡ list_any f xs || list_any f ys
   any_append [] ys = refl
   any_append (x ∷ xs) ys = ap (λ b. f x || b) (any_append xs ys) ∙ sym (or_assoc (f x) (list_any f xs) (list_any f ys))
 
@@ -79,7 +79,7 @@ module _ (f : ℕ × Name → Bool) where
   right_or true b h = refl
   right_or false b h = h
 
-  from_names : (r : ℕ) (names : List Name) → list_any f (from_scope r names) ≡ true → (n : Name) × (list_any (same_name n) names ≡ true) × (f (r, n) ≡ true)
+  pub from_names : (r : ℕ) (names : List Name) → list_any f (from_scope r names) ≡ true → (n : Name) × (list_any (same_name n) names ≡ true) × (f (r, n) ≡ true)
   from_names r [] h = cc
   from_names r (n ∷ ns) h = by (either (f (r, n)) _ h) (from_names r ns)
     where
@@ -87,7 +87,7 @@ module _ (f : ℕ × Name → Bool) where
       by (inl g) ih = (n, left_or (same_name n n) _ (names_same n), g)
       by (inr g) ih = let k = ih g in (k.0, right_or (same_name k.0 n) _ k.1, k.2)
 
-  to_names : (r : ℕ) (names : List Name) (n : Name) → list_any (same_name n) names ≡ true → f (r, n) ≡ true → list_any f (from_scope r names) ≡ true
+  pub to_names : (r : ℕ) (names : List Name) (n : Name) → list_any (same_name n) names ≡ true → f (r, n) ≡ true → list_any f (from_scope r names) ≡ true
   to_names r [] n h g = h
   to_names r (k ∷ ks) n h g = by (either (same_name n k) _ h) (λ x. to_names r ks n x g)
     where

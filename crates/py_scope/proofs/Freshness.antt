@@ -13,6 +13,7 @@ use Rattle.py_scope.specs.declared.roles.Role.{Role}
 use Rattle.py_scope.specs.declared.roles.Role.TheVariants.{Used, Assigned, Imported, Parameter, AnnotatedParameter, AnnotationAssigned, Walrus, Iterated, Global, Nonlocal}
 use Rattle.py_scope.specs.Names.{Name, same_name, lookup}
 use Rattle.py_scope.specs.Bits.{intersects, is_stored_by_walrus}
+use Rattle.py_scope.specs.Declarations.{bits_of}
 use Rattle.py_scope.specs.Roles.{flags_of, declares, with_role, register}
 use Rattle.py_scope.specs.Kinds.{add_name}
 use Rattle.py_scope.specs.Flags.{captured_opt}
@@ -26,7 +27,7 @@ use Rattle.py_scope.proofs.LiftKeeps.{walrus_opt, walruses_put}
 use Rattle.py_scope.proofs.Ordering.{keys_put}
 
 pub fresh_none : IsFresh None
-fresh_none = record { fresh = λ n. refl; uncaptured = λ n. refl; unassigned = λ n. refl; unpassed = λ n. refl; walruses = λ h. refl; once = tt }
+fresh_none = record { fresh = λ n. refl; uncaptured = λ n. refl; unassigned = λ n. refl; unpassed = λ n. refl; unmarked = λ n. refl; walruses = λ h. refl; once = tt }
 
 pub fresh_empty : (r : Row) → r.entries ≡ [] → IsFresh (Some r)
 fresh_empty r e = record {
@@ -34,6 +35,7 @@ fresh_empty r e = record {
   uncaptured = λ n. ap (λ es. captured_opt (lookup n es)) e;
   unassigned = λ n. ap (λ es. assigned_opt (lookup n es)) e;
   unpassed = λ n. ap (λ es. free_class_opt (lookup n es)) e;
+  unmarked = λ n. ap (λ es. intersects (bits_of (lookup n es)) 0x100) e;
   walruses = λ h. ap walruses e;
   once = distinct_empty r.entries e;
 }
@@ -89,6 +91,19 @@ fresh_declared Iterated h f = f
 fresh_declared Global h f = refl
 fresh_declared Nonlocal h f = refl
 
+-- no role adds FREE_CLASS
+no_mark : (r : Role) → intersects (flags_of r) 0x100 ≡ false
+no_mark Used = refl
+no_mark Assigned = refl
+no_mark Imported = refl
+no_mark Parameter = refl
+no_mark AnnotatedParameter = refl
+no_mark AnnotationAssigned = refl
+no_mark Walrus = refl
+no_mark Iterated = refl
+no_mark Global = refl
+no_mark Nonlocal = refl
+
 -- outside comprehensions no role is that of a walrus
 no_walrus : (kind : SymbolTableType) (r : Role) → is_comprehension kind ≡ false → intersects (flags_of (role_in kind r)) 0x040 ≡ false
 no_walrus kind Used h = refl
@@ -136,6 +151,10 @@ module _ (row : Row) (n : Name) (role : Role) (old : IsFresh (Some row)) where
   same_passed None = refl
   same_passed (Some s) = refl
 
+  marks_here : (o : Option Entry) → intersects (bits_of o) 0x100 ≡ false → intersects (bits_of (Some (with_role r (or_absent o)))) 0x100 ≡ false
+  marks_here None e = intersects-or 0 (flags_of r) 0x100 ∙ (λ j. e j || no_mark r j)
+  marks_here (Some s) e = intersects-or s.roles.0 (flags_of r) 0x100 ∙ (λ j. e j || no_mark r j)
+
   same_walrus : is_comprehension row.kind ≡ false → (o : Option Entry) → is_stored_by_walrus (with_role r (or_absent o)) ≡ walrus_opt o
   same_walrus h None = no_or 0 refl
     where
@@ -153,6 +172,7 @@ module _ (row : Row) (n : Name) (role : Role) (old : IsFresh (Some row)) where
     uncaptured = kept captured_opt false old.uncaptured (same_captured (lookup n row.entries) ∙ old.uncaptured n);
     unassigned = kept assigned_opt false old.unassigned (same_assigned (lookup n row.entries) ∙ old.unassigned n);
     unpassed = kept free_class_opt false old.unpassed (same_passed (lookup n row.entries) ∙ old.unpassed n);
+    unmarked = kept (λ o. intersects (bits_of o) 0x100) false old.unmarked (marks_here (lookup n row.entries) (old.unmarked n));
     walruses = λ h. walruses_put row.entries n _ (same_walrus h (lookup n row.entries)) ∙ old.walruses h;
     once = subst AreDistinct (sym (keys_put row.entries n _)) (distinct_add_name (keys_of row.entries) n old.once);
   }

@@ -18,7 +18,7 @@ use Rattle.py_scope.specs.Registered.{IsRegistered, NonlocalsFound}
 use Rattle.py_scope.specs.Checks.{first_by, wrong_in, wrong_entry, wrong_nonlocal, wrong_class_name, entries_of}
 use Rattle.py_scope.specs.Scanned.{Scanned, order_of, IsScanned}
 use Rattle.py_scope.specs.Resolved.{first_fault}
-use Rattle.py_scope.specs.Laws.{after_lifts, after_looks}
+use Rattle.py_scope.specs.Resolved.{after_lifts, after_looks}
 use Rattle.py_scope.proofs.Chains.{equal_numbers}
 use Rattle.py_scope.proofs.NameLemmas.{equal_names}
 use Rattle.py_scope.proofs.LiftKeeps as lifting
@@ -28,11 +28,11 @@ use Rattle.py_scope.proofs.Leading.{closures_lead}
 use Rattle.py_scope.proofs.Ending.{captures_all}
 use Rattle.py_scope.proofs.Resolving.{get_each, once_lifted}
 
-none_first : (a b : Option Refusal) → first_of_two a b ≡ None → a ≡ None
+pub none_first : (a b : Option Refusal) → first_of_two a b ≡ None → a ≡ None
 none_first None b h = refl
 none_first (Some r) b h = cc
 
-none_second : (a b : Option Refusal) → first_of_two a b ≡ None → b ≡ None
+pub none_second : (a b : Option Refusal) → first_of_two a b ≡ None → b ≡ None
 none_second None b h = h
 none_second (Some r) b h = cc
 
@@ -94,7 +94,7 @@ module _ (s : Scanned) (old : IsScanned s) (fine : first_fault s ≡ None) where
   pub once : IsOnce (after_lifts s)
   once = once_lifted s.rows (after_lifts s) (lifts s.rows order) (λ k. (old.fresh k).once) is_lifted
 
-  complete : (r : ℕ) → r < length (after_lifts s) → list_any (nat_eq r) order ≡ true
+  pub complete : (r : ℕ) → r < length (after_lifts s) → list_any (nat_eq r) order ≡ true
   complete r l = old.complete r (subst (λ v. r < v) same_count l)
 
   pub captures : CapturesAll (after_lifts s) (after_looks s)

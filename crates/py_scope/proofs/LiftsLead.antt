@@ -20,7 +20,7 @@ use Rattle.py_scope.specs.Lifts.{stages, stage_of, if_function, holds_opt, as_in
 use Rattle.py_scope.proofs.Chains.{outward}
 use Rattle.py_scope.proofs.Celling.{asks_opt, asks_listed}
 use Rattle.py_scope.proofs.LiftKeeps.{same_parents, same_kind_of, same_length, same_stages}
-use Rattle.py_scope.specs.Resolve.{is_holder, is_through}
+use Rattle.py_scope.proofs.ByLifts.{is_holder, is_through}
 use Rattle.py_scope.proofs.LiftsCapture.{hits_holder, hits_through, held_in, captured_lifted, holds_lifted, any_more, both, is_it, next_on_way, from_chain, right_or}
 use Rattle.py_scope.specs.Bits.{is_bound}
 use Rattle.py_scope.proofs.NameLemmas.{equal_names}
@@ -42,7 +42,7 @@ in_comprehension n (Some t) k h = by (lookup n t.entries) refl h
         one false g = inl (start (Some s) e ∙ (λ j. stop_of (f j) (g j)))
 
 -- and in its holder
-in_function : (n : Name) (o : Option Row) → kind_of o ≡ Function → captured_opt (entry_of n o) ≡ true → is_fresh (holds_opt (entry_of n o)) ≡ true → as_in (holds_opt (entry_of n o)) ≡ LiftedFree
+pub in_function : (n : Name) (o : Option Row) → kind_of o ≡ Function → captured_opt (entry_of n o) ≡ true → is_fresh (holds_opt (entry_of n o)) ≡ true → as_in (holds_opt (entry_of n o)) ≡ LiftedFree
     → (meets_of n o ≡ Binding) ⊎ ((meets_of n o ≡ Past) × (asks_opt (entry_of n o) ≡ true))
 in_function n None k c f h = cc
 in_function n (Some t) k c f h = by (lookup n t.entries) refl c f h

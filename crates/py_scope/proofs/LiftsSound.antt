@@ -20,7 +20,7 @@ use Rattle.py_scope.specs.Registered.{is_fresh, IsRegistered}
 use Rattle.py_scope.specs.Lifts.{WalrusesInComprehensions, walruses_of, lifts, lifts_of, Stage, stages, stage_of, holds_opt, as_in, lifted, lifted_by, Lift, Stays, Through, Holder, lift_of, lift_here, outward_from, lifted_all, IsLifted, kind_of, is_comprehension}
 use Rattle.py_scope.proofs.Chains.{equal_numbers, tells_same, outward}
 use Rattle.py_scope.proofs.LiftKeeps.{same_parents, same_kind_of, same_stages, through}
-use Rattle.py_scope.specs.Resolve.{is_holder, is_through}
+use Rattle.py_scope.proofs.ByLifts.{is_holder, is_through}
 use Rattle.py_scope.proofs.LiftsCapture.{hits_holder, hits_through, held_in, captured_lifted, holds_lifted, both, is_it, right_or}
 use Rattle.py_scope.proofs.LiftsLead.{held_here, stage_function, kind_read, lifted_leads}
 use Rattle.py_scope.specs.Bits.{is_bound}

@@ -4,12 +4,13 @@ use Rattle.std.specs.List.{list_any}
 use Rattle.std.proofs.lemmas.Option.{slice_get_read}
 use Rattle.std.proofs.lemmas.List.Elements.{All-append}
 use Rattle.py_scope.specs.declared.table_type.SymbolTableType.{SymbolTableType}
+use Rattle.py_scope.specs.declared.table_type.SymbolTableType.TheVariants.{Module, Class, Function, Comprehension, TypeParams}
 use Rattle.py_scope.specs.declared.rows.Row.{Row}
 use Rattle.py_scope.specs.declared.roles.Role.{Role}
 use Rattle.py_scope.specs.Names.{Name}
 use Rattle.py_scope.specs.Outward.{chain, enclosing, parents, parent_of, IsNumbered}
 use Rattle.py_scope.specs.Lifts.{kind_of}
-use Rattle.py_scope.specs.Scanned.{Scanned, order_of, entered_row, entered, used_in, changed, with_use, gone_out, nests, IsFresh, IsScanned}
+use Rattle.py_scope.specs.Scanned.{Scanned, order_of, entered_row, entered, used_in, changed, with_use, gone_out, inner, nests, IsFresh, IsScanned, IsWithin}
 use Rattle.py_scope.proofs.Chains.{outward, tells_same, tells_apart, equal_numbers, unequal_numbers}
 use Rattle.py_scope.proofs.Freshness.{fresh_empty, fresh_used}
 
@@ -107,6 +108,7 @@ module _ (s : Scanned) (old : IsScanned s) (above : 0 < s.current) where
   scanned_left = record {
     numbered = old.numbered;
     first = old.first;
+    only = old.only;
     inside = (let i = old.inside in omega (arith, below));
     below = All-append (λ k. k < length s.rows) s.left (s.current ∷ []) old.below one;
     complete = λ k l. ap (list_any (nat_eq k)) same_order ∙ old.complete k l;
@@ -140,6 +142,7 @@ module _ (s : Scanned) (n : Name) (role : Role) (old : IsScanned s) where
   scanned_used = record {
     numbered = λ k a l. subst (λ v. v < k) (ap (λ p. p k) (sym same_parents)) (old.numbered k a (subst (λ v. k < v) same_length l));
     first = kept kind_of (λ row. refl) 0 ∙ old.first;
+    only = λ k a l q. old.only k a (subst (λ v. k < v) same_length l) (sym (kept kind_of (λ row. refl) k) ∙ q);
     inside = subst (λ v. s.current < v) (sym same_length) old.inside;
     below = λ k d h. let b = old.below k d h in omega (arith, same_length, b);
     complete = λ k l. ap (λ p. list_any (nat_eq k) (s.left ++ s.current ∷ enclosing p s.current)) same_parents ∙ old.complete k (subst (λ v. k < v) same_length l);
@@ -182,12 +185,28 @@ module _ (s : Scanned) (typ : SymbolTableType) (name : Name) (line : ℕ) (old :
   scanned_entered = record {
     numbered = numbered';
     first = ap kind_of (get_push_old s.rows row 0 (let i = old.inside in omega arith)) ∙ old.first;
+    only = λ k a l q. no_module k a q (get_push s.rows row k) l;
     inside = omega (arith, longer);
     below = λ k d h. let b = old.below k d h in omega (arith, longer, b);
     complete = λ k l. ap (λ es. list_any (nat_eq k) (s.left ++ length s.rows ∷ es)) around ∙ whole k l;
     fresh = λ k. by k (get_push s.rows row k);
   }
     where
+      not_inner : (t : SymbolTableType) → inner t ≡ Module → ⊥
+      not_inner Module q = cc
+      not_inner Class q = cc
+      not_inner Function q = cc
+      not_inner Comprehension q = cc
+      not_inner TypeParams q = cc
+
+      no_module : (k : ℕ) → 0 < k → kind_of (slice_get more k) ≡ Module → (slice_get more k ≡ slice_get s.rows k) ⊎ (slice_get more k ≡ Some row) → k < length more → ⊥
+      no_module k a q (inr e) l = not_inner typ (sym (ap kind_of e) ∙ q)
+      no_module k a q (inl e) l = case (nat_eq k (length s.rows)) refl
+        where
+          case : (b : Bool) → nat_eq k (length s.rows) ≡ b → ⊥
+          case true d = not_inner typ (sym (ap kind_of (get_push_new s.rows row)) ∙ ap (λ z. kind_of (slice_get more z)) (sym (equal_numbers k (length s.rows) d)) ∙ q)
+          case false d = old.only k a (omega (arith, longer, unequal_numbers k (length s.rows) d)) (sym (ap kind_of e) ∙ q)
+
       by : (k : ℕ) → (slice_get more k ≡ slice_get s.rows k) ⊎ (slice_get more k ≡ Some row) → IsFresh (slice_get more k)
       by k (inl e) = subst IsFresh (sym e) (old.fresh k)
       by k (inr e) = subst IsFresh (sym e) (fresh_empty row refl)
@@ -203,13 +222,16 @@ module _ (s : Scanned) (typ : SymbolTableType) (name : Name) (line : ℕ) (old :
 abbrev pub scanned : List Row → ℕ → List ℕ → Scanned
 scanned rows current left = record { rows = rows; current = current; left = left }
 
+pub entered_within : (s : Scanned) (typ : SymbolTableType) (name : Name) (line : ℕ) → IsScanned s → IsWithin (entered s typ name line)
+entered_within s typ name line old = record { above = (let i = old.inside in omega arith); inside = (let h = length_push s.rows (entered_row s.rows s.current typ name line) in omega arith) }
+
 pub after_leave : (s : Scanned) (row : Row) (left : List ℕ) → s.current < length s.rows → row ≡ slice_index_or s.rows s.current row → left ≡ s.left ++ s.current ∷ [] → scanned s.rows row.parent left ≡ gone_out s
 after_leave s row left within is_row is_left = λ j. scanned s.rows (sym (ap parent_of (slice_get_read s.rows (length s.rows) s.current row refl within is_row)) j) (is_left j)
 
-pub after_enter : (s : Scanned) (rows : List Row) (number : ℕ) (around : Row) (nested : Bool) (typ : SymbolTableType) (name : Name) (line : ℕ) → s.current < length s.rows → around ≡ slice_index_or s.rows s.current around → nested ≡ nests (Some around)
-    → rows ≡ s.rows ++ record { kind = typ; parent = s.current; head = record { name = name; line_number = line; is_nested = nested }; entries = [] } ∷ [] → number ≡ length s.rows → scanned rows number s.left ≡ entered s typ name line
-after_enter s rows number around nested typ name line within is_around is_nested is_rows is_number =
-    λ j. scanned ((is_rows ∙ ap (λ b. s.rows ++ record { kind = typ; parent = s.current; head = record { name = name; line_number = line; is_nested = b }; entries = [] } ∷ []) (is_nested ∙ ap nests (sym (slice_get_read s.rows (length s.rows) s.current around refl within is_around)))) j) (is_number j) s.left
+pub after_enter : (s : Scanned) (rows : List Row) (number : ℕ) (around : Row) (nested : Bool) (typ kind : SymbolTableType) (name : Name) (line : ℕ) → s.current < length s.rows → around ≡ slice_index_or s.rows s.current around → nested ≡ nests (Some around) → kind ≡ inner typ
+    → rows ≡ s.rows ++ record { kind = kind; parent = s.current; head = record { name = name; line_number = line; is_nested = nested }; entries = [] } ∷ [] → number ≡ length s.rows → scanned rows number s.left ≡ entered s typ name line
+after_enter s rows number around nested typ kind name line within is_around is_nested is_kind is_rows is_number =
+    λ j. scanned ((is_rows ∙ ap (λ x. s.rows ++ record { kind = x; parent = s.current; head = record { name = name; line_number = line; is_nested = nested }; entries = [] } ∷ []) is_kind ∙ ap (λ b. s.rows ++ record { kind = inner typ; parent = s.current; head = record { name = name; line_number = line; is_nested = b }; entries = [] } ∷ []) (is_nested ∙ ap nests (sym (slice_get_read s.rows (length s.rows) s.current around refl within is_around)))) j) (is_number j) s.left
 
 pub set_changed : {A : Type 0} (f : A → A) (xs : List A) (i : ℕ) (x : A) → slice_get xs i ≡ Some x → slice_set xs i (f x) ≡ changed f i xs
 set_changed f [] i x h = cc

@@ -27,7 +27,7 @@ right_false true b h = cc
 right_false false b h = h
 
 module _ (rows : List Row) (s : ℕ) where
-  named : (n : Name) (es : List (Name × Entry)) → list_any (λ t. same_name n t.name) (map {B = Symbol} (symbol_in rows s) es) ≡ list_any (same_name n) (keys_of es)
+  pub named : (n : Name) (es : List (Name × Entry)) → list_any (λ t. same_name n t.name) (map {B = Symbol} (symbol_in rows s) es) ≡ list_any (same_name n) (keys_of es)
   named n [] = refl
   named n (e ∷ es) = ap (λ b. same_name n e.0 || b) (named n es)
 

@@ -2,7 +2,7 @@
 use Rattle.std.specs.Prelude.{◌≡◌, Option, Some, None}
 use Rattle.py_base.specs.declared.location.SourceLocation.{SourceLocation}
 use Rattle.py_scope.specs.declared.error.ScanFault.{ScanFault}
-use Rattle.py_scope.specs.declared.error.ScanFault.TheVariants.{Text, TooLarge, OutOfMemory}
+use Rattle.py_scope.specs.declared.error.ScanFault.TheVariants.{Text, Malformed, TooLarge, OutOfMemory}
 use Rattle.py_scope.specs.declared.error.SymbolTableError.{SymbolTableError}
 use Rattle.py_scope.specs.declared.refusal.Refusal.{Refusal}
 use Rattle.py_scope.specs.Refusals.{text_of}
@@ -11,6 +11,7 @@ use Rattle.py_scope.specs.Refusals.{text_of}
 abbrev pub TellsFault : ScanFault → Option SourceLocation → Option Refusal → Option SourceLocation → Type 0
 TellsFault (Text t) at None location = ⊥
 TellsFault (Text t) at (Some r) location = (t ≡ text_of r) × (at ≡ location)
+TellsFault (Malformed m) at o location = ⊥
 TellsFault (TooLarge l) at o location = ⊥
 TellsFault OutOfMemory at o location = at ≡ None
 

@@ -1,37 +1,65 @@
--- Laws of the scopes that a builder resolves.
-use Rattle.std.specs.Prelude.{◌≡◌, ◌↔◌, ℕ, true, false, List, Some, slice_get}
+-- Laws of the scopes that a builder resolves, over what their uses say.
+use Rattle.std.specs.Prelude.{◌≡◌, ◌⊎◌, ◌↔◌, ℕ, Bool, true, false, ◌||◌, ◌&&◌, if◌then◌else◌, List, [], ◌∷◌, Some, slice_get, length}
+use Rattle.std.specs.List.{list_any}
+use Rattle.std.specs.Int.RustNames.{bit_or}
 use Rattle.py_scope.specs.declared.rows.Row.{Row}
-use Rattle.py_scope.specs.declared.rows.Entry.{Entry}
-use Rattle.py_scope.specs.declared.rows.Holds.TheVariants.{Plain}
 use Rattle.py_scope.specs.declared.kinds.SymbolScope.TheVariants.{Cell}
-use Rattle.py_scope.specs.Names.{Name}
-use Rattle.py_scope.specs.Bits.{is_bound}
+use Rattle.py_scope.specs.declared.symbols.Symbol.{Symbol}
+use Rattle.py_scope.specs.declared.table.SymbolTable.{SymbolTable}
+use Rattle.py_scope.specs.Names.{Name, same_name}
+use Rattle.py_scope.specs.Bits.{intersects}
 use Rattle.py_scope.specs.Outward.{counts}
-use Rattle.py_scope.specs.Needs.{entry_at, ChildNeeds}
-use Rattle.py_scope.specs.Lifts.{kind_of}
-use Rattle.py_scope.specs.Capture.{ClosuresLead}
-use Rattle.py_scope.specs.Scanned.{Scanned, order_of}
-use Rattle.py_scope.specs.Tables.{kind_in}
-use Rattle.py_scope.specs.Resolved.{lifted_rows, settled_rows}
+use Rattle.py_scope.specs.Declarations.{bits_of}
+use Rattle.py_scope.specs.Marks.{is_class}
+use Rattle.py_scope.specs.Needs.{entry_at}
+use Rattle.py_scope.specs.Symbols.{AreApart}
+use Rattle.py_scope.specs.Tables.{is_plain, tables_from}
+use Rattle.py_scope.specs.Resolve.{scopes, kind_at, around, stands_in, declared, is_held, binder_in, is_free_kind, is_used, is_free_past, needs, is_own, resolve}
 
--- the scopes once walruses are lifted, and once the looks outward have marked them
-abbrev pub after_lifts : Scanned → List Row
-after_lifts s = lifted_rows s.rows (order_of s)
+-- the symbol is free, or it has FREE_CLASS: a class hands the name on
+abbrev pub is_from_outside : Symbol → Bool
+is_from_outside t = is_free_kind t.scope || intersects t.flags.0 0x100
 
-abbrev pub after_looks : Scanned → List Row
-after_looks s = settled_rows (after_lifts s) (order_of s)
+abbrev pub has_symbol : List Symbol → Name → Bool
+has_symbol ts n = list_any (λ t. same_name n t.name) ts
 
--- a name that a scope binds is a cell exactly where a scope directly inside needs it from outside;
--- the names of the module, and those of a class but `__class__`, are never cells
-pub record CellsAreNeeded (s : Scanned) : Type 0 where
-  pub exactly : (k : ℕ) (n : Name) (e : Entry) → entry_at (after_looks s) k n ≡ Some e → e.holds ≡ Plain → is_bound e ≡ true → counts (kind_of (slice_get s.rows k)) n ≡ true
-      → (kind_in (after_looks s) k n e ≡ Cell) ↔ ChildNeeds (after_lifts s) k n
-  pub never : (k : ℕ) (n : Name) (e : Entry) → entry_at (after_looks s) k n ≡ Some e → counts (kind_of (slice_get s.rows k)) n ≡ false → kind_in (after_looks s) k n e ≡ Cell → ⊥
+-- a class hands the name on: it is free in a scope within, and the look from there ends outside
+abbrev pub hands_through : List Row → ℕ → Name → Bool
+hands_through rows k n = is_class (kind_at rows k) && list_any (is_free_past rows k n) (scopes rows)
 
--- no name of a scope is both a cell and handed on by a class
-abbrev pub CellsAreApart : Scanned → Type 0
-CellsAreApart s = (k : ℕ) (n : Name) (e : Entry) → entry_at (after_looks s) k n ≡ Some e → kind_in (after_looks s) k n e ≡ Cell → e.free_class ≡ false
+-- the flags of the uses, ASSIGNED where a walrus within stores the name, FREE_CLASS where the scope hands it on
+abbrev pub flags_by_uses : List Row → ℕ → Name → ℕ
+flags_by_uses rows k n = bit_or (bit_or (bits_of (entry_at rows k n)) (if is_held rows k n && is_plain (declared rows k n) then 0x002 else 0)) (if hands_through rows k n then 0x100 else 0)
 
--- each name that a scope needs from outside leads through the scopes around it to the cell of its binder
-abbrev pub NamesLead : Scanned → Type 0
-NamesLead s = ClosuresLead (after_lifts s)
+-- the symbols of scope k say what the uses say: one for each name that the scope uses, that a walrus within stores, or that it needs,
+-- with the kind to which it resolves
+pub record SymbolsFollow (rows : List Row) (k : ℕ) (ts : List Symbol) : Type 0 where
+  pub names : (n : Name) → has_symbol ts n ≡ is_used rows k n || (is_held rows k n || needs rows k n)
+  pub apart : AreApart ts
+  pub kinds : (i : ℕ) (t : Symbol) → slice_get ts i ≡ Some t → t.scope ≡ (resolve rows k t.name).kind
+  pub flags : (i : ℕ) (t : Symbol) → slice_get ts i ≡ Some t → t.flags.0 ≡ flags_by_uses rows k t.name
+  pub outside : (i : ℕ) (t : Symbol) → slice_get ts i ≡ Some t → is_from_outside t ≡ needs rows k t.name
+
+-- the table is the nested table of the scopes, and the symbols of each say what the uses say
+pub record TableFollows (rows : List Row) (table : SymbolTable) : Type 0 where
+  pub symbols : List (List Symbol)
+  pub nested : slice_get (tables_from 0 rows symbols) 0 ≡ Some table
+  pub whole : length symbols ≡ length rows
+  pub each : (k : ℕ) (ts : List Symbol) → slice_get symbols k ≡ Some ts → SymbolsFollow rows k ts
+
+-- a name is a cell of a scope exactly where the scope binds it itself, looks for it stop there, and a scope directly inside needs it
+abbrev pub CellsAreNeeded : List Row → Type 0
+CellsAreNeeded rows = (k : ℕ) (n : Name) → ((resolve rows k n).kind ≡ Cell) ↔ ((is_own rows k n ≡ true) × (counts (kind_at rows k) n ≡ true) × (c : ℕ) × (stands_in rows c k ≡ true) × (needs rows c n ≡ true))
+
+-- no name is both a cell of a scope and needed there from outside
+abbrev pub CellsAreApart : List Row → Type 0
+CellsAreApart rows = (k : ℕ) (n : Name) → (resolve rows k n).kind ≡ Cell → needs rows k n ≡ false
+
+-- through scopes that need n the list leads to scope b, where it is a cell
+abbrev pub LeadsTo : List Row → Name → List ℕ → ℕ → Type 0
+LeadsTo rows n [] b = ⊥
+LeadsTo rows n (e ∷ es) b = (((resolve rows e n).kind ≡ Cell) × (e ≡ b)) ⊎ ((needs rows e n ≡ true) × LeadsTo rows n es b)
+
+-- each name that a scope needs from outside leads through the scopes around to the cell of its binder
+abbrev pub NamesLead : List Row → Type 0
+NamesLead rows = (c : ℕ) (n : Name) → needs rows c n ≡ true → (b : ℕ) × (binder_in rows c n ≡ Some b) × LeadsTo rows n (around rows c) b

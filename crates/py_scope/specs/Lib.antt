@@ -16,9 +16,10 @@ pub mod Checks
 pub mod Tables
 pub mod Resolved
 pub mod Flat
+pub mod Resolve
 pub mod Laws
 pub mod Worked
-pub mod Resolve
+pub mod Answered
 pub mod Refusals
 pub mod Symbols
 pub mod SymbolList

@@ -3,7 +3,7 @@ use Rattle.std.specs.Prelude.{ℕ, List, ◌++◌, codes}
 use Rattle.py_scope.specs.declared.refusal.Declaration.{Declaration}
 use Rattle.py_scope.specs.declared.refusal.Declaration.TheVariants.{Global, Nonlocal}
 use Rattle.py_scope.specs.declared.refusal.Refusal.{Refusal}
-use Rattle.py_scope.specs.declared.refusal.Refusal.TheVariants.{Parameter, Used, Annotated, Assigned, NonlocalAtTop, IteratedAndAssigned, RebindsIterated, InClassBody, InTypeParams, NoBinding, NoEnclosingScope, ClassName}
+use Rattle.py_scope.specs.declared.refusal.Refusal.TheVariants.{Parameter, Used, Annotated, Assigned, NonlocalAtTop, IteratedAndAssigned, RebindsIterated, InClassBody, InTypeParams, NoBinding, NoEnclosingScope, ClassName, Match, TypeParamKind, SameTypeParam, YieldInTypeParams}
 use Rattle.py_scope.specs.Names.{Name}
 
 abbrev pub word_of : Declaration → List ℕ
@@ -27,3 +27,7 @@ text_of InTypeParams = codes "named expression cannot be used in type parameters
 text_of (NoBinding n) = codes "no binding for nonlocal '" ++ n ++ codes "' found"
 text_of (NoEnclosingScope n) = codes "nonlocal " ++ n ++ codes " defined at place without an enclosing scope"
 text_of (ClassName n) = codes "class name '" ++ n ++ codes "' cannot be used in type parameters"
+text_of Match = codes "match expression is not implemented yet"
+text_of TypeParamKind = codes "type parameters are not supported yet"
+text_of (SameTypeParam n) = codes "duplicate type parameter '" ++ n ++ codes "'"
+text_of YieldInTypeParams = codes "yield expression cannot be used in type parameters"

@@ -35,3 +35,10 @@ first_fault s = first_fault_of s.rows (order_of s)
 -- the table of the program
 abbrev pub resolved : Scanned → Option SymbolTable
 resolved s = resolved_of s.rows (order_of s)
+
+-- the scopes once walruses are lifted, and once the looks outward have marked them
+abbrev pub after_lifts : Scanned → List Row
+after_lifts s = lifted_rows s.rows (order_of s)
+
+abbrev pub after_looks : Scanned → List Row
+after_looks s = settled_rows (after_lifts s) (order_of s)

@@ -1,5 +1,5 @@
 -- The scopes of a program as they are collected.
-use Rattle.std.specs.Prelude.{◌≡◌, ℕ, zero, suc, ◌<◌, Bool, true, false, ◌||◌, List, [], ◌∷◌, ◌++◌, Option, Some, None, length, slice_get, nat_eq, All, codes}
+use Rattle.std.specs.Prelude.{◌≡◌, ℕ, zero, suc, ◌<◌, Bool, true, false, ◌||◌, List, [], ◌∷◌, ◌++◌, Option, Some, None, length, slice_get, nat_eq, All, codes, if◌then◌else◌}
 use Rattle.std.specs.List.{list_any}
 use Rattle.py_scope.specs.declared.table_type.SymbolTableType.{SymbolTableType}
 use Rattle.py_scope.specs.declared.table_type.SymbolTableType.TheVariants.{Module, Class, Function, Comprehension, TypeParams}
@@ -14,7 +14,8 @@ use Rattle.py_scope.specs.Roles.{register}
 use Rattle.py_scope.specs.Lifts.{holds_opt, kind_of, is_comprehension, walruses_of}
 use Rattle.py_scope.specs.Needs.{entry_of}
 use Rattle.py_scope.specs.declared.refusal.Refusal.{Refusal}
-use Rattle.py_scope.specs.Declarations.{refused_use}
+use Rattle.py_scope.specs.Declarations.{bits_of, refused_use}
+use Rattle.py_scope.specs.Bits.{intersects}
 use Rattle.py_scope.specs.Flags.{captured_opt}
 use Rattle.py_scope.specs.Registered.{is_fresh}
 use Rattle.py_scope.specs.Cells.{names_of, AreDistinct}
@@ -47,8 +48,16 @@ abbrev pub nests : Option Row → Bool
 nests None = false
 nests (Some r) = r.head.is_nested || is_function r.kind
 
+-- a module stands in nothing: a scope within that is entered as one is a function
+abbrev pub inner : SymbolTableType → SymbolTableType
+inner Module = Function
+inner Class = Class
+inner Function = Function
+inner Comprehension = Comprehension
+inner TypeParams = TypeParams
+
 abbrev pub entered_row : List Row → ℕ → SymbolTableType → Name → ℕ → Row
-entered_row rows around typ name line = record { kind = typ; parent = around; head = record { name = name; line_number = line; is_nested = nests (slice_get rows around) }; entries = [] }
+entered_row rows around typ name line = record { kind = inner typ; parent = around; head = record { name = name; line_number = line; is_nested = nests (slice_get rows around) }; entries = [] }
 
 abbrev pub entered : Scanned → SymbolTableType → Name → ℕ → Scanned
 entered s typ name line = record { rows = s.rows ++ entered_row s.rows s.current typ name line ∷ []; current = length s.rows; left = s.left }
@@ -85,6 +94,11 @@ changed f (suc i) (x ∷ xs) = x ∷ changed f i xs
 abbrev pub with_use : Scanned → Name → Role → Scanned
 with_use s n r = record { rows = changed (used_in n r) s.current s.rows; current = s.current; left = s.left }
 
+-- a scope other than the module is open
+pub record IsWithin (s : Scanned) : Type 0 where
+  pub above : 0 < s.current
+  pub inside : s.current < length s.rows
+
 abbrev pub gone_out : Scanned → Scanned
 gone_out s = record { rows = s.rows; current = parents s.rows s.current; left = s.left ++ s.current ∷ [] }
 
@@ -102,13 +116,19 @@ pub record IsFresh (o : Option Row) : Type 0 where
   pub uncaptured : (n : Name) → captured_opt (entry_of n o) ≡ false
   pub unassigned : (n : Name) → assigned_opt (entry_of n o) ≡ false
   pub unpassed : (n : Name) → free_class_opt (entry_of n o) ≡ false
+  pub unmarked : (n : Name) → intersects (bits_of (entry_of n o)) 0x100 ≡ false
   pub walruses : is_comprehension (kind_of o) ≡ false → walruses_of o ≡ []
   pub once : AreDistinct (names_of o)
+
+-- no scope but the first is a module
+abbrev pub OneModule : List Row → Type 0
+OneModule rows = (k : ℕ) → 0 < k → k < length rows → kind_of (slice_get rows k) ≡ Module → ⊥
 
 -- the calls came in order
 pub record IsScanned (s : Scanned) : Type 0 where
   pub numbered : IsNumbered s.rows
   pub first : kind_of (slice_get s.rows 0) ≡ Module
+  pub only : OneModule s.rows
   pub inside : s.current < length s.rows
   pub below : All (λ k. k < length s.rows) s.left
   pub complete : (k : ℕ) → k < length s.rows → list_any (nat_eq k) (order_of s) ≡ true
@@ -125,3 +145,16 @@ refused_in_row (Some row) n r = refused_in row n r
 -- and in the open one
 abbrev pub refused_here : Scanned → Name → Role → Option Refusal
 refused_here s n r = refused_in_row (slice_get s.rows s.current) n r
+
+-- what the open scope is
+abbrev pub kind_here : Scanned → SymbolTableType
+kind_here s = kind_of (slice_get s.rows s.current)
+
+-- the first of these scopes that is no comprehension
+abbrev pub holder_in : List Row → List ℕ → SymbolTableType
+holder_in rows [] = Module
+holder_in rows (k ∷ ks) = if is_comprehension (kind_of (slice_get rows k)) then holder_in rows ks else kind_of (slice_get rows k)
+
+-- what the scope is in which a walrus in the open one binds
+abbrev pub holder_here : Scanned → SymbolTableType
+holder_here s = holder_in s.rows (s.current ∷ enclosing (parents s.rows) s.current)

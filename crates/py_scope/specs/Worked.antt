@@ -12,8 +12,7 @@ use Rattle.py_scope.specs.declared.refusal.Refusal as refusal
 use Rattle.py_scope.specs.Names.{Name}
 use Rattle.py_scope.specs.Tables.{all_symbols}
 use Rattle.py_scope.specs.Scanned.{Scanned, begun, entered, with_use, gone_out, refused_here}
-use Rattle.py_scope.specs.Resolved.{first_fault}
-use Rattle.py_scope.specs.Laws.{after_looks}
+use Rattle.py_scope.specs.Resolved.{first_fault, after_looks}
 
 pub data Call : Type 0 where
   Enters : SymbolTableType → Name → Call

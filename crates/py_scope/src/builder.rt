@@ -1,9 +1,11 @@
 //! The scopes of a program as a scan meets them, and the tables that follow from them.
-ghost use Rattle.std.specs.Prelude.{◌≡◌, ◌<◌, IfOk, OnOk, OnErr, IfErr, Some, None, IsTrue, ◌↔◌, length, slice_get};
-ghost use Rattle.py_scope.specs.Scanned.{begun, entered, with_use, gone_out, order_of, role_in, used_in, nests, refused_in, refused_here};
+ghost use Rattle.std.specs.Prelude.{◌≡◌, ◌<◌, IfOk, OnOk, OnErr, IfErr, Some, None, IsTrue, ◌↔◌, ◌∷◌, length, slice_get};
+ghost use Rattle.py_scope.specs.Scanned.{begun, entered, with_use, gone_out, order_of, role_in, used_in, inner, nests, refused_in, refused_here, kind_here, holder_here, holder_in, IsWithin};
+ghost use Rattle.py_scope.specs.Outward.{enclosing, parents, IsNumbered};
+ghost use Rattle.py_scope.specs.Lifts.{kind_of};
+ghost use Rattle.py_scope.specs.declared.table_type.SymbolTableType.TheVariants.{Module};
 ghost use Rattle.py_scope.specs.Resolved.{first_fault, resolved};
-ghost use Rattle.py_scope.specs.Resolve.{KindsResolve};
-ghost use Rattle.py_scope.specs.Laws.{NamesLead, CellsAreApart, CellsAreNeeded};
+ghost use Rattle.py_scope.specs.Laws.{TableFollows, NamesLead, CellsAreApart, CellsAreNeeded};
 ghost use Rattle.py_scope.specs.Faults.{Tells, TellsRefusal, TellsNone};
 
 use crate::declarations::refused_use;
@@ -92,6 +94,30 @@ fn use_in(alloc: Global, row: &mut Row, name: &Text, role: Role) -> Result<(), S
     }
 }
 
+/// A scope within is no module.
+fn inner(typ: SymbolTableType) -> SymbolTableType
+    ensures { result ≡ inner typ }
+{
+    match typ {
+        SymbolTableType::Module => SymbolTableType::Function,
+        other => other,
+    }
+}
+
+/// What the innermost scope is, from this one outward, that is no comprehension.
+fn holder_from(rows: &[Row], at: usize) -> SymbolTableType
+    requires numbered { IsNumbered rows.now }
+    requires first { kind_of (slice_get rows.now 0) ≡ Module }
+    requires within { at < length rows.now }
+    ensures { result ≡ holder_in rows.now (at ∷ enclosing (parents rows.now) at) }
+{
+    let row = &rows[at];
+    match row.kind {
+        SymbolTableType::Comprehension => holder_from(rows, row.parent),
+        kind => kind,
+    }
+}
+
 impl ScopeBuilder {
     /// The module, called `top`, with no names yet.
     ///
@@ -121,7 +147,8 @@ impl ScopeBuilder {
         })
     }
 
-    /// Enters a scope that stands in the open one.
+    /// Enters a scope that stands in the open one. Only the outermost scope is a module: one that is entered as such is a
+    /// function.
     ///
     /// # Errors
     /// There is no memory for it. Nothing has changed then.
@@ -132,11 +159,13 @@ impl ScopeBuilder {
         line_number: u32,
     ) -> Result<(), AllocError>
         ensures ok { OnOk result (self.new ≡ entered self.old typ name line_number) }
+        ensures within { OnOk result (IsWithin self.new) }
         ensures err { OnErr result (self.new ≡ self.old) }
     {
         let is_nested = nests(&self.rows[self.current]);
+        let kind = inner(typ);
         let row = Row {
-            kind: typ,
+            kind,
             parent: self.current,
             head: Head {
                 name,
@@ -171,6 +200,20 @@ impl ScopeBuilder {
         Ok(())
     }
 
+    /// What the open scope is.
+    pub fn kind(&self) -> SymbolTableType
+        ensures { result ≡ kind_here self.now }
+    {
+        self.rows[self.current].kind
+    }
+
+    /// What the scope is in which a walrus here binds: the innermost that is no comprehension.
+    pub fn holder_kind(&self) -> SymbolTableType
+        ensures { result ≡ holder_here self.now }
+    {
+        holder_from(&self.rows, self.current)
+    }
+
     /// Whether the module itself is the open scope, which is not left.
     pub fn is_in_module(&self) -> bool
         ensures { IsTrue result ↔ (self.now.current ≡ 0) }
@@ -201,6 +244,7 @@ impl ScopeBuilder {
     /// parameters, the scopes inside before those around them. None of these has a location. Or there is no memory.
     pub fn finish(self) -> Result<SymbolTable, SymbolTableError>
         ensures table { IfOk result (λ table. resolved self ≡ Some table) }
+        ensures follows { IfOk result (λ table. TableFollows self.rows table) }
         ensures allowed { OnOk result (first_fault self ≡ None) }
         ensures refused { IfErr result (λ e. Tells e (first_fault self) None) }
     {
@@ -224,7 +268,7 @@ impl ScopeBuilder {
     /// Where there is no fault, each name that a scope needs from outside leads to the cell of its binder.
     pub fn names_lead(&self)
         requires { first_fault self.now ≡ None }
-        ensures { NamesLead self.now }
+        ensures { NamesLead self.now.rows }
     {
         let _ = &self.current;
     }
@@ -232,7 +276,7 @@ impl ScopeBuilder {
     /// Where there is no fault, a name that a scope binds is a cell exactly where a scope directly inside needs it.
     pub fn cells_are_needed(&self)
         requires { first_fault self.now ≡ None }
-        ensures { CellsAreNeeded self.now }
+        ensures { CellsAreNeeded self.now.rows }
     {
         let _ = &self.current;
     }
@@ -240,15 +284,7 @@ impl ScopeBuilder {
     /// Where there is no fault, no name of a scope is both a cell and handed on by a class.
     pub fn cells_are_apart(&self)
         requires { first_fault self.now ≡ None }
-        ensures { CellsAreApart self.now }
-    {
-        let _ = &self.current;
-    }
-
-    /// Where there is no fault, the kind of each name is that to which it resolves.
-    pub fn kinds_resolve(&self)
-        requires { first_fault self.now ≡ None }
-        ensures { KindsResolve self.now }
+        ensures { CellsAreApart self.now.rows }
     {
         let _ = &self.current;
     }

@@ -2,7 +2,7 @@ ghost use Rattle.std.specs.Prelude.{◌≡◌};
 ghost use Rattle.py_scope.specs.Faults.{TellsRefusal, TellsNone};
 
 use crate::refusal::Refusal;
-use py_base::{SourceLocation, Text, TreeLimit};
+use py_base::{Malformed, SourceLocation, Text, TreeLimit};
 use std::alloc::Global;
 
 /// Why the scopes of a program are refused.
@@ -10,6 +10,8 @@ use std::alloc::Global;
 pub enum ScanFault {
     /// A syntax error, with its text.
     Text(Text),
+    /// A shape that no tree of a program has.
+    Malformed(Malformed),
     /// The tree has too much of something.
     TooLarge(TreeLimit),
     /// There is no memory.
@@ -25,7 +27,7 @@ pub struct SymbolTableError {
 
 impl SymbolTableError {
     /// The fault of a refused program, or want of memory for its text.
-    pub(crate) fn refused(
+    pub fn refused(
         alloc: Global,
         refusal: &Refusal,
         location: Option<SourceLocation>,
@@ -41,7 +43,8 @@ impl SymbolTableError {
         }
     }
 
-    pub(crate) fn out_of_memory() -> SymbolTableError
+    /// Want of memory, which has no location.
+    pub fn out_of_memory() -> SymbolTableError
         ensures { TellsNone result }
     {
         SymbolTableError {

@@ -5,6 +5,7 @@ ghost use Rattle.py_scope.specs.Cells.{IsOnce, LiftsCaptured, CellsWhereNeeded};
 ghost use Rattle.py_scope.specs.Capture.{HandsOn, ClosuresLead};
 ghost use Rattle.py_scope.specs.Registered.{IsRegistered, NonlocalsFound};
 ghost use Rattle.py_scope.specs.Lifts.{IsLifted, lifts};
+ghost use Rattle.py_scope.specs.Answered.{ClosureResolves, PassingClassResolves, WalrusInFunctionResolves, WalrusInModuleResolves, ClassWithoutUseResolves, ClassWithGlobalResolves, SharedNameResolves, NonlocalWalrusResolves, GlobalWalrusResolves, WalrusWithinResolves};
 ghost use Rattle.py_scope.specs.Worked.{ClosureShown, PassingClassShown, WalrusInFunctionShown, WalrusInModuleShown, GlobalParameterRefused, IteratedWalrusRefused, UnboundNonlocalRefused, ModuleNonlocalRefused};
 
 use crate::rows::Row;
@@ -58,4 +59,18 @@ pub fn worked_programs()
     ensures iterated_walrus { IteratedWalrusRefused }
     ensures unbound_nonlocal { UnboundNonlocalRefused }
     ensures module_nonlocal { ModuleNonlocalRefused }
+{}
+
+/// The names of small programs resolve as it is written here.
+pub fn worked_answers()
+    ensures closure { ClosureResolves }
+    ensures passing_class { PassingClassResolves }
+    ensures walrus_in_function { WalrusInFunctionResolves }
+    ensures walrus_in_module { WalrusInModuleResolves }
+    ensures class_without_use { ClassWithoutUseResolves }
+    ensures class_with_global { ClassWithGlobalResolves }
+    ensures shared_name { SharedNameResolves }
+    ensures nonlocal_walrus { NonlocalWalrusResolves }
+    ensures global_walrus { GlobalWalrusResolves }
+    ensures walrus_within { WalrusWithinResolves }
 {}

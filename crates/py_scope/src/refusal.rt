@@ -39,6 +39,14 @@ pub enum Refusal {
     NoEnclosingScope(Text),
     /// A scope of type parameters uses a name that the class around it binds.
     ClassName(Text),
+    /// A `match` statement.
+    Match,
+    /// A type parameter that is no `TypeVar`.
+    TypeParamKind,
+    /// Two type parameters with one name.
+    SameTypeParam(Text),
+    /// A `yield` directly in a scope of type parameters.
+    YieldInTypeParams,
 }
 
 /// Why there is no answer.
@@ -160,6 +168,14 @@ impl Refusal {
                     name,
                     "' cannot be used in type parameters",
                 )
+            }
+            Refusal::Match => alone(alloc, "match expression is not implemented yet"),
+            Refusal::TypeParamKind => alone(alloc, "type parameters are not supported yet"),
+            Refusal::SameTypeParam(name) => {
+                around(alloc, "duplicate type parameter '", name, "'")
+            }
+            Refusal::YieldInTypeParams => {
+                alone(alloc, "yield expression cannot be used in type parameters")
             }
         }
     }

@@ -3,10 +3,10 @@ use Rattle.py_scope.specs.Scanned.{Scanned}
 use Rattle.py_scope.specs.Resolved.{first_fault}
 use Rattle.py_scope.specs.Laws.{CellsAreNeeded}
 use Rattle.py_scope.proofs.Scanning.{scanned}
-use Rattle.py_scope.proofs.Cellular.{cells_are_needed}
+use Rattle.py_scope.proofs.UsesLaws.{cells_are_needed}
 use Rattle.py_scope.proofs.builder.ScopeBuilder.cells_are_needed.Goals as goal
 
 pub returns : goal.returns
 returns c =
     let s : Scanned = scanned c.self.inside.rows.items c.self.inside.current c.self.inside.left.items in
-    subst CellsAreNeeded c.self.view_is (cells_are_needed s c.self.invariant (ap first_fault c.self.view_is ∙ c.requires))
+    subst (λ s. CellsAreNeeded s.rows) c.self.view_is (cells_are_needed s c.self.invariant (ap first_fault c.self.view_is ∙ c.requires))

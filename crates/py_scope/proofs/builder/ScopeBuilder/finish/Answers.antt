@@ -2,6 +2,8 @@ use Rattle.std.proofs.Common.{◌≡◌, sym, ap, ◌∙◌, subst, ◌<◌, ◌
 use Rattle.py_scope.specs.Outward.{enclosing, parents}
 use Rattle.py_scope.specs.Scanned.{Scanned, order_of}
 use Rattle.py_scope.specs.Resolved.{resolved, resolved_of, first_fault, first_fault_of}
+use Rattle.py_scope.specs.Laws.{TableFollows}
+use Rattle.py_scope.proofs.Follows.{table_follows}
 use Rattle.py_scope.proofs.Scanning.{scanned, order_within}
 use Rattle.py_scope.proofs.builder.ScopeBuilder.finish.Goals as goal
 
@@ -22,3 +24,9 @@ returns-in-Ok-resolve_rows-clause-allowed c =
     let s : Scanned = scanned c.self.inside.rows.items c.self.inside.current c.self.inside.left.items in
     let is : c.deref-2.result.now ≡ order_of s = c.deref-2.ensures.value ∙ c.in-Ok.ensures ∙ ap (λ rs. s.left ++ s.current ∷ enclosing (parents rs) s.current) c.deref.ensures.value in
     ap first_fault (sym c.self.view_is) ∙ ap (first_fault_of s.rows) (sym is) ∙ c.in-Ok-resolve_rows.ensures.allowed
+
+pub returns-in-Ok-resolve_rows-clause-follows : goal.returns-in-Ok-resolve_rows-clause-follows
+returns-in-Ok-resolve_rows-clause-follows c =
+    let s : Scanned = scanned c.self.inside.rows.items c.self.inside.current c.self.inside.left.items in
+    let is : c.deref-2.result.now ≡ order_of s = c.deref-2.ensures.value ∙ c.in-Ok.ensures ∙ ap (λ rs. s.left ++ s.current ∷ enclosing (parents rs) s.current) c.deref.ensures.value in
+    subst (λ s. TableFollows s.rows c.in-Ok-resolve_rows.table) c.self.view_is (table_follows s c.self.invariant (ap (first_fault_of s.rows) (sym is) ∙ c.in-Ok-resolve_rows.ensures.allowed) c.in-Ok-resolve_rows.table (ap (resolved_of s.rows) (sym is) ∙ c.in-Ok-resolve_rows.ensures.table))

@@ -1,0 +1,394 @@
+//! The scan of statements.
+ghost use Rattle.std.specs.Prelude.{◌≡◌, IfErr};
+ghost use Rattle.py_tree.specs.View.{arguments, async_for_tree, async_function_def_tree, async_with_tree, class_def_tree, expr_tree, exprs, for_tree, function_def_tree, handlers, if_tree, keywords, opt_box, stmt_tree, stmts, try_star_tree, try_tree, type_params, while_tree, with_tree};
+ghost use Rattle.py_scope.specs.declared.table_type.SymbolTableType.TheVariants as scope;
+ghost use Rattle.py_uses.specs.declared.usage.Usage.TheVariants.{Load};
+ghost use Rattle.py_uses.specs.Goes.{Goes, IsPlaced, state};
+ghost use Rattle.py_uses.specs.Steps.{◌▸◌, inside};
+ghost use Rattle.py_uses.specs.Parts.{in_type_params, use_first_names, use_opt_name, use_parameters};
+ghost use Rattle.py_scan.specs.Scan.{scan_class_scope, scan_class_parts, scan_function_scope, scan_handed_function, scan_handlers, scan_opt, scan_stmt, scan_stmts};
+
+use crate::expressions::{scan_annotations, scan_expr, scan_exprs, scan_keywords, scan_opt};
+use crate::simple::{
+    scan_ann_assign, scan_assert, scan_assign, scan_aug_assign, scan_defaults_if, scan_import_from,
+    scan_items, scan_match, scan_raise, scan_returns, scan_type_alias,
+};
+use crate::type_params::scan_type_params;
+use py_base::SourceLocation;
+use py_scope::{Role, SymbolTableError, SymbolTableType};
+use py_tree::{
+    ExceptHandler, Stmt, StmtAsyncFor, StmtAsyncFunctionDef, StmtAsyncWith, StmtClassDef, StmtFor,
+    StmtFunctionDef, StmtIf, StmtTry, StmtTryStar, StmtWhile, StmtWith,
+};
+use py_uses::names::{use_aliases, use_each, use_first_names, use_opt_name};
+use py_uses::parameters::use_parameters;
+use py_uses::type_params::{
+    check_type_params, enter_type_params, is_generic, leave_type_params, use_handed_defaults,
+};
+use py_uses::{Scan, Usage};
+
+/// Scans a statement.
+///
+/// # Errors
+/// The first fault of the scan, or OutOfMemory.
+#[cycle(scan)]
+#[tactic(auto, using(py_tree::proofs::View::trees))]
+fn scan_stmt(scan: &mut Scan, stmt: &Stmt) -> Result<(), SymbolTableError>
+    ensures goes { Goes result (state scan.new) (scan_stmt (stmt_tree stmt.now) (state scan.old)) }
+    ensures placed { IfErr result IsPlaced }
+{
+    match stmt {
+        Stmt::FunctionDef(s) => scan_function_def(scan, s),
+        Stmt::AsyncFunctionDef(s) => scan_async_function_def(scan, s),
+        Stmt::ClassDef(s) => scan_class_def(scan, s),
+        Stmt::Return(s) => scan_opt(scan, Usage::Load, &s.value),
+        Stmt::Delete(s) => scan_exprs(scan, Usage::Delete, s.targets.as_slice()),
+        Stmt::Assign(s) => scan_assign(scan, s),
+        Stmt::TypeAlias(s) => scan_type_alias(scan, s),
+        Stmt::AugAssign(s) => scan_aug_assign(scan, s),
+        Stmt::AnnAssign(s) => scan_ann_assign(scan, s),
+        Stmt::For(s) => scan_for(scan, s),
+        Stmt::AsyncFor(s) => scan_async_for(scan, s),
+        Stmt::While(s) => scan_while(scan, s),
+        Stmt::If(s) => scan_if(scan, s),
+        Stmt::With(s) => scan_with(scan, s),
+        Stmt::AsyncWith(s) => scan_async_with(scan, s),
+        Stmt::Match(s) => scan_match(scan, s),
+        Stmt::Raise(s) => scan_raise(scan, s),
+        Stmt::Try(s) => scan_try(scan, s),
+        Stmt::TryStar(s) => scan_try_star(scan, s),
+        Stmt::Assert(s) => scan_assert(scan, s),
+        Stmt::Import(s) => use_aliases(scan, s.names.as_slice(), &s.location),
+        Stmt::ImportFrom(s) => scan_import_from(scan, s),
+        Stmt::Global(s) => use_each(scan, Role::Global, s.names.as_slice(), &s.location),
+        Stmt::Nonlocal(s) => use_each(scan, Role::Nonlocal, s.names.as_slice(), &s.location),
+        Stmt::Expr(s) => scan_expr(scan, Usage::Load, &s.value),
+        Stmt::Pass(_) | Stmt::Break(_) | Stmt::Continue(_) => Ok(()),
+    }
+}
+
+/// Scans statements one after the other.
+#[cycle(scan)]
+pub fn scan_stmts(scan: &mut Scan, body: &[Stmt]) -> Result<(), SymbolTableError>
+    ensures goes { Goes result (state scan.new) (scan_stmts (stmts stmt_tree body.now) (state scan.old)) }
+    ensures placed { IfErr result IsPlaced }
+{
+    for stmt in body {
+        scan_stmt(scan, stmt)?;
+    }
+    Ok(())
+}
+
+#[cycle(scan)]
+fn scan_function_def(scan: &mut Scan, s: &StmtFunctionDef) -> Result<(), SymbolTableError>
+    ensures goes { Goes result (state scan.new) (scan_stmt (function_def_tree s.now) (state scan.old)) }
+    ensures placed { IfErr result IsPlaced }
+{
+    check_type_params(scan, s.type_params.as_slice())?;
+    scan_exprs(scan, Usage::Load, s.decorator_list.as_slice())?;
+    let generic = is_generic(s.type_params.as_slice());
+    scan_defaults_if(scan, !generic, &s.args)?;
+    scan_generic_function(scan, generic, s)?;
+    scan_defaults_if(scan, generic, &s.args)?;
+    scan.use_name(Role::Assigned, &s.name, s.location)
+}
+
+/// A function with the scope of its type parameters around it, where it has some.
+#[cycle(scan)]
+fn scan_generic_function(
+    scan: &mut Scan,
+    generic: bool,
+    s: &StmtFunctionDef,
+) -> Result<(), SymbolTableError>
+    ensures goes { Goes result (state scan.new) (in_type_params generic s.now.name s.now.location (scan_handed_function generic s.now.location s.now.name (arguments expr_tree s.now.args.value) (scan_stmts (stmts stmt_tree s.now.body)) (opt_box expr_tree s.now.returns) (type_params s.now.type_params)) (state scan.old)) }
+    ensures placed { IfErr result IsPlaced }
+{
+    enter_type_params(scan, generic, s.name.as_str(), s.location)?;
+    scan_handed_function(scan, generic, s)?;
+    leave_type_params(scan, generic)
+}
+
+#[cycle(scan)]
+fn scan_handed_function(
+    scan: &mut Scan,
+    generic: bool,
+    s: &StmtFunctionDef,
+) -> Result<(), SymbolTableError>
+    ensures goes { Goes result (state scan.new) (scan_handed_function generic s.now.location s.now.name (arguments expr_tree s.now.args.value) (scan_stmts (stmts stmt_tree s.now.body)) (opt_box expr_tree s.now.returns) (type_params s.now.type_params) (state scan.old)) }
+    ensures placed { IfErr result IsPlaced }
+{
+    use_handed_defaults(scan, generic, &s.args, &s.location)?;
+    scan_type_params(scan, s.type_params.as_slice())?;
+    scan_function_scope(scan, s)
+}
+
+#[cycle(scan)]
+fn scan_function_scope(scan: &mut Scan, s: &StmtFunctionDef) -> Result<(), SymbolTableError>
+    ensures goes { Goes result (state scan.new) (scan_function_scope s.now.location s.now.name (arguments expr_tree s.now.args.value) (scan_stmts (stmts stmt_tree s.now.body)) (opt_box expr_tree s.now.returns) (state scan.old)) }
+    ensures placed { IfErr result IsPlaced }
+{
+    scan_function_body(scan, s)?;
+    scan_returns(scan, &s.returns)?;
+    scan_annotations(scan, &s.args)
+}
+
+/// The scope of a function.
+#[cycle(scan)]
+fn scan_function_body(scan: &mut Scan, s: &StmtFunctionDef) -> Result<(), SymbolTableError>
+    ensures goes { Goes result (state scan.new) (inside scope.Function s.now.name s.now.location (use_parameters (arguments expr_tree s.now.args.value) ▸ scan_stmts (stmts stmt_tree s.now.body)) (state scan.old)) }
+    ensures placed { IfErr result IsPlaced }
+{
+    scan.enter(SymbolTableType::Function, s.name.as_str(), s.location)?;
+    use_parameters(scan, &s.args)?;
+    scan_stmts(scan, s.body.as_slice())?;
+    scan.leave()
+}
+
+#[cycle(scan)]
+fn scan_async_function_def(
+    scan: &mut Scan,
+    s: &StmtAsyncFunctionDef,
+) -> Result<(), SymbolTableError>
+    ensures goes { Goes result (state scan.new) (scan_stmt (async_function_def_tree s.now) (state scan.old)) }
+    ensures placed { IfErr result IsPlaced }
+{
+    check_type_params(scan, s.type_params.as_slice())?;
+    scan_exprs(scan, Usage::Load, s.decorator_list.as_slice())?;
+    let generic = is_generic(s.type_params.as_slice());
+    scan_defaults_if(scan, !generic, &s.args)?;
+    scan_generic_async_function(scan, generic, s)?;
+    scan_defaults_if(scan, generic, &s.args)?;
+    scan.use_name(Role::Assigned, &s.name, s.location)
+}
+
+/// A function with the scope of its type parameters around it, where it has some.
+#[cycle(scan)]
+fn scan_generic_async_function(
+    scan: &mut Scan,
+    generic: bool,
+    s: &StmtAsyncFunctionDef,
+) -> Result<(), SymbolTableError>
+    ensures goes { Goes result (state scan.new) (in_type_params generic s.now.name s.now.location (scan_handed_function generic s.now.location s.now.name (arguments expr_tree s.now.args.value) (scan_stmts (stmts stmt_tree s.now.body)) (opt_box expr_tree s.now.returns) (type_params s.now.type_params)) (state scan.old)) }
+    ensures placed { IfErr result IsPlaced }
+{
+    enter_type_params(scan, generic, s.name.as_str(), s.location)?;
+    scan_handed_async_function(scan, generic, s)?;
+    leave_type_params(scan, generic)
+}
+
+#[cycle(scan)]
+fn scan_handed_async_function(
+    scan: &mut Scan,
+    generic: bool,
+    s: &StmtAsyncFunctionDef,
+) -> Result<(), SymbolTableError>
+    ensures goes { Goes result (state scan.new) (scan_handed_function generic s.now.location s.now.name (arguments expr_tree s.now.args.value) (scan_stmts (stmts stmt_tree s.now.body)) (opt_box expr_tree s.now.returns) (type_params s.now.type_params) (state scan.old)) }
+    ensures placed { IfErr result IsPlaced }
+{
+    use_handed_defaults(scan, generic, &s.args, &s.location)?;
+    scan_type_params(scan, s.type_params.as_slice())?;
+    scan_async_function_scope(scan, s)
+}
+
+#[cycle(scan)]
+fn scan_async_function_scope(
+    scan: &mut Scan,
+    s: &StmtAsyncFunctionDef,
+) -> Result<(), SymbolTableError>
+    ensures goes { Goes result (state scan.new) (scan_function_scope s.now.location s.now.name (arguments expr_tree s.now.args.value) (scan_stmts (stmts stmt_tree s.now.body)) (opt_box expr_tree s.now.returns) (state scan.old)) }
+    ensures placed { IfErr result IsPlaced }
+{
+    scan_async_function_body(scan, s)?;
+    scan_returns(scan, &s.returns)?;
+    scan_annotations(scan, &s.args)
+}
+
+/// The scope of a function.
+#[cycle(scan)]
+fn scan_async_function_body(
+    scan: &mut Scan,
+    s: &StmtAsyncFunctionDef,
+) -> Result<(), SymbolTableError>
+    ensures goes { Goes result (state scan.new) (inside scope.Function s.now.name s.now.location (use_parameters (arguments expr_tree s.now.args.value) ▸ scan_stmts (stmts stmt_tree s.now.body)) (state scan.old)) }
+    ensures placed { IfErr result IsPlaced }
+{
+    scan.enter(SymbolTableType::Function, s.name.as_str(), s.location)?;
+    use_parameters(scan, &s.args)?;
+    scan_stmts(scan, s.body.as_slice())?;
+    scan.leave()
+}
+
+#[cycle(scan)]
+fn scan_class_def(scan: &mut Scan, s: &StmtClassDef) -> Result<(), SymbolTableError>
+    ensures goes { Goes result (state scan.new) (scan_stmt (class_def_tree s.now) (state scan.old)) }
+    ensures placed { IfErr result IsPlaced }
+{
+    let decorators = s.decorator_list.as_slice();
+    check_type_params(scan, s.type_params.as_slice())?;
+    scan_exprs(scan, Usage::Load, decorators)?;
+    let generic = is_generic(s.type_params.as_slice());
+    scan_generic_class(scan, generic, s)?;
+    scan.use_name(Role::Assigned, &s.name, s.location)
+}
+
+/// A class with the scope of its type parameters around it, where it has some.
+#[cycle(scan)]
+fn scan_generic_class(
+    scan: &mut Scan,
+    generic: bool,
+    s: &StmtClassDef,
+) -> Result<(), SymbolTableError>
+    ensures goes { Goes result (state scan.new) (in_type_params generic s.now.name s.now.location (scan_class_parts s.now.location s.now.name (exprs expr_tree s.now.bases) (keywords expr_tree s.now.keywords) (scan_stmts (stmts stmt_tree s.now.body)) (type_params s.now.type_params)) (state scan.old)) }
+    ensures placed { IfErr result IsPlaced }
+{
+    enter_type_params(scan, generic, s.name.as_str(), s.location)?;
+    scan_class_parts(scan, s)?;
+    leave_type_params(scan, generic)
+}
+
+/// The scope of a class, and then its bases.
+#[cycle(scan)]
+fn scan_class_parts(scan: &mut Scan, s: &StmtClassDef) -> Result<(), SymbolTableError>
+    ensures goes { Goes result (state scan.new) (scan_class_parts s.now.location s.now.name (exprs expr_tree s.now.bases) (keywords expr_tree s.now.keywords) (scan_stmts (stmts stmt_tree s.now.body)) (type_params s.now.type_params) (state scan.old)) }
+    ensures placed { IfErr result IsPlaced }
+{
+    scan_type_params(scan, s.type_params.as_slice())?;
+    scan_class_scope(scan, s)?;
+    scan_exprs(scan, Usage::Load, s.bases.as_slice())?;
+    scan_keywords(scan, s.keywords.as_slice())
+}
+
+/// Names in a class are mangled by it.
+#[cycle(scan)]
+fn scan_class_scope(scan: &mut Scan, s: &StmtClassDef) -> Result<(), SymbolTableError>
+    ensures goes { Goes result (state scan.new) (scan_class_scope s.now.location s.now.name (scan_stmts (stmts stmt_tree s.now.body)) (state scan.old)) }
+    ensures placed { IfErr result IsPlaced }
+{
+    let around = scan.enter_class(&s.name)?;
+    scan_class_body(scan, s)?;
+    scan.class = around;
+    Ok(())
+}
+
+#[cycle(scan)]
+fn scan_class_body(scan: &mut Scan, s: &StmtClassDef) -> Result<(), SymbolTableError>
+    ensures goes { Goes result (state scan.new) (inside scope.Class s.now.name s.now.location (use_first_names s.now.location ▸ scan_stmts (stmts stmt_tree s.now.body)) (state scan.old)) }
+    ensures placed { IfErr result IsPlaced }
+{
+    scan.enter(SymbolTableType::Class, s.name.as_str(), s.location)?;
+    use_first_names(scan, &s.location)?;
+    scan_stmts(scan, s.body.as_slice())?;
+    scan.leave()
+}
+
+#[cycle(scan)]
+fn scan_for(scan: &mut Scan, s: &StmtFor) -> Result<(), SymbolTableError>
+    ensures goes { Goes result (state scan.new) (scan_stmt (for_tree s.now) (state scan.old)) }
+    ensures placed { IfErr result IsPlaced }
+{
+    scan_expr(scan, Usage::Load, &s.iter)?;
+    scan_expr(scan, Usage::Store, &s.target)?;
+    scan_stmts(scan, s.body.as_slice())?;
+    scan_stmts(scan, s.orelse.as_slice())
+}
+
+#[cycle(scan)]
+fn scan_async_for(scan: &mut Scan, s: &StmtAsyncFor) -> Result<(), SymbolTableError>
+    ensures goes { Goes result (state scan.new) (scan_stmt (async_for_tree s.now) (state scan.old)) }
+    ensures placed { IfErr result IsPlaced }
+{
+    scan_expr(scan, Usage::Load, &s.iter)?;
+    scan_expr(scan, Usage::Store, &s.target)?;
+    scan_stmts(scan, s.body.as_slice())?;
+    scan_stmts(scan, s.orelse.as_slice())
+}
+
+#[cycle(scan)]
+fn scan_while(scan: &mut Scan, s: &StmtWhile) -> Result<(), SymbolTableError>
+    ensures goes { Goes result (state scan.new) (scan_stmt (while_tree s.now) (state scan.old)) }
+    ensures placed { IfErr result IsPlaced }
+{
+    scan_expr(scan, Usage::Load, &s.test)?;
+    scan_stmts(scan, s.body.as_slice())?;
+    scan_stmts(scan, s.orelse.as_slice())
+}
+
+#[cycle(scan)]
+fn scan_if(scan: &mut Scan, s: &StmtIf) -> Result<(), SymbolTableError>
+    ensures goes { Goes result (state scan.new) (scan_stmt (if_tree s.now) (state scan.old)) }
+    ensures placed { IfErr result IsPlaced }
+{
+    scan_expr(scan, Usage::Load, &s.test)?;
+    scan_stmts(scan, s.body.as_slice())?;
+    scan_stmts(scan, s.orelse.as_slice())
+}
+
+#[cycle(scan)]
+fn scan_with(scan: &mut Scan, s: &StmtWith) -> Result<(), SymbolTableError>
+    ensures goes { Goes result (state scan.new) (scan_stmt (with_tree s.now) (state scan.old)) }
+    ensures placed { IfErr result IsPlaced }
+{
+    scan_items(scan, s.items.as_slice())?;
+    scan_stmts(scan, s.body.as_slice())
+}
+
+#[cycle(scan)]
+fn scan_async_with(scan: &mut Scan, s: &StmtAsyncWith) -> Result<(), SymbolTableError>
+    ensures goes { Goes result (state scan.new) (scan_stmt (async_with_tree s.now) (state scan.old)) }
+    ensures placed { IfErr result IsPlaced }
+{
+    scan_items(scan, s.items.as_slice())?;
+    scan_stmts(scan, s.body.as_slice())
+}
+
+#[cycle(scan)]
+fn scan_try(scan: &mut Scan, s: &StmtTry) -> Result<(), SymbolTableError>
+    ensures goes { Goes result (state scan.new) (scan_stmt (try_tree s.now) (state scan.old)) }
+    ensures placed { IfErr result IsPlaced }
+{
+    scan_stmts(scan, s.body.as_slice())?;
+    scan_handlers(scan, &s.location, s.handlers.as_slice())?;
+    scan_stmts(scan, s.orelse.as_slice())?;
+    scan_stmts(scan, s.finalbody.as_slice())
+}
+
+#[cycle(scan)]
+fn scan_try_star(scan: &mut Scan, s: &StmtTryStar) -> Result<(), SymbolTableError>
+    ensures goes { Goes result (state scan.new) (scan_stmt (try_star_tree s.now) (state scan.old)) }
+    ensures placed { IfErr result IsPlaced }
+{
+    scan_stmts(scan, s.body.as_slice())?;
+    scan_handlers(scan, &s.location, s.handlers.as_slice())?;
+    scan_stmts(scan, s.orelse.as_slice())?;
+    scan_stmts(scan, s.finalbody.as_slice())
+}
+
+/// Scans the handlers of a `try`, which stores their names.
+#[cycle(scan)]
+fn scan_handlers(
+    scan: &mut Scan,
+    at: &SourceLocation,
+    items: &[ExceptHandler],
+) -> Result<(), SymbolTableError>
+    ensures goes { Goes result (state scan.new) (scan_handlers at.now (handlers stmt_tree items.now) (state scan.old)) }
+    ensures placed { IfErr result IsPlaced }
+{
+    for handler in items {
+        scan_handler(scan, at, handler)?;
+    }
+    Ok(())
+}
+
+#[cycle(scan)]
+fn scan_handler(
+    scan: &mut Scan,
+    at: &SourceLocation,
+    handler: &ExceptHandler,
+) -> Result<(), SymbolTableError>
+    ensures goes { Goes result (state scan.new) ((scan_opt Load (opt_box expr_tree handler.now.type_) ▸ use_opt_name handler.now.name at.now ▸ scan_stmts (stmts stmt_tree handler.now.body)) (state scan.old)) }
+    ensures placed { IfErr result IsPlaced }
+{
+    scan_opt(scan, Usage::Load, &handler.type_)?;
+    use_opt_name(scan, &handler.name, at)?;
+    scan_stmts(scan, handler.body.as_slice())
+}

@@ -1,0 +1,53 @@
+//! Type parameters in the scope that holds them.
+ghost use Rattle.std.specs.Prelude.{◌≡◌, IfErr, []};
+ghost use Rattle.py_tree.specs.View.{type_param_tree, type_params, type_var_tree};
+ghost use Rattle.py_uses.specs.Goes.{Goes, IsPlaced, state};
+ghost use Rattle.py_uses.specs.Parts.{type_names};
+ghost use Rattle.py_scan.specs.Scan.{scan_type_param, scan_type_params};
+
+use crate::expressions::scan_opt;
+use py_scope::{Role, SymbolTableError};
+use py_tree::{TypeParam, TypeParamTypeVar};
+use py_uses::type_params::check_new;
+use py_uses::{Scan, Usage};
+
+/// Registers the type parameters, each behind its bound.
+pub(crate) fn scan_type_params(
+    scan: &mut Scan,
+    params: &[TypeParam],
+) -> Result<(), SymbolTableError>
+    ensures goes { Goes result (state scan.new) (scan_type_params [] (type_params params.now) (state scan.old)) }
+    ensures placed { IfErr result IsPlaced }
+{
+    for i in 0..params.len() {
+        scan_type_param(scan, &params[..i], &params[i])?;
+    }
+    Ok(())
+}
+
+fn scan_type_param(
+    scan: &mut Scan,
+    earlier: &[TypeParam],
+    param: &TypeParam,
+) -> Result<(), SymbolTableError>
+    ensures goes { Goes result (state scan.new) (scan_type_param (type_names (type_params earlier.now)) (type_param_tree param.now) (state scan.old)) }
+    ensures placed { IfErr result IsPlaced }
+{
+    match param {
+        TypeParam::TypeVar(param) => scan_type_var(scan, earlier, param),
+        TypeParam::ParamSpec(_) | TypeParam::TypeVarTuple(_) => Ok(()),
+    }
+}
+
+fn scan_type_var(
+    scan: &mut Scan,
+    earlier: &[TypeParam],
+    param: &TypeParamTypeVar,
+) -> Result<(), SymbolTableError>
+    ensures goes { Goes result (state scan.new) (scan_type_param (type_names (type_params earlier.now)) (type_var_tree param.now) (state scan.old)) }
+    ensures placed { IfErr result IsPlaced }
+{
+    scan_opt(scan, Usage::Load, &param.bound)?;
+    check_new(scan, earlier, &param.name, &param.location)?;
+    scan.use_name(Role::Assigned, &param.name, param.location)
+}
