@@ -1,4 +1,4 @@
-//! Tests of the compiler: tables of small programs, large ones, and what is wrong with rows.
+//! Tests of the compiler: tables of small programs, and large ones.
 #![tactic(auto)]
 
 #[cfg(test)]
@@ -7,8 +7,6 @@ mod choices;
 mod displays;
 #[cfg(test)]
 mod examples;
-#[cfg(test)]
-mod input;
 #[cfg(test)]
 mod large;
 #[cfg(test)]

@@ -1,9 +1,1 @@
-pub mod Arities
-pub mod Ends
-pub mod FewRows
-pub mod Jsons
-pub mod Keywords
-pub mod Numerals
-pub mod Optionals
-pub mod Sofar
-pub mod Taking
+mod Words

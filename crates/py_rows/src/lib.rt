@@ -3,36 +3,20 @@
 
 ghost use Rattle.std.specs.Prelude.{◌<◌, ◌^◌, length};
 ghost use Rattle.py_tree.specs.View.{mod_tree};
-ghost use Rattle.py_rows.specs.Gives.{Gives};
+ghost use Rattle.py_rows_fields.specs.Gives.{Gives};
 ghost use Rattle.py_rows.specs.Rows.{rows_tree};
 
-mod assignments;
-mod constant_forms;
-mod constants;
-mod displays;
-mod error;
-mod expr_forms;
-mod fields;
-mod forms;
-mod hexadecimal;
-mod integer;
-mod json_rows;
-mod kinds;
-mod nodes;
-mod operators;
-mod parts;
-mod slots;
-mod stmt_forms;
-mod takes;
-mod values;
-mod whole;
+mod depths;
+mod ending;
+mod reading;
 
-pub use error::RowsError;
-use json_rows::{read_json, rows_of};
-use kinds::check_built;
+use ending::take_program;
+pub use py_rows_fields::RowsError;
+use py_rows_fields::{read_json, rows_of};
+use py_rows_slots::Nodes;
 use py_tree::Mod;
+use reading::read_all;
 use std::alloc::Global;
-use whole::read_slots;
 
 /// The tree whose rows the bytes are. Work is linear in the rows: each node is moved once, into its parent.
 ///
@@ -45,6 +29,7 @@ pub fn read_rows(alloc: Global, bytes: &[u8]) -> Result<Mod, RowsError>
 {
     let value = read_json(alloc, bytes)?;
     let rows = rows_of(&value)?;
-    check_built(rows)?;
-    whole::whole(read_slots(alloc, rows)?)
+    let mut nodes = Nodes::new(alloc);
+    read_all(alloc, rows, &mut nodes)?;
+    take_program(&mut nodes)
 }

@@ -7,9 +7,8 @@ use Rattle.py_bytecode.specs.declared.code.CodeObject.{CodeObject}
 use Rattle.py_forms.specs.Agreement.{Agree}
 use Rattle.py_meaning.specs.Meaning.{body}
 use Rattle.py_forms.specs.Messages.{message}
-use Rattle.py_forms.specs.declared.errors.CodegenErrorType.TheVariants as error
-use Rattle.py_rows.specs.declared.error.RowsError.{RowsError}
-use Rattle.py_rows.specs.declared.error.RowsError.TheVariants.{NotJson, NotRows, NotBuilt, WrongRow, WideInteger, LaterRow, WrongKind, NamedTwice, TooDeep, NoMod, NotNamed, OutOfMemory}
+use Rattle.py_rows_fields.specs.declared.error.RowsError.{RowsError}
+use Rattle.py_rows_fields.specs.declared.error.RowsError.TheVariants.{NotJson, NotRows, WrongRow, WideInteger, LaterRow, WrongKind, NamedTwice, TooDeep, NoMod, NotNamed, OutOfMemory}
 use Rattle.py_rows.specs.Rows.{rows_tree}
 use Rattle.py_meaning.specs.Faults.{Fault}
 use Rattle.py_meaning.specs.Faults.{faults}
@@ -27,7 +26,6 @@ row_text n text = codes "row " ++ decimal n ++ codes ": " ++ text
 abbrev pub rows_text : RowsError → List ℕ
 rows_text NotJson = codes "not JSON"
 rows_text NotRows = codes "not rows"
-rows_text (NotBuilt n location) = []
 rows_text (WrongRow n) = row_text n (codes "wrong form")
 rows_text (WideInteger n) = row_text n (codes "integer too wide")
 rows_text (LaterRow n) = row_text n (codes "later row")
@@ -62,10 +60,8 @@ abbrev pub by_faults : Command → tree.Mod → List Fault → Verdict
 by_faults c t [] = Sound c t
 by_faults c t (f ∷ fs) = Refused f
 
--- a row of a kind that is not built makes the tree one that is refused
 abbrev pub by_rows : Command → Result tree.Mod RowsError → Verdict
 by_rows c (Ok t) = by_faults c t (faults t c.mode c.level)
-by_rows c (Err (NotBuilt n location)) = Refused (record { error = error.NotImplementedYet; location = location })
 by_rows c (Err e) = Misread (rows_text e)
 
 abbrev pub verdict : Command → List ℕ → Verdict

@@ -26,7 +26,6 @@ fn push_rows_text(out: &mut String, error: &RowsError) -> Result<(), AllocError>
     match error {
         RowsError::NotJson => out.push_str("not JSON"),
         RowsError::NotRows => out.push_str("not rows"),
-        RowsError::NotBuilt { .. } => Ok(()),
         RowsError::WrongRow { row } => write!(out, "row {row}: wrong form"),
         RowsError::WideInteger { row } => write!(out, "row {row}: integer too wide"),
         RowsError::LaterRow { row } => write!(out, "row {row}: later row"),

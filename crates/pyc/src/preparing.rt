@@ -69,9 +69,6 @@ fn compiled(alloc: Global, command: &Command<'_>, bytes: &[u8]) -> Prepared
     match read_rows(alloc, bytes) {
         Ok(tree) => compiled_tree(alloc, command, &tree),
         Err(RowsError::OutOfMemory) => Prepared::Memory,
-        Err(RowsError::NotBuilt { location, .. }) => {
-            refused(alloc, &CodegenErrorType::NotImplementedYet, location)
-        }
         Err(error) => misread(alloc, &error),
     }
 }

@@ -1,7 +1,0 @@
-use Rattle.std.proofs.Common.{arith}
-use Rattle.std.proofs.lemmas.Bool.Decides.{nat_tests}
-use Rattle.py_rows.proofs.Arities.{some_field}
-use Rattle.py_rows.proofs.constant_forms.word_form.Goals as goal
-
-pub returns-else-is_empty : goal.returns-else-is_empty
-returns-else-is_empty c = some_field c.args.value c.args.row c.args.fields.now (grind (arith, nat_tests))

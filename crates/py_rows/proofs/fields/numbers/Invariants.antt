@@ -1,8 +1,0 @@
-use Rattle.std.proofs.Common.{◌≡◌, drop}
-use Rattle.serde_json.specs.View.{items_view}
-use Rattle.py_rows.specs.Fields.{numbers_in}
-use Rattle.py_rows.proofs.Sofar.{with_front}
-use Rattle.py_rows.proofs.fields.numbers.Given as goal
-
-abbrev pub invariant-loop-entry : goal.invariant-loop-entry
-invariant-loop-entry l = with_front l.found.items (numbers_in l.row (items_view (drop l.entry-index l.entry-items))) ≡ numbers_in l.row (items_view l.entry-items)

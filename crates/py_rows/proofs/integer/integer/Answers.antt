@@ -1,9 +1,0 @@
-use Rattle.std.proofs.Common.{◌≡◌, true, arith}
-use Rattle.py_rows.specs.Integers.{integer_form}
-use Rattle.py_rows.proofs.Numerals.{wide}
-use Rattle.py_rows.proofs.integer.integer.Goals as goal
-
-pub returns-in-Err : goal.returns-in-Err
-returns-in-Err c =
-    let form : integer_form c.args.text.now ≡ true = grind arith in
-    wide c.args.row c.args.text.now form c.in-Err.ensures.value.0

@@ -1,0 +1,36 @@
+-- Rows with too few or too many fields for the table of their kind.
+use Rattle.std.proofs.Common.{◌≡◌, ◌<◌, ◌≤◌, ℕ, zero, suc, List, [], ◌∷◌, length, drop, Err, refl, arith}
+use Rattle.serde_json.specs.View.{items_view}
+use Rattle.serde_json.specs.declared.value.Value.{Value}
+use Rattle.py_rows_fields.specs.declared.error.RowsError.TheVariants.{WrongRow}
+use Rattle.py_rows_fields.specs.declared.parts.Part.{Part}
+use Rattle.py_rows_fields.specs.declared.table.Field.{Field}
+use Rattle.py_rows_fields.specs.Fields.{behind_place, no_field, place_in}
+use Rattle.py_rows_fields.specs.Parts.{parts_by}
+
+pub missing : (n : ℕ) (table : List Field) (i : ℕ) (vs : List Value) (before : List Part) → i < length table → length vs ≡ 0 → parts_by n (drop i table) (items_view vs) before ≡ Err (WrongRow n)
+missing n [] i vs before h e = absurd (omega arith)
+missing n (f ∷ fs) zero [] before h e = refl
+missing n (f ∷ fs) zero (v ∷ vs) before h e = absurd (omega arith)
+missing n (f ∷ fs) (suc i) vs before h e = missing n fs i vs before (omega arith) e
+
+pub left_over : (n : ℕ) (table : List Field) (i : ℕ) (vs : List Value) (before : List Part) → length table ≤ i → 0 < length vs → parts_by n (drop i table) (items_view vs) before ≡ Err (WrongRow n)
+left_over n [] i [] before h e = absurd (omega arith)
+left_over n [] zero (v ∷ vs) before h e = refl
+left_over n [] (suc i) (v ∷ vs) before h e = refl
+left_over n (f ∷ fs) zero vs before h e = absurd (omega arith)
+left_over n (f ∷ fs) (suc i) vs before h e = left_over n fs i vs before (omega arith) e
+
+pub no_place : (n : ℕ) (vs : List Value) → length vs < 2 → place_in n (items_view vs) ≡ Err (WrongRow n)
+no_place n [] h = refl
+no_place n (a ∷ []) h = refl
+no_place n (a ∷ b ∷ vs) h = absurd (omega arith)
+
+pub not_behind : (n : ℕ) (vs : List Value) → length vs < 2 → behind_place n (items_view vs) ≡ Err (WrongRow n)
+not_behind n [] h = refl
+not_behind n (a ∷ []) h = refl
+not_behind n (a ∷ b ∷ vs) h = absurd (omega arith)
+
+pub some_field : (n : ℕ) (vs : List Value) → 0 < length vs → no_field n (items_view vs) ≡ Err (WrongRow n)
+some_field n [] h = absurd (omega arith)
+some_field n (v ∷ vs) h = refl

@@ -1,0 +1,12 @@
+pub mod Fields
+pub mod Gives
+pub mod Hexadecimal
+pub mod Integers
+pub mod JsonRows
+pub mod Kinds
+pub mod Operators
+pub mod Outline
+pub mod Parts
+pub mod Plain
+pub mod Sorts
+pub mod Table

@@ -1,0 +1,36 @@
+ghost use Rattle.serde_json.specs.View.{view, items_view};
+ghost use Rattle.py_rows_fields.specs.Gives.{Gives};
+ghost use Rattle.py_rows_fields.specs.JsonRows.{json_of, rows_in};
+
+use crate::error::RowsError;
+use serde_json::Value;
+use std::alloc::Global;
+
+/// The value that the bytes are as JSON.
+pub fn read_json(alloc: Global, bytes: &[u8]) -> Result<Value, RowsError>
+    ensures { Gives view result (json_of bytes.now) }
+{
+    match Value::from_slice(alloc, bytes) {
+        Ok(value) => Ok(value),
+        Err(e) => {
+            if e.is_memory() {
+                Err(RowsError::OutOfMemory)
+            } else {
+                Err(RowsError::NotJson)
+            }
+        }
+    }
+}
+
+/// The rows, which are the entries of an array that is not empty.
+pub fn rows_of(value: &Value) -> Result<&[Value], RowsError>
+    ensures { Gives (λ r. items_view r.now) result (rows_in (view value.now)) }
+{
+    let Some(rows) = value.as_array() else {
+        return Err(RowsError::NotRows);
+    };
+    if rows.is_empty() {
+        return Err(RowsError::NotRows);
+    }
+    Ok(rows.as_slice())
+}

@@ -1,0 +1,4 @@
+pub mod Carrying
+pub mod Leftovers
+pub mod ListsOf
+pub mod Sofar

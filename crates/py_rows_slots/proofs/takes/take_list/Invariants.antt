@@ -1,0 +1,10 @@
+use Rattle.std.proofs.Common.{◌≡◌, drop, map, option_map}
+use Rattle.serde_json.specs.View.{items_view}
+use Rattle.py_rows_slots.specs.Taking.{take_each}
+use Rattle.py_rows_slots.proofs.Sofar.{with_taken}
+use Rattle.py_rows_slots.proofs.takes.take_list.Given as goal
+
+abbrev pub invariant-loop-entry : goal.invariant-loop-entry
+invariant-loop-entry g l =
+    with_taken (map g.T.Made.seen l.found.items) (take_each l.row (items_view (drop l.entry-index l.entry-items)) l.rows (map (option_map g.T.Made.seen) l.nodes.items))
+    ≡ take_each l.row (items_view l.entry-items) l.rows (map (option_map g.T.Made.seen) l.initial.nodes.items)
