@@ -1,8 +1,8 @@
 """Writes a table of crates/codegen_vectors/src: small programs, with the listing of their code or why they are refused.
 
-usage: source_tables.py MODEL_FOLDER choices|displays|targets
+usage: source_tables.py MODEL_FOLDER choices|displays|targets|control
 
-The text on standard output is the file choices.rt, displays.rt or targets.rt, before `rt fmt`.
+The text on standard output is the file choices.rt, displays.rt, targets.rt or control.rt, before `rt fmt`.
 MODEL_FOLDER holds a Python model of the compiler (`pyc.py`) and a reader of Python sources (`py2rows.py`).
 Each source below gives one entry: how it is compiled, its rows, and what the model writes over them.
 The levels 0, 1 and 2 follow one another in each table, unless an entry names its own.
@@ -414,6 +414,160 @@ TARGETS = {
 }
 
 
+def indented(source):
+    return "".join(f" {line}\n" for line in source.rstrip().split("\n"))
+
+
+WRAPS = {
+    "while": lambda body: f"while a:\n{indented(body)}",
+    "while, in the else part": lambda body: f"while a: b\nelse:\n{indented(body)}",
+    "for": lambda body: f"for a in b:\n{indented(body)}",
+    "for, in the else part": lambda body: f"for a in b: c\nelse:\n{indented(body)}",
+    "with": lambda body: f"with a as b:\n{indented(body)}",
+    "try": lambda body: f"try:\n{indented(body)}except: h\n",
+    "handler": lambda body: f"try: t\nexcept E as e:\n{indented(body)}",
+    "else of try": lambda body: f"try: t\nexcept: h\nelse:\n{indented(body)}",
+    "try with finally": lambda body: f"try:\n{indented(body)}finally: z\n",
+    "finally": lambda body: f"try: t\nfinally:\n{indented(body)}",
+    "handler with finally": lambda body: f"try: t\nexcept E as e:\n{indented(body)}finally: z\n",
+}
+
+
+def nested(outer, inner, last):
+    """What leaves, within one form of control that stands in another."""
+    return WRAPS[outer](f"if i: {last}\n" + WRAPS[inner](f"if j: {last}\nk"))
+
+
+CONTROL = {
+    "about": "Loops over iterators, exceptions, `with` and `assert`",
+    "exec": {
+        "ITERATION": [
+            *at_each("for a in b: c"),
+            "for a in b: c\nelse: d",
+            "for a, (b, *c) in d.e(f): g",
+            "for a.b in c: d\nelse: e",
+            "for a[b] in c[d]: e",
+            "for a in b:\n if c: break\n d\nelse: e",
+            "for a in b:\n if c: continue\n d\nelse: e",
+            "for a in b:\n for c in d:\n  if e: break\n  if f: continue\n else: continue\n g\nelse: h",
+            "for a in b:\n while c:\n  if d: continue\n  break\n else: break",
+            "while a:\n for b in c:\n  if d: break\n else: break\n e",
+            "for a in b:\n break\n c",
+            "for a in b, *c: pass",
+            "for a in (b := c) or d: e",
+            "for a in b: pass\nfor a in b: pass\na",
+        ],
+        "RAISING": [
+            "raise",
+            "raise a",
+            "raise a from b",
+            "raise a(b) from c or d",
+            *at_each("raise a\nb"),
+            "while a: raise b\nelse: raise",
+            "for a in b: raise a from None",
+            "while c: break\nelse: raise x\nf(a, b)",
+            "if a: raise b\nelse: c",
+        ],
+        "ASSERTING": [
+            *at_each("assert a"),
+            *at_each("assert a, b"),
+            "assert a and not b, c(d)",
+            "assert a < b < c\nd",
+            "assert not (a or b)",
+            "assert __debug__, __debug__",
+            "for a in b:\n assert a, b\n continue",
+            At("0", "assert (a, b)\nassert AssertionError"),
+            At("1", "assert a, (b := c)\nd"),
+        ],
+        "HANDLING": [
+            *at_each("try: a\nexcept: b"),
+            "try: a\nexcept E: b",
+            *at_each("try: a\nexcept E as e: b"),
+            "try: a\nexcept (E, F) as e: e\nexcept G: g\nexcept: h",
+            "try: a\nexcept E: b\nelse: c",
+            "try: a\nexcept E as e: b\nexcept F as e: c\nelse: d\ne",
+            "try: a\nexcept E.f(g) as h: raise\nelse: raise h",
+            "try:\n try: a\n except E as e: b\nexcept F as f: c",
+            "try: a\nexcept E as e:\n try: b\n except F as e: c\n e",
+            "try: pass\nexcept E as e: pass",
+            "try: a\nexcept E: raise F from e",
+            rows_of("a bare handler before another", [["Name",1,6,"a"],["Expr",1,6,0],["Name",2,9,"b"],["Expr",2,9,2],["ExceptHandler",None,None,[3]],["Name",3,8,"E"],["Name",3,11,"c"],["Expr",3,11,6],["ExceptHandler",5,None,[7]],["Try",1,1,[1],[4,8],[],[]],["Module",[9]]]),
+            rows_of("try alone", [["Name",1,6,"a"],["Expr",1,6,0],["Try",1,1,[1],[],[],[]],["Module",[2]]]),
+            rows_of("try with an else part alone", [["Name",1,6,"a"],["Expr",1,6,0],["Name",2,7,"b"],["Expr",2,7,2],["Try",1,1,[1],[],[3],[]],["Module",[4]]]),
+        ],
+        "LAST_PARTS": [
+            *at_each("try: a\nfinally: b"),
+            *at_each("try: a\nexcept E as e: b\nelse: c\nfinally: d"),
+            "try: a\nexcept E: b\nexcept: c\nfinally: d\ne",
+            At("0", "while a:\n try: break\n finally: b"),
+            "while a:\n try: continue\n finally: b\nelse: c",
+            "for a in b:\n try: c\n finally: break",
+            "for a in b:\n try: c\n finally: continue",
+            "for a in b:\n try: raise c\n except E as e: break\n else: continue\n finally: d\nelse: f",
+            "try: a\nfinally:\n try: b\n finally: c",
+            "try:\n try: a\n finally: b\nfinally: c",
+            "try: raise a\nexcept E as e: raise\nfinally: raise b",
+            "try: pass\nfinally: pass",
+        ],
+        "MANAGING": [
+            *at_each("with a: b"),
+            "with a as x: raise e",
+            "with a as b, c as d: e",
+            "with a, b as (c, *d), e.f as g.h: i",
+            "with a as b[c]:\n with d as e: f\ng",
+            "with (a, b) as c: pass",
+            "while a:\n with b as c: break\n d",
+            "for a in b:\n with c, d as e:\n  if f: continue\n  g\nelse: h",
+            "with a as b:\n for b in c:\n  if d: break\ne",
+            "with a as b:\n try: c\n except E as e: d\n finally: f",
+            "try:\n with a as b: c\nfinally: d",
+            "with a(b) as c:\n raise\n d",
+            "with\\\n a\\\n as b, c:\n  d",
+        ],
+        "WITHIN": [nested(outer, inner, last) for i, outer in enumerate(WRAPS) for j, inner in enumerate(WRAPS) for last in [["raise x", "pass", "raise"][(i + j) % 3]] if (i + 2 * j) % 3 == 0],
+        "LEAVING": [WRAPS[loop](nested(outer, inner, last)) for loop, last in [("for", "break"), ("while", "continue"), ("for", "continue"), ("while", "break")] for i, outer in enumerate(WRAPS) for j, inner in enumerate(WRAPS) if (i * 5 + j * 3 + len(last) + len(loop)) % 11 == 0],
+        "ANNOTATED": [
+            "for a in b: c: d = e",
+            "for a in b: c\nelse: d: e",
+            "with a: b: c",
+            "try: a: b\nfinally: c",
+            "try: a\nexcept: b: c",
+            "try: a\nexcept E: b\nelse: c: d",
+            "try: a\nfinally: b: c = d",
+            "while a:\n with b:\n  for c in d:\n   try: e: f\n   except: g",
+        ],
+        "CONTROL_FAULTS": [
+            "for a in b: c\nelse: break",
+            "try: break\nfinally: a",
+            "with a: continue",
+            "try: a\nexcept E as e: continue",
+            with_part("for a in *b: c", "*b"),
+            with_part("for f(a) in b: c", "f(a)"),
+            with_part("for a, 1 in b: c", "1"),
+            "for __debug__ in b: c",
+            "with a as __debug__: b",
+            "with a, b.c as d.__debug__: e",
+            with_part("with a as b + c: d", "b + c"),
+            with_part("with a as *b: c", "*b"),
+            "try: a\nexcept E as __debug__: b",
+            "try: a\nexcept E as e: break\nelse: continue",
+            with_part("raise *a", "*a"),
+            with_part("raise a from *b", "*b"),
+            with_part("assert *a", "*a"),
+            with_part("assert a, *b", "*b"),
+            At("1", "assert a, b\nbreak"),
+            rows_of("with without items", [["Name",1,7,"a"],["Expr",1,7,0],["With",1,1,[],[1]],["Module",[2]]]),
+            rows_of("with without a body", [["Name",1,6,"a"],["WithItem",0,None],["With",1,1,[1],[]],["Module",[2]]]),
+            rows_of("with without items or a body", [["With",1,1,[],[]],["Module",[0]]]),
+            rows_of("with a wrong target and without a body", [["Name",1,6,"a"],["str","b"],["Constant",1,11,1],["WithItem",0,2],["With",1,1,[3],[]],["Module",[4]]]),
+            rows_of("raise from b", [["Name",1,12,"b"],["Raise",1,1,None,0],["Module",[1]]]),
+            rows_of("except as e", [["Name",1,6,"a"],["Expr",1,6,0],["Name",2,14,"b"],["Expr",2,14,2],["ExceptHandler",None,"e",[3]],["Try",1,1,[1],[4],[],[]],["Module",[5]]]),
+            "for a in b:\n try: c\n except E:\n  with d: break\n else: continue\nelse:\n with e: break",
+        ],
+    },
+}
+
+
 def entry(source, mode, level):
     if isinstance(source, At):
         source, level = source.source, source.level
@@ -421,7 +575,7 @@ def entry(source, mode, level):
         source, rows = source
     else:
         rows = rows_text(source, mode)
-    status, out, err, _ = pyc.run([mode, level, "m.py"], rows.encode())
+    status, out, err, _ = pyc.run([mode, level, "m.py"], rows.encode(), sys.argv[2] == "control")
     assert status in (0, 1), (source, err)
     print()
     print(mode, level, source.replace("\\", "\\\\").replace("\n", "\\n"))
@@ -429,7 +583,7 @@ def entry(source, mode, level):
     print(out if status == 0 else err, end="")
 
 
-group = {"choices": CHOICES, "displays": DISPLAYS, "targets": TARGETS}[sys.argv[2]]
+group = {"choices": CHOICES, "displays": DISPLAYS, "targets": TARGETS, "control": CONTROL}[sys.argv[2]]
 print(f"""//! {group["about"]}. The file is made by tools/source_tables.py.
 
 /// Of each program: a line with its mode, its level and its source, one with its rows, and the listing of its code or the

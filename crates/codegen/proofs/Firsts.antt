@@ -11,7 +11,8 @@ use Rattle.py_base.specs.declared.shapes.Malformed.{Malformed}
 use Rattle.py_bytecode.specs.declared.code.CodeObject.{CodeObject}
 use Rattle.py_forms.specs.Emitting.{Outcome, Done, TooWide, Refused}
 use Rattle.py_meaning.specs.EmissionStmts.{emitted}
-use Rattle.py_meaning.specs.Faults.{Fault, faults, whole, too_deep, too_large, malformed, compile_faults}
+use Rattle.py_meaning.specs.ExprFaults.{Fault}
+use Rattle.py_meaning.specs.Faults.{faults, whole, too_deep, too_large, malformed, compile_faults}
 use Rattle.py_forms.specs.declared.errors.CodegenErrorType.{CodegenErrorType}
 use Rattle.py_forms.specs.declared.errors.CodegenErrorType.TheVariants as error
 use Rattle.codegen.specs.Compiled.{IsFirst, IsRefused}
@@ -39,29 +40,29 @@ passed true f rest e = refl
 passed false f rest e = absurd cc
 
 -- what comes after nesting, and after size
-abbrev shaped : tree.Mod → Mode → List Fault
-shaped t m = malformed (shapes t m) ++ compile_faults t
+abbrev shaped : (level : ℕ) → tree.Mod → Mode → List Fault
+shaped l t m = malformed (shapes t m) ++ compile_faults l t
 
-abbrev sized : tree.Mod → Mode → List Fault
-sized t m = whole too_large (2 ^ 22) (size_of t) ++ shaped t m
+abbrev sized : (level : ℕ) → tree.Mod → Mode → List Fault
+sized l t m = whole too_large (2 ^ 22) (size_of t) ++ shaped l t m
 
-in_turn : (t : tree.Mod) (m : Mode) (l : ℕ) → faults t m l ≡ whole too_deep (2 ^ 10) (nesting t) ++ sized t m
+in_turn : (t : tree.Mod) (m : Mode) (l : ℕ) → faults t m l ≡ whole too_deep (2 ^ 10) (nesting t) ++ sized l t m
 in_turn t m l =
     let deep = whole too_deep (2 ^ 10) (nesting t) in
     let large = whole too_large (2 ^ 22) (size_of t) in
-    append_assoc (deep ++ large) (malformed (shapes t m)) (compile_faults t) ∙ append_assoc deep large (shaped t m)
+    append_assoc (deep ++ large) (malformed (shapes t m)) (compile_faults l t) ∙ append_assoc deep large (shaped l t m)
 
-not_deep : (t : tree.Mod) (m : Mode) (l : ℕ) → nesting t < 1024 → faults t m l ≡ sized t m
-not_deep t m l d = in_turn t m l ∙ passed (nat_lt (nesting t) (2 ^ 10)) too_deep (sized t m) (search (rules, d))
+not_deep : (t : tree.Mod) (m : Mode) (l : ℕ) → nesting t < 1024 → faults t m l ≡ sized l t m
+not_deep t m l d = in_turn t m l ∙ passed (nat_lt (nesting t) (2 ^ 10)) too_deep (sized l t m) (search (rules, d))
 
-not_large : (t : tree.Mod) (m : Mode) (l : ℕ) → nesting t < 1024 → size_of t < 4194304 → faults t m l ≡ shaped t m
-not_large t m l d z = not_deep t m l d ∙ passed (nat_lt (size_of t) (2 ^ 22)) too_large (shaped t m) (search (rules, z))
+not_large : (t : tree.Mod) (m : Mode) (l : ℕ) → nesting t < 1024 → size_of t < 4194304 → faults t m l ≡ shaped l t m
+not_large t m l d z = not_deep t m l d ∙ passed (nat_lt (size_of t) (2 ^ 22)) too_large (shaped l t m) (search (rules, z))
 
 pub deep_first : (e : LocatedError CodegenErrorType) (t : tree.Mod) (m : Mode) (l : ℕ) → e.error ≡ too_deep.error → e.location ≡ None → 1024 ≤ nesting t → IsFirst e (faults t m l)
-deep_first e t m l p q h = first_as e too_deep (faults t m l) p q (sized t m, in_turn t m l ∙ reached (nat_lt (nesting t) (2 ^ 10)) too_deep (sized t m) (search (rules, h)))
+deep_first e t m l p q h = first_as e too_deep (faults t m l) p q (sized l t m, in_turn t m l ∙ reached (nat_lt (nesting t) (2 ^ 10)) too_deep (sized l t m) (search (rules, h)))
 
 pub large_first : (e : LocatedError CodegenErrorType) (t : tree.Mod) (m : Mode) (l : ℕ) → e.error ≡ too_large.error → e.location ≡ None → nesting t < 1024 → 4194304 ≤ size_of t → IsFirst e (faults t m l)
-large_first e t m l p q d h = first_as e too_large (faults t m l) p q (shaped t m, not_deep t m l d ∙ reached (nat_lt (size_of t) (2 ^ 22)) too_large (shaped t m) (search (rules, h)))
+large_first e t m l p q d h = first_as e too_large (faults t m l) p q (shaped l t m, not_deep t m l d ∙ reached (nat_lt (size_of t) (2 ^ 22)) too_large (shaped l t m) (search (rules, h)))
 
 abbrev shape_fault : Malformed → Fault
 shape_fault shape = record { error = error.MalformedTree shape; location = None }
@@ -76,12 +77,12 @@ no_shapes (m ∷ ms) e = absurd cc
 
 pub malformed_first : (e : LocatedError CodegenErrorType) (t : tree.Mod) (m : Mode) (l : ℕ) (shape : Malformed) → e.error ≡ error.MalformedTree shape → e.location ≡ None → nesting t < 1024 → size_of t < 4194304 → first (shapes t m) ≡ Some shape → IsFirst e (faults t m l)
 malformed_first e t m l shape p q d z h =
-    let r = shape_heads (shapes t m) shape (compile_faults t) h in
+    let r = shape_heads (shapes t m) shape (compile_faults l t) h in
     first_as e (shape_fault shape) (faults t m l) p q (r.0, not_large t m l d z ∙ r.1)
 
 -- where no shape is wrong, what is left are the faults of the nodes that are compiled
-compiled : (t : tree.Mod) (m : Mode) (l : ℕ) → nesting t < 1024 → size_of t < 4194304 → shapes t m ≡ [] → faults t m l ≡ compile_faults t
-compiled t m l d z h = not_large t m l d z ∙ ap (λ ms. malformed ms ++ compile_faults t) h
+compiled : (t : tree.Mod) (m : Mode) (l : ℕ) → nesting t < 1024 → size_of t < 4194304 → shapes t m ≡ [] → faults t m l ≡ compile_faults l t
+compiled t m l d z h = not_large t m l d z ∙ ap (λ ms. malformed ms ++ compile_faults l t) h
 
 pub refused_first : (e : LocatedError CodegenErrorType) (t : tree.Mod) (m : Mode) (l : ℕ) → nesting t < 1024 → size_of t < 4194304 → first (shapes t m) ≡ None → IsRefused e (emitted t l) → IsFirst e (faults t m l)
 refused_first e t m l d z n h known =
@@ -89,7 +90,7 @@ refused_first e t m l d z n h known =
     let f = refusal_heads t m l e.error e.location none (h known) in
     (f.0, compiled t m l d z none ∙ f.1)
 
-emitted_faultless : (code : CodeObject) (path : List ℕ) (t : tree.Mod) (m : Mode) (l : ℕ) (o : Outcome) → emitted t l ≡ o → shapes t m ≡ [] → IsEmitted code path l o → compile_faults t ≡ []
+emitted_faultless : (code : CodeObject) (path : List ℕ) (t : tree.Mod) (m : Mode) (l : ℕ) (o : Outcome) → emitted t l ≡ o → shapes t m ≡ [] → IsEmitted code path l o → compile_faults l t ≡ []
 emitted_faultless code path t m l (Done r) e h is = done_faultless t m l r h e
 emitted_faultless code path t m l TooWide e h is = absurd is
 emitted_faultless code path t m l (Refused r at) e h is = absurd is

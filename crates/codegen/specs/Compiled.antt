@@ -6,7 +6,7 @@ use Rattle.py_bytecode.specs.Machine.{Config, At, Over, steps, start}
 use Rattle.py_bytecode.specs.Decode.{tables}
 use Rattle.py_bytecode.specs.Units.{fetch_unit, machine}
 use Rattle.py_forms.specs.Laws.{IsEnd}
-use Rattle.py_meaning.specs.Faults.{Fault}
+use Rattle.py_meaning.specs.ExprFaults.{Fault}
 use Rattle.py_forms.specs.Emitting.{Outcome, Refused}
 use Rattle.py_forms.specs.declared.errors.CodegenErrorType.{CodegenErrorType}
 use Rattle.py_forms.specs.declared.errors.CodegenErrorType.TheVariants as error

@@ -174,7 +174,7 @@ pub conversion_adds : (c : ConversionFlag) → StepAdds (emit op.FormatValue (co
 conversion_adds c = emit_adds op.FormatValue (conversion_case c) (Operate (counted op.FormatValue (conversion_case c)) 2 (Some 1)) (λ t. reads_conversion c t None)
 
 -- an instruction that names a name
-named_adds : (i : Instruction) (x : List ℕ) (f : List ℕ → Instr Object ℕ) → ((t : Tables) (n : ℕ) → instr_of t None i n ≡ for_some (slice_get t.names n) f) → StepAdds (emit_name i x) (f x)
+pub named_adds : (i : Instruction) (x : List ℕ) (f : List ℕ → Instr Object ℕ) → ((t : Tables) (n : ℕ) → instr_of t None i n ≡ for_some (slice_get t.names n) f) → StepAdds (emit_name i x) (f x)
 unfolding emit_name with_name
 named_adds i x f is c k = yields (λ s r h z e.
     let n = place_in text_eq s.names x in

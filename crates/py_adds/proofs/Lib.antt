@@ -3,6 +3,7 @@ pub mod Adding
 pub mod Emitting
 pub mod Steps
 pub mod Instructions
+pub mod ControlInstructions
 pub mod Laying
 pub mod Counting
 pub mod Small

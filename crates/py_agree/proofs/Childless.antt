@@ -1,17 +1,19 @@
 -- No function stands in a program, so its form has no scope within.
 use Rattle.std.proofs.Common.{◌≡◌, ℕ, List, [], Bool, true, false, Option, Some, None, refl}
+use Rattle.std.specs.Prelude.{nat_eq, if◌then◌else◌}
 use Rattle.py_tree.specs.Tree as tree
 use Rattle.py_tree.specs.declared.modules.Mode.{Mode}
 use Rattle.py_base.specs.declared.operators.Operator.{Operator}
 use Rattle.py_bytecode.specs.declared.instruction.Instruction.TheVariants as op
 use Rattle.py_bytecode.specs.Objects as const
-use Rattle.py_forms.specs.Form.{VForm, VKeep, Target}
-use Rattle.py_forms.specs.Agree.{AllOf, form_of, kids}
+use Rattle.py_bytecode.specs.Values.{operation, Number}
+use Rattle.py_forms.specs.Form.{VForm, VKeep, VMore, VNone, TNot, Target, SForm, SSkip, SDo, SIf}
+use Rattle.py_forms.specs.Agree.{AllOf, form_of, kids, kids_h, kids_vs}
 use Rattle.py_emission.specs.Texts.{after_doc, doc_of, texts_of}
 use Rattle.py_meaning.specs.Meaning.{body}
 use Rattle.py_adds.proofs.ChildlessForms.{Bare, BareTarget, BareOption, BareStore, BareKeyword, Childless, AllChildless, ChildlessTarget, tested_childless, plain_childless, both_none, either_childless, values_childless, elements_childless, display_childless, call_childless, unpacked_to_childless, pairs_childless, dict_childless, value_or_childless, slice_childless, joined_childless, bool_childless, unary_childless, compare_childless}
 use Rattle.py_forms.specs.TableParts.{is_debug}
-use Rattle.py_meaning.specs.Table.{target_forms, all_targets, target_form, expr_form, keyword_forms, removal, removals, assigned, assign_form, augment_form, declared_form, annotation_target, annotated, setup_form, expr_forms, all_forms, opt_form, opt_forms, stmt_form, stmts_form, doc_form}
+use Rattle.py_meaning.specs.Table.{target_forms, all_targets, target_form, expr_form, keyword_forms, removal, removals, assigned, assign_form, augment_form, declared_form, annotation_target, annotated, setup_form, expr_forms, all_forms, opt_form, opt_forms, stmt_form, stmts_form, doc_form, assertion, handler_forms, handler_target, item_target, message_parts, named_form, raise_form, test_form, with_form}
 
 module _ (l : ℕ) where
   mutual
@@ -104,6 +106,35 @@ module _ (l : ℕ) where
   annotation_childless (tree.Name at id) = refl
   annotation_childless other = refl
 
+  item_childless : (t : tree.OptExpr) → BareTarget (item_target l t)
+  item_childless tree.no_expr = refl
+  item_childless (tree.some_expr t) = (target_childless t).alone
+
+  items_childless : (items : tree.WithItems) (f : SForm) → kids f ≡ [] → kids (with_form l items f) ≡ []
+  items_childless tree.no_items f h = h
+  items_childless (tree.more_items e t items) f h = both_none _ _ (value_childless e) (both_none _ _ (item_childless t) (items_childless items f h))
+
+  raise_childless : (exc cause : tree.OptExpr) → kids (raise_form l exc cause) ≡ []
+  raise_childless tree.no_expr cause = refl
+  raise_childless (tree.some_expr e) tree.no_expr = both_none _ _ (value_childless e) refl
+  raise_childless (tree.some_expr e) (tree.some_expr g) = both_none _ _ (value_childless e) (both_none _ _ (value_childless g) refl)
+
+  message_childless : (msg : tree.OptExpr) → kids_vs (message_parts l msg) ≡ []
+  message_childless tree.no_expr = refl
+  message_childless (tree.some_expr e) = both_none _ _ (value_childless e) refl
+
+  assert_childless : (b : Bool) (t : tree.Expr) (msg : tree.OptExpr) → kids (if b then SIf (TNot (test_form l t)) (SDo (operation op.Raise (Number 0)) true (VMore (assertion l msg) VNone)) else SSkip) ≡ []
+  assert_childless true t msg = both_none _ _ (expr_childless t).test (both_none _ _ (message_childless msg) refl)
+  assert_childless false t msg = refl
+
+  caught_childless : (name : Option (List ℕ)) → BareTarget (handler_target name)
+  caught_childless None = refl
+  caught_childless (Some x) = refl
+
+  named_childless : (name : Option (List ℕ)) (f : SForm) → kids f ≡ [] → kids (named_form name f) ≡ []
+  named_childless None f h = h
+  named_childless (Some x) f h = both_none _ _ h refl
+
   mutual
     stmt_childless : (t : tree.Stmt) → kids (stmt_form l t) ≡ []
     stmt_childless (tree.Delete at ts) = removals_childless ts
@@ -113,12 +144,23 @@ module _ (l : ℕ) where
     stmt_childless (tree.If at t body tree.no_stmts) = both_none _ _ (expr_childless t).test (stmts_childless body)
     stmt_childless (tree.If at t body (tree.more_stmts s ss)) = both_none _ _ (expr_childless t).test (both_none _ _ (stmts_childless body) (stmts_childless (tree.more_stmts s ss)))
     stmt_childless (tree.While at t body orelse) = both_none _ _ (expr_childless t).test (both_none _ _ (stmts_childless body) (stmts_childless orelse))
+    stmt_childless (tree.For at t iter body orelse) = both_none _ _ (both_none _ _ (value_childless iter) refl) (both_none _ _ (target_childless t).alone (both_none _ _ (stmts_childless body) (stmts_childless orelse)))
+    stmt_childless (tree.With at items body) = items_childless items (stmts_form l body) (stmts_childless body)
+    stmt_childless (tree.Raise at exc cause) = raise_childless exc cause
+    stmt_childless (tree.Try at body hs orelse tree.no_stmts) = both_none _ _ (stmts_childless body) (both_none _ _ (handlers_childless hs) (stmts_childless orelse))
+    stmt_childless (tree.Try at body hs orelse (tree.more_stmts s ss)) = both_none _ _ (stmts_childless body) (both_none _ _ (handlers_childless hs) (both_none _ _ (stmts_childless orelse) (stmts_childless (tree.more_stmts s ss))))
+    stmt_childless (tree.Assert at t msg) = assert_childless (nat_eq l 0) t msg
     stmt_childless (tree.StmtExpr at value) = both_none _ _ (expr_childless value).value refl
     stmt_childless other = refl
 
     stmts_childless : (ts : tree.Stmts) → kids (stmts_form l ts) ≡ []
     stmts_childless tree.no_stmts = refl
     stmts_childless (tree.more_stmts s ss) = both_none _ _ (stmt_childless s) (stmts_childless ss)
+
+    handlers_childless : (hs : tree.Handlers) → kids_h (handler_forms l hs) ≡ []
+    handlers_childless tree.no_handlers = refl
+    handlers_childless (tree.more_handlers tree.no_expr name body rest) = both_none _ _ (stmts_childless body) (handlers_childless rest)
+    handlers_childless (tree.more_handlers (tree.some_expr e) name body rest) = both_none _ _ (value_childless e) (both_none _ _ (caught_childless name) (both_none _ _ (named_childless name (stmts_form l body) (stmts_childless body)) (handlers_childless rest)))
 
 doc_childless : (text : Option (List ℕ)) → kids (doc_form text) ≡ []
 doc_childless None = refl

@@ -1,3 +1,4 @@
+pub mod ControlAdds
 pub mod ExprAdds
 pub mod AssignAdds
 pub mod Unlooped
@@ -17,4 +18,5 @@ pub mod RefusingCalls
 pub mod RefusingTargets
 pub mod RefusingExprs
 pub mod RefusingChanges
+pub mod ControlEnds
 pub mod Ending

@@ -47,7 +47,7 @@ pub record Read (t : Tables) (bs : List Blk) (f : SForm) : Type 0 where
   pub inside : AllInside (length bs) (steps_in bs)
   pub blocks : length bs ≡ 1 + labels f
   pub looped : Looped false f
-  pub small : burden (body_code (outer no_child f) f) < 2 ^ 25
+  pub small : burden (body_code (outer no_child f) f) < 2 ^ 26
 
 module _ (t : Tables) (level : ℕ) (bs : List Blk) (f : SForm) (r : Read t bs f) (cs : List ℕ) (chain : IsChain bs cs) where
   abbrev items : List (Item Object)

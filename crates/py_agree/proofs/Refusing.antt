@@ -8,7 +8,7 @@ use Rattle.py_bytecode.specs.declared.instruction.Instruction.{Instruction}
 use Rattle.py_bytecode.specs.declared.instruction.Instruction.TheVariants as op
 use Rattle.py_bytecode.specs.Objects.{Const}
 use Rattle.py_bytecode.specs.Equality.{const_eq, text_eq}
-use Rattle.py_meaning.specs.Faults.{Fault, fault_at, when, debug_faults}
+use Rattle.py_meaning.specs.ExprFaults.{Fault, fault_at, when, debug_faults}
 use Rattle.py_forms.specs.TableParts.{is_debug}
 use Rattle.py_forms.specs.declared.errors.CodegenErrorType.{CodegenErrorType}
 use Rattle.py_forms.specs.declared.errors.CodegenErrorType.TheVariants as error

@@ -8,8 +8,8 @@ use Rattle.py_bytecode.specs.declared.instruction.Instruction.TheVariants as op
 use Rattle.py_bytecode.specs.Objects as const
 use Rattle.py_forms.specs.Elements.{Element, Single, Spread, Callee, Function, Method, starred, bare, groups}
 use Rattle.py_meaning.specs.Ends.{last_of, expr_end, ends_of, keyword_ends, args_end}
-use Rattle.py_meaning.specs.Faults.{Fault, in_order, faults_in, all_faults, keyword_faults, keyword_values}
-use Rattle.py_meaning.specs.Faults as fault
+use Rattle.py_meaning.specs.ExprFaults.{Fault, in_order, faults_in, all_faults, keyword_faults, keyword_values}
+use Rattle.py_meaning.specs.ExprFaults as fault
 use Rattle.py_forms.specs.TableParts.{any}
 use Rattle.py_forms.specs.Emitting.{Context, Emission, ◌▸◌, emit_constant}
 use Rattle.py_forms.specs.EmissionParts.{elements, in_turn, built, call_by, checked, name_values, map_of, joined_map, names_in, values_in, packed_tuple, packed, placed, emission_of_call, no_assignment}

@@ -8,8 +8,8 @@ use Rattle.py_bytecode.specs.Objects as const
 use Rattle.py_bytecode.specs.Objects.{Const}
 use Rattle.py_forms.specs.Elements.{starred, bare, groups, pairs, keyed, unkeyed, sides}
 use Rattle.py_meaning.specs.Ends.{last_of, some_of, parts_entered, pairs_entered, expr_end, ends_of, opt_end, opts_ends}
-use Rattle.py_meaning.specs.Faults.{Fault, in_order, if_any, dict_faults, joined_faults, faults_in, all_faults, opt_faults, opts_faults}
-use Rattle.py_meaning.specs.Faults as fault
+use Rattle.py_meaning.specs.ExprFaults.{Fault, in_order, if_any, dict_faults, joined_faults, faults_in, all_faults, opt_faults, opts_faults}
+use Rattle.py_meaning.specs.ExprFaults as fault
 use Rattle.py_forms.specs.Emitting.{Context, Emission}
 use Rattle.py_forms.specs.EmissionParts.{values, elements, in_turn, built, display, updates, dict_value, value_or, slice_step, slice_value, joined_value}
 use Rattle.py_emission.specs.Emission.{emissions, all_emissions, opt_emission, opt_emissions}

@@ -12,8 +12,8 @@ use Rattle.py_bytecode.specs.declared.instruction.Instruction.TheVariants as op
 use Rattle.py_bytecode.specs.Objects as const
 use Rattle.py_forms.specs.Elements.{bare}
 use Rattle.py_meaning.specs.Ends.{last_of, expr_end, ends_of, store_end, stores_end}
-use Rattle.py_meaning.specs.Faults.{Fault, ExprFaults, either, in_order, fault_at, faults_in, all_faults, faults_to, all_faults_to}
-use Rattle.py_meaning.specs.Faults as fault
+use Rattle.py_meaning.specs.ExprFaults.{Fault, ExprFaults, either, in_order, fault_at, faults_in, all_faults, faults_to, all_faults_to}
+use Rattle.py_meaning.specs.ExprFaults as fault
 use Rattle.py_emission.specs.Texts.{texts_of}
 use Rattle.py_forms.specs.TableParts.{binary_case, conversion_case, constant_of, debug_constant, is_debug}
 use Rattle.py_forms.specs.declared.errors.CodegenErrorType.TheVariants as error

@@ -4,7 +4,7 @@ use Rattle.py_base.specs.declared.location.SourceLocation.{SourceLocation}
 use Rattle.py_bytecode.specs.declared.instruction.Instruction.TheVariants as op
 use Rattle.py_bytecode.specs.Objects as const
 use Rattle.py_forms.specs.Elements.{Element, Single, Spread, bare, grouped, groups}
-use Rattle.py_meaning.specs.Faults.{Fault}
+use Rattle.py_meaning.specs.ExprFaults.{Fault}
 use Rattle.py_forms.specs.Emitting.{Context, Emission, ◌▸◌, emit_constant, keep}
 use Rattle.py_forms.specs.EmissionParts.{in_turn, built, name_values, map_of}
 use Rattle.py_adds.proofs.Emitting.{grouped as go_on_grouped, kept_on}

@@ -5,7 +5,7 @@ use Rattle.py_tree.specs.Tree as tree
 use Rattle.py_base.specs.declared.location.SourceLocation.{SourceLocation}
 use Rattle.py_bytecode.specs.declared.instruction.Instruction.TheVariants as op
 use Rattle.py_forms.specs.Elements.{Element, Single, Spread, bare, stars, before_star, after_star}
-use Rattle.py_meaning.specs.Faults.{Fault, TargetFaults, both, fault_at, when, star_faults, as_element, starring}
+use Rattle.py_meaning.specs.ExprFaults.{Fault, TargetFaults, both, fault_at, when, star_faults, as_element, starring}
 use Rattle.py_forms.specs.declared.errors.CodegenErrorType.TheVariants as error
 use Rattle.py_forms.specs.Emitting.{Context, Emission, ◌▸◌, refuse, emit, emit_count, move}
 use Rattle.py_forms.specs.EmissionParts.{Stores, plain_store, in_turn, few_aside, unpack, unpack_starred}

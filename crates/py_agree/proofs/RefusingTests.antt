@@ -12,8 +12,8 @@ use Rattle.py_bytecode.specs.declared.instruction.Instruction.TheVariants as op
 use Rattle.py_bytecode.specs.Values.{flip}
 use Rattle.py_forms.specs.Elements.{Element, Single, Spread, Callee, Function, Method}
 use Rattle.py_meaning.specs.Ends.{last_of, expr_end, ends_of}
-use Rattle.py_meaning.specs.Faults.{Fault, ExprFaults, either, in_order, faults_in, all_faults}
-use Rattle.py_meaning.specs.Faults as fault
+use Rattle.py_meaning.specs.ExprFaults.{Fault, ExprFaults, either, in_order, faults_in, all_faults}
+use Rattle.py_meaning.specs.ExprFaults as fault
 use Rattle.py_forms.specs.TableParts.{unary_case, deciding}
 use Rattle.py_forms.specs.declared.errors.CodegenErrorType.{CodegenErrorType}
 use Rattle.py_forms.specs.declared.errors.CodegenErrorType.TheVariants as error

@@ -1,2 +1,7 @@
+mod SampleTools
 mod MeaningSamples
+mod ControlSamples
 mod UnbuiltSamples
+mod LoopSamples
+mod RaiseSamples
+mod WithSamples

@@ -1,5 +1,5 @@
 -- What is not compiled yet: what is emitted of it, and its faults.
-use Rattle.std.proofs.Common.{◌≡◌, refl, ℕ, List, [], ◌∷◌, None, Some, codes, pos}
+use Rattle.std.proofs.Common.{◌≡◌, refl, ℕ, [], ◌∷◌, None, Some, codes, pos}
 use Rattle.py_base.specs.Literal as literal
 use Rattle.py_tree.specs.Tree as tree
 use Rattle.py_base.specs.declared.location.SourceLocation.{SourceLocation}
@@ -8,7 +8,8 @@ use Rattle.py_tree.specs.declared.modules.Mode.TheVariants.{Exec, Eval, Single, 
 use Rattle.py_forms.specs.declared.errors.CodegenErrorType.TheVariants as error
 use Rattle.py_forms.specs.Emitting.{Refused, by_level, by_loops, located, move, refuse}
 use Rattle.py_meaning.specs.EmissionStmts.{emitted}
-use Rattle.py_meaning.specs.Faults.{Fault, fault_at, faults, unbuilt_tree}
+use Rattle.py_meaning.specs.ExprFaults.{Fault, fault_at}
+use Rattle.py_meaning.specs.Faults.{faults, unbuilt_tree}
 
 abbrev at : ℕ → SourceLocation
 at column = record { row = 1; column = column }

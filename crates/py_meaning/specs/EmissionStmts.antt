@@ -1,7 +1,8 @@
 -- What is emitted for each statement and for a whole tree, in which order, and where it stands.
-use Rattle.std.specs.Prelude.{ℕ, List, Bool, true, false, Option, Some, None, codes, if◌then◌else◌}
+use Rattle.std.specs.Prelude.{ℕ, List, Bool, true, false, not, Option, Some, None, codes, nat_eq, if◌then◌else◌}
 use Rattle.py_tree.specs.PythonName.{python_name}
 use Rattle.py_tree.specs.Tree as tree
+use Rattle.py_base.specs.declared.location.SourceLocation.{SourceLocation}
 use Rattle.py_base.specs.declared.operators.Operator.{Operator}
 use Rattle.py_base.specs.declared.shapes.Malformed.TheVariants as shape
 use Rattle.py_bytecode.specs.declared.instruction.Instruction.{Instruction}
@@ -11,7 +12,8 @@ use Rattle.py_forms.specs.declared.errors.CodegenErrorType.{CodegenErrorType}
 use Rattle.py_forms.specs.declared.errors.CodegenErrorType.TheVariants as error
 use Rattle.py_emission.specs.Texts.{after_doc, doc_of}
 use Rattle.py_forms.specs.TableParts.{binary_case}
-use Rattle.py_meaning.specs.Table.{annotated}
+use Rattle.py_meaning.specs.ControlEmissions.{any_match, asserted, caught, for_each, handler, managed, named_body, raise_again, try_body, typed_match}
+use Rattle.py_meaning.specs.Table.{annotated, message_count}
 use Rattle.py_forms.specs.Emitting.{Emission, LoopBlocks, Outcome, Refused, ◌▸◌, begin, by_level, by_loops, emit, emit_constant, emit_name, in_loop, jump, keep, move, new_block, nothing, refuse}
 use Rattle.py_forms.specs.EmissionParts.{choice, emission_of_name, no_assignment, only, unless_debug}
 use Rattle.py_emission.specs.Emission.{emission, emission_of_deletes, emission_of_return, emission_of_store, emission_of_test, unbuilt}
@@ -54,6 +56,39 @@ abbrev pub leave_loop : Instruction → (LoopBlocks → ℕ) → CodegenErrorTyp
 leave_loop i to e None = refuse e
 leave_loop i to e (Some loops) = jump i (to loops)
 
+abbrev pub itemless : tree.WithItems → Bool
+itemless tree.no_items = true
+itemless (tree.more_items e target items) = false
+
+-- the target of an item, which is entered
+abbrev pub emission_of_item : tree.OptExpr → Emission
+emission_of_item tree.no_expr = emit op.Pop 0
+emission_of_item (tree.some_expr t) = move (tree.expr_location t) ▸ emission_of_store t
+
+-- further items are managed within the first
+abbrev pub emission_of_items : SourceLocation → tree.WithItems → (body : Emission) → Emission
+emission_of_items at tree.no_items body = body
+emission_of_items at (tree.more_items e target items) body = managed at (emission e) (emission_of_item target) (emission_of_items at items body)
+
+-- an exception, one with its cause, or the one in hand
+abbrev pub emission_of_raise : (exc cause : tree.OptExpr) → Emission
+emission_of_raise tree.no_expr cause = raise_again
+emission_of_raise (tree.some_expr e) tree.no_expr = emission e ▸ emit op.Raise 0
+emission_of_raise (tree.some_expr e) (tree.some_expr cause) = emission e ▸ emission cause ▸ emit op.Raise 1
+
+abbrev pub emission_of_message : tree.OptExpr → Emission
+emission_of_message tree.no_expr = keep
+emission_of_message (tree.some_expr e) = emission e
+
+-- above level 0 nothing is asserted
+abbrev pub emission_of_assert : tree.Expr → tree.OptExpr → (level : ℕ) → Emission
+emission_of_assert t msg level = if nat_eq level 0 then asserted (emission_of_test t) (emission_of_message msg) (message_count msg) else keep
+
+-- the last part of a `try`, where there is one
+abbrev pub emission_of_last : tree.Stmts → Emission → Emission
+emission_of_last tree.no_stmts last = keep
+emission_of_last (tree.more_stmts s ss) last = last ▸ emit op.EndFinally 0
+
 abbrev mutual
   pub emission_of_stmt : tree.Stmt → Emission
   emission_of_stmt (tree.Delete at targets) = move at ▸ emission_of_deletes targets
@@ -66,6 +101,13 @@ abbrev mutual
       move at ▸ new_block (λ start. new_block (λ other. new_block (λ end.
       emit op.SetupLoop 0 ▸ begin start ▸ emission_of_test t false other ▸ in_loop (record { on_break = end; on_continue = start }) (emission_of_stmts body) ▸ jump op.Jump start
       ▸ begin other ▸ emit op.PopBlock 0 ▸ emission_of_stmts orelse ▸ begin end)))
+  emission_of_stmt (tree.For at target iter body orelse) = move at ▸ for_each (emission iter) (emission_of_store target) (emission_of_stmts body) (emission_of_stmts orelse)
+  emission_of_stmt (tree.With at items body) =
+      move at ▸ (if itemless items then refuse error.EmptyWithItems else emission_of_items at items (if none body then refuse error.EmptyWithBody else emission_of_stmts body))
+  emission_of_stmt (tree.Raise at exc cause) = move at ▸ emission_of_raise exc cause
+  emission_of_stmt (tree.Try at body excepts orelse finalbody) =
+      move at ▸ try_body (not (none finalbody)) (emission_of_stmts body) (emission_of_handlers excepts (not (none finalbody))) (emission_of_stmts orelse) (emission_of_last finalbody (emission_of_stmts finalbody))
+  emission_of_stmt (tree.Assert at t msg) = move at ▸ by_level (emission_of_assert t msg)
   emission_of_stmt (tree.StmtExpr at value) = move at ▸ emission value ▸ emit op.Pop 0
   emission_of_stmt (tree.Break at) = move at ▸ by_loops (leave_loop op.Break (λ x. x.on_break) error.InvalidBreak)
   emission_of_stmt (tree.Continue at) = move at ▸ by_loops (leave_loop op.Continue (λ x. x.on_continue) error.InvalidContinue)
@@ -75,6 +117,13 @@ abbrev mutual
   pub emission_of_stmts : tree.Stmts → Emission
   emission_of_stmts tree.no_stmts = keep
   emission_of_stmts (tree.more_stmts s ss) = emission_of_stmt s ▸ emission_of_stmts ss
+
+  -- one handler after another; one without a type takes no name
+  pub emission_of_handlers : tree.Handlers → (last : Bool) → (end : ℕ) → Emission
+  emission_of_handlers tree.no_handlers last end = raise_again
+  emission_of_handlers (tree.more_handlers tree.no_expr name body rest) last end = handler last end any_match (emission_of_stmts body) (emission_of_handlers rest last end)
+  emission_of_handlers (tree.more_handlers (tree.some_expr e) name body rest) last end =
+      handler last end (typed_match (emission e) (caught name)) (named_body name (emission_of_stmts body)) (emission_of_handlers rest last end)
 
 -- a docstring is stored under its name, which is global
 abbrev pub emission_of_doc : Option (List ℕ) → Emission

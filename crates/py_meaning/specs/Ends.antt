@@ -91,3 +91,14 @@ abbrev mutual
   pub deletes_end : SourceLocation → tree.Exprs → SourceLocation
   deletes_end p tree.no_exprs = p
   deletes_end p (tree.more_exprs e es) = deletes_end (delete_end p e) es
+
+-- after the target of an item, which is entered
+abbrev pub item_end : SourceLocation → tree.OptExpr → SourceLocation
+item_end at tree.no_expr = at
+item_end at (tree.some_expr t) = store_end (tree.expr_location t) t
+
+-- after the items of a `with` that stands there, where its body begins
+abbrev pub items_end : SourceLocation → tree.WithItems → SourceLocation
+items_end at tree.no_items = at
+items_end at (tree.more_items e target tree.no_items) = item_end at target
+items_end at (tree.more_items e target (tree.more_items f other items)) = items_end at (tree.more_items f other items)

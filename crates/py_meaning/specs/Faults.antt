@@ -1,27 +1,20 @@
 -- The faults of a tree, the first of which decides.
-use Rattle.std.specs.Prelude.{ℕ, ◌^◌, List, [], ◌∷◌, ◌++◌, Bool, true, false, not, Option, Some, None, nat_eq, nat_lt, if◌then◌else◌}
+use Rattle.std.specs.Prelude.{ℕ, ◌^◌, List, [], ◌∷◌, ◌++◌, Bool, true, false, Option, Some, None, nat_eq, nat_lt, if◌then◌else◌}
 use Rattle.py_tree.specs.Tree as tree
 use Rattle.py_limits.specs.Nesting.{nesting}
-use Rattle.py_tree.specs.PythonName.{python_name}
 use Rattle.py_limits.specs.Size.{size_of}
 use Rattle.py_shapes.specs.Valid.{shapes}
 use Rattle.py_tree.specs.declared.modules.Mode.{Mode}
 use Rattle.py_base.specs.declared.shapes.Malformed.{Malformed}
 use Rattle.py_base.specs.declared.limits.TreeLimit.TheVariants as limit
-use Rattle.py_forms.specs.Elements.{Element, Single, Spread, stars, pairs, keyed, unkeyed, sides}
-use Rattle.py_forms.specs.EmissionParts.{few_aside, lone_star, no_assignment, no_deletion}
-use Rattle.py_emission.specs.Emission.{deletion_name}
-use Rattle.py_meaning.specs.Ends.{args_end, delete_end, expr_end, store_end}
-use Rattle.py_forms.specs.TableParts.{is_debug}
-use Rattle.py_emission.specs.Texts.{after_doc, texts_of}
+use Rattle.py_forms.specs.EmissionParts.{no_assignment}
+use Rattle.py_meaning.specs.Ends.{expr_end, items_end}
+use Rattle.py_emission.specs.Texts.{after_doc}
 use Rattle.py_forms.specs.declared.errors.CodegenErrorType.TheVariants as error
 use Rattle.py_forms.specs.declared.errors.CodegenErrorType.{CodegenErrorType}
 use Rattle.py_base.specs.declared.location.SourceLocation.{SourceLocation}
-
--- what is wrong, and where it stands; None is the whole tree
-pub record Fault : Type 0 where
-  pub error : CodegenErrorType
-  pub location : Option SourceLocation
+use Rattle.py_meaning.specs.EmissionStmts.{itemless, none}
+use Rattle.py_meaning.specs.ExprFaults.{Fault, assign_faults, augment_faults, debug_faults, declared_faults, deletes_faults, expr_faults, fault_at, faults_to, if_any, opt_faults, unbuilt, when}
 
 -- a fault of the whole tree, where it is at fault
 abbrev pub whole : Fault → ℕ → ℕ → List Fault
@@ -38,197 +31,74 @@ abbrev pub only_in_loop : (in_loop : Bool) → CodegenErrorType → SourceLocati
 only_in_loop true e at = []
 only_in_loop false e at = record { error = e; location = Some at } ∷ []
 
--- what is wrong in an expression, and where it stands among elements
-pub record ExprFaults : Type 0 where
-  pub value : List Fault
-  pub element : List Fault
-
-abbrev pub either : List Fault → ExprFaults
-either fs = record { value = fs; element = fs }
-
-abbrev pub fault_at : CodegenErrorType → SourceLocation → Fault
-fault_at e at = record { error = e; location = Some at }
-
--- one fault, where the test holds
-abbrev pub when : Bool → Fault → List Fault
-when b f = if b then f ∷ [] else []
-
--- a node that is not compiled yet, whatever stands within it
-abbrev pub unbuilt : SourceLocation → List Fault
-unbuilt at = fault_at error.NotImplementedYet at ∷ []
-
 -- a tree that is not compiled yet
 abbrev pub unbuilt_tree : Fault
 unbuilt_tree = record { error = error.NotImplementedYet; location = None }
 
--- a change of `__debug__`
-abbrev pub debug_faults : (text : List ℕ) → SourceLocation → (name : List ℕ) → List Fault
-debug_faults text at name = when (is_debug name) (fault_at (error.SyntaxError text) at)
+-- the target of an item, which is entered
+abbrev pub item_faults : tree.OptExpr → List Fault
+item_faults tree.no_expr = []
+item_faults (tree.some_expr t) = (faults_to (tree.expr_location t) t).alone
 
--- what is wrong with keywords whose check stands there
-abbrev pub keyword_faults : SourceLocation → tree.Keywords → List Fault
-keyword_faults at tree.no_keywords = []
-keyword_faults at (tree.more_keywords None e ks) = keyword_faults at ks
-keyword_faults at (tree.more_keywords (Some name) e ks) = debug_faults no_assignment at name ++ keyword_faults at ks
+abbrev pub items_faults : tree.WithItems → List Fault
+items_faults tree.no_items = []
+items_faults (tree.more_items e target items) = expr_faults e ++ item_faults target ++ items_faults items
 
--- a target of a list or tuple, starred or not
-abbrev pub as_element : tree.Expr → Element tree.Expr tree.Expr
-as_element (tree.Starred at value) = Spread value
-as_element other = Single other
+-- what is raised, and its cause
+abbrev pub raise_faults : (exc cause : tree.OptExpr) → List Fault
+raise_faults tree.no_expr cause = []
+raise_faults (tree.some_expr e) cause = expr_faults e ++ if_any (opt_faults cause)
 
-abbrev pub starring : tree.Exprs → List (Element tree.Expr tree.Expr)
-starring tree.no_exprs = []
-starring (tree.more_exprs e es) = as_element e ∷ starring es
+-- above level 0 nothing is asserted
+abbrev pub assert_faults : (level : ℕ) → tree.Expr → tree.OptExpr → List Fault
+assert_faults l t msg = if nat_eq l 0 then expr_faults t ++ if_any (opt_faults msg) else []
 
--- too many targets aside of the first star, which stands at the list, or a second star, which stands where the store begins
-abbrev pub star_faults : (list store : SourceLocation) → List (Element tree.Expr tree.Expr) → List Fault
-star_faults at p es = if nat_eq (stars es) 0 then [] else when (not (few_aside es)) (fault_at error.TooManyStarUnpack at) ++ when (not (nat_eq (stars es) 1)) (fault_at error.MultipleStarArgs p)
+-- the name that a handler stores there
+abbrev pub name_faults : SourceLocation → Option (List ℕ) → List Fault
+name_faults p None = []
+name_faults p (Some name) = debug_faults no_assignment p name
 
--- what is wrong in a target, alone and among others
-pub record TargetFaults : Type 0 where
-  pub alone : List Fault
-  pub element : List Fault
-
-abbrev pub both : List Fault → TargetFaults
-both fs = record { alone = fs; element = fs }
-
-abbrev pub values : List ExprFaults → List (List Fault)
-values [] = []
-values (f ∷ fs) = f.value ∷ values fs
-
-abbrev pub elements : List ExprFaults → List (List Fault)
-elements [] = []
-elements (f ∷ fs) = f.element ∷ elements fs
-
-abbrev pub in_order : List (List Fault) → List Fault
-in_order [] = []
-in_order (fs ∷ rest) = fs ++ in_order rest
-
-abbrev pub if_any : Option (List Fault) → List Fault
-if_any None = []
-if_any (Some fs) = fs
-
--- the pairs that have a key come before all the others
-abbrev pub dict_faults : List (Option (List Fault) × List Fault) → List Fault
-dict_faults ps = in_order (sides (keyed ps)) ++ in_order (unkeyed ps)
-
--- one text has nothing wrong
-abbrev pub joined_faults : Option (List ℕ) → List (List Fault) → List Fault
-joined_faults (Some text) fs = []
-joined_faults None fs = in_order fs
-
--- a starred expression that is no element, before what is wrong in its value
-abbrev mutual
-  pub faults_in : tree.Expr → ExprFaults
-  faults_in (tree.BoolOp at o operands) = either (in_order (values (all_faults operands)))
-  faults_in (tree.NamedExpr at target value) = either ((faults_in value).value ++ (faults_to (expr_end value) target).alone)
-  faults_in (tree.BinOp at left o right) = either ((faults_in left).value ++ (faults_in right).value)
-  faults_in (tree.UnaryOp at o operand) = either (faults_in operand).value
-  faults_in (tree.IfExp at t body orelse) = either ((faults_in t).value ++ (faults_in body).value ++ (faults_in orelse).value)
-  faults_in (tree.Dict at keys others) = either (dict_faults (pairs (opts_faults keys) (values (all_faults others))))
-  faults_in (tree.Set at elts) = either (in_order (elements (all_faults elts)))
-  faults_in (tree.Compare at left ops others) = either ((faults_in left).value ++ in_order (values (all_faults others)))
-  faults_in (tree.Call at func args keywords) = either ((faults_in func).value ++ in_order (elements (all_faults args)) ++ keyword_faults (args_end func args) keywords ++ in_order (keyword_values keywords))
-  faults_in (tree.FormattedValue at value c spec) = either (if_any (opt_faults spec) ++ (faults_in value).value)
-  faults_in (tree.JoinedStr at parts) = either (joined_faults (texts_of parts) (values (all_faults parts)))
-  faults_in (tree.Constant at value) = either []
-  faults_in (tree.Attribute at value attr) = either (faults_in value).value
-  faults_in (tree.Subscript at value slice) = either ((faults_in value).value ++ (faults_in slice).value)
-  faults_in (tree.Starred at value) = record { value = fault_at error.InvalidStarExpr at ∷ (faults_in value).value; element = (faults_in value).value }
-  faults_in (tree.Name at id) = either []
-  faults_in (tree.List at elts) = either (in_order (elements (all_faults elts)))
-  faults_in (tree.Tuple at elts) = either (in_order (elements (all_faults elts)))
-  faults_in (tree.Slice at lower upper step) = either (if_any (opt_faults lower) ++ if_any (opt_faults upper) ++ if_any (opt_faults step))
-  faults_in other = either (unbuilt (tree.expr_location other))
-
-  pub all_faults : tree.Exprs → List ExprFaults
-  all_faults tree.no_exprs = []
-  all_faults (tree.more_exprs e es) = faults_in e ∷ all_faults es
-
-  pub opt_faults : tree.OptExpr → Option (List Fault)
-  opt_faults tree.no_expr = None
-  opt_faults (tree.some_expr e) = Some (faults_in e).value
-
-  pub opts_faults : tree.OptExprs → List (Option (List Fault))
-  opts_faults tree.no_opts = []
-  opts_faults (tree.more_opts e es) = opt_faults e ∷ opts_faults es
-
-  pub keyword_values : tree.Keywords → List (List Fault)
-  keyword_values tree.no_keywords = []
-  keyword_values (tree.more_keywords name e ks) = (faults_in e).value ∷ keyword_values ks
-
-  -- a store that begins there
-  pub faults_to : SourceLocation → tree.Expr → TargetFaults
-  faults_to p (tree.Name at id) = both (debug_faults no_assignment p id)
-  faults_to p (tree.Attribute at value attr) = both (debug_faults no_assignment p attr ++ (faults_in value).value)
-  faults_to p (tree.Subscript at value slice) = both ((faults_in value).value ++ (faults_in slice).value)
-  faults_to p (tree.List at elts) = both (star_faults at p (starring elts) ++ all_faults_to p elts)
-  faults_to p (tree.Tuple at elts) = both (star_faults at p (starring elts) ++ all_faults_to p elts)
-  faults_to p (tree.Starred at value) = record { alone = fault_at (error.SyntaxError lone_star) p ∷ []; element = (faults_to p value).alone }
-  faults_to p other = both (fault_at (error.Assign (python_name other)) p ∷ [])
-
-  pub all_faults_to : SourceLocation → tree.Exprs → List Fault
-  all_faults_to p tree.no_exprs = []
-  all_faults_to p (tree.more_exprs e es) = (faults_to p e).element ++ all_faults_to (store_end p e) es
-
-abbrev pub expr_faults : tree.Expr → List Fault
-expr_faults e = (faults_in e).value
-
--- a deletion that begins there
-abbrev mutual
-  pub delete_faults : SourceLocation → tree.Expr → List Fault
-  delete_faults p (tree.Name at id) = debug_faults no_deletion p id
-  delete_faults p (tree.Attribute at value attr) = debug_faults no_deletion p attr ++ expr_faults value
-  delete_faults p (tree.Subscript at value slice) = expr_faults value ++ expr_faults slice
-  delete_faults p (tree.List at elts) = deletes_faults p elts
-  delete_faults p (tree.Tuple at elts) = deletes_faults p elts
-  delete_faults p other = fault_at (error.Delete (deletion_name other)) p ∷ []
-
-  pub deletes_faults : SourceLocation → tree.Exprs → List Fault
-  deletes_faults p tree.no_exprs = []
-  deletes_faults p (tree.more_exprs e es) = delete_faults p e ++ deletes_faults (delete_end p e) es
-
--- stores one after the other, the first of which begins there
-abbrev pub assign_faults : SourceLocation → tree.Exprs → List Fault
-assign_faults p tree.no_exprs = []
-assign_faults p (tree.more_exprs e es) = (faults_to p e).alone ++ assign_faults (store_end p e) es
-
--- an augmented assignment that stands there
-abbrev pub augment_faults : SourceLocation → tree.Expr → (value : tree.Expr) → List Fault
-augment_faults at (tree.Name place id) value = expr_faults value ++ debug_faults no_assignment (expr_end value) id
-augment_faults at (tree.Attribute place object attr) value = debug_faults no_assignment at attr ++ expr_faults object ++ expr_faults value
-augment_faults at (tree.Subscript place object slice) value = expr_faults object ++ expr_faults slice ++ expr_faults value
-augment_faults at other value = fault_at (error.Assign (python_name other)) at ∷ []
-
-abbrev pub declared_faults : tree.Expr → tree.OptExpr → List Fault
-declared_faults target tree.no_expr = []
-declared_faults target (tree.some_expr e) = expr_faults e ++ (faults_to (expr_end e) target).alone
+-- the type of a handler, and its name, which it has with a type alone
+abbrev pub match_faults : tree.OptExpr → Option (List ℕ) → List Fault
+match_faults tree.no_expr name = []
+match_faults (tree.some_expr e) name = expr_faults e ++ name_faults (expr_end e) name
 
 -- what is wrong in the parts of a statement, in the order in which they are compiled: also a break or continue with no loop body of its
 -- own scope around it; a loop's else part is not its body
 abbrev mutual
-  pub stmt_faults : (in_loop : Bool) → tree.Stmt → List Fault
-  stmt_faults b (tree.Delete at targets) = deletes_faults at targets
-  stmt_faults b (tree.Assign at targets value) = expr_faults value ++ assign_faults (expr_end value) targets
-  stmt_faults b (tree.AugAssign at target o value) = augment_faults at target value
-  stmt_faults b (tree.AnnAssign at target annotation value simple) = declared_faults target value ++ expr_faults annotation
-  stmt_faults b (tree.If at t body orelse) = expr_faults t ++ stmts_faults b body ++ stmts_faults b orelse
-  stmt_faults b (tree.While at t body orelse) = expr_faults t ++ stmts_faults true body ++ stmts_faults b orelse
-  stmt_faults b (tree.StmtExpr at value) = expr_faults value
-  stmt_faults b (tree.Break at) = only_in_loop b error.InvalidBreak at
-  stmt_faults b (tree.Continue at) = only_in_loop b error.InvalidContinue at
-  stmt_faults b (tree.Pass at) = []
-  stmt_faults b other = unbuilt (tree.stmt_location other)
+  pub stmt_faults : (level : ℕ) → (in_loop : Bool) → tree.Stmt → List Fault
+  stmt_faults l b (tree.Delete at targets) = deletes_faults at targets
+  stmt_faults l b (tree.Assign at targets value) = expr_faults value ++ assign_faults (expr_end value) targets
+  stmt_faults l b (tree.AugAssign at target o value) = augment_faults at target value
+  stmt_faults l b (tree.AnnAssign at target annotation value simple) = declared_faults target value ++ expr_faults annotation
+  stmt_faults l b (tree.If at t body orelse) = expr_faults t ++ stmts_faults l b body ++ stmts_faults l b orelse
+  stmt_faults l b (tree.While at t body orelse) = expr_faults t ++ stmts_faults l true body ++ stmts_faults l b orelse
+  stmt_faults l b (tree.For at target iter body orelse) = expr_faults iter ++ (faults_to (expr_end iter) target).alone ++ stmts_faults l true body ++ stmts_faults l b orelse
+  stmt_faults l b (tree.With at items body) =
+      when (itemless items) (fault_at error.EmptyWithItems at) ++ items_faults items ++ when (none body) (fault_at error.EmptyWithBody (items_end at items)) ++ stmts_faults l b body
+  stmt_faults l b (tree.Raise at exc cause) = raise_faults exc cause
+  stmt_faults l b (tree.Try at body excepts orelse finalbody) = stmts_faults l b body ++ handlers_faults l b excepts ++ stmts_faults l b orelse ++ stmts_faults l b finalbody
+  stmt_faults l b (tree.Assert at t msg) = assert_faults l t msg
+  stmt_faults l b (tree.StmtExpr at value) = expr_faults value
+  stmt_faults l b (tree.Break at) = only_in_loop b error.InvalidBreak at
+  stmt_faults l b (tree.Continue at) = only_in_loop b error.InvalidContinue at
+  stmt_faults l b (tree.Pass at) = []
+  stmt_faults l b other = unbuilt (tree.stmt_location other)
 
-  pub stmts_faults : (in_loop : Bool) → tree.Stmts → List Fault
-  stmts_faults b tree.no_stmts = []
-  stmts_faults b (tree.more_stmts s ss) = stmt_faults b s ++ stmts_faults b ss
+  pub stmts_faults : (level : ℕ) → (in_loop : Bool) → tree.Stmts → List Fault
+  stmts_faults l b tree.no_stmts = []
+  stmts_faults l b (tree.more_stmts s ss) = stmt_faults l b s ++ stmts_faults l b ss
+
+  -- one handler after another
+  pub handlers_faults : (level : ℕ) → (in_loop : Bool) → tree.Handlers → List Fault
+  handlers_faults l b tree.no_handlers = []
+  handlers_faults l b (tree.more_handlers type name body rest) = match_faults type name ++ stmts_faults l b body ++ handlers_faults l b rest
 
 -- what is wrong with the nodes that are compiled
-abbrev pub compile_faults : tree.Mod → List Fault
-compile_faults (tree.Module body) = stmts_faults false (after_doc body)
-compile_faults (tree.Expression value) = expr_faults value
-compile_faults other = unbuilt_tree ∷ []
+abbrev pub compile_faults : (level : ℕ) → tree.Mod → List Fault
+compile_faults l (tree.Module body) = stmts_faults l false (after_doc body)
+compile_faults l (tree.Expression value) = expr_faults value
+compile_faults l other = unbuilt_tree ∷ []
 
 -- a shape that no tree of a program has
 abbrev pub malformed : List Malformed → List Fault
@@ -238,4 +108,4 @@ malformed (m ∷ ms) = record { error = error.MalformedTree m; location = None }
 -- nesting, then size, then shapes, then what is wrong with the nodes that are compiled
 abbrev pub faults : tree.Mod → Mode → (level : ℕ) → List Fault
 faults t mode level =
-    whole too_deep (2 ^ 10) (nesting t) ++ whole too_large (2 ^ 22) (size_of t) ++ malformed (shapes t mode) ++ compile_faults t
+    whole too_deep (2 ^ 10) (nesting t) ++ whole too_large (2 ^ 22) (size_of t) ++ malformed (shapes t mode) ++ compile_faults level t

@@ -1,5 +1,7 @@
 pub mod Ends
 pub mod Table
 pub mod Meaning
+pub mod ControlEmissions
 pub mod EmissionStmts
+pub mod ExprFaults
 pub mod Faults

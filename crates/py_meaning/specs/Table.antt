@@ -1,15 +1,14 @@
 -- What form each node of the tree is.
-use Rattle.std.specs.Prelude.{ℕ, List, [], ◌∷◌, ◌||◌, Bool, true, false, Option, Some, None, codes}
+use Rattle.std.specs.Prelude.{ℕ, List, [], ◌∷◌, ◌||◌, Bool, true, false, Option, Some, None, codes, nat_eq, if◌then◌else◌}
 use Rattle.py_tree.specs.Tree as tree
 use Rattle.py_base.specs.declared.location.SourceLocation.{SourceLocation}
 use Rattle.py_base.specs.declared.operators.Operator.{Operator}
 use Rattle.py_bytecode.specs.declared.instruction.Instruction.TheVariants as op
 use Rattle.py_bytecode.specs.Objects as const
-use Rattle.py_bytecode.specs.Objects.{Const, Consts, no_consts, more_consts}
-use Rattle.py_bytecode.specs.Values.{operation, Bare}
+use Rattle.py_bytecode.specs.Values.{operation, Bare, Number}
 use Rattle.py_forms.specs.Elements.{Element, Single, Spread, Function, Method, pairs}
 use Rattle.py_emission.specs.Texts.{after_doc, doc_of, texts_of}
-use Rattle.py_forms.specs.Form.{VForm, VConst, VLoad, VOp, VChoice, VKeep, VAt, VNone, VMore, TForm, TTruth, Resolved, FixedByName, FixedGlobal, Target, GDrop, GStore, GPut, SForm, SSkip, SThen, SDo, SInto, SRemove, SIf, SIfElse, SWhile, SBreak, SContinue, SReturn, SAugment, SAugmentTwo, SAt}
+use Rattle.py_forms.specs.Form.{VForm, VConst, VLoad, VOp, VChoice, VKeep, VAt, VForms, VNone, VMore, TForm, TTruth, TNot, Resolved, FixedByName, FixedGlobal, Target, GDrop, GStore, GPut, SForm, SSkip, SThen, SDo, SInto, SRemove, SIf, SIfElse, SWhile, SFor, SBreak, SContinue, SReturn, SReraise, SAugment, SAugmentTwo, STry, STryFinal, SFinally, SWith, SAt, Handlers, HNone, HAny, HTyped}
 use Rattle.py_forms.specs.TableParts.{ExprForms, Keywords, TargetForms, binary, bool_forms, call_form, compare_form, constant_of, conversion_case, counted, dict_form, display, elements, inplace, joined_form, name_form, named, no_operand, plain_target, slice_form, tested, unary_forms, unpacked_to, value_or, values}
 
 -- what stands for an expression that is not compiled yet, which no code has
@@ -123,6 +122,52 @@ abbrev pub annotation_target : tree.Expr → Target
 annotation_target (tree.Name at id) = GPut (operation op.StoreSubscript Bare) (VMore (VLoad FixedByName (codes "__annotations__")) (VMore (VConst (const.str id)) VNone))
 annotation_target other = GDrop
 
+-- what is iterated
+abbrev pub iterator : VForm → VForm
+iterator f = VOp (operation op.GetIter Bare) (VMore f VNone)
+
+-- what a `with` enters is dropped, or stored
+abbrev pub item_target : (level : ℕ) → tree.OptExpr → Target
+item_target l tree.no_expr = GDrop
+item_target l (tree.some_expr t) = target_form l t
+
+-- further items stand within the first
+abbrev pub with_form : (level : ℕ) → tree.WithItems → SForm → SForm
+with_form l tree.no_items f = f
+with_form l (tree.more_items e target items) f = SWith (expr_form l e) (item_target l target) (with_form l items f)
+
+-- an exception, one with its cause, or the one in hand
+abbrev pub raise_form : (level : ℕ) → (exc cause : tree.OptExpr) → SForm
+raise_form l tree.no_expr cause = SReraise
+raise_form l (tree.some_expr e) tree.no_expr = SDo (operation op.Raise (Number 0)) true (VMore (expr_form l e) VNone)
+raise_form l (tree.some_expr e) (tree.some_expr cause) = SDo (operation op.Raise (Number 1)) true (VMore (expr_form l e) (VMore (expr_form l cause) VNone))
+
+abbrev pub message_parts : (level : ℕ) → tree.OptExpr → VForms
+message_parts l tree.no_expr = VNone
+message_parts l (tree.some_expr e) = VMore (expr_form l e) VNone
+
+abbrev pub message_count : tree.OptExpr → ℕ
+message_count tree.no_expr = 0
+message_count (tree.some_expr e) = 1
+
+-- an assertion with its message
+abbrev pub assertion : (level : ℕ) → tree.OptExpr → VForm
+assertion l msg = VOp (counted op.CallFunctionPositional (message_count msg)) (VMore (VLoad FixedGlobal (codes "AssertionError")) (message_parts l msg))
+
+-- it is raised unless the test holds; above level 0 nothing is asserted
+abbrev pub assert_form : (level : ℕ) → (test : tree.Expr) → (msg : tree.OptExpr) → SForm
+assert_form l t msg = if nat_eq l 0 then SIf (TNot (test_form l t)) (SDo (operation op.Raise (Number 0)) true (VMore (assertion l msg) VNone)) else SSkip
+
+-- the name of a handler gets the exception
+abbrev pub handler_target : Option (List ℕ) → Target
+handler_target None = GDrop
+handler_target (Some name) = GStore Resolved name
+
+-- on every way out of its body the name is set to None and deleted
+abbrev pub named_form : Option (List ℕ) → (body : SForm) → SForm
+named_form None f = f
+named_form (Some name) f = SFinally f (SThen (SInto (VConst const.none) (GStore Resolved name)) (SRemove Resolved name))
+
 -- an expression statement drops its value; nothing stands for a statement that is not compiled yet
 abbrev mutual
   pub stmt_form : (level : ℕ) → tree.Stmt → SForm
@@ -133,6 +178,12 @@ abbrev mutual
   stmt_form l (tree.If at t body tree.no_stmts) = SAt at (SIf (test_form l t) (stmts_form l body))
   stmt_form l (tree.If at t body (tree.more_stmts s ss)) = SAt at (SIfElse (test_form l t) (stmts_form l body) (stmts_form l (tree.more_stmts s ss)))
   stmt_form l (tree.While at t body orelse) = SAt at (SWhile (test_form l t) (stmts_form l body) (stmts_form l orelse))
+  stmt_form l (tree.For at target iter body orelse) = SAt at (SFor (iterator (expr_form l iter)) (target_form l target) (stmts_form l body) (stmts_form l orelse))
+  stmt_form l (tree.With at items body) = SAt at (with_form l items (stmts_form l body))
+  stmt_form l (tree.Raise at exc cause) = SAt at (raise_form l exc cause)
+  stmt_form l (tree.Try at body excepts orelse tree.no_stmts) = SAt at (STry (stmts_form l body) (handler_forms l excepts) (stmts_form l orelse))
+  stmt_form l (tree.Try at body excepts orelse (tree.more_stmts s ss)) = SAt at (STryFinal (stmts_form l body) (handler_forms l excepts) (stmts_form l orelse) (stmts_form l (tree.more_stmts s ss)))
+  stmt_form l (tree.Assert at t msg) = SAt at (assert_form l t msg)
   stmt_form l (tree.StmtExpr at value) = SAt at (SInto (expr_form l value) GDrop)
   stmt_form l (tree.Break at) = SAt at SBreak
   stmt_form l (tree.Continue at) = SAt at SContinue
@@ -143,17 +194,26 @@ abbrev mutual
   stmts_form l tree.no_stmts = SSkip
   stmts_form l (tree.more_stmts s ss) = SThen (stmt_form l s) (stmts_form l ss)
 
+  -- a handler without a type takes no name
+  pub handler_forms : (level : ℕ) → tree.Handlers → Handlers
+  handler_forms l tree.no_handlers = HNone
+  handler_forms l (tree.more_handlers tree.no_expr name body rest) = HAny GDrop (stmts_form l body) (handler_forms l rest)
+  handler_forms l (tree.more_handlers (tree.some_expr e) name body rest) = HTyped (expr_form l e) (handler_target name) (named_form name (stmts_form l body)) (handler_forms l rest)
+
 -- a docstring is stored under its name, which is global
 abbrev pub doc_form : Option (List ℕ) → SForm
 doc_form None = SSkip
 doc_form (Some text) = SInto (VConst (const.str text)) (GStore FixedGlobal (codes "__doc__"))
 
--- whether an annotated assignment stands among the statements, or in the bodies of their choices and loops
+-- whether an annotated assignment stands among the statements, or in those within them; handlers are left out
 abbrev mutual
   pub annotates : tree.Stmt → Bool
   annotates (tree.AnnAssign at target annotation value simple) = true
   annotates (tree.While at t body orelse) = annotated body || annotated orelse
   annotates (tree.If at t body orelse) = annotated body || annotated orelse
+  annotates (tree.For at target iter body orelse) = annotated body || annotated orelse
+  annotates (tree.With at items body) = annotated body
+  annotates (tree.Try at body excepts orelse finalbody) = annotated body || (annotated orelse || annotated finalbody)
   annotates other = false
 
   pub annotated : tree.Stmts → Bool

@@ -1,12 +1,12 @@
 -- One of several targets at a time.
-use Rattle.std.proofs.Common.{◌≡◌, ◌≢◌, ◌<◌, ℕ, suc, ◌+◌, List, [], ◌∷◌, length, drop, get_or, Bool, true, false, refl, sym, ap, ◌∙◌, arith, rules}
+use Rattle.std.proofs.Common.{◌≡◌, ◌<◌, ℕ, suc, ◌+◌, List, [], ◌∷◌, length, drop, get_or, true, false, refl, sym, ap, ◌∙◌, arith, rules}
 use Rattle.std.specs.Prelude.{nat_eq, nat_lt}
 use Rattle.std.proofs.Math.Seq.{drop-cons}
 use Rattle.py_tree.specs.Tree as tree
 use Rattle.py_tree.specs.View.{expr_tree, exprs}
 use Rattle.py_tree.specs.declared.expressions.Expr.{Expr}
 use Rattle.py_bytecode.specs.declared.instruction.Instruction.TheVariants as op
-use Rattle.py_forms.specs.Emitting.{Emission, ◌▸◌, emit, refuse}
+use Rattle.py_forms.specs.Emitting.{◌▸◌, emit, refuse}
 use Rattle.py_emission.specs.Emission.{emission_of_store}
 use Rattle.py_meaning.specs.EmissionStmts.{emission_of_assign}
 use Rattle.py_forms.specs.declared.errors.CodegenErrorType.TheVariants as error

@@ -1,6 +1,6 @@
 -- A block that has not begun stays so through the emission of a statement.
 use Rattle.std.proofs.Common.{◌≡◌, ℕ, List, Bool, false, Option, Some, None}
-use Rattle.std.specs.Prelude.{codes}
+use Rattle.std.specs.Prelude.{codes, nat_eq, not}
 use Rattle.py_tree.specs.Tree as tree
 use Rattle.py_base.specs.declared.location.SourceLocation.{SourceLocation}
 use Rattle.py_base.specs.declared.operators.Operator.{Operator}
@@ -12,15 +12,20 @@ use Rattle.py_bytecode.specs.Objects as const
 use Rattle.py_forms.specs.TableParts.{binary_case}
 use Rattle.py_forms.specs.declared.errors.CodegenErrorType.{CodegenErrorType}
 use Rattle.py_forms.specs.declared.errors.CodegenErrorType.TheVariants as error
-use Rattle.py_forms.specs.Emitting.{State, Done, Emission, LoopBlocks, begin, emit, emit_name, emit_constant, in_loop, jump}
+use Rattle.py_forms.specs.Emitting.{State, Done, Emission, LoopBlocks, begin, emit, emit_count, emit_name, emit_constant, in_loop, jump, keep, refuse}
 use Rattle.py_forms.specs.EmissionParts.{choice, emission_of_name, no_assignment, only}
 use Rattle.py_emission.specs.Emission.{emission, emission_of_test, emissions, stores}
-use Rattle.py_meaning.specs.EmissionStmts.{emission_of_annotation, emission_of_assign, emission_of_augment, emission_of_declared, emission_of_operand, emission_of_stmt, emission_of_stmts, leave_loop, none}
+use Rattle.py_meaning.specs.ControlEmissions.{any_match, asserted, before_last, caught, named_body, to_last, typed_match}
+use Rattle.py_meaning.specs.EmissionStmts.{emission_of_annotation, emission_of_assert, emission_of_assign, emission_of_augment, emission_of_declared, emission_of_handlers, emission_of_item, emission_of_items, emission_of_last, emission_of_message, emission_of_operand, emission_of_raise, emission_of_stmt, emission_of_stmts, itemless, leave_loop, none}
+use Rattle.py_meaning.specs.Table.{message_count}
 use Rattle.py_emit.specs.Steps.{IsOpen}
-use Rattle.py_expr.proofs.Keeping.{Keeps, begin_keeps, block_from, constant_keeps, either_keeps, emit_keeps, idle_keeps, jump_keeps, loop_keeps, loops_keep, move_keeps, moved_keeps, name_keeps, opens, refuse_keeps, then_from, then_keeps}
+use Rattle.py_expr.proofs.Keeping.{Keeps, begin_keeps, block_from, constant_keeps, count_keeps, either_keeps, emit_keeps, idle_keeps, jump_keeps, level_keeps, loop_keeps, loops_keep, move_keeps, moved_keeps, name_keeps, opens, refuse_keeps, then_from, then_keeps}
 use Rattle.py_expr.proofs.KeptParts.{choice_keeps, only_keeps}
 use Rattle.py_expr.proofs.KeptTargets.{debug_keeps}
 use Rattle.py_expr.proofs.Opening.{deletes_keep, expr_keeps, named_keeps, store_keeps, unbuilt_keeps}
+use Rattle.py_stmt.specs.Managing.{entered, full_body}
+use Rattle.py_stmt.specs.Parts.{each_begun, each_ended, each_turn, emission_of_caught, emission_of_match, guarded, handled, unguarded}
+use Rattle.py_stmt.proofs.KeptControl.{asserted_keeps, before_keeps, each_keeps, entered_keeps, handler_keeps, managed_keeps, match_keeps, named_body_keeps, to_last_keeps, try_keeps}
 
 assign_keeps : (ts : tree.Exprs) → Keeps (emission_of_assign ts)
 assign_keeps tree.no_exprs = refuse_keeps (error.MalformedTree shape.NoTarget)
@@ -65,6 +70,33 @@ while_keeps t body orelse b o at = moved_keeps at _ (λ z. block_from z _ (λ st
     (then_from z (emit op.PopBlock 0) _ (emit_keeps op.PopBlock 0 z)
     (then_from z (emission_of_stmts orelse) (begin end) (o z) (begin_keeps end z n))))))))))))
 
+item_keeps : (t : tree.OptExpr) → Keeps (emission_of_item t)
+item_keeps tree.no_expr = emit_keeps op.Pop 0
+item_keeps (tree.some_expr t) = moved_keeps (tree.expr_location t) (stores t).alone (store_keeps t).alone
+
+items_keep : (at : SourceLocation) (ts : tree.WithItems) (body : Emission) → Keeps body → Keeps (emission_of_items at ts body)
+items_keep at tree.no_items body b = b
+items_keep at (tree.more_items e t ts) body b = managed_keeps at (emission e) (emission_of_item t) (emission_of_items at ts body) (expr_keeps e).value (item_keeps t) (items_keep at ts body b)
+
+raise_keeps : (e cause : tree.OptExpr) → Keeps (emission_of_raise e cause)
+raise_keeps tree.no_expr cause = emit_keeps op.Raise 2
+raise_keeps (tree.some_expr e) tree.no_expr = then_keeps (emissions e).value (emit op.Raise 0) (expr_keeps e).value (emit_keeps op.Raise 0)
+raise_keeps (tree.some_expr e) (tree.some_expr cause) = then_keeps (emissions e).value _ (expr_keeps e).value (then_keeps (emissions cause).value (emit op.Raise 1) (expr_keeps cause).value (emit_keeps op.Raise 1))
+
+message_keeps : (t : tree.OptExpr) → Keeps (emission_of_message t)
+message_keeps tree.no_expr = idle_keeps
+message_keeps (tree.some_expr t) = (expr_keeps t).value
+
+assert_keeps : (t : tree.Expr) (msg : tree.OptExpr) (level : ℕ) → Keeps (emission_of_assert t msg level)
+assert_keeps t msg level = either_keeps (nat_eq level 0) (asserted (emission_of_test t) (emission_of_message msg) (message_count msg)) keep (asserted_keeps (emission_of_test t) (emission_of_message msg) (message_count msg) (expr_keeps t).test (message_keeps msg)) idle_keeps
+
+last_keeps : (ts : tree.Stmts) (last : Emission) → Keeps last → Keeps (emission_of_last ts last)
+last_keeps tree.no_stmts last h = idle_keeps
+last_keeps (tree.more_stmts t ts) last h = then_keeps last (emit op.EndFinally 0) h (emit_keeps op.EndFinally 0)
+
+full_keeps : (ts : tree.Stmts) → Keeps (emission_of_stmts ts) → Keeps (full_body ts)
+full_keeps ts h = either_keeps (none ts) (refuse error.EmptyWithBody) (emission_of_stmts ts) (refuse_keeps error.EmptyWithBody) h
+
 mutual
   pub stmt_keeps : (t : tree.Stmt) → Keeps (emission_of_stmt t)
   stmt_keeps (tree.Delete at targets) = moved_keeps at _ (deletes_keep targets)
@@ -76,6 +108,16 @@ mutual
       moved_keeps at _ (either_keeps (none orelse) (only (emission_of_test t) (emission_of_stmts body)) (choice (emission_of_test t) (emission_of_stmts body) (emission_of_stmts orelse))
       (only_keeps (emission_of_test t) (emission_of_stmts body) (expr_keeps t).test (stmts_keep body)) (choice_keeps (emission_of_test t) (emission_of_stmts body) (expr_keeps t).test (stmts_keep body) (emission_of_stmts orelse) (stmts_keep orelse)))
   stmt_keeps (tree.While at t body orelse) = while_keeps t body orelse (stmts_keep body) (stmts_keep orelse) at
+  stmt_keeps (tree.For at target iter body orelse) =
+      moved_keeps at _ (each_keeps (emissions iter).value (stores target).alone (emission_of_stmts body) (emission_of_stmts orelse) (expr_keeps iter).value (store_keeps target).alone (stmts_keep body) (stmts_keep orelse))
+  stmt_keeps (tree.With at items body) =
+      moved_keeps at _ (either_keeps (itemless items) (refuse error.EmptyWithItems) (emission_of_items at items (full_body body)) (refuse_keeps error.EmptyWithItems)
+      (items_keep at items (full_body body) (full_keeps body (stmts_keep body))))
+  stmt_keeps (tree.Raise at e cause) = moved_keeps at _ (raise_keeps e cause)
+  stmt_keeps (tree.Try at body excepts orelse finalbody) =
+      moved_keeps at _ (try_keeps (not (none finalbody)) (emission_of_stmts body) (emission_of_handlers excepts (not (none finalbody))) (emission_of_stmts orelse) (emission_of_last finalbody (emission_of_stmts finalbody))
+      (stmts_keep body) (handlers_keep excepts (not (none finalbody))) (stmts_keep orelse) (last_keeps finalbody (emission_of_stmts finalbody) (stmts_keep finalbody)))
+  stmt_keeps (tree.Assert at t msg) = moved_keeps at _ (level_keeps (emission_of_assert t msg) (assert_keeps t msg))
   stmt_keeps (tree.StmtExpr at v) = moved_keeps at _ (then_keeps (emissions v).value (emit op.Pop 0) (expr_keeps v).value (emit_keeps op.Pop 0))
   stmt_keeps (tree.Break at) = moved_keeps at _ (loops_keep _ (leave_keeps op.Break (λ y. y.on_break) error.InvalidBreak))
   stmt_keeps (tree.Continue at) = moved_keeps at _ (loops_keep _ (leave_keeps op.Continue (λ y. y.on_continue) error.InvalidContinue))
@@ -86,8 +128,72 @@ mutual
   stmts_keep tree.no_stmts = idle_keeps
   stmts_keep (tree.more_stmts t ts) = then_keeps (emission_of_stmt t) (emission_of_stmts ts) (stmt_keeps t) (stmts_keep ts)
 
+  pub handlers_keep : (ts : tree.Handlers) (last : Bool) (end : ℕ) → Keeps (emission_of_handlers ts last end)
+  handlers_keep tree.no_handlers last end = emit_keeps op.Raise 2
+  handlers_keep (tree.more_handlers tree.no_expr name body ts) last end = handler_keeps last end any_match (emission_of_stmts body) (emission_of_handlers ts last end) (λ next. emit_keeps op.Pop 0) (stmts_keep body) (handlers_keep ts last end)
+  handlers_keep (tree.more_handlers (tree.some_expr e) name body ts) last end =
+      handler_keeps last end (typed_match (emission e) (caught name)) (named_body name (emission_of_stmts body)) (emission_of_handlers ts last end) (match_keeps (emission e) name (expr_keeps e).value) (named_body_keeps name (emission_of_stmts body) (stmts_keep body)) (handlers_keep ts last end)
+
 pub stmts_open : (ts : tree.Stmts) (s r : State) (b : ℕ) → emission_of_stmts ts s ≡ Done r → IsOpen b s → IsOpen b r
 stmts_open ts = opens (emission_of_stmts ts) (stmts_keep ts)
 
 pub loop_opens : (x : LoopBlocks) (ts : tree.Stmts) (s r : State) (b : ℕ) → in_loop x (emission_of_stmts ts) s ≡ Done r → IsOpen b s → IsOpen b r
 loop_opens x ts = opens (in_loop x (emission_of_stmts ts)) (loop_keeps x (emission_of_stmts ts) (stmts_keep ts))
+
+pub handlers_open : (ts : tree.Handlers) (last : Bool) (end : ℕ) (s r : State) (b : ℕ) → emission_of_handlers ts last end s ≡ Done r → IsOpen b s → IsOpen b r
+handlers_open ts last end = opens (emission_of_handlers ts last end) (handlers_keep ts last end)
+
+pub message_opens : (t : tree.OptExpr) (s r : State) (b : ℕ) → emission_of_message t s ≡ Done r → IsOpen b s → IsOpen b r
+message_opens t = opens (emission_of_message t) (message_keeps t)
+
+pub name_opens : (i : Instruction) (x : List ℕ) (s r : State) (b : ℕ) → emit_name i x s ≡ Done r → IsOpen b s → IsOpen b r
+name_opens i x = opens (emit_name i x) (name_keeps i x)
+
+pub count_opens : (i : Instruction) (n : ℕ) (s r : State) (b : ℕ) → emit_count i n s ≡ Done r → IsOpen b s → IsOpen b r
+count_opens i n = opens (emit_count i n) (count_keeps i n)
+
+pub item_opens : (t : tree.OptExpr) (s r : State) (b : ℕ) → emission_of_item t s ≡ Done r → IsOpen b s → IsOpen b r
+item_opens t = opens (emission_of_item t) (item_keeps t)
+
+pub items_entered : (at : SourceLocation) (e : tree.Expr) (t : tree.OptExpr) (s r : State) (b : ℕ) → entered at (emission e) (emission_of_item t) s ≡ Done r → IsOpen b s → IsOpen b r
+items_entered at e t = opens (entered at (emission e) (emission_of_item t)) (entered_keeps at (emission e) (emission_of_item t) (expr_keeps e).value (item_keeps t))
+
+pub full_opens : (ts : tree.Stmts) (s r : State) (b : ℕ) → full_body ts s ≡ Done r → IsOpen b s → IsOpen b r
+full_opens ts = opens (full_body ts) (full_keeps ts (stmts_keep ts))
+
+-- the parts of a loop, of a `try` and of a handler
+pub each_begun_opens : (t : tree.Expr) (s r : State) (b : ℕ) → each_begun (emission t) s ≡ Done r → IsOpen b s → IsOpen b r
+each_begun_opens t = opens (each_begun (emission t)) (then_keeps (emit op.SetupLoop 0) _ (emit_keeps op.SetupLoop 0) (then_keeps (emission t) (emit op.GetIter 0) (expr_keeps t).value (emit_keeps op.GetIter 0)))
+
+pub each_turn_opens : (t : tree.Expr) (ts : tree.Stmts) (start other end : ℕ) (s r : State) (b : ℕ) → each_turn (stores t).alone (emission_of_stmts ts) start other end s ≡ Done r → IsOpen b s → IsOpen b r
+each_turn_opens t ts start other end =
+    let x : LoopBlocks = record { on_break = end; on_continue = start } in
+    opens (each_turn (stores t).alone (emission_of_stmts ts) start other end)
+    (then_keeps (jump op.ForIter other) _ (jump_keeps op.ForIter other) (then_keeps (stores t).alone _ (store_keeps t).alone
+    (then_keeps (in_loop x (emission_of_stmts ts)) (jump op.Jump start) (loop_keeps x (emission_of_stmts ts) (stmts_keep ts)) (jump_keeps op.Jump start))))
+
+pub each_ended_opens : (ts : tree.Stmts) (s r : State) (b : ℕ) → each_ended (emission_of_stmts ts) s ≡ Done r → IsOpen b s → IsOpen b r
+each_ended_opens ts = opens (each_ended (emission_of_stmts ts)) (then_keeps (emit op.PopBlock 0) (emission_of_stmts ts) (emit_keeps op.PopBlock 0) (stmts_keep ts))
+
+pub guarded_opens : (last : Bool) (ts : tree.Stmts) (catch other end : ℕ) (s r : State) (b : ℕ) → guarded last (emission_of_stmts ts) catch other end s ≡ Done r → IsOpen b s → IsOpen b r
+guarded_opens last ts catch other end =
+    opens (guarded last (emission_of_stmts ts) catch other end)
+    (then_keeps (before_last last end) _ (before_keeps last end) (then_keeps (jump op.SetupExcept catch) _ (jump_keeps op.SetupExcept catch) (then_keeps (emission_of_stmts ts) _ (stmts_keep ts)
+    (then_keeps (emit op.PopBlock 0) (jump op.Jump other) (emit_keeps op.PopBlock 0) (jump_keeps op.Jump other)))))
+
+pub unguarded_opens : (last : Bool) (ts : tree.Stmts) (s r : State) (b : ℕ) → unguarded last (emission_of_stmts ts) s ≡ Done r → IsOpen b s → IsOpen b r
+unguarded_opens last ts = opens (unguarded last (emission_of_stmts ts)) (then_keeps (emission_of_stmts ts) (to_last last) (stmts_keep ts) (to_last_keeps last))
+
+pub match_opens : (t : tree.OptExpr) (name : Option (List ℕ)) (next : ℕ) (s r : State) (b : ℕ) → emission_of_match t name next s ≡ Done r → IsOpen b s → IsOpen b r
+match_opens tree.no_expr name next = opens (any_match next) (emit_keeps op.Pop 0)
+match_opens (tree.some_expr t) name next = opens (typed_match (emission t) (caught name) next) (match_keeps (emission t) name (expr_keeps t).value next)
+
+pub caught_opens : (t : tree.OptExpr) (name : Option (List ℕ)) (ts : tree.Stmts) (s r : State) (b : ℕ) → emission_of_caught t name (emission_of_stmts ts) s ≡ Done r → IsOpen b s → IsOpen b r
+caught_opens tree.no_expr name ts = stmts_open ts
+caught_opens (tree.some_expr t) name ts = opens (named_body name (emission_of_stmts ts)) (named_body_keeps name (emission_of_stmts ts) (stmts_keep ts))
+
+pub handled_opens : (last : Bool) (end : ℕ) (s r : State) (b : ℕ) → handled last end s ≡ Done r → IsOpen b s → IsOpen b r
+handled_opens last end = opens (handled last end) (then_keeps (emit op.PopException 0) _ (emit_keeps op.PopException 0) (then_keeps (to_last last) (jump op.Jump end) (to_last_keeps last) (jump_keeps op.Jump end)))
+
+pub to_last_opens : (last : Bool) (s r : State) (b : ℕ) → to_last last s ≡ Done r → IsOpen b s → IsOpen b r
+to_last_opens last = opens (to_last last) (to_last_keeps last)

@@ -3,9 +3,11 @@ use Rattle.std.proofs.Common.{◌≡◌, ◌≢◌, ℕ, suc, List, [], ◌∷�
 use Rattle.std.specs.Bool.{IsTrue}
 use Rattle.std.specs.Prelude.{nat_eq}
 use Rattle.py_tree.specs.declared.statements.Stmt.{Stmt}
-use Rattle.py_tree.specs.View.{stmt_tree, stmts}
+use Rattle.py_tree.specs.declared.statements.WithItemOf.{WithItemOf}
+use Rattle.py_tree.specs.declared.expressions.Expr.{Expr}
+use Rattle.py_tree.specs.View.{stmt_tree, stmts, with_items}
 use Rattle.py_forms.specs.Emitting.{Emission, LoopBlocks, State, by_loops}
-use Rattle.py_meaning.specs.EmissionStmts.{none}
+use Rattle.py_meaning.specs.EmissionStmts.{itemless, none}
 use Rattle.py_expr.proofs.Steps.{begin_goes, block_goes, level_goes, located_at, many_emissions, move_goes, refuse_goes}
 
 pub loops_go : (a : Option LoopBlocks → Emission) (s : State) → by_loops a s ≡ a s.context.loops s
@@ -25,5 +27,12 @@ none_is [] true f g = refl
 none_is [] false f g = let h = g refl in absurd cc
 none_is (x ∷ xs) true f g = let h = f refl in absurd cc
 none_is (x ∷ xs) false f g = refl
+
+-- the same of items
+pub itemless_is : (xs : List (WithItemOf Expr)) (b : Bool) → (IsTrue b → xs ≡ []) → (xs ≡ [] → IsTrue b) → itemless (with_items xs) ≡ b
+itemless_is [] true f g = refl
+itemless_is [] false f g = let h = g refl in absurd cc
+itemless_is (x ∷ xs) true f g = let h = f refl in absurd cc
+itemless_is (x ∷ xs) false f g = refl
 
 pub ruleset steps = (begin_goes, block_goes, level_goes, located_at, loops_go, many_emissions, move_goes, none_stmts, refuse_goes)

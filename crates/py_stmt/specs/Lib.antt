@@ -1,1 +1,3 @@
 pub mod Assigning
+pub mod Managing
+pub mod Parts

@@ -6,8 +6,8 @@ ghost use Rattle.py_meaning.specs.Table.{annotated, annotates};
 use crate::docs::statements_from;
 use py_tree::{Stmt, Stmts};
 
-/// Whether an annotated assignment stands among the statements of a body from a place on, or in the bodies of their choices
-/// and loops. The place is at most the length of the body.
+/// Whether an annotated assignment stands among the statements of a body from a place on, or in those within them that are
+/// no handlers. The place is at most the length of the body.
 pub fn find_ann(body: &Stmts, from: usize) -> bool
     requires { from ≤ length body.now }
     ensures { result ≡ annotated (stmts stmt_tree (drop from body.now)) }
@@ -38,6 +38,13 @@ fn annotates(statement: &Stmt) -> bool
         Stmt::AnnAssign(_) => true,
         Stmt::While(s) => has_annotation(s.body.as_slice()) || has_annotation(s.orelse.as_slice()),
         Stmt::If(s) => has_annotation(s.body.as_slice()) || has_annotation(s.orelse.as_slice()),
+        Stmt::For(s) => has_annotation(s.body.as_slice()) || has_annotation(s.orelse.as_slice()),
+        Stmt::With(s) => has_annotation(s.body.as_slice()),
+        Stmt::Try(s) => {
+            has_annotation(s.body.as_slice())
+                || has_annotation(s.orelse.as_slice())
+                || has_annotation(s.finalbody.as_slice())
+        }
         _ => false,
     }
 }

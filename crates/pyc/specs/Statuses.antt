@@ -10,7 +10,7 @@ use Rattle.py_forms.specs.Messages.{message}
 use Rattle.py_rows_fields.specs.declared.error.RowsError.{RowsError}
 use Rattle.py_rows_fields.specs.declared.error.RowsError.TheVariants.{NotJson, NotRows, WrongRow, WideInteger, LaterRow, WrongKind, NamedTwice, TooDeep, NoMod, NotNamed, OutOfMemory}
 use Rattle.py_rows.specs.Rows.{rows_tree}
-use Rattle.py_meaning.specs.Faults.{Fault}
+use Rattle.py_meaning.specs.ExprFaults.{Fault}
 use Rattle.py_meaning.specs.Faults.{faults}
 use Rattle.pyc.specs.Words.{Command, words_form}
 

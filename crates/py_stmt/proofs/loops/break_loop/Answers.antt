@@ -7,7 +7,7 @@ use Rattle.py_forms.specs.declared.errors.CodegenErrorType.TheVariants as error
 use Rattle.py_emit.specs.States.{loop_blocks, rest, state}
 use Rattle.py_emit.specs.declared.context.EmitContext.{EmitContext}
 use Rattle.py_expr.proofs.Turns.{refused_as}
-use Rattle.py_stmt.proofs.statements.break_loop.Goals as goal
+use Rattle.py_stmt.proofs.loops.break_loop.Goals as goal
 
 pub returns-in-None-clause-goes : goal.returns-in-None-clause-goes
 unfolding rest

@@ -1,3 +1,6 @@
+mod Iterating
+mod Managing
+mod Trying
 use Rattle.std.proofs.Common.{ap, false, sym, ◌∙◌}
 use Rattle.std.specs.Prelude.{if◌then◌else◌}
 use Rattle.py_bytecode.specs.declared.instruction.Instruction.TheVariants as op
@@ -14,22 +17,25 @@ use Rattle.py_stmt.proofs.Steps.{none_is}
 use Rattle.py_expr.proofs.Steps.{move_goes}
 use Rattle.py_expr.proofs.Opening.{apart, begin_opens, block_opens, emit_opens, jump_opens, test_opens}
 use Rattle.py_stmt.proofs.Opening.{loop_opens, stmts_open}
-use Rattle.py_stmt.proofs.statements.+code.Goals as goal
+use Rattle.py_stmt.proofs.+code.Answers.Iterating.{end_begins, end_refused, for_goes, other_begins, turn_begins, turn_refused}
+use Rattle.py_stmt.proofs.+code.Answers.Managing.{left_open, no_body, no_items, some_body, some_items}
+use Rattle.py_stmt.proofs.+code.Answers.Trying.{catch_begins, else_begins, forgetting_begins, handler_refused, handlers_go_on, last_begins, last_goes, last_refused, next_begins, try_goes}
+use Rattle.py_stmt.proofs.+code.Goals as goal
 
-pub compile_only-switch_to_block-requires : goal.compile_only-switch_to_block-requires
-compile_only-switch_to_block-requires t c =
+pub statements::compile_only-switch_to_block-requires : goal.statements::compile_only-switch_to_block-requires
+statements::compile_only-switch_to_block-requires t c =
     let e = test_opens (expr_tree c.deref.result.now) false c.in_ok-end.end.0 _ _ _ c.in_ok-compile_jump_if.ensures.goes c.in_ok-end.ensures.made in
     record { made = stmts_open (stmts stmt_tree c.as_slice.result.now) _ _ _ c.in_ok-compile_statements.ensures.goes e; below = c.in_ok-end.ensures.below }
 
-pub compile_choice-switch_to_block-requires : goal.compile_choice-switch_to_block-requires
-compile_choice-switch_to_block-requires t c =
+pub statements::compile_choice-switch_to_block-requires : goal.statements::compile_choice-switch_to_block-requires
+statements::compile_choice-switch_to_block-requires t c =
     let a = block_opens _ _ _ c.in_ok-end.ensures.ok c.in_ok-other.ensures.made in
     let e = test_opens (expr_tree c.deref.result.now) false c.in_ok-other.other.0 _ _ _ c.in_ok-compile_jump_if.ensures.goes a in
     let m = stmts_open (stmts stmt_tree c.as_slice.result.now) _ _ _ c.in_ok-compile_statements.ensures.goes e in
     record { made = jump_opens op.Jump c.in_ok-end.end.0 _ _ _ c.in_Continue-emit-emit.ensures.goes m; below = c.in_ok-other.ensures.below }
 
-pub compile_choice-switch_to_block-requires-2 : goal.compile_choice-switch_to_block-requires-2
-compile_choice-switch_to_block-requires-2 t c =
+pub statements::compile_choice-switch_to_block-requires-2 : goal.statements::compile_choice-switch_to_block-requires-2
+statements::compile_choice-switch_to_block-requires-2 t c =
     let out = c.in_ok-other.other.0 in
     let other = apart _ _ _ c.in_ok-other.ensures.made c.in_ok-end.ensures.number in
     let e = test_opens (expr_tree c.deref.result.now) false out _ _ _ c.in_ok-compile_jump_if.ensures.goes c.in_ok-end.ensures.made in
@@ -38,14 +44,14 @@ compile_choice-switch_to_block-requires-2 t c =
     let g = begin_opens _ _ _ out (λ e. other (sym e)) c.switch_to_block.ensures.state j in
     record { made = stmts_open (stmts stmt_tree c.as_slice-2.result.now) _ _ _ c.in_ok-compile_statements-2.ensures.goes g; below = c.in_ok-end.ensures.below }
 
-pub compile_while-switch_to_block-requires : goal.compile_while-switch_to_block-requires
-compile_while-switch_to_block-requires t c =
+pub loops::compile_while-switch_to_block-requires : goal.loops::compile_while-switch_to_block-requires
+loops::compile_while-switch_to_block-requires t c =
     let a = block_opens _ _ _ c.in_ok-other.ensures.ok c.in_ok-start.ensures.made in
     let e = block_opens _ _ _ c.in_ok-end.ensures.ok a in
     record { made = emit_opens op.SetupLoop 0 _ _ _ c.in_Continue-emit-emit.ensures.goes e; below = c.in_ok-start.ensures.below }
 
-pub compile_while-switch_to_block-requires-2 : goal.compile_while-switch_to_block-requires-2
-compile_while-switch_to_block-requires-2 t c =
+pub loops::compile_while-switch_to_block-requires-2 : goal.loops::compile_while-switch_to_block-requires-2
+loops::compile_while-switch_to_block-requires-2 t c =
     let start = c.in_ok-start.start.0 in
     let first = apart _ _ _ c.in_ok-start.ensures.made c.in_ok-other.ensures.number in
     let a = block_opens _ _ _ c.in_ok-end.ensures.ok c.in_ok-other.ensures.made in
@@ -55,8 +61,8 @@ compile_while-switch_to_block-requires-2 t c =
     let m = loop_opens (record { on_break = c.in_ok-end.end.0; on_continue = start }) (stmts stmt_tree c.as_slice.result.now) _ _ _ c.in_ok-compile_loop_body.ensures.goes j in
     record { made = jump_opens op.Jump start _ _ _ c.in_Continue-emit-emit-2.ensures.goes m; below = c.in_ok-other.ensures.below }
 
-pub compile_while-switch_to_block-requires-3 : goal.compile_while-switch_to_block-requires-3
-compile_while-switch_to_block-requires-3 t c =
+pub loops::compile_while-switch_to_block-requires-3 : goal.loops::compile_while-switch_to_block-requires-3
+loops::compile_while-switch_to_block-requires-3 t c =
     let start = c.in_ok-start.start.0 in
     let out = c.in_ok-other.other.0 in
     let a = block_opens _ _ _ c.in_ok-other.ensures.ok c.in_ok-start.ensures.made in
@@ -71,8 +77,8 @@ compile_while-switch_to_block-requires-3 t c =
     let q = emit_opens op.PopBlock 0 _ _ _ c.in_Continue-emit-emit-3.ensures.goes p in
     record { made = stmts_open (stmts stmt_tree c.as_slice-2.result.now) _ _ _ c.in_ok-compile_statements.ensures.goes q; below = c.in_ok-end.ensures.below }
 
-pub compile_if-returns-clause-goes : goal.compile_if-returns-clause-goes
-compile_if-returns-clause-goes t c =
+pub statements::compile_if-returns-clause-goes : goal.statements::compile_if-returns-clause-goes
+statements::compile_if-returns-clause-goes t c =
     let test = emission_of_test (expr_tree c.args.s.now.test.value) in
     let body = emission_of_stmts (stmts stmt_tree c.args.s.now.body) in
     let orelse = emission_of_stmts (stmts stmt_tree c.args.s.now.orelse) in
@@ -84,11 +90,74 @@ compile_if-returns-clause-goes t c =
     c.compile_choice.ensures.goes
 
 -- the loop of before stands around again
-pub compile_loop_body-returns-clause-goes : goal.compile_loop_body-returns-clause-goes
+pub loops::compile_loop_body-returns-clause-goes : goal.loops::compile_loop_body-returns-clause-goes
 unfolding in_loop rest
-compile_loop_body-returns-clause-goes t c =
+loops::compile_loop_body-returns-clause-goes t c =
     let behind : Emission = λ r. Done (with_loops (state c.args.em.now).context.loops r) in
     ap (λ (s : State). go_on (emission_of_stmts (stmts stmt_tree c.args.body.now) s) behind) (sym c.set_context.ensures.state)
     ∙ went _ behind _ c.in_ok-compile_statements.ensures.goes
     ∙ ap (λ (x : EmitContext). Done (with_loops (loop_blocks x.loop_blocks) (state c.compile_statements.new.em))) (sym c.context-context.ensures)
     ∙ ap Done (sym c.set_context-2.ensures.state)
+
+pub loops::compile_for-returns-clause-goes : goal.loops::compile_for-returns-clause-goes
+loops::compile_for-returns-clause-goes = for_goes
+
+pub loops::compile_each-switch_to_block-requires : goal.loops::compile_each-switch_to_block-requires
+loops::compile_each-switch_to_block-requires = turn_begins
+
+pub loops::compile_each-switch_to_block-requires-2 : goal.loops::compile_each-switch_to_block-requires-2
+loops::compile_each-switch_to_block-requires-2 = other_begins
+
+pub loops::compile_each-switch_to_block-requires-3 : goal.loops::compile_each-switch_to_block-requires-3
+loops::compile_each-switch_to_block-requires-3 = end_begins
+
+pub tries::compile_try-returns-clause-goes : goal.tries::compile_try-returns-clause-goes
+tries::compile_try-returns-clause-goes = try_goes
+
+pub tries::compile_parts-switch_to_block-requires : goal.tries::compile_parts-switch_to_block-requires
+tries::compile_parts-switch_to_block-requires = catch_begins
+
+pub tries::compile_parts-switch_to_block-requires-2 : goal.tries::compile_parts-switch_to_block-requires-2
+tries::compile_parts-switch_to_block-requires-2 = else_begins
+
+pub tries::compile_parts-switch_to_block-requires-3 : goal.tries::compile_parts-switch_to_block-requires-3
+tries::compile_parts-switch_to_block-requires-3 = last_begins
+
+pub tries::compile_handler-switch_to_block-requires : goal.tries::compile_handler-switch_to_block-requires
+tries::compile_handler-switch_to_block-requires = next_begins
+
+pub tries::compile_forgetting-switch_to_block-requires : goal.tries::compile_forgetting-switch_to_block-requires
+tries::compile_forgetting-switch_to_block-requires = forgetting_begins
+
+pub tries::compile_handlers-loop-handler-preserved : goal.tries::compile_handlers-loop-handler-preserved
+tries::compile_handlers-loop-handler-preserved = handlers_go_on
+
+pub tries::compile_handlers-returns-in_err-compile_handler-clause-goes : goal.tries::compile_handlers-returns-in_err-compile_handler-clause-goes
+tries::compile_handlers-returns-in_err-compile_handler-clause-goes = handler_refused
+
+pub withs::compile_some_items-returns-then-is_empty-clause-goes : goal.withs::compile_some_items-returns-then-is_empty-clause-goes
+withs::compile_some_items-returns-then-is_empty-clause-goes = no_items
+
+pub withs::compile_some_items-returns-clause-goes : goal.withs::compile_some_items-returns-clause-goes
+withs::compile_some_items-returns-clause-goes = some_items
+
+pub withs::compile_body-returns-then-is_empty-clause-goes : goal.withs::compile_body-returns-then-is_empty-clause-goes
+withs::compile_body-returns-then-is_empty-clause-goes = no_body
+
+pub withs::compile_body-returns-clause-goes : goal.withs::compile_body-returns-clause-goes
+withs::compile_body-returns-clause-goes = some_body
+
+pub withs::compile_managed-leave_items-requires : goal.withs::compile_managed-leave_items-requires
+withs::compile_managed-leave_items-requires = left_open
+
+pub loops::compile_each-returns-in_err-compile_turn-clause-goes : goal.loops::compile_each-returns-in_err-compile_turn-clause-goes
+loops::compile_each-returns-in_err-compile_turn-clause-goes = turn_refused
+
+pub loops::compile_each-returns-in_err-end_each-clause-goes : goal.loops::compile_each-returns-in_err-end_each-clause-goes
+loops::compile_each-returns-in_err-end_each-clause-goes = end_refused
+
+pub tries::compile_last-returns-clause-goes : goal.tries::compile_last-returns-clause-goes
+tries::compile_last-returns-clause-goes = last_refused
+
+pub tries::compile_last-returns-2-clause-goes : goal.tries::compile_last-returns-2-clause-goes
+tries::compile_last-returns-2-clause-goes = last_goes

@@ -1,0 +1,86 @@
+use Rattle.std.proofs.Common.{◌≡◌, ◌+◌, ◌*◌, drop}
+use Rattle.py_tree.specs.View.{handlers, stmt_tree, stmts}
+use Rattle.py_meaning.specs.EmissionStmts.{emission_of_handlers, emission_of_stmts}
+use Rattle.py_emit.specs.States.{rest, state}
+use Rattle.py_stmt.proofs.+code.Given as goal
+
+abbrev pub invariant-statements::compile_statements-loop-statement : goal.invariant-statements::compile_statements-loop-statement
+invariant-statements::compile_statements-loop-statement l = (rest l.em ≡ rest l.initial.em) × (emission_of_stmts (stmts stmt_tree l.body) (state l.initial.em) ≡ emission_of_stmts (stmts stmt_tree (drop l.statement-index l.body)) (state l.em))
+
+abbrev pub invariant-tries::compile_handlers-loop-handler : goal.invariant-tries::compile_handlers-loop-handler
+invariant-tries::compile_handlers-loop-handler l = (rest l.em ≡ rest l.initial.em) × (emission_of_handlers (handlers stmt_tree l.handlers) l.last l.end.0 (state l.initial.em) ≡ emission_of_handlers (handlers stmt_tree (drop l.handler-index l.handlers)) l.last l.end.0 (state l.em))
+
+abbrev pub decreases-statements::compile_statement : goal.decreases-statements::compile_statement
+decreases-statements::compile_statement l = 16 * goal.size-statements::compile_statement l
+
+abbrev pub decreases-statements::compile_statements : goal.decreases-statements::compile_statements
+decreases-statements::compile_statements l = 16 * goal.size-statements::compile_statements l + 1
+
+abbrev pub decreases-statements::compile_only : goal.decreases-statements::compile_only
+decreases-statements::compile_only l = 16 * goal.size-statements::compile_only l + 2
+
+abbrev pub decreases-statements::compile_choice : goal.decreases-statements::compile_choice
+decreases-statements::compile_choice l = 16 * goal.size-statements::compile_choice l + 2
+
+abbrev pub decreases-statements::compile_if : goal.decreases-statements::compile_if
+decreases-statements::compile_if l = 16 * goal.size-statements::compile_if l + 3
+
+abbrev pub decreases-loops::compile_loop_body : goal.decreases-loops::compile_loop_body
+decreases-loops::compile_loop_body l = 16 * goal.size-loops::compile_loop_body l + 2
+
+abbrev pub decreases-loops::compile_while : goal.decreases-loops::compile_while
+decreases-loops::compile_while l = 16 * goal.size-loops::compile_while l + 3
+
+abbrev pub decreases-loops::compile_turn : goal.decreases-loops::compile_turn
+decreases-loops::compile_turn l = 16 * goal.size-loops::compile_turn l + 3
+
+abbrev pub decreases-loops::end_each : goal.decreases-loops::end_each
+decreases-loops::end_each l = 16 * goal.size-loops::end_each l + 2
+
+abbrev pub decreases-loops::compile_each : goal.decreases-loops::compile_each
+decreases-loops::compile_each l = 16 * goal.size-loops::compile_each l + 4
+
+abbrev pub decreases-loops::compile_for : goal.decreases-loops::compile_for
+decreases-loops::compile_for l = 16 * goal.size-loops::compile_for l + 5
+
+abbrev pub decreases-withs::compile_body : goal.decreases-withs::compile_body
+decreases-withs::compile_body l = 16 * goal.size-withs::compile_body l + 2
+
+abbrev pub decreases-withs::compile_managed : goal.decreases-withs::compile_managed
+decreases-withs::compile_managed l = 16 * goal.size-withs::compile_managed l + 3
+
+abbrev pub decreases-withs::compile_some_items : goal.decreases-withs::compile_some_items
+decreases-withs::compile_some_items l = 16 * goal.size-withs::compile_some_items l + 4
+
+abbrev pub decreases-withs::compile_with : goal.decreases-withs::compile_with
+decreases-withs::compile_with l = 16 * goal.size-withs::compile_with l + 5
+
+abbrev pub decreases-tries::compile_guarded : goal.decreases-tries::compile_guarded
+decreases-tries::compile_guarded l = 16 * goal.size-tries::compile_guarded l + 2
+
+abbrev pub decreases-tries::compile_unguarded : goal.decreases-tries::compile_unguarded
+decreases-tries::compile_unguarded l = 16 * goal.size-tries::compile_unguarded l + 2
+
+abbrev pub decreases-tries::compile_last : goal.decreases-tries::compile_last
+decreases-tries::compile_last l = 16 * goal.size-tries::compile_last l + 2
+
+abbrev pub decreases-tries::compile_forgetting : goal.decreases-tries::compile_forgetting
+decreases-tries::compile_forgetting l = 16 * goal.size-tries::compile_forgetting l + 2
+
+abbrev pub decreases-tries::compile_named : goal.decreases-tries::compile_named
+decreases-tries::compile_named l = 16 * goal.size-tries::compile_named l + 3
+
+abbrev pub decreases-tries::compile_caught : goal.decreases-tries::compile_caught
+decreases-tries::compile_caught l = 16 * goal.size-tries::compile_caught l + 4
+
+abbrev pub decreases-tries::compile_handler : goal.decreases-tries::compile_handler
+decreases-tries::compile_handler l = 16 * goal.size-tries::compile_handler l + 5
+
+abbrev pub decreases-tries::compile_handlers : goal.decreases-tries::compile_handlers
+decreases-tries::compile_handlers l = 16 * goal.size-tries::compile_handlers l + 6
+
+abbrev pub decreases-tries::compile_parts : goal.decreases-tries::compile_parts
+decreases-tries::compile_parts l = 16 * goal.size-tries::compile_parts l + 7
+
+abbrev pub decreases-tries::compile_try : goal.decreases-tries::compile_try
+decreases-tries::compile_try l = 16 * goal.size-tries::compile_try l + 8

@@ -1,0 +1,18 @@
+use Rattle.std.proofs.Common.{Option, ◌∙◌, ap, sym}
+use Rattle.std.specs.declared.alloc.Global.{Global}
+use Rattle.std.specs.declared.boxed.Box.{Box}
+use Rattle.py_tree.specs.declared.expressions.Expr.{Expr}
+use Rattle.py_tree.specs.View.{expr_tree, opt_box}
+use Rattle.py_emission.specs.Emission.{emission}
+use Rattle.py_meaning.specs.ControlEmissions.{caught, typed_match}
+use Rattle.py_emit.specs.States.{state}
+use Rattle.py_emit.proofs.Joined.{goes_as}
+use Rattle.py_stmt.specs.Parts.{emission_of_match}
+use Rattle.py_stmt.proofs.tries.compile_match.Goals as goal
+
+pub returns-in-Some-clause-goes : goal.returns-in-Some-clause-goes
+returns-in-Some-clause-goes c =
+    goes_as _ _ _ _
+    (ap (λ (v : Option (Box Expr Global)). emission_of_match (opt_box expr_tree v) c.args.name.now c.args.next.0 (state c.args.em.now)) c.in-Some.is
+    ∙ ap (λ (x : Expr). typed_match (emission (expr_tree x)) (caught c.args.name.now) c.args.next.0 (state c.args.em.now)) (sym c.deref.ensures))
+    c.compile_typed.ensures.goes

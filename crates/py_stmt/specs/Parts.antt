@@ -1,0 +1,57 @@
+-- What is emitted of loops over iterators and of `try`, in the parts that the code emits by calls of their own.
+use Rattle.std.specs.Prelude.{ℕ, List, Bool, Option}
+use Rattle.py_tree.specs.Tree as tree
+use Rattle.py_bytecode.specs.declared.instruction.Instruction.TheVariants as op
+use Rattle.py_forms.specs.Emitting.{Emission, ◌▸◌, begin, emit, in_loop, jump, new_block}
+use Rattle.py_emission.specs.Emission.{emission}
+use Rattle.py_meaning.specs.ControlEmissions.{any_match, before_last, caught, named_body, to_last, typed_match}
+use Rattle.py_meaning.specs.EmissionStmts.{emission_of_stmts}
+
+-- the iterator of a loop
+abbrev pub each_begun : (iter : Emission) → Emission
+each_begun iter = emit op.SetupLoop 0 ▸ iter ▸ emit op.GetIter 0
+
+-- one turn of a loop
+abbrev pub each_turn : (store body : Emission) → (start other end : ℕ) → Emission
+each_turn store body start other end = jump op.ForIter other ▸ store ▸ in_loop (record { on_break = end; on_continue = start }) body ▸ jump op.Jump start
+
+-- what runs where there are no more turns
+abbrev pub each_ended : (orelse : Emission) → Emission
+each_ended orelse = emit op.PopBlock 0 ▸ orelse
+
+abbrev pub each_by_parts : (iter store body orelse : Emission) → Emission
+each_by_parts iter store body orelse =
+    new_block (λ start. new_block (λ other. new_block (λ end. each_begun iter ▸ begin start ▸ each_turn store body start other end ▸ begin other ▸ each_ended orelse ▸ begin end)))
+
+-- the body of a `try`, from which no exception comes
+abbrev pub guarded : (last : Bool) → (body : Emission) → (catch other end : ℕ) → Emission
+guarded last body catch other end = before_last last end ▸ jump op.SetupExcept catch ▸ body ▸ emit op.PopBlock 0 ▸ jump op.Jump other
+
+-- the else part, and the way into the last part
+abbrev pub unguarded : (last : Bool) → (orelse : Emission) → Emission
+unguarded last orelse = orelse ▸ to_last last
+
+abbrev pub try_by_parts : (last : Bool) → (body : Emission) → (handlers : (end : ℕ) → Emission) → (orelse finalbody : Emission) → Emission
+try_by_parts last body handlers orelse finalbody =
+    new_block (λ catch. new_block (λ other. new_block (λ end. guarded last body catch other end ▸ begin catch ▸ handlers end ▸ begin other ▸ unguarded last orelse ▸ begin end ▸ finalbody)))
+
+-- the way out of a handler
+abbrev pub handled : (last : Bool) → (end : ℕ) → Emission
+handled last end = emit op.PopException 0 ▸ to_last last ▸ jump op.Jump end
+
+-- one handler, which is followed by the others
+abbrev pub one_handler : (last : Bool) → (end : ℕ) → (matches : (next : ℕ) → Emission) → (body : Emission) → Emission
+one_handler last end matches body = new_block (λ next. matches next ▸ body ▸ handled last end ▸ begin next)
+
+-- what an exception has to be, by a handler's type
+abbrev pub emission_of_match : (type : tree.OptExpr) → (name : Option (List ℕ)) → (next : ℕ) → Emission
+emission_of_match tree.no_expr name = any_match
+emission_of_match (tree.some_expr e) name = typed_match (emission e) (caught name)
+
+-- a handler without a type has no name
+abbrev pub emission_of_caught : (type : tree.OptExpr) → (name : Option (List ℕ)) → (body : Emission) → Emission
+emission_of_caught tree.no_expr name body = body
+emission_of_caught (tree.some_expr e) name body = named_body name body
+
+abbrev pub emission_of_handler : (type : tree.OptExpr) → (name : Option (List ℕ)) → (body : tree.Stmts) → (last : Bool) → (end : ℕ) → Emission
+emission_of_handler type name body last end = one_handler last end (emission_of_match type name) (emission_of_caught type name (emission_of_stmts body))

@@ -1,0 +1,95 @@
+//! What raises an exception: `raise` and `assert`.
+ghost use Rattle.std.specs.Prelude.{◌≡◌};
+ghost use Rattle.py_tree.specs.Tree.{some_expr};
+ghost use Rattle.py_tree.specs.View.{assert_tree, expr_tree, opt_box, raise_tree};
+ghost use Rattle.py_emission.specs.Emission.{emission_of_test};
+ghost use Rattle.py_meaning.specs.ControlEmissions.{asserted};
+ghost use Rattle.py_meaning.specs.EmissionStmts.{emission_of_message, emission_of_raise, emission_of_stmt};
+ghost use Rattle.py_meaning.specs.Table.{message_count};
+ghost use Rattle.py_emit.specs.States.{Goes, Same, rest, state};
+
+use py_bytecode::Instruction;
+use py_emit::{Emitter, emit};
+use py_expr::{compile_expression, compile_jump_if};
+use py_forms::CodegenError;
+use py_tree::{Expr, StmtAssert, StmtRaise};
+
+#[tactic(auto, using(crate::proofs::Steps::steps))]
+pub(crate) fn compile_raise(em: &mut Emitter, s: &StmtRaise) -> Result<(), CodegenError>
+    ensures goes { Goes result (state em.new) (emission_of_stmt (raise_tree s.now) (state em.old)) }
+    ensures same { Same result (rest em.new) (rest em.old) }
+{
+    em.set_location(s.location);
+    match &s.exc {
+        None => {
+            emit!(em, Instruction::Raise, 2);
+            Ok(())
+        }
+        Some(exc) => raise_value(em, exc, &s.cause),
+    }
+}
+
+/// Emits an exception and its cause, where it has one, and what raises it.
+fn raise_value(em: &mut Emitter, exc: &Expr, cause: &Option<Box<Expr>>) -> Result<(), CodegenError>
+    ensures goes { Goes result (state em.new) (emission_of_raise (some_expr (expr_tree exc.now)) (opt_box expr_tree cause.now) (state em.old)) }
+    ensures same { Same result (rest em.new) (rest em.old) }
+{
+    compile_expression(em, exc)?;
+    match cause {
+        None => emit!(em, Instruction::Raise),
+        Some(cause) => {
+            compile_expression(em, cause)?;
+            emit!(em, Instruction::Raise, 1);
+        }
+    }
+    Ok(())
+}
+
+/// Emits an assertion, at level 0.
+#[tactic(auto, using(crate::proofs::Steps::steps), unfolding(py_emit::specs::States::rest))]
+pub(crate) fn compile_assert(em: &mut Emitter, s: &StmtAssert) -> Result<(), CodegenError>
+    ensures goes { Goes result (state em.new) (emission_of_stmt (assert_tree s.now) (state em.old)) }
+    ensures same { Same result (rest em.new) (rest em.old) }
+{
+    em.set_location(s.location);
+    if em.opts().optimize == 0 {
+        return compile_asserted(em, s);
+    }
+    Ok(())
+}
+
+#[tactic(auto, using(crate::proofs::Steps::steps))]
+fn compile_asserted(em: &mut Emitter, s: &StmtAssert) -> Result<(), CodegenError>
+    ensures goes { Goes result (state em.new) (asserted (emission_of_test (expr_tree s.now.test.value)) (emission_of_message (opt_box expr_tree s.now.msg)) (message_count (opt_box expr_tree s.now.msg)) (state em.old)) }
+    ensures same { Same result (rest em.new) (rest em.old) }
+{
+    let end = em.new_block()?;
+    compile_jump_if(em, &s.test, true, end)?;
+    em.emit_name(Instruction::LoadGlobal, "AssertionError")?;
+    compile_message(em, &s.msg)?;
+    em.emit_count(Instruction::CallFunctionPositional, count_of(&s.msg))?;
+    emit!(em, Instruction::Raise);
+    em.switch_to_block(end);
+    Ok(())
+}
+
+/// Emits the message of an assertion, where there is one.
+fn compile_message(em: &mut Emitter, msg: &Option<Box<Expr>>) -> Result<(), CodegenError>
+    ensures goes { Goes result (state em.new) (emission_of_message (opt_box expr_tree msg.now) (state em.old)) }
+    ensures same { Same result (rest em.new) (rest em.old) }
+{
+    match msg {
+        None => Ok(()),
+        Some(msg) => compile_expression(em, msg),
+    }
+}
+
+/// How many messages an assertion has.
+fn count_of(msg: &Option<Box<Expr>>) -> usize
+    ensures { result ≡ message_count (opt_box expr_tree msg.now) }
+{
+    match msg {
+        None => 0,
+        Some(_) => 1,
+    }
+}

@@ -1,0 +1,282 @@
+//! `try`, its handlers and its last part.
+ghost use Rattle.std.specs.Prelude.{◌<◌};
+ghost use Rattle.py_tree.specs.View.{expr_tree, handlers as handler_trees, opt_box, stmt_tree, stmts, try_tree};
+ghost use Rattle.py_emission.specs.Emission.{emission};
+ghost use Rattle.py_meaning.specs.ControlEmissions.{before_last, caught, finally_do, forgotten, named_body, to_last, typed_match};
+ghost use Rattle.py_meaning.specs.EmissionStmts.{emission_of_handlers, emission_of_last, emission_of_stmt, emission_of_stmts};
+ghost use Rattle.py_emit.specs.States.{AreMade, Goes, Same, rest, state};
+ghost use Rattle.py_stmt.specs.Parts.{emission_of_caught, emission_of_handler, emission_of_match, guarded, handled, try_by_parts, unguarded};
+
+use crate::statements::compile_statements;
+use py_bytecode::{ConstantData, Instruction};
+use py_emit::{Emitter, NameUsage, emit};
+use py_expr::compile_expression;
+use py_forms::CodegenError;
+use py_ir::BlockIdx;
+use py_tree::{ExceptHandler, Expr, Stmt, StmtTry, Text};
+
+/// Emits a body, what handles its exceptions, an else part, and a last part that runs on every way out.
+#[cycle(code)]
+#[tactic(auto, using(crate::proofs::Steps::steps))]
+pub(crate) fn compile_try(em: &mut Emitter, s: &StmtTry) -> Result<(), CodegenError>
+    requires loops { AreMade (rest em.old).context.loop_blocks }
+    ensures goes { Goes result (state em.new) (emission_of_stmt (try_tree s.now) (state em.old)) }
+    ensures same { Same result (rest em.new) (rest em.old) }
+{
+    em.set_location(s.location);
+    compile_parts(em, s, !s.finalbody.is_empty())
+}
+
+/// Emits the parts of a `try`, which has a last part where `last` says so.
+#[cycle(code)]
+#[tactic(auto, using(crate::proofs::Steps::steps))]
+fn compile_parts(em: &mut Emitter, s: &StmtTry, last: bool) -> Result<(), CodegenError>
+    requires loops { AreMade (rest em.old).context.loop_blocks }
+    ensures goes { Goes result (state em.new) (try_by_parts last (emission_of_stmts (stmts stmt_tree s.now.body)) (emission_of_handlers (handler_trees stmt_tree s.now.handlers) last) (emission_of_stmts (stmts stmt_tree s.now.orelse)) (emission_of_last (stmts stmt_tree s.now.finalbody) (emission_of_stmts (stmts stmt_tree s.now.finalbody))) (state em.old)) }
+    ensures same { Same result (rest em.new) (rest em.old) }
+{
+    let catch = em.new_block()?;
+    let other = em.new_block()?;
+    let end = em.new_block()?;
+    compile_guarded(em, s.body.as_slice(), last, (catch, other, end))?;
+    em.switch_to_block(catch);
+    compile_handlers(em, s.handlers.as_slice(), last, end)?;
+    em.switch_to_block(other);
+    compile_unguarded(em, s.orelse.as_slice(), last)?;
+    em.switch_to_block(end);
+    compile_last(em, s.finalbody.as_slice())
+}
+
+/// Emits the body of a `try`: an exception goes to the first of the blocks, its end to the second, and every way out to the
+/// third where there is a last part.
+#[cycle(code)]
+fn compile_guarded(
+    em: &mut Emitter,
+    body: &[Stmt],
+    last: bool,
+    blocks: (BlockIdx, BlockIdx, BlockIdx),
+) -> Result<(), CodegenError>
+    requires loops { AreMade (rest em.old).context.loop_blocks }
+    requires catch { blocks.0.0 < 0xffff_ffff }
+    requires other { blocks.1.0 < 0xffff_ffff }
+    requires end { blocks.2.0 < 0xffff_ffff }
+    ensures goes { Goes result (state em.new) (guarded last (emission_of_stmts (stmts stmt_tree body.now)) blocks.0.0 blocks.1.0 blocks.2.0 (state em.old)) }
+    ensures same { Same result (rest em.new) (rest em.old) }
+{
+    let (catch, other, end) = blocks;
+    set_up_last(em, last, end)?;
+    emit!(em, Instruction::SetupExcept => catch);
+    compile_statements(em, body)?;
+    emit!(em, Instruction::PopBlock);
+    emit!(em, Instruction::Jump => other);
+    Ok(())
+}
+
+/// Emits an else part and what enters the last part.
+#[cycle(code)]
+fn compile_unguarded(em: &mut Emitter, orelse: &[Stmt], last: bool) -> Result<(), CodegenError>
+    requires loops { AreMade (rest em.old).context.loop_blocks }
+    ensures goes { Goes result (state em.new) (unguarded last (emission_of_stmts (stmts stmt_tree orelse.now)) (state em.old)) }
+    ensures same { Same result (rest em.new) (rest em.old) }
+{
+    compile_statements(em, orelse)?;
+    enter_last(em, last)
+}
+
+/// Emits what sets a last part up, where there is one.
+fn set_up_last(em: &mut Emitter, last: bool, end: BlockIdx) -> Result<(), CodegenError>
+    requires end { end.0 < 0xffff_ffff }
+    ensures goes { Goes result (state em.new) (before_last last end.0 (state em.old)) }
+    ensures same { Same result (rest em.new) (rest em.old) }
+{
+    if last {
+        emit!(em, Instruction::SetupFinally => end);
+    }
+    Ok(())
+}
+
+/// Emits what enters a last part, where there is one.
+fn enter_last(em: &mut Emitter, last: bool) -> Result<(), CodegenError>
+    ensures goes { Goes result (state em.new) (to_last last (state em.old)) }
+    ensures same { Same result (rest em.new) (rest em.old) }
+{
+    if last {
+        emit!(em, Instruction::PopBlock);
+        emit!(em, Instruction::EnterFinally);
+    }
+    Ok(())
+}
+
+/// Emits the last part, where there is one.
+#[cycle(code)]
+fn compile_last(em: &mut Emitter, body: &[Stmt]) -> Result<(), CodegenError>
+    requires loops { AreMade (rest em.old).context.loop_blocks }
+    ensures goes { Goes result (state em.new) (emission_of_last (stmts stmt_tree body.now) (emission_of_stmts (stmts stmt_tree body.now)) (state em.old)) }
+    ensures same { Same result (rest em.new) (rest em.old) }
+{
+    if body.is_empty() {
+        return Ok(());
+    }
+    compile_statements(em, body)?;
+    emit!(em, Instruction::EndFinally);
+    Ok(())
+}
+
+/// Emits handlers one after the other, and what raises an exception again that none of them takes.
+#[cycle(code)]
+fn compile_handlers(
+    em: &mut Emitter,
+    handlers: &[ExceptHandler],
+    last: bool,
+    end: BlockIdx,
+) -> Result<(), CodegenError>
+    requires loops { AreMade (rest em.old).context.loop_blocks }
+    requires end { end.0 < 0xffff_ffff }
+    ensures goes { Goes result (state em.new) (emission_of_handlers (handler_trees stmt_tree handlers.now) last end.0 (state em.old)) }
+    ensures same { Same result (rest em.new) (rest em.old) }
+{
+    for handler in handlers {
+        compile_handler(em, handler, last, end)?;
+    }
+    emit!(em, Instruction::Raise, 2);
+    Ok(())
+}
+
+/// Emits one handler: an exception that it does not take goes on behind it.
+#[cycle(code)]
+#[tactic(auto, using(crate::proofs::Steps::steps))]
+fn compile_handler(
+    em: &mut Emitter,
+    handler: &ExceptHandler,
+    last: bool,
+    end: BlockIdx,
+) -> Result<(), CodegenError>
+    requires loops { AreMade (rest em.old).context.loop_blocks }
+    requires end { end.0 < 0xffff_ffff }
+    ensures goes { Goes result (state em.new) (emission_of_handler (opt_box expr_tree handler.now.type_) handler.now.name (stmts stmt_tree handler.now.body) last end.0 (state em.old)) }
+    ensures same { Same result (rest em.new) (rest em.old) }
+{
+    let next = em.new_block()?;
+    compile_match(em, &handler.type_, &handler.name, next)?;
+    compile_caught(em, handler)?;
+    leave_handler(em, last, end)?;
+    em.switch_to_block(next);
+    Ok(())
+}
+
+/// Emits what goes on behind a handler where the exception is of another type, and else stores or drops it.
+fn compile_match(
+    em: &mut Emitter,
+    type_: &Option<Box<Expr>>,
+    name: &Option<Text>,
+    next: BlockIdx,
+) -> Result<(), CodegenError>
+    requires next { next.0 < 0xffff_ffff }
+    ensures goes { Goes result (state em.new) (emission_of_match (opt_box expr_tree type_.now) name.now next.0 (state em.old)) }
+    ensures same { Same result (rest em.new) (rest em.old) }
+{
+    match type_ {
+        None => {
+            emit!(em, Instruction::Pop);
+            Ok(())
+        }
+        Some(type_) => compile_typed(em, type_, name, next),
+    }
+}
+
+fn compile_typed(
+    em: &mut Emitter,
+    type_: &Expr,
+    name: &Option<Text>,
+    next: BlockIdx,
+) -> Result<(), CodegenError>
+    requires next { next.0 < 0xffff_ffff }
+    ensures goes { Goes result (state em.new) (typed_match (emission (expr_tree type_.now)) (caught name.now) next.0 (state em.old)) }
+    ensures same { Same result (rest em.new) (rest em.old) }
+{
+    emit!(em, Instruction::Duplicate);
+    compile_expression(em, type_)?;
+    emit!(em, Instruction::TestOperation, 4);
+    emit!(em, Instruction::JumpIfFalse => next);
+    store_caught(em, name)
+}
+
+/// Emits what stores the exception to the name of a handler, or drops it.
+fn store_caught(em: &mut Emitter, name: &Option<Text>) -> Result<(), CodegenError>
+    ensures goes { Goes result (state em.new) (caught name.now (state em.old)) }
+    ensures same { Same result (rest em.new) (rest em.old) }
+{
+    match name {
+        None => {
+            emit!(em, Instruction::Pop);
+            Ok(())
+        }
+        Some(name) => em.compile_name(NameUsage::Store, name.as_str()),
+    }
+}
+
+/// Emits the body of a handler. One without a type has no name.
+#[cycle(code)]
+fn compile_caught(em: &mut Emitter, handler: &ExceptHandler) -> Result<(), CodegenError>
+    requires loops { AreMade (rest em.old).context.loop_blocks }
+    ensures goes { Goes result (state em.new) (emission_of_caught (opt_box expr_tree handler.now.type_) handler.now.name (emission_of_stmts (stmts stmt_tree handler.now.body)) (state em.old)) }
+    ensures same { Same result (rest em.new) (rest em.old) }
+{
+    match &handler.type_ {
+        None => compile_statements(em, handler.body.as_slice()),
+        Some(_) => compile_named(em, &handler.name, handler.body.as_slice()),
+    }
+}
+
+/// Emits the body of a handler, whose name is forgotten on every way out.
+#[cycle(code)]
+fn compile_named(em: &mut Emitter, name: &Option<Text>, body: &[Stmt]) -> Result<(), CodegenError>
+    requires loops { AreMade (rest em.old).context.loop_blocks }
+    ensures goes { Goes result (state em.new) (named_body name.now (emission_of_stmts (stmts stmt_tree body.now)) (state em.old)) }
+    ensures same { Same result (rest em.new) (rest em.old) }
+{
+    match name {
+        None => compile_statements(em, body),
+        Some(name) => compile_forgetting(em, name, body),
+    }
+}
+
+#[cycle(code)]
+#[tactic(auto, using(crate::proofs::Steps::steps))]
+fn compile_forgetting(em: &mut Emitter, name: &Text, body: &[Stmt]) -> Result<(), CodegenError>
+    requires loops { AreMade (rest em.old).context.loop_blocks }
+    ensures goes { Goes result (state em.new) (finally_do (emission_of_stmts (stmts stmt_tree body.now)) (forgotten name.now) (state em.old)) }
+    ensures same { Same result (rest em.new) (rest em.old) }
+{
+    let end = em.new_block()?;
+    emit!(em, Instruction::SetupFinally => end);
+    compile_statements(em, body)?;
+    enter_last(em, true)?;
+    em.switch_to_block(end);
+    forget(em, name)?;
+    emit!(em, Instruction::EndFinally);
+    Ok(())
+}
+
+/// Emits what sets a name to None and deletes it.
+#[tactic(auto, using(py_bytecode::proofs::View::views))]
+fn forget(em: &mut Emitter, name: &Text) -> Result<(), CodegenError>
+    ensures goes { Goes result (state em.new) (forgotten name.now (state em.old)) }
+    ensures same { Same result (rest em.new) (rest em.old) }
+{
+    em.load_const(ConstantData::None)?;
+    em.emit_name(Instruction::StoreLocal, name.as_str())?;
+    em.emit_name(Instruction::DeleteLocal, name.as_str())
+}
+
+/// Emits the way out of a handler.
+fn leave_handler(em: &mut Emitter, last: bool, end: BlockIdx) -> Result<(), CodegenError>
+    requires end { end.0 < 0xffff_ffff }
+    ensures goes { Goes result (state em.new) (handled last end.0 (state em.old)) }
+    ensures same { Same result (rest em.new) (rest em.old) }
+{
+    emit!(em, Instruction::PopException);
+    enter_last(em, last)?;
+    emit!(em, Instruction::Jump => end);
+    Ok(())
+}
