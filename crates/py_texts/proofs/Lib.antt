@@ -1,0 +1,5 @@
+mod Lengths
+mod Pairs
+mod Parameters
+mod Samples
+mod Separated

@@ -1,0 +1,5 @@
+pub mod Annotation
+pub mod Constants
+pub mod FStrings
+pub mod Lists
+pub mod Signs

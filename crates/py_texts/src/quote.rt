@@ -1,0 +1,82 @@
+ghost use Rattle.std.specs.Prelude.{◌≡◌, ◌<◌, [], ◌∷◌, ◌++◌, false, string_bytes, OnOk};
+ghost use Rattle.std.specs.Char.{encode_utf8};
+ghost use Rattle.std.specs.Fmt.{digit_glyph};
+ghost use Rattle.py_bytecode.specs.Quote.{hex_digits, quote, quote_byte, quote_bytes, quote_char};
+
+use std::alloc::AllocError;
+
+/// Appends the text in quotes, with what could not stand there escaped.
+pub fn push_quote(out: &mut String, text: &str) -> Result<(), AllocError>
+    ensures { OnOk result (string_bytes out.new ≡ string_bytes out.old ++ quote text.now) }
+{
+    out.push('\'')?;
+    for c in text.chars() {
+        push_quoted(out, c)?;
+    }
+    out.push('\'')
+}
+
+fn push_quoted(out: &mut String, c: char) -> Result<(), AllocError>
+    ensures { OnOk result (string_bytes out.new ≡ string_bytes out.old ++ quote_char c) }
+{
+    match c {
+        '\'' | '\\' => {
+            out.push('\\')?;
+            out.push(c)
+        }
+        '\0'..='\x1f' | '\x7f' => {
+            out.push_str("\\x")?;
+            push_hex(out, c as u32)
+        }
+        _ => out.push(c),
+    }
+}
+
+/// Appends the bytes in quotes after a `b`; all but printable ASCII is escaped.
+pub fn push_quote_bytes(out: &mut String, bytes: &[u8]) -> Result<(), AllocError>
+    ensures { OnOk result (string_bytes out.new ≡ string_bytes out.old ++ quote_bytes bytes.now) }
+{
+    out.push_str("b'")?;
+    for byte in bytes {
+        push_quoted_byte(out, *byte)?;
+    }
+    out.push_str("'")
+}
+
+fn push_quoted_byte(out: &mut String, byte: u8) -> Result<(), AllocError>
+    ensures { OnOk result (string_bytes out.new ≡ string_bytes out.old ++ quote_byte byte) }
+{
+    match byte {
+        b'\'' | b'\\' => {
+            out.push('\\')?;
+            out.push(byte as char)
+        }
+        0x20..=0x7e => out.push(byte as char),
+        _ => {
+            out.push_str("\\x")?;
+            push_hex(out, byte as u32)
+        }
+    }
+}
+
+/// Appends two hexadecimal digits.
+fn push_hex(out: &mut String, byte: u32) -> Result<(), AllocError>
+    requires { byte < 256 }
+    ensures { OnOk result (string_bytes out.new ≡ string_bytes out.old ++ hex_digits byte) }
+{
+    out.push(hex_digit(byte / 16))?;
+    out.push(hex_digit(byte % 16))
+}
+
+fn hex_digit(digit: u32) -> char
+    requires { digit < 16 }
+    ensures value { result ≡ digit_glyph false digit }
+    ensures spelled { encode_utf8 result ≡ digit_glyph false digit ∷ [] }
+{
+    let byte = digit as u8;
+    if byte < 10 {
+        (b'0' + byte) as char
+    } else {
+        (b'a' - 10 + byte) as char
+    }
+}
