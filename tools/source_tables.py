@@ -1,20 +1,27 @@
-"""Writes a table of crates/codegen_vectors/src: small programs, with the listing of their code or why they are refused.
+"""Writes crates/codegen_vectors/stdin and stdout: sources, with the listing of their code or why they are refused.
 
-usage: source_tables.py MODEL_FOLDER choices|displays|targets|control
+usage: source_tables.py MODEL_FOLDER
 
-The text on standard output is the file choices.rt, displays.rt, targets.rt or control.rt, before `rt fmt`.
 MODEL_FOLDER holds a Python model of the compiler (`pyc.py`) and a reader of Python sources (`py2rows.py`).
-Each source below gives one entry: how it is compiled, its rows, and what the model writes over them.
-The levels 0, 1 and 2 follow one another in each table, unless an entry names its own.
+Each source below gives one case: a line with its mode, its level and its source, and a line with its rows; in stdout
+what the model writes over the rows stands in their place.
+The levels 0, 1 and 2 follow one another in each table, unless an entry names its own. A group says whether dict displays
+and formatted values stand in Python's order in its listings, which the compiler does not follow yet.
 A source that Python's parser does not read as the tree that is wanted is a pair: what it is called, and its rows.
+The places of what stands in an f-string are those of Python before 3.12.
 """
 import json
+import pathlib
 import sys
+if len(sys.argv) != 2:
+    sys.exit("usage: %s MODEL_FOLDER" % pathlib.Path(sys.argv[0]).name)
 sys.path.insert(0, sys.argv[1])
 import pyc
 from py2rows import rows_text, tree_of
 from tree import Node
 from tree import rows_of as rows_of_tree
+
+CRATES = pathlib.Path(__file__).resolve().parent.parent / "crates"
 
 
 class At:
@@ -71,7 +78,7 @@ def with_part(source, part):
 
 
 CHOICES = {
-    "about": "Choices and loops",
+    "python_order": False,
     "exec": {
         "BRANCHES": [
             "if a: pass",
@@ -157,7 +164,7 @@ CHOICES = {
 }
 
 DISPLAYS = {
-    "about": "Displays, f-strings, attributes, subscripts, calls, docstrings and constants",
+    "python_order": False,
     "eval": {
         "SEQUENCES": [
             "[]",
@@ -255,7 +262,7 @@ DISPLAYS = {
 }
 
 TARGETS = {
-    "about": "Assignments, annotations, deletions, named expressions and keywords",
+    "python_order": False,
     "exec": {
         "ASSIGNMENTS": [
             "a = b = c",
@@ -439,7 +446,7 @@ def nested(outer, inner, last):
 
 
 CONTROL = {
-    "about": "Loops over iterators, exceptions, `with` and `assert`",
+    "python_order": True,
     "exec": {
         "ITERATION": [
             *at_each("for a in b: c"),
@@ -568,30 +575,69 @@ CONTROL = {
 }
 
 
-def entry(source, mode, level):
+def named(name, source):
+    """A long source under a name."""
+    return name, rows_text(source)
+
+
+def branch(count):
+    """So many statements of two units each, and a deletion of one, in a branch."""
+    return named(f"if c: with {count} statements a and del a", "if c:\n" + " a\n" * count + " del a")
+
+
+LARGE = {
+    "python_order": True,
+    "exec": {
+        "DEEP": [
+            rows_of("a that is called 1020 times", [["Name", 1, 1, "a"]] + [["Call", 1, 1, i, [], []] for i in range(1020)] + [["Expr", 1, 1, 1020], ["Module", [1021]]]),
+        ],
+        "WIDE": [
+            named("f with 299 arguments", "f(" + ", ".join(f"n{i}" for i in range(299)) + ")"),
+            At("0", branch(126)),
+            At("0", branch(127)),
+            At("0", named("255 targets before a star", ", ".join(["a"] * 255) + ", *b = c")),
+        ],
+    },
+}
+
+GROUPS = [CHOICES, DISPLAYS, TARGETS, CONTROL, LARGE]
+
+
+def escaped(source):
+    """A source in one line."""
+    return source.replace("\\", "\\\\").replace("\n", "\\n")
+
+
+def case(source, mode, level, python_order):
+    """The head of a case, its rows, and the model's answer."""
     if isinstance(source, At):
         source, level = source.source, source.level
     if isinstance(source, tuple):
         source, rows = source
     else:
         rows = rows_text(source, mode)
-    status, out, err, _ = pyc.run([mode, level, "m.py"], rows.encode(), sys.argv[2] == "control")
+    status, out, err, _ = pyc.run([mode, level, "m.py"], rows.encode(), python_order)
     assert status in (0, 1), (source, err)
-    print()
-    print(mode, level, source.replace("\\", "\\\\").replace("\n", "\\n"))
-    print(rows)
-    print(out if status == 0 else err, end="")
+    return f"{mode} {level} {escaped(source)}", rows, out if status == 0 else err
 
 
-group = {"choices": CHOICES, "displays": DISPLAYS, "targets": TARGETS, "control": CONTROL}[sys.argv[2]]
-print(f"""//! {group["about"]}. The file is made by tools/source_tables.py.
+def cases(groups):
+    """The cases of these groups, in order."""
+    for group in groups:
+        for mode in ("exec", "eval"):
+            for sources in group.get(mode, {}).values():
+                for i, source in enumerate(sources):
+                    yield case(source, mode, "012"[i % 3], group["python_order"])
 
-/// Of each program: a line with its mode, its level and its source, one with its rows, and the listing of its code or the
-/// line that says why it is refused.
-pub const {sys.argv[2].upper()}: &'static str = r#\"""", end="")
-for mode in group:
-    if mode != "about":
-        for sources in group[mode].values():
-            for i, source in enumerate(sources):
-                entry(source, mode, "012"[i % 3])
-print('"#;')
+
+def write(crate, answered):
+    """Writes the input of a crate's program, and what it is to write."""
+    answered = list(answered)
+    for name, at in ("stdin", 1), ("stdout", 2):
+        with open(CRATES / crate / name, "w", encoding="utf-8", newline="\n") as file:
+            file.writelines(f"{it[0]}\n{it[at].rstrip()}\n\n" for it in answered)
+    print(f"{crate}: {len(answered)} cases")
+
+
+if __name__ == "__main__":
+    write("codegen_vectors", cases(GROUPS))
