@@ -14,8 +14,8 @@ use Rattle.py_bytecode.specs.Objects.{Const}
 use Rattle.py_bytecode.specs.Values.{Operation}
 use Rattle.py_forms.specs.Form.{VForm, VForms, VConst, TForm, TTruth, Target}
 use Rattle.py_forms.specs.Agree.{AllOf, kids_g, kids_gs, kids_v, kids_vs, kids_ss, kids_ls, kids_t, kids_ts}
-use Rattle.py_forms.specs.Elements.{Element, Single, Spread, Callee, Function, Method, starred, bare, grouped, groups, pairs, keyed, unkeyed, sides}
-use Rattle.py_forms.specs.TableParts.{Keywords, name_values, map_of, joined_map, names_in, values_in, packed, placed, targets_of, unpacked_to, TargetForms, plain_target, ExprForms, ordinary, tested, values, elements, parts_of, built, unpacked, display, call_by, call_form, updated, dict_form, value_or, slice_form, joined_form, shorts_of, part_test, whole_test, tests_of, bool_forms, unary_test, unary_forms, links_of, compare_form}
+use Rattle.py_forms.specs.Elements.{Element, Single, Spread, Callee, Function, Method, starred, bare, grouped, groups, front, behind, pairs, sides}
+use Rattle.py_forms.specs.TableParts.{Keywords, name_values, map_of, joined_map, names_in, values_in, packed, placed, targets_of, unpacked_to, TargetForms, plain_target, ExprForms, ordinary, tested, values, elements, parts_of, built, unpacked, display, call_by, call_form, updated, map_of_pairs, dict_form, value_or, slice_form, joined_form, shorts_of, part_test, whole_test, tests_of, bool_forms, unary_test, unary_forms, links_of, compare_form}
 
 -- a value within which no scope stands
 abbrev pub Bare : VForm → Type 0
@@ -52,8 +52,8 @@ abbrev pub BareOption : Option VForm → Type 0
 BareOption None = Unit {0}
 BareOption (Some f) = Bare f
 
-abbrev BarePair : Option VForm × VForm → Type 0
-BarePair p = BareOption p.0 × Bare p.1
+abbrev BarePair : VForm × VForm → Type 0
+BarePair p = Bare p.0 × Bare p.1
 
 -- in no way that an expression is used
 pub record Childless (f : ExprForms) : Type 0 where
@@ -95,6 +95,16 @@ all_bare : {A : Type 0} (P : A → Type 0) (es : List (Element A A)) → AllOf (
 all_bare P [] h = tt
 all_bare P (Single f ∷ es) h = (h.0, all_bare P es h.1)
 all_bare P (Spread f ∷ es) h = (h.0, all_bare P es h.1)
+
+all_front : {A B : Type 0} (P : B → Type 0) (Q : A → Type 0) (es : List (Element B A)) → AllOf (OfElement P Q) es → AllOf P (front es)
+all_front P Q [] h = tt
+all_front P Q (Single x ∷ es) h = (h.0, all_front P Q es h.1)
+all_front P Q (Spread x ∷ es) h = tt
+
+all_behind : {A B : Type 0} (P : B → Type 0) (Q : A → Type 0) (es : List (Element B A)) → AllOf (OfElement P Q) es → AllOf (OfElement P Q) (behind es)
+all_behind P Q [] h = tt
+all_behind P Q (Single x ∷ es) h = all_behind P Q es h.1
+all_behind P Q (Spread x ∷ es) h = h
 
 module _ {A B : Type 0} (P : B → Type 0) (Q : A → Type 0) (T : List B → A) (makes : (xs : List B) → AllOf P xs → Q (T xs)) where
   all_grouped : (xs : List B) → AllOf P xs → AllOf Q (grouped T xs)
@@ -173,27 +183,26 @@ pub plain_childless : (t : Target) → BareTarget t → ChildlessTarget (plain_t
 plain_childless t h = record { alone = h; element = h }
 
 -- dict displays, slices and texts
-pub pairs_childless : (ks : List (Option VForm)) (fs : List VForm) → AllOf BareOption ks → AllBare fs → AllOf BarePair (pairs ks fs)
+pub pairs_childless : (ks : List (Option VForm)) (fs : List VForm) → AllOf BareOption ks → AllBare fs → AllOf (OfElement BarePair Bare) (pairs ks fs)
 pairs_childless [] fs h hs = tt
 pairs_childless (k ∷ ks) [] h hs = tt
-pairs_childless (k ∷ ks) (f ∷ fs) h hs = ((h.0, hs.0), pairs_childless ks fs h.1 hs.1)
+pairs_childless (None ∷ ks) (f ∷ fs) h hs = (hs.0, pairs_childless ks fs h.1 hs.1)
+pairs_childless (Some k ∷ ks) (f ∷ fs) h hs = ((h.0, hs.0), pairs_childless ks fs h.1 hs.1)
 
-sides_childless : (ps : List (Option VForm × VForm)) → AllOf BarePair ps → AllBare (sides (keyed ps))
+sides_childless : (ps : List (VForm × VForm)) → AllOf BarePair ps → AllBare (sides ps)
 sides_childless [] h = tt
-sides_childless ((None, f) ∷ ps) h = sides_childless ps h.1
-sides_childless ((Some k, f) ∷ ps) h = (h.0.0, (h.0.1, sides_childless ps h.1))
+sides_childless (p ∷ ps) h = (h.0.0, (h.0.1, sides_childless ps h.1))
 
-unkeyed_childless : (ps : List (Option VForm × VForm)) → AllOf BarePair ps → AllBare (unkeyed ps)
-unkeyed_childless [] h = tt
-unkeyed_childless ((None, f) ∷ ps) h = (h.0.1, unkeyed_childless ps h.1)
-unkeyed_childless ((Some k, f) ∷ ps) h = unkeyed_childless ps h.1
+map_of_pairs_childless : (ps : List (VForm × VForm)) → AllOf BarePair ps → Bare (map_of_pairs ps)
+map_of_pairs_childless ps h = parts_childless (sides ps) (sides_childless ps h)
 
 updated_childless : (f : VForm) (fs : List VForm) → Bare f → AllBare fs → Bare (updated f fs)
 updated_childless f [] h hs = h
 updated_childless f (g ∷ gs) h hs = updated_childless _ gs (both_none _ _ h (both_none _ _ hs.0 refl)) hs.1
 
-pub dict_childless : (ps : List (Option VForm × VForm)) → AllOf BarePair ps → Bare (dict_form ps)
-dict_childless ps h = updated_childless _ (unkeyed ps) (parts_childless (sides (keyed ps)) (sides_childless ps h)) (unkeyed_childless ps h)
+pub dict_childless : (es : List (Element (VForm × VForm) VForm)) → AllOf (OfElement BarePair Bare) es → Bare (dict_form es)
+dict_childless es h =
+    updated_childless (map_of_pairs (front es)) (groups map_of_pairs [] (behind es)) (map_of_pairs_childless (front es) (all_front BarePair Bare es h)) (all_groups BarePair Bare map_of_pairs map_of_pairs_childless [] (behind es) tt (all_behind BarePair Bare es h))
 
 pub value_or_childless : (c : Const) (f : Option VForm) → BareOption f → Bare (value_or c f)
 value_or_childless c None h = refl

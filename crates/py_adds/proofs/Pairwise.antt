@@ -1,6 +1,6 @@
 -- Lists that are related member by member, and elements that are so too.
 use Rattle.std.proofs.Common.{◌≡◌, ◌≢◌, suc, ◌+◌, List, [], ◌∷◌, ◌++◌, length, refl, ap, arith}
-use Rattle.py_forms.specs.Elements.{Element, Single, Spread, starred, bare, stars, before_star, after_star, grouped, groups}
+use Rattle.py_forms.specs.Elements.{Element, Single, Spread, starred, bare, stars, before_star, after_star, grouped, groups, front, behind}
 
 module _ {B C : Type 0} (R : B → C → Type 0) where
   -- member by member
@@ -43,6 +43,25 @@ module _ {A B C D : Type 0} (R : B → C → Type 0) (Q : A → D → Type 0) wh
   same_starred (Single v ∷ es) (Spread f ∷ fs) a = absurd a.0
   same_starred (Spread v ∷ es) (Single f ∷ fs) a = absurd a.0
   same_starred (Spread v ∷ es) (Spread f ∷ fs) a = refl
+
+  -- the plain elements at the front, and what follows them
+  pub front_alike : (es : List (Element B A)) (fs : List (Element C D)) → Alike es fs → Pairwise R (front es) (front fs)
+  front_alike [] [] a = tt
+  front_alike [] (f ∷ fs) a = absurd a
+  front_alike (e ∷ es) [] a = absurd a
+  front_alike (Single v ∷ es) (Single f ∷ fs) a = (a.0, front_alike es fs a.1)
+  front_alike (Single v ∷ es) (Spread f ∷ fs) a = absurd a.0
+  front_alike (Spread v ∷ es) (Single f ∷ fs) a = absurd a.0
+  front_alike (Spread v ∷ es) (Spread f ∷ fs) a = tt
+
+  pub behind_alike : (es : List (Element B A)) (fs : List (Element C D)) → Alike es fs → Alike (behind es) (behind fs)
+  behind_alike [] [] a = tt
+  behind_alike [] (f ∷ fs) a = absurd a
+  behind_alike (e ∷ es) [] a = absurd a
+  behind_alike (Single v ∷ es) (Single f ∷ fs) a = behind_alike es fs a.1
+  behind_alike (Single v ∷ es) (Spread f ∷ fs) a = absurd a.0
+  behind_alike (Spread v ∷ es) (Single f ∷ fs) a = absurd a.0
+  behind_alike (Spread v ∷ es) (Spread f ∷ fs) a = a
 
   module _ (T : List B → A) (U : List C → D) (makes : (xs : List B) (ys : List C) → Pairwise R xs ys → Q (T xs) (U ys)) where
     grouped_alike : (xs : List B) (ys : List C) → Pairwise R xs ys → Pairwise Q (grouped T xs) (grouped U ys)

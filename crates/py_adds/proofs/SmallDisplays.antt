@@ -6,12 +6,12 @@ use Rattle.py_bytecode.specs.declared.instruction.Instruction.TheVariants as op
 use Rattle.py_bytecode.specs.Objects as const
 use Rattle.py_bytecode.specs.Objects.{Const, Object}
 use Rattle.py_bytecode.specs.Values.{Bare, operation}
-use Rattle.py_forms.specs.Elements.{Element, Single, Spread, starred, bare, grouped, groups, pairs, keyed, unkeyed, sides}
+use Rattle.py_forms.specs.Elements.{Element, Single, Spread, starred, bare, grouped, groups, front, behind, pairs, sides}
 use Rattle.py_forms.specs.Form.{Interp, VForm, VOp, VNone, VMore}
 use Rattle.py_forms.specs.Code.{labels_v, code_v, code_vs}
-use Rattle.py_forms.specs.TableParts.{counted, parts_of, built, unpacked, display, updated, dict_form, value_or, slice_form, joined_form}
+use Rattle.py_forms.specs.TableParts.{parts_of, built, counted, unpacked, display, updated, map_of_pairs, dict_form, value_or, slice_form, joined_form}
 use Rattle.py_adds.proofs.Burden.{burden, burden-append}
-use Rattle.py_adds.proofs.Together.{Together, Possible, OneElement, push_together, bare_together}
+use Rattle.py_adds.proofs.Together.{Together, Possible, OneElement, parted, groups_together, push_together, bare_together}
 use Rattle.py_adds.proofs.Small.{FormSmall, parts_small, operation_small}
 
 module _ (i : Interp Object) where
@@ -66,29 +66,22 @@ module _ (i : Interp Object) where
   pub display_small : (build gather : Instruction) (es : List (Element VForm VForm)) (s : ℕ) → ElementsSmall es s → FormSmall i (display build gather es) (s + 1)
   display_small build gather es s h n = let p = gathered_small (starred es) build gather es s h n in omega (arith, p)
 
-  -- dict displays
-  record Parted (ps : List (Option VForm × VForm)) (s : ℕ) : Type 0 where
-    with_key : ℕ
-    without : ℕ
-    keyed_small : Together (FormSmall i) (sides (keyed ps)) with_key
-    unkeyed_small : Together (FormSmall i) (unkeyed ps) without
-    within : with_key + without ≤ s
+  -- dict displays: a key with its value, and a value that is unpacked
+  abbrev PairSmall : VForm × VForm → ℕ → Type 0
+  PairSmall p s = (a : ℕ) × (b : ℕ) × FormSmall i p.0 a × FormSmall i p.1 b × (a + b ≤ s)
 
-  parted : (ks : List (Option VForm)) (vs : List VForm) (a b : ℕ) → Together (Possible (FormSmall i)) ks a → Together (FormSmall i) vs b → Parted (pairs ks vs) (a + b)
-  parted [] vs a b x y = record { with_key = 0; without = 0; keyed_small = tt; unkeyed_small = tt; within = omega arith }
-  parted (k ∷ ks) [] a b x y = record { with_key = 0; without = 0; keyed_small = tt; unkeyed_small = tt; within = omega arith }
-  parted (None ∷ ks) (v ∷ vs) a b x y =
-      let p = parted ks vs x.1 y.1 x.3 y.3 in
-      record { with_key = p.with_key; without = y.0 + p.without; keyed_small = p.keyed_small; unkeyed_small = (y.0, p.without, y.2, p.unkeyed_small, omega arith); within = (let e = p.within in let c = x.4 in let d = y.4 in omega (arith, e, c, d)) }
-  parted (Some k ∷ ks) (v ∷ vs) a b x y =
-      let p = parted ks vs x.1 y.1 x.3 y.3 in
-      record {
-        with_key = x.0 + (y.0 + p.with_key);
-        without = p.without;
-        keyed_small = (x.0, y.0 + p.with_key, x.2, (y.0, p.with_key, y.2, p.keyed_small, omega arith), omega arith);
-        unkeyed_small = p.unkeyed_small;
-        within = (let e = p.within in let c = x.4 in let d = y.4 in omega (arith, e, c, d));
-      }
+  entries_small : (ks : List (Option VForm)) (vs : List VForm) (a b : ℕ) → Together (Possible (FormSmall i)) ks a → Together (FormSmall i) vs b → Together (OneElement PairSmall (FormSmall i)) (pairs ks vs) (a + b)
+  entries_small [] vs a b x y = tt
+  entries_small (k ∷ ks) [] a b x y = tt
+  entries_small (None ∷ ks) (v ∷ vs) a b x y = (y.0, x.1 + y.1, y.2, entries_small ks vs x.1 y.1 x.3 y.3, (let c = x.4 in let d = y.4 in omega (arith, c, d)))
+  entries_small (Some k ∷ ks) (v ∷ vs) a b x y = (x.0 + y.0, x.1 + y.1, (x.0, y.0, x.2, y.2, omega arith), entries_small ks vs x.1 y.1 x.3 y.3, (let c = x.4 in let d = y.4 in omega (arith, c, d)))
+
+  sides_small : (ps : List (VForm × VForm)) (r : ℕ) → Together PairSmall ps r → Together (FormSmall i) (sides ps) r
+  sides_small [] r h = tt
+  sides_small (p ∷ ps) r h = let x = h.2 in (x.0, x.1 + h.1, x.2, (x.1, h.1, x.3, sides_small ps h.1 h.3, omega arith), (let c = x.4 in let d = h.4 in omega (arith, c, d)))
+
+  map_of_small : (p : VForm × VForm) (ps : List (VForm × VForm)) (r : ℕ) → Together PairSmall (p ∷ ps) r → FormSmall i (map_of_pairs (p ∷ ps)) r
+  map_of_small p ps r h n = let q = parts_small i (sides (p ∷ ps)) r (sides_small (p ∷ ps) r h) n in simp burden-append (omega (arith, simp burden-append at q))
 
   updated_small : (map : VForm) (m : ℕ) (fs : List VForm) (s : ℕ) → ((n : ℕ) → burden (code_v i map n) ≤ m) → Together (FormSmall i) fs s → (n : ℕ) → burden (code_v i (updated map fs) n) ≤ m + 8 * s
   updated_small map m [] s h x n = let p = h n in omega (arith, p)
@@ -101,11 +94,11 @@ module _ (i : Interp Object) where
 
   pub dict_small : (ks : List (Option VForm)) (vs : List VForm) (a b : ℕ) → Together (Possible (FormSmall i)) ks a → Together (FormSmall i) vs b → FormSmall i (dict_form (pairs ks vs)) (a + b + 1)
   dict_small ks vs a b x y n =
-      let p = parted ks vs a b x y in
-      let ps = pairs ks vs in
-      let map : VForm = VOp (counted op.BuildMap (length (keyed ps))) (parts_of (sides (keyed ps))) in
-      let one : (n : ℕ) → burden (code_v i map n) ≤ 8 * p.with_key + 2 = λ n. let q = parts_small i (sides (keyed ps)) p.with_key p.keyed_small n in simp burden-append (omega (arith, q)) in
-      let q = updated_small map (8 * p.with_key + 2) (unkeyed ps) p.without one p.unkeyed_small n in
+      let es = pairs ks vs in
+      let p = parted PairSmall (FormSmall i) es (a + b) (entries_small ks vs a b x y) in
+      let one : (n : ℕ) → burden (code_v i (map_of_pairs (front es)) n) ≤ 8 * p.first + 2 = λ n. let q = parts_small i (sides (front es)) p.first (sides_small (front es) p.first p.front_together) n in simp burden-append (omega (arith, q)) in
+      let more = groups_together PairSmall (FormSmall i) map_of_pairs map_of_small [] (behind es) 0 p.rest tt p.behind_together in
+      let q = updated_small (map_of_pairs (front es)) (8 * p.first + 2) (groups map_of_pairs [] (behind es)) (0 + p.rest) one more n in
       let e = p.within in
       omega (arith, q, e)
 

@@ -28,7 +28,7 @@ module _ (l : ℕ) where
     expr_childless (tree.Compare at left ops others) = tested_childless _ (compare_childless (expr_forms l left).value ops (all_forms l others) (expr_childless left).value (exprs_childless others))
     expr_childless (tree.Call at func args keywords) =
         tested_childless _ (call_childless (expr_forms l func).callee _ (keyword_forms l keywords) (expr_childless func).callee (elements_childless (all_forms l args) (exprs_childless args)) (keywords_childless keywords))
-    expr_childless (tree.FormattedValue at value c spec) = tested_childless _ (both_none _ _ (value_or_childless (const.str []) (opt_form l spec) (opt_childless spec)) (both_none _ _ (expr_childless value).value refl))
+    expr_childless (tree.FormattedValue at value c spec) = tested_childless _ (both_none _ _ (expr_childless value).value (both_none _ _ (value_or_childless (const.str []) (opt_form l spec) (opt_childless spec)) refl))
     expr_childless (tree.JoinedStr at parts) = tested_childless _ (joined_childless (texts_of parts) _ (values_childless (all_forms l parts) (exprs_childless parts)))
     expr_childless (tree.Constant at value) = tested_childless _ refl
     expr_childless (tree.Attribute at value attr) = let e = both_none _ _ (expr_childless value).value refl in record { value = e; test = e; element = e; callee = (expr_childless value).value }

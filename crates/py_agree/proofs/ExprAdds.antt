@@ -116,7 +116,7 @@ module _ (d : Scope → Object) (f : SForm) (c : Context) where
     expr_adds (tree.FormattedValue at value d spec) =
         let v = emitting.value_or (const.str []) (opt_emission spec) in
         let g = table.value_or (const.str []) (opt_form c.level spec) in
-        value_adds at _ _ (two_add within c (counted op.FormatValue (conversion_case d)) v (emissions value).value (emit op.FormatValue (conversion_case d)) g (expr_forms c.level value).value (value_or_adds within c (const.str []) refl (opt_emission spec) (opt_form c.level spec) (opt_adds spec)) (expr_adds value).value (conversion_adds d))
+        value_adds at _ _ (two_add within c (counted op.FormatValue (conversion_case d)) (emissions value).value v (emit op.FormatValue (conversion_case d)) (expr_forms c.level value).value g (expr_adds value).value (value_or_adds within c (const.str []) refl (opt_emission spec) (opt_form c.level spec) (opt_adds spec)) (conversion_adds d))
     expr_adds (tree.JoinedStr at parts) = value_adds at _ _ (joined_adds within c (texts_of parts) _ _ (all_values_add within c (all_emissions parts) (all_forms c.level parts) (exprs_add parts)))
     expr_adds (tree.Constant at v) = value_adds at _ _ (constant_adds (constant_of v) (literal_value v) c)
     expr_adds (tree.Attribute at value x) = attribute_forms_add at value x (expr_adds value)

@@ -16,7 +16,7 @@ use Rattle.py_forms.specs.Fit.{Loops}
 use Rattle.py_forms.specs.Code.{Item, Do, labels_v, labels, code_v, body_code, return_code}
 use Rattle.py_forms.specs.Looped.{Looped}
 use Rattle.py_forms.specs.Agree.{form_of}
-use Rattle.py_forms.specs.Elements.{Callee, Function, Method, starred, pairs, unkeyed}
+use Rattle.py_forms.specs.Elements.{Callee, Function, Method, starred, groups, behind, pairs}
 use Rattle.py_emission.specs.Texts.{after_doc, doc_of, texts_of}
 use Rattle.py_meaning.specs.Meaning.{body}
 use Rattle.py_forms.specs.TableParts as table
@@ -122,7 +122,7 @@ module _ (d : Scope → Object) (f : SForm) (c : Context) where
   return_is (tree.BinOp at left o right) n = valued (tree.BinOp at left o right) (λ m. refl) n
   return_is (tree.UnaryOp at o operand) n = valued (tree.UnaryOp at o operand) (λ m. refl) n
   return_is (tree.IfExp at t x y) n = valued (tree.IfExp at t x y) (λ m. refl) n
-  return_is (tree.Dict at keys others) n = valued (tree.Dict at keys others) (updated_pushed _ (unkeyed (pairs (opt_forms c.level keys) (table.values (all_forms c.level others)))) (λ m. refl)) n
+  return_is (tree.Dict at keys others) n = valued (tree.Dict at keys others) (updated_pushed _ (groups table.map_of_pairs [] (behind (pairs (opt_forms c.level keys) (table.values (all_forms c.level others))))) (λ m. refl)) n
   return_is (tree.Set at elts) n = valued (tree.Set at elts) (either_pushed (starred (table.elements (all_forms c.level elts))) _ _ (λ m. refl) (λ m. refl)) n
   return_is (tree.NamedExpr at target value) n = valued (tree.NamedExpr at target value) (λ m. refl) n
   return_is (tree.Call at func args keywords) n =

@@ -1,18 +1,19 @@
 -- Displays, slices and f-strings end as the faults of their parts say.
-use Rattle.std.proofs.Common.{◌≡◌, ℕ, List, [], ◌∷◌, ◌++◌, length, Option, Some, None, refl, sym, append-nil}
+use Rattle.std.proofs.Common.{◌≡◌, ℕ, List, [], ◌∷◌, ◌++◌, length, Option, Some, None, refl, sym, ap, ◌∙◌, subst, append-nil, append_assoc}
 use Rattle.py_tree.specs.Tree as tree
 use Rattle.py_base.specs.declared.location.SourceLocation.{SourceLocation}
 use Rattle.py_bytecode.specs.declared.instruction.Instruction.{Instruction}
 use Rattle.py_bytecode.specs.declared.instruction.Instruction.TheVariants as op
 use Rattle.py_bytecode.specs.Objects as const
 use Rattle.py_bytecode.specs.Objects.{Const}
-use Rattle.py_forms.specs.Elements.{starred, bare, groups, pairs, keyed, unkeyed, sides}
-use Rattle.py_meaning.specs.Ends.{last_of, some_of, parts_entered, pairs_entered, expr_end, ends_of, opt_end, opts_ends}
-use Rattle.py_meaning.specs.ExprFaults.{Fault, in_order, if_any, dict_faults, joined_faults, faults_in, all_faults, opt_faults, opts_faults}
+use Rattle.py_forms.specs.Elements.{starred, bare, grouped, groups, front, behind, pairs, sides, flat}
+use Rattle.py_meaning.specs.Ends.{last_of, some_of, parts_entered, expr_end, ends_of, opt_end, opts_ends}
+use Rattle.py_meaning.specs.ExprFaults.{Fault, in_order, if_any, joined_faults, faults_in, all_faults, opt_faults, opts_faults}
 use Rattle.py_meaning.specs.ExprFaults as fault
-use Rattle.py_forms.specs.Emitting.{Context, Emission}
-use Rattle.py_forms.specs.EmissionParts.{values, elements, in_turn, built, display, updates, dict_value, value_or, slice_step, slice_value, joined_value}
-use Rattle.py_emission.specs.Emission.{emissions, all_emissions, opt_emission, opt_emissions}
+use Rattle.py_forms.specs.Emitting.{Context, Emission, ◌▸◌, emit_count, keep}
+use Rattle.py_forms.specs.EmissionParts.{values, elements, in_turn, built, display, updates, map_of_pairs, dict_value, value_or, slice_step, slice_value, joined_value}
+use Rattle.py_emission.specs.Emission.{emission, emissions, all_emissions, opt_emission, opt_emissions}
+use Rattle.py_adds.proofs.Emitting.{grouped as go_on_grouped, kept_on}
 use Rattle.py_agree.proofs.Refusing.{EndsAs, then_ends, three_end, last_ends, ends_so, ends_there, nothing_passes, emit_passes, count_passes, constant_passes, if_ends}
 use Rattle.py_agree.proofs.RefusingTests.{EndsWell, AllEnding, turn_ends}
 use Rattle.py_agree.proofs.RefusingPacks.{bare_step, tuples, last_grouped, group_step}
@@ -20,6 +21,23 @@ use Rattle.py_agree.proofs.RefusingPacks.{bare_step, tuples, last_grouped, group
 pub last_append : (at : SourceLocation) (ps qs : List SourceLocation) → last_of at (ps ++ qs) ≡ last_of (last_of at ps) qs
 last_append at [] qs = refl
 last_append at (p ∷ ps) qs = last_append p ps qs
+
+nothing_after : (v : Emission) → (v ▸ keep) ≡ v
+nothing_after v = λ i s. kept_on (v s) i
+
+-- of three, the first two are taken together
+first_two : (a b d : Emission) → (a ▸ b ▸ d) ≡ ((a ▸ b) ▸ d)
+first_two a b d = λ i s. go_on_grouped (a s) b d i
+
+grouped_ends : {c : Context} {p q : SourceLocation} {fs : List Fault} (a b d : Emission) → EndsAs c (a ▸ b ▸ d) p q fs → EndsAs c ((a ▸ b) ▸ d) p q fs
+grouped_ends {c = c} {p = p} {q = q} {fs = fs} a b d x = subst (λ (e : Emission). EndsAs c e p q fs) (first_two a b d) x
+
+sides_more : (ps : List (Emission × Emission)) (k v : Emission) → in_turn (sides (ps ++ (k, v) ∷ [])) ≡ (in_turn (sides ps) ▸ k ▸ v)
+sides_more [] k v = ap {B = Emission} (λ (f : Emission). k ▸ f) (nothing_after v)
+sides_more (p ∷ ps) k v =
+    ap {B = Emission} (λ (f : Emission). p.0 ▸ p.1 ▸ f) (sides_more ps k v)
+    ∙ ap {B = Emission} (λ (f : Emission). p.0 ▸ f) (first_two p.1 (in_turn (sides ps)) (k ▸ v))
+    ∙ first_two p.0 (p.1 ▸ in_turn (sides ps)) (k ▸ v)
 
 module _ (c : Context) where
   pub bare_ends : (p : SourceLocation) (es : tree.Exprs) → AllEnding c es → EndsAs c (in_turn (bare (elements (all_emissions es)))) p (last_of p (ends_of es)) (in_order (fault.elements (all_faults es)))
@@ -50,25 +68,49 @@ module _ (c : Context) where
   OptsEnding tree.no_opts = Unit {0}
   OptsEnding (tree.more_opts o os) = OptEnding o × OptsEnding os
 
-  -- dict displays
-  keyed_end : (p : SourceLocation) (os : tree.OptExprs) (es : tree.Exprs) → OptsEnding os → AllEnding c es → EndsAs c (in_turn (sides (keyed (pairs (opt_emissions os) (values (all_emissions es)))))) p (last_of p (sides (keyed (pairs (opts_ends os) (ends_of es))))) (in_order (sides (keyed (pairs (opts_faults os) (fault.values (all_faults es))))))
-  keyed_end p tree.no_opts es x y = nothing_passes
-  keyed_end p (tree.more_opts o os) tree.no_exprs x y = nothing_passes
-  keyed_end p (tree.more_opts tree.no_expr os) (tree.more_exprs e es) x y = keyed_end p os es x.1 y.1
-  keyed_end p (tree.more_opts (tree.some_expr k) os) (tree.more_exprs e es) x y = then_ends (x.0.value p) (then_ends (y.0.value (expr_end k)) (keyed_end (expr_end e) os es x.1 y.1))
+  -- dict displays: a run of pairs, and the values that are added to a map after it
+  run_ends : {p q : SourceLocation} {fs : List Fault} (run : List (Emission × Emission)) → EndsAs c (in_turn (sides run)) p q fs → EndsAs c (map_of_pairs run) p q fs
+  run_ends run x = last_ends x (count_passes op.BuildMap (length run))
 
-  updates_end : (p : SourceLocation) (os : tree.OptExprs) (es : tree.Exprs) → OptsEnding os → AllEnding c es → EndsAs c (updates (unkeyed (pairs (opt_emissions os) (values (all_emissions es))))) p (last_of p (unkeyed (pairs (opts_ends os) (ends_of es)))) (in_order (unkeyed (pairs (opts_faults os) (fault.values (all_faults es)))))
-  updates_end p tree.no_opts es x y = nothing_passes
-  updates_end p (tree.more_opts o os) tree.no_exprs x y = nothing_passes
-  updates_end p (tree.more_opts tree.no_expr os) (tree.more_exprs e es) x y = then_ends (y.0.value p) (then_ends (emit_passes op.DictUpdate 0) (updates_end (expr_end e) os es x.1 y.1))
-  updates_end p (tree.more_opts (tree.some_expr k) os) (tree.more_exprs e es) x y = updates_end p os es x.1 y.1
+  run_then : {p m q : SourceLocation} {fs gs : List Fault} (run : List (Emission × Emission)) (more : List Emission) → EndsAs c (in_turn (sides run)) p m fs → EndsAs c (updates more) m q gs → EndsAs c (updates (grouped map_of_pairs run ++ more)) p q (fs ++ gs)
+  run_then [] more x y = then_ends x y
+  run_then (b ∷ bs) more x y = then_ends (run_ends (b ∷ bs) x) (then_ends (emit_passes op.DictUpdate 0) y)
 
-  pub dict_ends : (p : SourceLocation) (os : tree.OptExprs) (es : tree.Exprs) → OptsEnding os → AllEnding c es → EndsAs c (dict_value (pairs (opt_emissions os) (values (all_emissions es)))) p (last_of p (pairs_entered (pairs (opts_ends os) (ends_of es)))) (dict_faults (pairs (opts_faults os) (fault.values (all_faults es))))
+  run_last : {p q : SourceLocation} {fs : List Fault} (run : List (Emission × Emission)) → EndsAs c (in_turn (sides run)) p q fs → EndsAs c (updates (grouped map_of_pairs run)) p q fs
+  run_last [] x = x
+  run_last (b ∷ bs) x = last_ends (run_ends (b ∷ bs) x) (then_ends (emit_passes op.DictUpdate 0) nothing_passes)
+
+  run_more : {p m n q : SourceLocation} {fs gs hs : List Fault} (run : List (Emission × Emission)) (k v : Emission) → EndsAs c (in_turn (sides run)) p m fs → EndsAs c k m n gs → EndsAs c v n q hs → EndsAs c (in_turn (sides (run ++ (k, v) ∷ []))) p q (fs ++ (gs ++ hs))
+  run_more {p = p} {q = q} {fs = fs} {gs = gs} {hs = hs} run k v x y z = subst (λ a. EndsAs c a p q (fs ++ (gs ++ hs))) (sym (sides_more run k v)) (then_ends x (then_ends y z))
+
+  updates_end : (p m : SourceLocation) (fs : List Fault) (run : List (Emission × Emission)) (os : tree.OptExprs) (es : tree.Exprs) → EndsAs c (in_turn (sides run)) p m fs → OptsEnding os → AllEnding c es → EndsAs c (updates (groups map_of_pairs run (pairs (opt_emissions os) (values (all_emissions es))))) p (last_of m (flat (pairs (opts_ends os) (ends_of es)))) (fs ++ in_order (flat (pairs (opts_faults os) (fault.values (all_faults es)))))
+  updates_end p m fs run tree.no_opts es x y z = ends_so (sym (append-nil fs)) (run_last run x)
+  updates_end p m fs run (tree.more_opts o os) tree.no_exprs x y z = ends_so (sym (append-nil fs)) (run_last run x)
+  updates_end p m fs run (tree.more_opts tree.no_expr os) (tree.more_exprs e es) x y z =
+      run_then run (emission e ∷ groups map_of_pairs [] (pairs (opt_emissions os) (values (all_emissions es)))) x
+      (then_ends (z.0.value m) (then_ends (emit_passes op.DictUpdate 0) (updates_end (expr_end e) (expr_end e) [] [] os es nothing_passes y.1 z.1)))
+  updates_end p m fs run (tree.more_opts (tree.some_expr k) os) (tree.more_exprs e es) x y z =
+      let more = (faults_in k).value ++ (faults_in e).value in
+      let last = in_order (flat (pairs (opts_faults os) (fault.values (all_faults es)))) in
+      ends_so (append_assoc fs more last ∙ ap (λ l. fs ++ l) (append_assoc (faults_in k).value (faults_in e).value last))
+      (updates_end p (expr_end e) (fs ++ more) (run ++ (emission k, emission e) ∷ []) os es (run_more run (emission k) (emission e) x (y.0.value m) (z.0.value (expr_end k))) y.1 z.1)
+
+  -- the pairs at the front, and then the others
+  first_ends : (p : SourceLocation) (n : ℕ) (os : tree.OptExprs) (es : tree.Exprs) → OptsEnding os → AllEnding c es → EndsAs c (in_turn (sides (front (pairs (opt_emissions os) (values (all_emissions es))))) ▸ emit_count op.BuildMap n ▸ updates (groups map_of_pairs [] (behind (pairs (opt_emissions os) (values (all_emissions es)))))) p (last_of p (flat (pairs (opts_ends os) (ends_of es)))) (in_order (flat (pairs (opts_faults os) (fault.values (all_faults es)))))
+  first_ends p n tree.no_opts es x y = then_ends (count_passes op.BuildMap n) nothing_passes
+  first_ends p n (tree.more_opts o os) tree.no_exprs x y = then_ends (count_passes op.BuildMap n) nothing_passes
+  first_ends p n (tree.more_opts tree.no_expr os) (tree.more_exprs e es) x y =
+      then_ends (count_passes op.BuildMap n) (then_ends (y.0.value p) (then_ends (emit_passes op.DictUpdate 0) (updates_end (expr_end e) (expr_end e) [] [] os es nothing_passes x.1 y.1)))
+  first_ends p n (tree.more_opts (tree.some_expr k) os) (tree.more_exprs e es) x y =
+      let ps = pairs (opt_emissions os) (values (all_emissions es)) in
+      let first : Emission = in_turn (sides (front ps)) in
+      let last : Emission = emit_count op.BuildMap n ▸ updates (groups map_of_pairs [] (behind ps)) in
+      grouped_ends (emission k) (emission e ▸ first) last (then_ends (x.0.value p) (grouped_ends (emission e) first last (then_ends (y.0.value (expr_end k)) (first_ends (expr_end e) n os es x.1 y.1))))
+
+  pub dict_ends : (p : SourceLocation) (os : tree.OptExprs) (es : tree.Exprs) → OptsEnding os → AllEnding c es → EndsAs c (dict_value (pairs (opt_emissions os) (values (all_emissions es)))) p (last_of p (flat (pairs (opts_ends os) (ends_of es)))) (in_order (flat (pairs (opts_faults os) (fault.values (all_faults es)))))
   dict_ends p os es x y =
       let ps = pairs (opt_emissions os) (values (all_emissions es)) in
-      let qs = pairs (opts_ends os) (ends_of es) in
-      ends_there (sym (last_append p (sides (keyed qs)) (unkeyed qs)))
-      (then_ends (keyed_end p os es x y) (then_ends (count_passes op.BuildMap (length (keyed ps))) (updates_end (last_of p (sides (keyed qs))) os es x y)))
+      grouped_ends (in_turn (sides (front ps))) (emit_count op.BuildMap (length (front ps))) (updates (groups map_of_pairs [] (behind ps))) (first_ends p (length (front ps)) os es x y)
 
   -- slices
   pub value_or_ends : (p : SourceLocation) (d : Const) (o : tree.OptExpr) → OptEnding o → EndsAs c (value_or d (opt_emission o)) p (last_of p (some_of (opt_end o))) (if_any (opt_faults o))

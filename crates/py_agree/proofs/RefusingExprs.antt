@@ -104,7 +104,7 @@ module _ (c : Context) (class : Option (List ℕ)) where
         at_ends at (call_ends c at func args keywords (expr_ends func q.0) (exprs_end args q.1) (keywords_end keywords p.1))
     expr_ends (tree.FormattedValue at value o spec) h =
         let p = both_none (expr_shapes class value) (opt_expr_shapes class spec) h in
-        at_ends at (then_ends (value_or_ends c at (const.str []) spec (opt_ends spec p.1)) (last_ends ((expr_ends value p.0).value _) (emit_passes op.FormatValue (conversion_case o))))
+        at_ends at (then_ends ((expr_ends value p.0).value at) (last_ends (value_or_ends c (expr_end value) (const.str []) spec (opt_ends spec p.1)) (emit_passes op.FormatValue (conversion_case o))))
     expr_ends (tree.JoinedStr at parts) h = at_ends at (joined_ends c at (texts_of parts) parts (exprs_end parts h))
     expr_ends (tree.Constant at v) h = at_ends at (constant_passes op.LoadConst (constant_of v))
     expr_ends (tree.Attribute at value attr) h =

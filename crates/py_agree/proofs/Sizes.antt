@@ -32,11 +32,11 @@ module _ (i : Interp Object) where
   named_small l true x n = omega arith
   named_small l false x n = omega arith
 
-  -- a value that is formatted, after what says how
-  formatted_small : (o : ℕ) (spec : Option VForm) (f : VForm) (a b : ℕ) → Possible (FormSmall i) spec b → FormSmall i f a → FormSmall i (VOp (counted op.FormatValue o) (VMore (value_or (const.str []) spec) (VMore f VNone))) (a + b + 1)
+  -- a value that is formatted, and what says how
+  formatted_small : (o : ℕ) (spec : Option VForm) (f : VForm) (a b : ℕ) → Possible (FormSmall i) spec b → FormSmall i f a → FormSmall i (VOp (counted op.FormatValue o) (VMore f (VMore (value_or (const.str []) spec) VNone))) (a + b + 1)
   formatted_small o spec f a b x y n =
-      let p = value_or_small i (const.str []) spec b x n in
-      let q = y (n + labels_v (value_or (const.str []) spec)) in
+      let p = y n in
+      let q = value_or_small i (const.str []) spec b x (n + labels_v f) in
       simp burden-append (omega (arith, p, q))
 
   attribute_small : (f : VForm) (name : List ℕ) (a : ℕ) → FormSmall i f a → FormSmall i (VOp (named op.LoadAttr name) (VMore f VNone)) (a + 2)

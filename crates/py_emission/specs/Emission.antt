@@ -27,7 +27,7 @@ abbrev mutual
   emissions (tree.Set at elts) = tested (move at ▸ display op.BuildSet op.BuildSetUnpack (elements (all_emissions elts)))
   emissions (tree.Compare at left ops others) = tested (move at ▸ emission_of_compare (emissions left).value ops (all_emissions others))
   emissions (tree.Call at func args keywords) = tested (move at ▸ emission_of_call (emissions func).callee (elements (all_emissions args)) (keyword_emissions keywords))
-  emissions (tree.FormattedValue at value c spec) = tested (move at ▸ value_or (const.str []) (opt_emission spec) ▸ (emissions value).value ▸ emit op.FormatValue (conversion_case c))
+  emissions (tree.FormattedValue at value c spec) = tested (move at ▸ (emissions value).value ▸ value_or (const.str []) (opt_emission spec) ▸ emit op.FormatValue (conversion_case c))
   emissions (tree.JoinedStr at parts) = tested (move at ▸ joined_value (texts_of parts) (values (all_emissions parts)))
   emissions (tree.Constant at value) = tested (move at ▸ emit_constant op.LoadConst (constant_of value))
   emissions (tree.Attribute at value attr) =

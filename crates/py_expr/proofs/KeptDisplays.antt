@@ -4,9 +4,9 @@ use Rattle.py_bytecode.specs.declared.instruction.Instruction.{Instruction}
 use Rattle.py_bytecode.specs.declared.instruction.Instruction.TheVariants as op
 use Rattle.py_bytecode.specs.Objects as const
 use Rattle.py_bytecode.specs.Objects.{Const}
-use Rattle.py_forms.specs.Elements.{Element, Single, Spread, starred, bare, grouped, groups, pairs, keyed, unkeyed, sides}
+use Rattle.py_forms.specs.Elements.{Element, Single, Spread, starred, bare, grouped, groups, front, behind, pairs, sides}
 use Rattle.py_forms.specs.Emitting.{Emission, emit, emit_count}
-use Rattle.py_forms.specs.EmissionParts.{Emissions, built, dict_value, display, elements, in_turn, joined_value, slice_step, slice_value, unpacked, updates, value_or, values}
+use Rattle.py_forms.specs.EmissionParts.{Emissions, built, dict_value, display, elements, in_turn, joined_value, map_of_pairs, slice_step, slice_value, unpacked, updates, value_or, values}
 use Rattle.py_expr.proofs.Keeping.{Keeps, constant_keeps, count_keeps, either_keeps, emit_keeps, idle_keeps, then_keeps}
 use Rattle.py_expr.proofs.KeptParts.{ElementKeeps, AllKeep, TurnsKeep, turn_keeps}
 
@@ -57,22 +57,57 @@ updates_keep : (vs : List Emission) → TurnsKeep vs → Keeps (updates vs)
 updates_keep [] a = idle_keeps
 updates_keep (v ∷ vs) a = then_keeps v _ a.0 (then_keeps (emit op.DictUpdate 0) (updates vs) (emit_keeps op.DictUpdate 0) (updates_keep vs a.1))
 
-sides_keep : (ks : List (Option Emission)) (vs : List Emission) → MaybesKeep ks → TurnsKeep vs → TurnsKeep (sides (keyed (pairs ks vs)))
-sides_keep [] vs a b = tt
-sides_keep (k ∷ ks) [] a b = tt
-sides_keep (None ∷ ks) (v ∷ vs) a b = sides_keep ks vs a.1 b.1
-sides_keep (Some k ∷ ks) (v ∷ vs) a b = (a.0, (b.0, sides_keep ks vs a.1 b.1))
+-- the entries of a dict display
+abbrev BothKeep : List (Emission × Emission) → Type 0
+BothKeep [] = Unit {0}
+BothKeep (p ∷ ps) = Keeps p.0 × Keeps p.1 × BothKeep ps
 
-unkeyed_keep : (ks : List (Option Emission)) (vs : List Emission) → MaybesKeep ks → TurnsKeep vs → TurnsKeep (unkeyed (pairs ks vs))
-unkeyed_keep [] vs a b = tt
-unkeyed_keep (k ∷ ks) [] a b = tt
-unkeyed_keep (None ∷ ks) (v ∷ vs) a b = (b.0, unkeyed_keep ks vs a.1 b.1)
-unkeyed_keep (Some k ∷ ks) (v ∷ vs) a b = unkeyed_keep ks vs a.1 b.1
+abbrev EntriesKeep : List (Element (Emission × Emission) Emission) → Type 0
+EntriesKeep [] = Unit {0}
+EntriesKeep (Single p ∷ es) = Keeps p.0 × Keeps p.1 × EntriesKeep es
+EntriesKeep (Spread v ∷ es) = Keeps v × EntriesKeep es
+
+entries_keep : (ks : List (Option Emission)) (vs : List Emission) → MaybesKeep ks → TurnsKeep vs → EntriesKeep (pairs ks vs)
+entries_keep [] vs a b = tt
+entries_keep (k ∷ ks) [] a b = tt
+entries_keep (None ∷ ks) (v ∷ vs) a b = (b.0, entries_keep ks vs a.1 b.1)
+entries_keep (Some k ∷ ks) (v ∷ vs) a b = (a.0, b.0, entries_keep ks vs a.1 b.1)
+
+sides_keep : (ps : List (Emission × Emission)) → BothKeep ps → TurnsKeep (sides ps)
+sides_keep [] a = tt
+sides_keep (p ∷ ps) a = (a.0, (a.1, sides_keep ps a.2))
+
+pairs_keep : (ps : List (Emission × Emission)) → BothKeep ps → Keeps (map_of_pairs ps)
+pairs_keep ps a = then_keeps (in_turn (sides ps)) (emit_count op.BuildMap (length ps)) (turn_keeps (sides ps) (sides_keep ps a)) (count_keeps op.BuildMap (length ps))
+
+more_pairs : (run : List (Emission × Emission)) (p : Emission × Emission) → BothKeep run → Keeps p.0 → Keeps p.1 → BothKeep (run ++ p ∷ [])
+more_pairs [] p a h g = (h, g, tt)
+more_pairs (q ∷ run) p a h g = (a.0, a.1, more_pairs run p a.2 h g)
+
+grouped_pairs : (run : List (Emission × Emission)) → BothKeep run → TurnsKeep (grouped map_of_pairs run)
+grouped_pairs [] a = tt
+grouped_pairs (p ∷ ps) a = (pairs_keep (p ∷ ps) a, tt)
+
+maps_keep : (run : List (Emission × Emission)) (es : List (Element (Emission × Emission) Emission)) → BothKeep run → EntriesKeep es → TurnsKeep (groups map_of_pairs run es)
+maps_keep run [] r a = grouped_pairs run r
+maps_keep run (Single p ∷ es) r a = maps_keep (run ++ p ∷ []) es (more_pairs run p r a.0 a.1) a.2
+maps_keep run (Spread v ∷ es) r a = append_keep (grouped map_of_pairs run) (v ∷ groups map_of_pairs [] es) (grouped_pairs run r) (a.0, maps_keep [] es tt a.1)
+
+front_keep : (es : List (Element (Emission × Emission) Emission)) → EntriesKeep es → BothKeep (front es)
+front_keep [] a = tt
+front_keep (Single p ∷ es) a = (a.0, a.1, front_keep es a.2)
+front_keep (Spread v ∷ es) a = tt
+
+behind_keep : (es : List (Element (Emission × Emission) Emission)) → EntriesKeep es → EntriesKeep (behind es)
+behind_keep [] a = tt
+behind_keep (Single p ∷ es) a = behind_keep es a.2
+behind_keep (Spread v ∷ es) a = a
 
 pub dict_keeps : (ks : List (Option Emission)) (vs : List Emission) → MaybesKeep ks → TurnsKeep vs → Keeps (dict_value (pairs ks vs))
 dict_keeps ks vs a b =
-    then_keeps (in_turn (sides (keyed (pairs ks vs)))) _ (turn_keeps (sides (keyed (pairs ks vs))) (sides_keep ks vs a b))
-    (then_keeps (emit_count op.BuildMap (length (keyed (pairs ks vs)))) (updates (unkeyed (pairs ks vs))) (count_keeps op.BuildMap (length (keyed (pairs ks vs)))) (updates_keep (unkeyed (pairs ks vs)) (unkeyed_keep ks vs a b)))
+    let es = pairs ks vs in
+    let all = entries_keep ks vs a b in
+    then_keeps (map_of_pairs (front es)) (updates (groups map_of_pairs [] (behind es))) (pairs_keep (front es) (front_keep es all)) (updates_keep (groups map_of_pairs [] (behind es)) (maps_keep [] (behind es) tt (behind_keep es all)))
 
 pub value_or_keeps : (c : Const) (v : Option Emission) → MaybeKeeps v → Keeps (value_or c v)
 value_or_keeps c None a = constant_keeps op.LoadConst c

@@ -8,6 +8,7 @@ pub mod KeptCalls
 pub mod Opening
 pub mod Groups
 pub mod Pairs
+pub mod Dicts
 pub mod Otherwise
 pub mod Appending
 pub mod Stores

@@ -42,7 +42,7 @@ mutual
   expr_keeps (tree.Set at elts) = tested_keeps _ (moved_keeps at _ (display_keeps op.BuildSet op.BuildSetUnpack (elements (all_emissions elts)) (elements_keep (all_emissions elts) (exprs_keep elts))))
   expr_keeps (tree.Call at func args keywords) = tested_keeps _ (moved_keeps at _ (call_keeps (emissions func).callee (elements (all_emissions args)) (keyword_emissions keywords) (expr_keeps func).callee (elements_keep (all_emissions args) (exprs_keep args)) (keywords_keep keywords)))
   expr_keeps (tree.FormattedValue at value c spec) =
-      tested_keeps _ (moved_keeps at _ (then_keeps (value_or (const.str []) (opt_emission spec)) _ (value_or_keeps (const.str []) (opt_emission spec) (opt_keeps spec)) (then_keeps (emissions value).value (emit op.FormatValue (conversion_case c)) (expr_keeps value).value (emit_keeps op.FormatValue (conversion_case c)))))
+      tested_keeps _ (moved_keeps at _ (then_keeps (emissions value).value _ (expr_keeps value).value (then_keeps (value_or (const.str []) (opt_emission spec)) (emit op.FormatValue (conversion_case c)) (value_or_keeps (const.str []) (opt_emission spec) (opt_keeps spec)) (emit_keeps op.FormatValue (conversion_case c)))))
   expr_keeps (tree.JoinedStr at parts) = tested_keeps _ (moved_keeps at _ (joined_keeps (texts_of parts) (values (all_emissions parts)) (values_keep (all_emissions parts) (exprs_keep parts))))
   expr_keeps (tree.Constant at v) = tested_keeps _ (moved_keeps at _ (constant_keeps op.LoadConst (constant_of v)))
   expr_keeps (tree.Attribute at value attr) =

@@ -1,4 +1,5 @@
 pub mod Turns
+pub mod Dicts
 pub mod Appending
 pub mod Awaits
 pub mod Targets

@@ -61,6 +61,6 @@ abbrev pub group_rest : (run : ℕ) → List (Element Emission Emission) → Emi
 group_rest n [] = closed n
 group_rest n (e ∷ es) = element_behind n e ▸ group_rest (run_behind n e) es
 
--- the pairs of a dict display
-abbrev pub pairs_of : List (Option Expr) → List Expr → List (Option Emission × Emission)
+-- the entries of a dict display
+abbrev pub pairs_of : List (Option Expr) → List Expr → List (Element (Emission × Emission) Emission)
 pairs_of ks vs = pairs (opt_emissions (opt_exprs expr_tree ks)) (values (all_emissions (exprs expr_tree vs)))

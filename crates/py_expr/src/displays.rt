@@ -1,12 +1,12 @@
 //! Displays of lists, tuples, sets and dicts, and slices.
-ghost use Rattle.std.specs.Prelude.{◌≡◌, ◌≤◌, ◌⊎◌, length, IfOk};
-ghost use Rattle.py_tree.specs.View.{dict_tree, expr_tree, exprs, list_tree, opt_box, opt_exprs, set_tree, slice_tree, tuple_tree};
+ghost use Rattle.std.specs.Prelude.{◌≡◌, ◌≤◌, ◌<◌, ◌⊎◌, length};
+ghost use Rattle.py_tree.specs.View.{dict_tree, expr_tree, exprs, list_tree, opt_box, opt_expr, opt_exprs, set_tree, slice_tree, tuple_tree};
 ghost use Rattle.py_bytecode.specs.Objects as object;
-ghost use Rattle.py_forms.specs.Elements.{keyed, pairs, sides, unkeyed};
-ghost use Rattle.py_forms.specs.Emitting.{◌▸◌, emit as emitting};
-ghost use Rattle.py_forms.specs.EmissionParts.{display, elements, in_turn, slice_step, updates, value_or, values};
+ghost use Rattle.py_forms.specs.Elements.{pairs};
+ghost use Rattle.py_forms.specs.EmissionParts.{dict_value, display, elements, slice_step, value_or, values};
 ghost use Rattle.py_emission.specs.Emission.{all_emissions, emission, opt_emission, opt_emissions};
 ghost use Rattle.py_emit.specs.States.{Goes, Same, rest, state};
+ghost use Rattle.py_expr.specs.Dicts.{begun_by, closed_pairs, entry_begun, entry_ended, pairs_by};
 
 use crate::elements::{compile_unpacked, has_star};
 use crate::expressions::{compile_expression, compile_expressions};
@@ -86,9 +86,7 @@ pub(crate) fn compile_dict(em: &mut Emitter, e: &ExprDict) -> Result<(), Codegen
     ensures same { Same result (rest em.new) (rest em.old) }
 {
     em.set_location(e.location);
-    let count = compile_pairs(em, e)?;
-    em.emit_count(Instruction::BuildMap, count)?;
-    compile_updates(em, e)
+    compile_entries(em, e)
 }
 
 /// How many values have a key or none beside them.
@@ -102,50 +100,87 @@ fn pair_count(e: &ExprDict) -> usize
     if keys < values { keys } else { values }
 }
 
-/// Emits the pairs that have a key. Answers how many there are.
+/// Emits the entries of a dict display in their order: a map of the first pairs, to which each later run of pairs and each
+/// unpacked value is added.
 #[cycle(code)]
-fn compile_pairs(em: &mut Emitter, e: &ExprDict) -> Result<usize, CodegenError>
-    ensures count { IfOk result (λ n. n ≡ length (keyed (pairs (opt_emissions (opt_exprs expr_tree e.now.keys)) (values (all_emissions (exprs expr_tree e.now.values)))))) }
-    ensures goes { Goes result (state em.new) (in_turn (sides (keyed (pairs (opt_emissions (opt_exprs expr_tree e.now.keys)) (values (all_emissions (exprs expr_tree e.now.values)))))) (state em.old)) }
+fn compile_entries(em: &mut Emitter, e: &ExprDict) -> Result<(), CodegenError>
+    ensures goes { Goes result (state em.new) (dict_value (pairs (opt_emissions (opt_exprs expr_tree e.now.keys)) (values (all_emissions (exprs expr_tree e.now.values)))) (state em.old)) }
     ensures same { Same result (rest em.new) (rest em.old) }
 {
     let keys = e.keys.as_slice();
     let values = e.values.as_slice();
-    let mut count = 0;
+    let mut begun = false;
+    let mut run = 0;
     for i in 0..pair_count(e) {
-        if let Some(key) = &keys[i] {
-            compile_expression(em, key)?;
-            compile_expression(em, &values[i])?;
-            count += 1;
-        }
+        let key = &keys[i];
+        begin_entry(em, key, begun, run)?;
+        compile_expression(em, &values[i])?;
+        end_entry(em, key)?;
+        begun = begun_after(key, begun);
+        run = run_after(key, run);
     }
-    Ok(count)
+    close_pairs(em, begun, run)
 }
 
-/// Emits the values that have no key, each of which is added to the map.
+/// Emits what stands before the value of an entry: its key, or where the value is unpacked, what makes a map of the run of so
+/// many pairs before it.
 #[cycle(code)]
-fn compile_updates(em: &mut Emitter, e: &ExprDict) -> Result<(), CodegenError>
-    ensures goes { Goes result (state em.new) (updates (unkeyed (pairs (opt_emissions (opt_exprs expr_tree e.now.keys)) (values (all_emissions (exprs expr_tree e.now.values))))) (state em.old)) }
+fn begin_entry(
+    em: &mut Emitter,
+    key: &Option<Expr>,
+    begun: bool,
+    run: usize,
+) -> Result<(), CodegenError>
+    ensures goes { Goes result (state em.new) (entry_begun begun run (opt_expr expr_tree key.now) (state em.old)) }
     ensures same { Same result (rest em.new) (rest em.old) }
 {
-    let keys = e.keys.as_slice();
-    let values = e.values.as_slice();
-    for i in 0..pair_count(e) {
-        if keys[i].is_none() {
-            compile_update(em, &values[i])?;
-        }
+    match key {
+        Some(key) => compile_expression(em, key),
+        None => close_pairs(em, begun, run),
     }
-    Ok(())
 }
 
-/// Emits a value that is added to the map below it.
-#[cycle(code)]
-fn compile_update(em: &mut Emitter, value: &Expr) -> Result<(), CodegenError>
-    ensures goes { Goes result (state em.new) ((emission (expr_tree value.now) ▸ emitting Instruction.DictUpdate 0) (state em.old)) }
+/// Emits what adds an unpacked value to the map below it.
+fn end_entry(em: &mut Emitter, key: &Option<Expr>) -> Result<(), CodegenError>
+    ensures goes { Goes result (state em.new) (entry_ended (opt_expr expr_tree key.now) (state em.old)) }
     ensures same { Same result (rest em.new) (rest em.old) }
 {
-    compile_expression(em, value)?;
-    emit!(em, Instruction::DictUpdate);
+    match key {
+        Some(_) => Ok(()),
+        None => {
+            emit!(em, Instruction::DictUpdate);
+            Ok(())
+        }
+    }
+}
+
+/// Whether the first map is built behind an entry.
+fn begun_after(key: &Option<Expr>, begun: bool) -> bool
+    ensures { result ≡ begun_by begun key.now }
+{
+    if key.is_none() { true } else { begun }
+}
+
+/// How many pairs stand together behind an entry, where so many stand before it.
+fn run_after(key: &Option<Expr>, run: usize) -> usize
+    requires { run < 0xffff_ffff_ffff_ffff }
+    ensures { result ≡ pairs_by run key.now }
+{
+    if key.is_none() { 0 } else { run + 1 }
+}
+
+/// Makes a map of a run of so many pairs: the first map, or one that is added to it, where there are any.
+fn close_pairs(em: &mut Emitter, begun: bool, run: usize) -> Result<(), CodegenError>
+    ensures goes { Goes result (state em.new) (closed_pairs begun run (state em.old)) }
+    ensures same { Same result (rest em.new) (rest em.old) }
+{
+    if begun && run == 0 {
+        return Ok(());
+    }
+    em.emit_count(Instruction::BuildMap, run)?;
+    if begun {
+        emit!(em, Instruction::DictUpdate);
+    }
     Ok(())
 }
 

@@ -207,8 +207,8 @@ pub(crate) fn compile_formatted_value(
     ensures same { Same result (rest em.new) (rest em.old) }
 {
     em.set_location(e.location);
-    compile_format_spec(em, &e.format_spec)?;
     compile_expression(em, &e.value)?;
+    compile_format_spec(em, &e.format_spec)?;
     emit!(
         em,
         Instruction::FormatValue,

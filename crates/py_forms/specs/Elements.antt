@@ -30,6 +30,18 @@ module _ {B A : Type 0} where
     groups run (Single x ∷ es) = groups (run ++ x ∷ []) es
     groups run (Spread x ∷ es) = grouped run ++ x ∷ groups [] es
 
+  -- the longest run of plain elements at the front
+  abbrev pub front : List (Element B A) → List B
+  front [] = []
+  front (Single x ∷ es) = x ∷ front es
+  front (Spread x ∷ es) = []
+
+  -- what follows it
+  abbrev pub behind : List (Element B A) → List (Element B A)
+  behind [] = []
+  behind (Single x ∷ es) = behind es
+  behind (Spread x ∷ es) = Spread x ∷ es
+
 module _ {A : Type 0} where
   -- the values, starred or not
   abbrev pub bare : List (Element A A) → List A
@@ -55,25 +67,20 @@ module _ {A : Type 0} where
   after_star (Single x ∷ es) = after_star es
   after_star (Spread x ∷ es) = length es
 
-  -- keys, where there are any, with the values beside them
-  abbrev pub pairs : List (Option A) → List A → List (Option A × A)
+  -- keys with the values beside them, where a value without a key is a starred one
+  abbrev pub pairs : List (Option A) → List A → List (Element (A × A) A)
   pairs [] vs = []
   pairs (k ∷ ks) [] = []
-  pairs (k ∷ ks) (v ∷ vs) = (k, v) ∷ pairs ks vs
-
-  -- the pairs that have a key
-  abbrev pub keyed : List (Option A × A) → List (A × A)
-  keyed [] = []
-  keyed ((None, v) ∷ ps) = keyed ps
-  keyed ((Some k, v) ∷ ps) = (k, v) ∷ keyed ps
-
-  -- the values that have none
-  abbrev pub unkeyed : List (Option A × A) → List A
-  unkeyed [] = []
-  unkeyed ((None, v) ∷ ps) = v ∷ unkeyed ps
-  unkeyed ((Some k, v) ∷ ps) = unkeyed ps
+  pairs (None ∷ ks) (v ∷ vs) = Spread v ∷ pairs ks vs
+  pairs (Some k ∷ ks) (v ∷ vs) = Single (k, v) ∷ pairs ks vs
 
   -- each key and its value
   abbrev pub sides : List (A × A) → List A
   sides [] = []
   sides (p ∷ ps) = p.0 ∷ p.1 ∷ sides ps
+
+  -- keys and values in their order
+  abbrev pub flat : List (Element (A × A) A) → List A
+  flat [] = []
+  flat (Single p ∷ es) = p.0 ∷ p.1 ∷ flat es
+  flat (Spread x ∷ es) = x ∷ flat es

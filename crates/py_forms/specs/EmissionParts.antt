@@ -13,7 +13,7 @@ use Rattle.py_bytecode.specs.Objects as const
 use Rattle.py_bytecode.specs.Objects.{Const, Consts, no_consts, more_consts}
 use Rattle.py_bytecode.specs.Values.{flip}
 use Rattle.py_forms.specs.declared.errors.CodegenErrorType.TheVariants as error
-use Rattle.py_forms.specs.Elements.{Element, Single, Spread, Callee, Function, Method, starred, bare, stars, before_star, after_star, groups, keyed, unkeyed, sides}
+use Rattle.py_forms.specs.Elements.{Element, Single, Spread, Callee, Function, Method, starred, bare, stars, before_star, after_star, groups, front, behind, sides}
 use Rattle.py_forms.specs.TableParts.{unary_case, deciding, is_debug, debug_constant, any}
 use Rattle.py_forms.specs.Emitting.{Emission, ◌▸◌, begin, by_level, emit, emit_constant, emit_count, emit_name, jump, keep, move, new_block, refuse}
 
@@ -161,9 +161,13 @@ abbrev pub updates : List Emission → Emission
 updates [] = keep
 updates (v ∷ vs) = v ▸ emit op.DictUpdate 0 ▸ updates vs
 
--- the pairs that have a key come before all the others
-abbrev pub dict_value : List (Option Emission × Emission) → Emission
-dict_value ps = in_turn (sides (keyed ps)) ▸ emit_count op.BuildMap (length (keyed ps)) ▸ updates (unkeyed ps)
+-- a map of a run of keys and values
+abbrev pub map_of_pairs : List (Emission × Emission) → Emission
+map_of_pairs ps = in_turn (sides ps) ▸ emit_count op.BuildMap (length ps)
+
+-- the first run of pairs is a map, to which each later run and each map that is unpacked adds, in order
+abbrev pub dict_value : List (Element (Emission × Emission) Emission) → Emission
+dict_value es = map_of_pairs (front es) ▸ updates (groups map_of_pairs [] (behind es))
 
 -- the value, or a constant where there is none
 abbrev pub value_or : Const → Option Emission → Emission

@@ -19,7 +19,7 @@ use Rattle.py_bytecode.specs.declared.instruction.Instruction.TheVariants as op
 use Rattle.py_bytecode.specs.Objects as const
 use Rattle.py_bytecode.specs.Objects.{Const, Consts, no_consts, more_consts}
 use Rattle.py_bytecode.specs.Values.{Operation, operation, Bare, Number, Named}
-use Rattle.py_forms.specs.Elements.{Element, Single, Spread, Callee, Function, Method, starred, bare, stars, before_star, after_star, groups, keyed, unkeyed, sides}
+use Rattle.py_forms.specs.Elements.{Element, Single, Spread, Callee, Function, Method, starred, bare, stars, before_star, after_star, groups, front, behind, sides}
 use Rattle.py_forms.specs.Form.{VForm, VConst, VLoad, VOp, VShort, VChain, VAt, VForms, VNone, VMore, VMethod, Shorts, OneShort, MoreShort, Links, LastLink, MoreLink, TForm, TTruth, TNot, TAll, Tests, OneTest, MoreTest, Resolved, Target, GUnpack, Targets, NoTarget, MoreTarget}
 
 -- the number of a binary operator among the operations
@@ -217,9 +217,13 @@ abbrev pub updated : VForm → List VForm → VForm
 updated map [] = map
 updated map (f ∷ fs) = updated (VOp (operation op.DictUpdate Bare) (VMore map (VMore f VNone))) fs
 
--- the pairs that have a key come before all the others
-abbrev pub dict_form : List (Option VForm × VForm) → VForm
-dict_form ps = updated (VOp (counted op.BuildMap (length (keyed ps))) (parts_of (sides (keyed ps)))) (unkeyed ps)
+-- a map of a run of keys and values
+abbrev pub map_of_pairs : List (VForm × VForm) → VForm
+map_of_pairs ps = VOp (counted op.BuildMap (length ps)) (parts_of (sides ps))
+
+-- the first run of pairs is a map, to which each later run and each map that is unpacked adds, in order
+abbrev pub dict_form : List (Element (VForm × VForm) VForm) → VForm
+dict_form es = updated (map_of_pairs (front es)) (groups map_of_pairs [] (behind es))
 
 -- the value, or a constant where there is none
 abbrev pub value_or : Const → Option VForm → VForm

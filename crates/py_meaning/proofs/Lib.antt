@@ -5,3 +5,4 @@ mod UnbuiltSamples
 mod LoopSamples
 mod RaiseSamples
 mod WithSamples
+mod OrderSamples

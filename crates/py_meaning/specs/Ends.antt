@@ -2,7 +2,7 @@
 use Rattle.std.specs.Prelude.{ℕ, List, [], ◌∷◌, ◌++◌, Option, Some, None}
 use Rattle.py_tree.specs.Tree as tree
 use Rattle.py_base.specs.declared.location.SourceLocation.{SourceLocation}
-use Rattle.py_forms.specs.Elements.{pairs, keyed, unkeyed, sides}
+use Rattle.py_forms.specs.Elements.{pairs, flat}
 use Rattle.py_emission.specs.Texts.{texts_of}
 
 -- the last of them, or where it was before
@@ -19,10 +19,6 @@ abbrev pub parts_entered : Option (List ℕ) → List SourceLocation → List So
 parts_entered (Some text) ps = []
 parts_entered None ps = ps
 
--- the pairs that have a key come before all the others
-abbrev pub pairs_entered : List (Option SourceLocation × SourceLocation) → List SourceLocation
-pairs_entered ps = sides (keyed ps) ++ unkeyed ps
-
 abbrev mutual
   pub expr_end : tree.Expr → SourceLocation
   expr_end (tree.BoolOp at o operands) = last_of at (ends_of operands)
@@ -30,11 +26,11 @@ abbrev mutual
   expr_end (tree.BinOp at left o right) = expr_end right
   expr_end (tree.UnaryOp at o operand) = expr_end operand
   expr_end (tree.IfExp at t body orelse) = expr_end orelse
-  expr_end (tree.Dict at keys others) = last_of at (pairs_entered (pairs (opts_ends keys) (ends_of others)))
+  expr_end (tree.Dict at keys others) = last_of at (flat (pairs (opts_ends keys) (ends_of others)))
   expr_end (tree.Set at elts) = last_of at (ends_of elts)
   expr_end (tree.Compare at left ops others) = last_of (expr_end left) (ends_of others)
   expr_end (tree.Call at func args keywords) = last_of (last_of (expr_end func) (ends_of args)) (keyword_ends keywords)
-  expr_end (tree.FormattedValue at value c spec) = expr_end value
+  expr_end (tree.FormattedValue at value c spec) = last_of (expr_end value) (some_of (opt_end spec))
   expr_end (tree.JoinedStr at parts) = last_of at (parts_entered (texts_of parts) (ends_of parts))
   expr_end (tree.Constant at value) = at
   expr_end (tree.Attribute at value attr) = expr_end value

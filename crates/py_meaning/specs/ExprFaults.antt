@@ -2,7 +2,7 @@
 use Rattle.std.specs.Prelude.{ℕ, List, [], ◌∷◌, ◌++◌, Bool, not, Option, Some, None, nat_eq, if◌then◌else◌}
 use Rattle.py_tree.specs.Tree as tree
 use Rattle.py_tree.specs.PythonName.{python_name}
-use Rattle.py_forms.specs.Elements.{Element, Single, Spread, stars, pairs, keyed, unkeyed, sides}
+use Rattle.py_forms.specs.Elements.{Element, Single, Spread, stars, pairs, flat}
 use Rattle.py_forms.specs.EmissionParts.{few_aside, lone_star, no_assignment, no_deletion}
 use Rattle.py_emission.specs.Emission.{deletion_name}
 use Rattle.py_meaning.specs.Ends.{args_end, delete_end, expr_end, store_end}
@@ -83,10 +83,6 @@ abbrev pub if_any : Option (List Fault) → List Fault
 if_any None = []
 if_any (Some fs) = fs
 
--- the pairs that have a key come before all the others
-abbrev pub dict_faults : List (Option (List Fault) × List Fault) → List Fault
-dict_faults ps = in_order (sides (keyed ps)) ++ in_order (unkeyed ps)
-
 -- one text has nothing wrong
 abbrev pub joined_faults : Option (List ℕ) → List (List Fault) → List Fault
 joined_faults (Some text) fs = []
@@ -100,11 +96,11 @@ abbrev mutual
   faults_in (tree.BinOp at left o right) = either ((faults_in left).value ++ (faults_in right).value)
   faults_in (tree.UnaryOp at o operand) = either (faults_in operand).value
   faults_in (tree.IfExp at t body orelse) = either ((faults_in t).value ++ (faults_in body).value ++ (faults_in orelse).value)
-  faults_in (tree.Dict at keys others) = either (dict_faults (pairs (opts_faults keys) (values (all_faults others))))
+  faults_in (tree.Dict at keys others) = either (in_order (flat (pairs (opts_faults keys) (values (all_faults others)))))
   faults_in (tree.Set at elts) = either (in_order (elements (all_faults elts)))
   faults_in (tree.Compare at left ops others) = either ((faults_in left).value ++ in_order (values (all_faults others)))
   faults_in (tree.Call at func args keywords) = either ((faults_in func).value ++ in_order (elements (all_faults args)) ++ keyword_faults (args_end func args) keywords ++ in_order (keyword_values keywords))
-  faults_in (tree.FormattedValue at value c spec) = either (if_any (opt_faults spec) ++ (faults_in value).value)
+  faults_in (tree.FormattedValue at value c spec) = either ((faults_in value).value ++ if_any (opt_faults spec))
   faults_in (tree.JoinedStr at parts) = either (joined_faults (texts_of parts) (values (all_faults parts)))
   faults_in (tree.Constant at value) = either []
   faults_in (tree.Attribute at value attr) = either (faults_in value).value

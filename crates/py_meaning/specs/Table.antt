@@ -27,7 +27,7 @@ abbrev mutual
   expr_forms l (tree.Compare at left ops others) = tested (VAt at (compare_form (expr_forms l left).value ops (all_forms l others)))
   expr_forms l (tree.Call at func args keywords) = tested (VAt at (call_form (expr_forms l func).callee (elements (all_forms l args)) (keyword_forms l keywords)))
   expr_forms l (tree.FormattedValue at value c spec) =
-      tested (VAt at (VOp (counted op.FormatValue (conversion_case c)) (VMore (value_or (const.str []) (opt_form l spec)) (VMore (expr_forms l value).value VNone))))
+      tested (VAt at (VOp (counted op.FormatValue (conversion_case c)) (VMore (expr_forms l value).value (VMore (value_or (const.str []) (opt_form l spec)) VNone))))
   expr_forms l (tree.JoinedStr at parts) = tested (VAt at (joined_form (texts_of parts) (values (all_forms l parts))))
   expr_forms l (tree.Constant at value) = tested (VAt at (VConst (constant_of value)))
   expr_forms l (tree.Attribute at value attr) =

@@ -19,7 +19,7 @@ use Rattle.py_expr.specs.Turns.{element_behind, group_count, group_rest, groups_
 use Rattle.py_expr.proofs.+code.Answers.CallSteps.{call_goes, named_goes, plain_goes, positional_plain, tuple_plain, type_taken}
 use Rattle.py_expr.proofs.+code.Answers.MapLoops.{keyword_refused, map_alone, map_refused, maps_begin, maps_go_on, maps_joined}
 use Rattle.py_expr.proofs.+code.Answers.StoreLoops.{attribute_stored, element_stored, store_refused, stores_go_on}
-use Rattle.py_expr.proofs.+code.Answers.PairLoops.{key_refused, pairs_counted, pairs_done, pairs_go_on, update_refused, updates_done, updates_go_on, value_refused}
+use Rattle.py_expr.proofs.+code.Answers.PairLoops.{begin_refused, end_refused, entries_begin, entries_done, entries_go_on, value_refused}
 use Rattle.py_expr.proofs.Mapping.{values_at}
 use Rattle.py_expr.proofs.Groups.{display_plain, elements_at, few_groups, groups_count, groups_rest, many_values, none_more}
 use Rattle.py_expr.proofs.Otherwise.{function_callee, plain_element, truth_test}
@@ -268,29 +268,23 @@ elements::compile_groups-returns-in_err-groups-clause-goes t c =
     (c.loop-elt.invariant.1 ∙ ap (λ (es : List (Element Emission Emission)). group_rest c.loop-elt.run es (state c.loop-elt.em)) (elements_at c.args.elts.now c.loop-elt.elt-index _ c.elt-item.result c.elt-item.is c.loop-elt-test.true))
     c.in_err-groups.ensures.goes
 
-pub displays::compile_pairs-loop-i-preserved : goal.displays::compile_pairs-loop-i-preserved
-displays::compile_pairs-loop-i-preserved = pairs_go_on
+pub displays::compile_entries-loop-i-init : goal.displays::compile_entries-loop-i-init
+displays::compile_entries-loop-i-init = entries_begin
 
-pub displays::compile_pairs-returns-clause-count : goal.displays::compile_pairs-returns-clause-count
-displays::compile_pairs-returns-clause-count = pairs_counted
+pub displays::compile_entries-loop-i-preserved : goal.displays::compile_entries-loop-i-preserved
+displays::compile_entries-loop-i-preserved = entries_go_on
 
-pub displays::compile_pairs-returns-clause-goes : goal.displays::compile_pairs-returns-clause-goes
-displays::compile_pairs-returns-clause-goes = pairs_done
+pub displays::compile_entries-returns-clause-goes : goal.displays::compile_entries-returns-clause-goes
+displays::compile_entries-returns-clause-goes = entries_done
 
-pub displays::compile_pairs-returns-in_err-compile_expression-clause-goes : goal.displays::compile_pairs-returns-in_err-compile_expression-clause-goes
-displays::compile_pairs-returns-in_err-compile_expression-clause-goes = key_refused
+pub displays::compile_entries-returns-in_err-begin_entry-clause-goes : goal.displays::compile_entries-returns-in_err-begin_entry-clause-goes
+displays::compile_entries-returns-in_err-begin_entry-clause-goes = begin_refused
 
-pub displays::compile_pairs-returns-in_err-compile_expression-2-clause-goes : goal.displays::compile_pairs-returns-in_err-compile_expression-2-clause-goes
-displays::compile_pairs-returns-in_err-compile_expression-2-clause-goes = value_refused
+pub displays::compile_entries-returns-in_err-compile_expression-clause-goes : goal.displays::compile_entries-returns-in_err-compile_expression-clause-goes
+displays::compile_entries-returns-in_err-compile_expression-clause-goes = value_refused
 
-pub displays::compile_updates-loop-i-preserved : goal.displays::compile_updates-loop-i-preserved
-displays::compile_updates-loop-i-preserved = updates_go_on
-
-pub displays::compile_updates-returns-in_err-compile_update-clause-goes : goal.displays::compile_updates-returns-in_err-compile_update-clause-goes
-displays::compile_updates-returns-in_err-compile_update-clause-goes = update_refused
-
-pub displays::compile_updates-returns-clause-goes : goal.displays::compile_updates-returns-clause-goes
-displays::compile_updates-returns-clause-goes = updates_done
+pub displays::compile_entries-returns-in_err-end_entry-clause-goes : goal.displays::compile_entries-returns-in_err-end_entry-clause-goes
+displays::compile_entries-returns-in_err-end_entry-clause-goes = end_refused
 
 pub targets::compile_stores-loop-elt-preserved : goal.targets::compile_stores-loop-elt-preserved
 targets::compile_stores-loop-elt-preserved = stores_go_on

@@ -1,11 +1,12 @@
 use Rattle.std.proofs.Common.{◌≡◌, ◌≤◌, ◌+◌, ◌*◌, [], drop, length}
 use Rattle.py_bytecode.specs.declared.instruction.Instruction.TheVariants as op
 use Rattle.py_tree.specs.View.{expr_tree, exprs, keywords}
-use Rattle.py_forms.specs.Elements.{bare, groups, keyed, sides, unkeyed}
-use Rattle.py_forms.specs.EmissionParts.{map_of, values_in, built, elements, in_turn, links, shorts, tests, updates}
+use Rattle.py_forms.specs.Elements.{bare, groups}
+use Rattle.py_forms.specs.EmissionParts.{map_of, values_in, built, elements, dict_value, in_turn, links, shorts, tests}
 use Rattle.py_emission.specs.Emission.{all_emissions, all_stores, keyword_emissions, emission_of_exprs}
 use Rattle.py_emit.specs.States.{rest, state}
 use Rattle.py_expr.specs.Calling.{map_rest}
+use Rattle.py_expr.specs.Dicts.{dict_rest}
 use Rattle.py_expr.specs.Turns.{group_count, group_rest, pairs_of}
 use Rattle.py_expr.proofs.+code.Given as goal
 
@@ -30,19 +31,11 @@ invariant-elements::compile_groups-loop-elt l =
     × (length (groups (built op.BuildTuple) [] all) ≡ l.groups + group_count l.run left)
     × (l.groups + l.run ≤ l.elt-index)
 
-abbrev pub invariant-displays::compile_pairs-loop-i : goal.invariant-displays::compile_pairs-loop-i
-invariant-displays::compile_pairs-loop-i l =
-    let all = pairs_of l.keys l.values in
-    let left = pairs_of (drop l.i l.keys) (drop l.i l.values) in
+abbrev pub invariant-displays::compile_entries-loop-i : goal.invariant-displays::compile_entries-loop-i
+invariant-displays::compile_entries-loop-i l =
     (rest l.em ≡ rest l.initial.em)
-    × (in_turn (sides (keyed all)) (state l.initial.em) ≡ in_turn (sides (keyed left)) (state l.em))
-    × (length (keyed all) ≡ l.count + length (keyed left))
-    × (l.count ≤ l.i)
-
-abbrev pub invariant-displays::compile_updates-loop-i : goal.invariant-displays::compile_updates-loop-i
-invariant-displays::compile_updates-loop-i l =
-    (rest l.em ≡ rest l.initial.em)
-    × (updates (unkeyed (pairs_of l.keys l.values)) (state l.initial.em) ≡ updates (unkeyed (pairs_of (drop l.i l.keys) (drop l.i l.values))) (state l.em))
+    × (dict_value (pairs_of l.keys l.values) (state l.initial.em) ≡ dict_rest l.begun l.run (pairs_of (drop l.i l.keys) (drop l.i l.values)) (state l.em))
+    × (l.run ≤ l.i)
 
 abbrev pub decreases-expressions::compile_expression : goal.decreases-expressions::compile_expression
 decreases-expressions::compile_expression l = 8 * goal.size-expressions::compile_expression l + 0
@@ -137,11 +130,11 @@ decreases-displays::compile_display l = 8 * goal.size-displays::compile_display 
 abbrev pub decreases-displays::compile_dict : goal.decreases-displays::compile_dict
 decreases-displays::compile_dict l = 8 * goal.size-displays::compile_dict l + 7
 
-abbrev pub decreases-displays::compile_pairs : goal.decreases-displays::compile_pairs
-decreases-displays::compile_pairs l = 8 * goal.size-displays::compile_pairs l + 6
+abbrev pub decreases-displays::compile_entries : goal.decreases-displays::compile_entries
+decreases-displays::compile_entries l = 8 * goal.size-displays::compile_entries l + 6
 
-abbrev pub decreases-displays::compile_updates : goal.decreases-displays::compile_updates
-decreases-displays::compile_updates l = 8 * goal.size-displays::compile_updates l + 6
+abbrev pub decreases-displays::begin_entry : goal.decreases-displays::begin_entry
+decreases-displays::begin_entry l = 8 * goal.size-displays::begin_entry l + 1
 
 abbrev pub decreases-displays::compile_slice : goal.decreases-displays::compile_slice
 decreases-displays::compile_slice l = 8 * goal.size-displays::compile_slice l + 7
@@ -181,9 +174,6 @@ decreases-expressions::compile_attribute l = 8 * goal.size-expressions::compile_
 
 abbrev pub decreases-expressions::compile_subscript : goal.decreases-expressions::compile_subscript
 decreases-expressions::compile_subscript l = 8 * goal.size-expressions::compile_subscript l + 7
-
-abbrev pub decreases-displays::compile_update : goal.decreases-displays::compile_update
-decreases-displays::compile_update l = 8 * goal.size-displays::compile_update l + 1
 
 abbrev pub invariant-targets::compile_stores-loop-elt : goal.invariant-targets::compile_stores-loop-elt
 invariant-targets::compile_stores-loop-elt l = (rest l.em ≡ rest l.initial.em) × (in_turn (bare (all_stores (exprs expr_tree l.elts))) (state l.initial.em) ≡ in_turn (bare (all_stores (exprs expr_tree (drop l.elt-index l.elts)))) (state l.em))
