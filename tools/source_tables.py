@@ -5,8 +5,7 @@ usage: source_tables.py MODEL_FOLDER
 MODEL_FOLDER holds a Python model of the compiler (`pyc.py`) and a reader of Python sources (`py2rows.py`).
 Each source below gives one case: a line with its mode, its level and its source, and a line with its rows; in stdout
 what the model writes over the rows stands in their place.
-The levels 0, 1 and 2 follow one another in each table, unless an entry names its own. A group says whether dict displays
-and formatted values stand in Python's order in its listings, which the compiler does not follow yet.
+The levels 0, 1 and 2 follow one another in each table, unless an entry names its own.
 A source that Python's parser does not read as the tree that is wanted is a pair: what it is called, and its rows.
 The places of what stands in an f-string are those of Python before 3.12.
 """
@@ -78,7 +77,6 @@ def with_part(source, part):
 
 
 CHOICES = {
-    "python_order": False,
     "exec": {
         "BRANCHES": [
             "if a: pass",
@@ -164,7 +162,6 @@ CHOICES = {
 }
 
 DISPLAYS = {
-    "python_order": False,
     "eval": {
         "SEQUENCES": [
             "[]",
@@ -262,7 +259,6 @@ DISPLAYS = {
 }
 
 TARGETS = {
-    "python_order": False,
     "exec": {
         "ASSIGNMENTS": [
             "a = b = c",
@@ -446,7 +442,6 @@ def nested(outer, inner, last):
 
 
 CONTROL = {
-    "python_order": True,
     "exec": {
         "ITERATION": [
             *at_each("for a in b: c"),
@@ -586,7 +581,6 @@ def branch(count):
 
 
 LARGE = {
-    "python_order": True,
     "exec": {
         "DEEP": [
             rows_of("a that is called 1020 times", [["Name", 1, 1, "a"]] + [["Call", 1, 1, i, [], []] for i in range(1020)] + [["Expr", 1, 1, 1020], ["Module", [1021]]]),
@@ -600,7 +594,114 @@ LARGE = {
     },
 }
 
-GROUPS = [CHOICES, DISPLAYS, TARGETS, CONTROL, LARGE]
+# Parts of dict displays and f-strings, from left to right
+ORDER = {
+    "exec": {
+        "DICTS": [
+            "{}",
+            "{**a}",
+            "{**a, **b}",
+            "{'x': 1}",
+            "{'x': 1, 'y': 2}",
+            "{**a, 'x': 1}",
+            "{'x': 1, **a}",
+            "{'x': 1, **a, 'y': 2}",
+            "{**a, 'x': 1, **b}",
+            "{**a, 'x': 1, 'y': 2, **b, 'z': 3}",
+            "{a: b, c: d, **e, f: g, h: i, **j, **k, l: m}",
+            "{**a, **b, c: d, **e, **f}",
+            "{a: b, **c, **d, e: f}",
+            "{f(): g(), **h(), i(): j()}",
+            "{a: {b: c, **d}, **{e: f}, g: {**h, i: j}}",
+            "{**{**a, b: c}, d: {**e}}",
+            "{**a, b: {**c, d: e}, **f}",
+            "{(x := a): (y := b), **(z := c), x: y}",
+            "{a + 1: -b, **c[d], e.f: not g}",
+            "{a if b else c: d, **(e or f), g and h: i < j < k}",
+            "{a: f'{b}', **c, f'{d:>{e}}': g}",
+            "{f(**{'k': v}, __debug__=1): 2, **g(__debug__=3)}",
+            "{**f(__debug__=1), g(__debug__=2): 3}",
+            "{**(*a, *b), (*c,): d}",
+            "{**(__debug__ := a), b: (__debug__ := c)}",
+            "{a: (__debug__ := b), **c}",
+            "{__debug__: __debug__, **__debug__, 1: __debug__}",
+        ],
+        "FORMATS": [
+            "f'{a}'",
+            "f'{a:>4}'",
+            "f'{a!r}'",
+            "f'{a!s:>4}'",
+            "f'{a!a:{b}}'",
+            "f'{a:{b}{c}}'",
+            "f'{a:>{b}.{c}}'",
+            "f'{a}{b:>4}{c!r:{d}}'",
+            "f'{f():{g()}}{h():{i()}}'",
+            "f'{ {**a, b: c} :{ {d: e, **f} }}'",
+            "f'{(x := a):{(y := b)}}'",
+            "f'{a:}'",
+            "f'{a.b:{c.d}}'",
+            "f'{a[b]:{c[d]}}'",
+            "f'{a or b:{c and d}}'",
+            "f'{a if b else c:{d if e else f}}'",
+            "f'{a=}'",
+            "f'{a=:>4}'",
+            "f'a' f'{b}' 'c'",
+            "f'{f(__debug__=1):{g(__debug__=2)}}'",
+            "f'{(__debug__ := a):{(__debug__ := b)}}'",
+            "f'{[*a]:{(*b,)}}'",
+            "f'{__debug__:{__debug__}}'",
+        ],
+        "WITHIN": [
+            "x = {**a, b: c}",
+            "x = y = {b: c, **a, d: e}",
+            "x[{**a, b: c}] = {d: e, **f}",
+            "del x[{**a, 1: 2}]",
+            "f(**{**a, b: c}, d={e: g, **h})",
+            "x += {a: b, **c, d: e}",
+            "while {**a, b: c}: break",
+            "if {a: b, **c}: d",
+            "if not {**a, b: c}: d",
+            "assert {**a, b: c}, {d: e, **f}",
+            "raise {**a, b: c} from {d: e, **f}",
+            "for x in {**a, b: c}: y",
+            "with {**a, b: c} as d: e",
+            "x: {**a, b: c} = {d: e, **f}",
+            "x = f'{a:{b}}'",
+            "f(f'{a:{b}}', *c, d=f'{e:{g}}')",
+            "while f'{a:{b}}': c",
+            "assert f'{a:{b}}', f'{c:{d}}'",
+            "raise f'{a:{b}}' from f'{c:{d}}'",
+        ],
+    },
+}
+
+# What the scopes of a tree refuse, before what the compiler refuses
+SCOPES = {
+    "exec": {
+        "DECLARATIONS": [
+            "def f(x): global x",
+            "def f(x): nonlocal x",
+            "def f():\n x\n global x",
+            "def f():\n x = 1\n global x",
+            "def f():\n x: int = 1\n global x",
+            "x\nglobal x",
+            "x = 1\nglobal x",
+            "nonlocal x",
+            "def f(): nonlocal x",
+            "global x\nnonlocal x",
+            "break\ndef f(x): global x",
+        ],
+        "WALRUSES": [
+            "[y := 0 for y in z]",
+            "[x for x in (y := z)]",
+            "[[j := 0 for i in a] for j in b]",
+            "class A: [x := 0 for y in z]",
+            "[x for y in z if (y := x)]",
+        ],
+    },
+}
+
+GROUPS = [CHOICES, DISPLAYS, TARGETS, CONTROL, ORDER, SCOPES, LARGE]
 
 
 def escaped(source):
@@ -608,7 +709,7 @@ def escaped(source):
     return source.replace("\\", "\\\\").replace("\n", "\\n")
 
 
-def case(source, mode, level, python_order):
+def case(source, mode, level):
     """The head of a case, its rows, and the model's answer."""
     if isinstance(source, At):
         source, level = source.source, source.level
@@ -616,7 +717,7 @@ def case(source, mode, level, python_order):
         source, rows = source
     else:
         rows = rows_text(source, mode)
-    status, out, err, _ = pyc.run([mode, level, "m.py"], rows.encode(), python_order)
+    status, out, err, _ = pyc.run([mode, level, "m.py"], rows.encode(), True)
     assert status in (0, 1), (source, err)
     return f"{mode} {level} {escaped(source)}", rows, out if status == 0 else err
 
@@ -627,7 +728,7 @@ def cases(groups):
         for mode in ("exec", "eval"):
             for sources in group.get(mode, {}).values():
                 for i, source in enumerate(sources):
-                    yield case(source, mode, "012"[i % 3], group["python_order"])
+                    yield case(source, mode, "012"[i % 3])
 
 
 def write(crate, answered):

@@ -1,5 +1,5 @@
 -- The first fault of a tree.
-use Rattle.std.proofs.Common.{◌≡◌, ℕ, ◌<◌, ◌≤◌, ◌^◌, List, [], ◌∷◌, ◌++◌, Bool, true, false, Some, None, refl, sym, ap, ◌∙◌, append_assoc, rules}
+use Rattle.std.proofs.Common.{◌≡◌, ℕ, ◌<◌, ◌≤◌, ◌^◌, List, [], ◌∷◌, ◌++◌, Bool, true, false, Some, None, inl, inr, refl, sym, ap, ◌∙◌, append_assoc, rules}
 use Rattle.std.specs.Prelude.{nat_lt, if◌then◌else◌}
 use Rattle.py_tree.specs.Tree as tree
 use Rattle.py_limits.specs.Nesting.{nesting}
@@ -9,13 +9,14 @@ use Rattle.py_base.specs.declared.location.LocatedError.{LocatedError}
 use Rattle.py_tree.specs.declared.modules.Mode.{Mode}
 use Rattle.py_base.specs.declared.shapes.Malformed.{Malformed}
 use Rattle.py_bytecode.specs.declared.code.CodeObject.{CodeObject}
-use Rattle.py_forms.specs.Emitting.{Outcome, Done, TooWide, Refused}
+use Rattle.py_steps.specs.Emitting.{Outcome, Done, TooWide, Refused}
 use Rattle.py_meaning.specs.EmissionStmts.{emitted}
 use Rattle.py_meaning.specs.ExprFaults.{Fault}
 use Rattle.py_meaning.specs.Faults.{faults, whole, too_deep, too_large, malformed, compile_faults}
 use Rattle.py_forms.specs.declared.errors.CodegenErrorType.{CodegenErrorType}
 use Rattle.py_forms.specs.declared.errors.CodegenErrorType.TheVariants as error
-use Rattle.codegen.specs.Compiled.{IsFirst, IsRefused}
+use Rattle.py_meaning.specs.Scanned.{scan_faults, scopes_of}
+use Rattle.codegen.specs.Compiled.{IsFirst, IsScanned, around_tree}
 use Rattle.py_emit.specs.Emitted.{IsEmitted}
 use Rattle.py_agree.proofs.Ending.{refusal_heads, done_faultless}
 
@@ -39,9 +40,12 @@ passed : (b : Bool) (f : Fault) (rest : List Fault) → b ≡ true → (if b the
 passed true f rest e = refl
 passed false f rest e = absurd cc
 
--- what comes after nesting, and after size
+-- what comes after shapes, after size, and after nesting
+abbrev scanned : (level : ℕ) → tree.Mod → List Fault
+scanned l t = scan_faults t ++ compile_faults l t
+
 abbrev shaped : (level : ℕ) → tree.Mod → Mode → List Fault
-shaped l t m = malformed (shapes t m) ++ compile_faults l t
+shaped l t m = malformed (shapes t m) ++ scanned l t
 
 abbrev sized : (level : ℕ) → tree.Mod → Mode → List Fault
 sized l t m = whole too_large (2 ^ 22) (size_of t) ++ shaped l t m
@@ -50,7 +54,8 @@ in_turn : (t : tree.Mod) (m : Mode) (l : ℕ) → faults t m l ≡ whole too_dee
 in_turn t m l =
     let deep = whole too_deep (2 ^ 10) (nesting t) in
     let large = whole too_large (2 ^ 22) (size_of t) in
-    append_assoc (deep ++ large) (malformed (shapes t m)) (compile_faults l t) ∙ append_assoc deep large (shaped l t m)
+    let wrong = malformed (shapes t m) in
+    append_assoc (deep ++ large ++ wrong) (scan_faults t) (compile_faults l t) ∙ append_assoc (deep ++ large) wrong (scanned l t) ∙ append_assoc deep large (shaped l t m)
 
 not_deep : (t : tree.Mod) (m : Mode) (l : ℕ) → nesting t < 1024 → faults t m l ≡ sized l t m
 not_deep t m l d = in_turn t m l ∙ passed (nat_lt (nesting t) (2 ^ 10)) too_deep (sized l t m) (search (rules, d))
@@ -77,25 +82,30 @@ no_shapes (m ∷ ms) e = absurd cc
 
 pub malformed_first : (e : LocatedError CodegenErrorType) (t : tree.Mod) (m : Mode) (l : ℕ) (shape : Malformed) → e.error ≡ error.MalformedTree shape → e.location ≡ None → nesting t < 1024 → size_of t < 4194304 → first (shapes t m) ≡ Some shape → IsFirst e (faults t m l)
 malformed_first e t m l shape p q d z h =
-    let r = shape_heads (shapes t m) shape (compile_faults l t) h in
+    let r = shape_heads (shapes t m) shape (scanned l t) h in
     first_as e (shape_fault shape) (faults t m l) p q (r.0, not_large t m l d z ∙ r.1)
 
--- where no shape is wrong, what is left are the faults of the nodes that are compiled
-compiled : (t : tree.Mod) (m : Mode) (l : ℕ) → nesting t < 1024 → size_of t < 4194304 → shapes t m ≡ [] → faults t m l ≡ compile_faults l t
-compiled t m l d z h = not_large t m l d z ∙ ap (λ ms. malformed ms ++ compile_faults l t) h
+-- where no shape is wrong, what is left are the faults of names and scopes, and of the nodes that are compiled
+compiled : (t : tree.Mod) (m : Mode) (l : ℕ) → nesting t < 1024 → size_of t < 4194304 → shapes t m ≡ [] → faults t m l ≡ scanned l t
+compiled t m l d z h = not_large t m l d z ∙ ap (λ ms. malformed ms ++ scanned l t) h
 
-pub refused_first : (e : LocatedError CodegenErrorType) (t : tree.Mod) (m : Mode) (l : ℕ) → nesting t < 1024 → size_of t < 4194304 → first (shapes t m) ≡ None → IsRefused e (emitted t l) → IsFirst e (faults t m l)
-refused_first e t m l d z n h known =
+-- the first of what the scan refuses, or of the nodes that are compiled
+pub refused_first : (e : LocatedError CodegenErrorType) (t : tree.Mod) (m : Mode) (l : ℕ) (path : List ℕ) → nesting t < 1024 → size_of t < 4194304 → first (shapes t m) ≡ None → IsScanned e t (around_tree t path l) → IsFirst e (faults t m l)
+refused_first e t m l path d z n (inl h) known =
     let none = no_shapes (shapes t m) n in
-    let f = refusal_heads t m l e.error e.location none (h known) in
-    (f.0, compiled t m l d z none ∙ f.1)
+    let f = h known in
+    (f.0 ++ compile_faults l t, compiled t m l d z none ∙ ap (λ fs. fs ++ compile_faults l t) f.1)
+refused_first e t m l path d z n (inr h) known =
+    let none = no_shapes (shapes t m) n in
+    let f = refusal_heads t m l path (scopes_of t) e.error e.location none (h.1 known) in
+    (f.0, compiled t m l d z none ∙ ap (λ fs. fs ++ compile_faults l t) h.0 ∙ f.1)
 
-emitted_faultless : (code : CodeObject) (path : List ℕ) (t : tree.Mod) (m : Mode) (l : ℕ) (o : Outcome) → emitted t l ≡ o → shapes t m ≡ [] → IsEmitted code path l o → compile_faults l t ≡ []
-emitted_faultless code path t m l (Done r) e h is = done_faultless t m l r h e
+emitted_faultless : (code : CodeObject) (path : List ℕ) (t : tree.Mod) (m : Mode) (l : ℕ) (o : Outcome) → emitted t (around_tree t path l) ≡ o → shapes t m ≡ [] → IsEmitted code (around_tree t path l) o → compile_faults l t ≡ []
+emitted_faultless code path t m l (Done r) e h is = done_faultless t m l path (scopes_of t) r h e
 emitted_faultless code path t m l TooWide e h is = absurd is
 emitted_faultless code path t m l (Refused r at) e h is = absurd is
 
-pub emitted_clean : (code : CodeObject) (path : List ℕ) (t : tree.Mod) (m : Mode) (l : ℕ) → nesting t < 1024 → size_of t < 4194304 → first (shapes t m) ≡ None → IsEmitted code path l (emitted t l) → faults t m l ≡ []
-emitted_clean code path t m l d z n is =
+pub emitted_clean : (code : CodeObject) (path : List ℕ) (t : tree.Mod) (m : Mode) (l : ℕ) → nesting t < 1024 → size_of t < 4194304 → first (shapes t m) ≡ None → scan_faults t ≡ [] → IsEmitted code (around_tree t path l) (emitted t (around_tree t path l)) → faults t m l ≡ []
+emitted_clean code path t m l d z n clean is =
     let none = no_shapes (shapes t m) n in
-    compiled t m l d z none ∙ emitted_faultless code path t m l (emitted t l) refl none is
+    compiled t m l d z none ∙ (λ i. clean i ++ emitted_faultless code path t m l (emitted t (around_tree t path l)) refl none is i)

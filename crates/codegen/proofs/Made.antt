@@ -1,12 +1,14 @@
 -- The code object of an emitter that emitted a tree.
-use Rattle.std.proofs.Common.{◌≡◌, ◌<◌, ◌^◌, ℕ, List, Result, sym, ap, ◌∙◌, subst}
+use Rattle.std.proofs.Common.{◌≡◌, ◌<◌, ◌^◌, ℕ, List, Result, refl, sym, ap, ◌∙◌, subst}
 use Rattle.py_tree.specs.Tree as tree
 use Rattle.py_limits.specs.Size.{size_of}
 use Rattle.py_tree.specs.declared.modules.Mode.TheVariants.{Exec}
 use Rattle.py_base.specs.declared.location.LocatedError.{LocatedError}
 use Rattle.py_bytecode.specs.declared.code.CodeObject.{CodeObject}
 use Rattle.py_ir.specs.Final.{IsFinal}
-use Rattle.py_forms.specs.Emitting.{Done, State, nothing}
+use Rattle.py_scope.specs.declared.flat.ScopeEntry.{ScopeEntry}
+use Rattle.py_steps.specs.Context.{Context, outermost}
+use Rattle.py_steps.specs.Emitting.{Done, State, nothing}
 use Rattle.py_meaning.specs.EmissionStmts.{emission_of_mod, emitted}
 use Rattle.py_forms.specs.declared.errors.CodegenErrorType.{CodegenErrorType}
 use Rattle.py_emit.specs.Emitted.{IsEmitted, Holds}
@@ -14,23 +16,31 @@ use Rattle.py_emit.specs.States.{Goes, IsUnrefused, Rest, first_rest, info, rest
 use Rattle.py_emit.specs.declared.context.CompileOpts.{CompileOpts}
 use Rattle.py_emit.specs.declared.emitter.Emitter.{Emitter}
 use Rattle.py_emit.proofs.States.{info_holds}
-use Rattle.py_agree.proofs.NeverRefused.{never_refused}
+use Rattle.py_agree.proofs.Ending.{level_is}
+use Rattle.py_agree.proofs.NeverRefused.{IsCelled, never_refused}
 
 -- an emitter before anything is emitted, and one that emitted a tree
-module _ (t : tree.Mod) (opts : CompileOpts) (path : List ℕ) (first : Emitter) (s : state first ≡ nothing opts.optimize) (r : rest first ≡ first_rest opts path) where
-  pub goes_first : {A : Type 0} (x : Result A (LocatedError CodegenErrorType)) (after : State) → Goes x after (emission_of_mod t (state first)) → Goes x after (emitted t opts.optimize)
+module _ (t : tree.Mod) (opts : CompileOpts) (path : List ℕ) (scopes : List ScopeEntry) (first : Emitter) (s : state first ≡ nothing (outermost opts.optimize path scopes)) (r : rest first ≡ first_rest opts path scopes) where
+  abbrev around : Context
+  around = outermost opts.optimize path scopes
+
+  pub goes_first : {A : Type 0} (x : Result A (LocatedError CodegenErrorType)) (after : State) → Goes x after (emission_of_mod t (state first)) → Goes x after (emitted t around)
   goes_first x after h = subst (λ q. Goes x after (emission_of_mod t q)) s h
 
-  module _ (last : Emitter) (same : rest last ≡ rest first) (is : emitted t opts.optimize ≡ Done (state last)) where
-    level_is : (rest last).opts.optimize ≡ opts.optimize
-    level_is = ap (λ (q : Rest). q.opts.optimize) (same ∙ r)
+  module _ (last : Emitter) (same : rest last ≡ rest first) (is : emitted t around ≡ Done (state last)) where
+    level_same : (rest last).opts.optimize ≡ opts.optimize
+    level_same = ap (λ (q : Rest). q.opts.optimize) (same ∙ r)
+
+    celled : IsCelled (rest last).head (state last)
+    unfolding rest
+    celled = record { cellvars = refl; freevars = refl }
 
     pub unrefused_mod : size_of t < 2 ^ 22 → IsUnrefused (rest last).opts.optimize (info last)
-    unrefused_mod small = subst (λ l. IsUnrefused l (info last)) (sym level_is) (never_refused t Exec opts.optimize (state last) (info last) (rest last).head is small (info_holds last))
+    unrefused_mod small = subst (λ l. IsUnrefused l (info last)) (sym level_same) (never_refused t Exec opts.optimize path scopes (state last) (info last) (rest last).head is small celled (info_holds last))
 
-    pub made_mod : (code : CodeObject) → IsFinal (rest last).opts.optimize (info last) code → IsEmitted code path opts.optimize (emitted t opts.optimize)
-    made_mod code f = subst (IsEmitted code path opts.optimize) (sym is) (record {
+    pub made_mod : (code : CodeObject) → IsFinal (rest last).opts.optimize (info last) code → IsEmitted code around (emitted t around)
+    made_mod code f = subst (IsEmitted code around) (sym is) (record {
       info = info last;
       holds = subst (λ (q : Rest). Holds (info last) q.head (state last)) (same ∙ r) (info_holds last);
-      final = subst (λ l. IsFinal l (info last) code) level_is f;
+      final = subst (λ l. IsFinal l (info last) code) (level_same ∙ sym (level_is opts.optimize path scopes)) f;
     })

@@ -1,5 +1,14 @@
 -- What a compile call answers.
-use Rattle.std.specs.Prelude.{◌≡◌, ◌≢◌, ℕ, ◌≤◌, List, [], ◌∷◌, length, None}
+use Rattle.std.specs.Prelude.{◌≡◌, ◌≢◌, ◌⊎◌, ℕ, ◌≤◌, List, [], ◌∷◌, length, None, Result, Ok, Err}
+use Rattle.py_tree.specs.Tree as tree
+use Rattle.py_scope.specs.Flat.{flat_table}
+use Rattle.py_scope.specs.declared.error.ScanFault.TheVariants as fault
+use Rattle.py_scope.specs.declared.error.SymbolTableError.{SymbolTableError}
+use Rattle.py_scope.specs.declared.table.SymbolTable.{SymbolTable}
+use Rattle.symboltable.specs.Errors.{codegen_error}
+use Rattle.py_steps.specs.Context.{Context, outermost}
+use Rattle.py_meaning.specs.EmissionStmts.{emitted}
+use Rattle.py_meaning.specs.Scanned.{scan_faults, scopes_of}
 use Rattle.py_bytecode.specs.Objects.{Object, head}
 use Rattle.py_bytecode.specs.Values.{Answer}
 use Rattle.py_bytecode.specs.Machine.{Config, At, Over, steps, start}
@@ -7,7 +16,7 @@ use Rattle.py_bytecode.specs.Decode.{tables}
 use Rattle.py_bytecode.specs.Units.{fetch_unit, machine}
 use Rattle.py_forms.specs.Laws.{IsEnd}
 use Rattle.py_meaning.specs.ExprFaults.{Fault}
-use Rattle.py_forms.specs.Emitting.{Outcome, Refused}
+use Rattle.py_steps.specs.Emitting.{Outcome, Refused}
 use Rattle.py_forms.specs.declared.errors.CodegenErrorType.{CodegenErrorType}
 use Rattle.py_forms.specs.declared.errors.CodegenErrorType.TheVariants as error
 use Rattle.py_base.specs.declared.location.LocatedError.{LocatedError}
@@ -30,6 +39,19 @@ AlwaysEnds o = (answers : List Answer) → IsEnd (machine o answers).outcome
 abbrev pub IsFirst : LocatedError CodegenErrorType → List Fault → Type 0
 IsFirst e fs = e.error ≢ error.OutOfMemory → (rest : List Fault) × (fs ≡ record { error = e.error; location = e.location } ∷ rest)
 
+-- what stands around a tree: its scopes are those that its scan resolves
+abbrev pub around_tree : tree.Mod → (source : List ℕ) → (level : ℕ) → Context
+around_tree t source level = outermost level source (scopes_of t)
+
 -- the emission is refused so, unless the error says that there was no memory
 abbrev pub IsRefused : LocatedError CodegenErrorType → Outcome → Type 0
 IsRefused e o = e.error ≢ error.OutOfMemory → o ≡ Refused e.error e.location
+
+-- the error is the first of what the scan refuses; or it refuses nothing, and the emission is refused so
+abbrev pub IsScanned : LocatedError CodegenErrorType → tree.Mod → Context → Type 0
+IsScanned e t c = IsFirst e (scan_faults t) ⊎ ((scan_faults t ≡ []) × IsRefused e (emitted t c))
+
+-- the table is that of the tree's scopes, or the error is the first of what the scan refuses
+abbrev pub IsScan : tree.Mod → Result SymbolTable SymbolTableError → Type 0
+IsScan t (Ok table) = (scopes_of t ≡ flat_table table 0) × (scan_faults t ≡ [])
+IsScan t (Err e) = e.error ≢ fault.OutOfMemory → (rest : List Fault) × (scan_faults t ≡ record { error = codegen_error e.error; location = e.location } ∷ rest)

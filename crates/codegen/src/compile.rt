@@ -5,10 +5,12 @@ ghost use Rattle.py_limits.specs.Size.{size_of};
 ghost use Rattle.py_tree.specs.View.{mod_tree};
 ghost use Rattle.py_bytecode.specs.View.{object};
 ghost use Rattle.py_forms.specs.Agreement.{Agree, AgreeFull};
+ghost use Rattle.py_steps.specs.Context.{outermost};
 ghost use Rattle.py_meaning.specs.EmissionStmts.{emission_of_mod, emitted, unbuilt_tree};
 ghost use Rattle.py_meaning.specs.Faults.{faults};
 ghost use Rattle.py_meaning.specs.Meaning.{body};
-ghost use Rattle.codegen.specs.Compiled.{AlwaysEnds, IsFirst, IsRefused, NoHigher};
+ghost use Rattle.py_meaning.specs.Scanned.{scan_faults, scopes_of};
+ghost use Rattle.codegen.specs.Compiled.{AlwaysEnds, IsFirst, IsRefused, IsScan, IsScanned, NoHigher, around_tree};
 ghost use Rattle.py_emit.specs.Emitted.{IsEmitted};
 ghost use Rattle.py_emit.specs.States.{AreMade, Goes, Same, rest, state};
 
@@ -19,9 +21,12 @@ use py_emit::Emitter;
 use py_expr::compile_return;
 use py_forms::{CodegenError, CodegenErrorType};
 use py_limits::{depth_of_tree, size_of_tree};
+use py_scope::{FlatScopes, SymbolTable, SymbolTableError};
 use py_shapes::valid;
+use py_tables::{scan_body, scan_value};
 use py_tree::{LocatedError, Mod, Mode, Text, TreeLimit};
 use std::alloc::Global;
+use symboltable::into_codegen_error;
 
 /// The nesting that no accepted tree reaches.
 pub const NESTING_LIMIT: u32 = 1024;
@@ -40,9 +45,9 @@ pub fn compile_top(
     mode: Mode,
     opts: CompileOpts,
 ) -> Result<CodeObject, CodegenError>
-    ensures agrees { IfOk result (λ code. Agree (object code) (body (mod_tree ast.now) mode opts.optimize)) }
-    ensures agrees_full { IfOk result (λ code. AgreeFull (object code) (body (mod_tree ast.now) mode opts.optimize)) }
-    ensures emission { IfOk result (λ code. IsEmitted code source_path opts.optimize (emitted (mod_tree ast.now) opts.optimize)) }
+    ensures agrees { IfOk result (λ code. Agree (object code) (body (scopes_of (mod_tree ast.now)) (mod_tree ast.now) mode opts.optimize)) }
+    ensures agrees_full { IfOk result (λ code. AgreeFull (object code) (body (scopes_of (mod_tree ast.now)) (mod_tree ast.now) mode opts.optimize)) }
+    ensures emission { IfOk result (λ code. IsEmitted code (around_tree (mod_tree ast.now) source_path opts.optimize) (emitted (mod_tree ast.now) (around_tree (mod_tree ast.now) source_path opts.optimize))) }
     ensures ends { IfOk result (λ code. AlwaysEnds (object code)) }
     ensures depth { IfOk result (λ code. NoHigher (object code)) }
     ensures named { IfOk result (λ code. code.source_path ≡ source_path) }
@@ -59,7 +64,7 @@ pub fn compile_top(
     }
     match valid(ast, mode) {
         Some(shape) => Err(refused(CodegenErrorType::MalformedTree(shape), source_path)),
-        None => compile_mod(alloc, ast, source_path, opts),
+        None => compile_valid(alloc, ast, source_path, opts),
     }
 }
 
@@ -76,19 +81,73 @@ fn refused(error: CodegenErrorType, source_path: Text) -> CodegenError
     }
 }
 
-/// The code of a tree whose nesting, size and shapes are right.
-fn compile_mod(
+/// The code of a tree whose nesting, size and shapes are right: its scopes come first.
+fn compile_valid(
     alloc: Global,
     ast: &Mod,
     source_path: Text,
     opts: CompileOpts,
 ) -> Result<CodeObject, CodegenError>
     requires { size_of (mod_tree ast.now) < 2 ^ 22 }
-    ensures emission { IfOk result (λ code. IsEmitted code source_path opts.optimize (emitted (mod_tree ast.now) opts.optimize)) }
-    ensures refused { IfErr result (λ e. IsRefused e (emitted (mod_tree ast.now) opts.optimize)) }
+    ensures emission { IfOk result (λ code. IsEmitted code (around_tree (mod_tree ast.now) source_path opts.optimize) (emitted (mod_tree ast.now) (around_tree (mod_tree ast.now) source_path opts.optimize))) }
+    ensures clean { OnOk result (scan_faults (mod_tree ast.now) ≡ []) }
+    ensures first { IfErr result (λ e. IsScanned e (mod_tree ast.now) (around_tree (mod_tree ast.now) source_path opts.optimize)) }
     ensures path { IfErr result (λ e. e.source_path ≡ source_path) }
 {
-    let mut em = Emitter::new(alloc, opts, source_path)?;
+    match ast {
+        Mod::Module(m) => {
+            let table = scan_body(alloc, &m.body);
+            compile_scanned(alloc, ast, source_path, opts, table)
+        }
+        Mod::Expression(m) => {
+            let table = scan_value(alloc, &m.body);
+            compile_scanned(alloc, ast, source_path, opts, table)
+        }
+        Mod::Interactive(_) | Mod::FunctionType(_) => {
+            Err(refused(CodegenErrorType::NotImplementedYet, source_path))
+        }
+    }
+}
+
+/// The code of a tree whose scopes were met, or why they are refused.
+fn compile_scanned(
+    alloc: Global,
+    ast: &Mod,
+    source_path: Text,
+    opts: CompileOpts,
+    table: Result<SymbolTable, SymbolTableError>,
+) -> Result<CodeObject, CodegenError>
+    requires size { size_of (mod_tree ast.now) < 2 ^ 22 }
+    requires scanned { IsScan (mod_tree ast.now) table }
+    ensures emission { IfOk result (λ code. IsEmitted code (around_tree (mod_tree ast.now) source_path opts.optimize) (emitted (mod_tree ast.now) (around_tree (mod_tree ast.now) source_path opts.optimize))) }
+    ensures clean { OnOk result (scan_faults (mod_tree ast.now) ≡ []) }
+    ensures first { IfErr result (λ e. IsScanned e (mod_tree ast.now) (around_tree (mod_tree ast.now) source_path opts.optimize)) }
+    ensures path { IfErr result (λ e. e.source_path ≡ source_path) }
+{
+    let table = match table {
+        Ok(table) => table,
+        Err(error) => return Err(into_codegen_error(error, source_path)),
+    };
+    match FlatScopes::from_table(alloc, table) {
+        Ok(scopes) => compile_mod(alloc, ast, source_path, opts, scopes),
+        Err(_) => Err(refused(CodegenErrorType::OutOfMemory, source_path)),
+    }
+}
+
+/// The code of a tree with these scopes.
+fn compile_mod(
+    alloc: Global,
+    ast: &Mod,
+    source_path: Text,
+    opts: CompileOpts,
+    scopes: FlatScopes,
+) -> Result<CodeObject, CodegenError>
+    requires { size_of (mod_tree ast.now) < 2 ^ 22 }
+    ensures emission { IfOk result (λ code. IsEmitted code (outermost opts.optimize source_path scopes) (emitted (mod_tree ast.now) (outermost opts.optimize source_path scopes))) }
+    ensures refused { IfErr result (λ e. IsRefused e (emitted (mod_tree ast.now) (outermost opts.optimize source_path scopes))) }
+    ensures path { IfErr result (λ e. e.source_path ≡ source_path) }
+{
+    let mut em = Emitter::new(alloc, opts, source_path, scopes)?;
     emit_mod(&mut em, ast)?;
     em.finish()
 }

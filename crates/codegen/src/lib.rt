@@ -7,3 +7,4 @@ mod program;
 
 pub use compile::CompileOpts;
 pub use py_stmt::{find_ann, split_doc};
+pub use symboltable;

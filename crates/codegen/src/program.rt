@@ -1,7 +1,7 @@
 //! The code of a file.
 ghost use Rattle.std.specs.Prelude.{◌≡◌, ◌≤◌, drop, length, IfOk};
 ghost use Rattle.py_tree.specs.View.{stmt_tree, stmts};
-ghost use Rattle.py_forms.specs.Emitting.{◌▸◌, by_level, emit_constant};
+ghost use Rattle.py_steps.specs.Emitting.{◌▸◌, by_level, emit_constant};
 ghost use Rattle.py_meaning.specs.EmissionStmts.{emission_of_doc, emission_of_program, emission_of_setup, emission_of_stmts};
 ghost use Rattle.py_bytecode.specs.Objects.{none};
 ghost use Rattle.py_emission.specs.Texts.{after_doc, doc_of};
@@ -37,7 +37,7 @@ fn emit_rest(em: &mut Emitter, body: &[Stmt]) -> Result<(), CodegenError>
 }
 
 /// Emits what stores the docstring, where one is kept. Answers the place at which the other statements begin.
-#[tactic(auto, unfolding(py_forms::specs::Emitting::by_level, py_emit::specs::States::rest))]
+#[tactic(auto, unfolding(py_steps::specs::Emitting::by_level, py_emit::specs::States::rest))]
 fn emit_doc(em: &mut Emitter, body: &Stmts) -> Result<usize, CodegenError>
     ensures goes { Goes result (state em.new) (by_level (λ l. emission_of_doc (doc_of l (stmts stmt_tree body.now))) (state em.old)) }
     ensures from { IfOk result (λ from. stmts stmt_tree (drop from body.now) ≡ after_doc (stmts stmt_tree body.now)) }

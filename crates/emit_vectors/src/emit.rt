@@ -1,16 +1,28 @@
 //! Calls of an emitter, one after the other.
 
 use crate::fixtures::{at, text};
+use py_base::List;
 use py_bytecode::{ConstantData, Instruction, OpArg};
 use py_emit::{CompileOpts, Emitter};
 use py_forms::CodegenErrorType;
 use py_ir::BlockIdx;
+use py_scope::{FlatScopes, SymbolTable, SymbolTableType, Symbols};
 use std::alloc::Global;
 use std::process::Abort;
 use std::test::Fail;
 
+/// An emitter of a module without names.
 fn emitter(alloc: Global) -> Result<Emitter, Fail> {
-    Ok(Emitter::new(alloc, CompileOpts::default(), text(alloc, "m.py")?)?)
+    let table = SymbolTable {
+        name: text(alloc, "top")?,
+        typ: SymbolTableType::Module,
+        line_number: 0,
+        is_nested: false,
+        symbols: Symbols::new(alloc),
+        sub_tables: List::new(alloc),
+    };
+    let scopes = FlatScopes::from_table(alloc, table)?;
+    Ok(Emitter::new(alloc, CompileOpts::default(), text(alloc, "m.py")?, scopes)?)
 }
 
 /// Takes the last instruction out, which is this one, with no target, at this column.
@@ -57,7 +69,7 @@ fn another_value_is_returned_after_it(rt: HostRuntime) -> Result<(), Fail> {
 fn debug_is_no_name_of_its_own(rt: HostRuntime) -> Result<(), Fail> {
     let mut em = emitter(rt.alloc())?;
     em.set_location(at(1, 7));
-    let Err(error) = em.varname("__debug__") else {
+    let Err(error) = em.add_parameter("__debug__") else {
         panic!(rt; "a name");
     };
     assert_eq!(rt; error.location, Some(at(1, 7)));

@@ -7,12 +7,19 @@ use Rattle.py_bytecode.specs.Machine.{Instr}
 use Rattle.py_bytecode.specs.Decode.{Tables, instr_of}
 use Rattle.py_walks.specs.Flat.{is_jump}
 use Rattle.py_forms.specs.Code.{Item, Do, Label}
-use Rattle.py_forms.specs.Emitting.{Step, Put, Begin, State, with_step}
+use Rattle.py_steps.specs.Emitting.{Step, Put, Begin, Around, State, with_step}
 
--- tables that begin with those of a state
+-- cells come first, and then free names
+abbrev pub cells_of : Around → List (List ℕ)
+cells_of a = a.context.cells ++ a.context.frees
+
+-- tables that begin with those of a state, with the cells of its scope
 pub record Begins (s : State) (t : Tables) : Type 0 where
   pub names : List (List ℕ)
   pub names_are : t.names ≡ s.names ++ names
+  pub varnames : List (List ℕ)
+  pub varnames_are : t.varnames ≡ s.varnames ++ varnames
+  pub cells_are : t.cells ≡ cells_of s.around
   pub constants : List Const
   pub constants_are : t.constants ≡ s.constants ++ constants
 
@@ -84,6 +91,8 @@ codes_join (const.code o ∷ xs) ys = ap (λ l. o ∷ l) (codes_join xs ys)
 pub record Adds (s s1 : State) (is : List (Item Object)) (m : ℕ) : Type 0 where
   pub names : List (List ℕ)
   pub names_are : s1.names ≡ s.names ++ names
+  pub varnames : List (List ℕ)
+  pub varnames_are : s1.varnames ≡ s.varnames ++ varnames
   pub constants : List Const
   pub constants_are : s1.constants ≡ s.constants ++ constants
   pub no_codes : codes_in constants ≡ []
@@ -92,21 +101,26 @@ pub record Adds (s s1 : State) (is : List (Item Object)) (m : ℕ) : Type 0 wher
   pub steps_are : s1.steps ≡ s.steps ++ steps
   pub reads : (t : Tables) → Begins s1 t → AllRead t steps is
   pub inside : AllInside s1.blocks steps
-  pub context_are : s1.context ≡ s.context
+  pub around_are : s1.around ≡ s.around
 
 -- tables that begin with the second begin with the first
 pub begins_before : (s s1 : State) (is : List (Item Object)) (m : ℕ) (t : Tables) → Adds s s1 is m → Begins s1 t → Begins s t
 begins_before s s1 is m t a b = record {
   names = a.names ++ b.names;
   names_are = b.names_are ∙ ap (λ x. x ++ b.names) a.names_are ∙ append_assoc s.names a.names b.names;
+  varnames = a.varnames ++ b.varnames;
+  varnames_are = b.varnames_are ∙ ap (λ x. x ++ b.varnames) a.varnames_are ∙ append_assoc s.varnames a.varnames b.varnames;
   constants = a.constants ++ b.constants;
   constants_are = b.constants_are ∙ ap (λ x. x ++ b.constants) a.constants_are ∙ append_assoc s.constants a.constants b.constants;
+  cells_are = b.cells_are ∙ ap cells_of a.around_are;
 }
 
 pub adds_join : (s s1 s2 : State) (is js : List (Item Object)) (m n : ℕ) → Adds s s1 is m → Adds s1 s2 js n → Adds s s2 (is ++ js) (m + n)
 adds_join s s1 s2 is js m n a b = record {
   names = a.names ++ b.names;
   names_are = b.names_are ∙ ap (λ x. x ++ b.names) a.names_are ∙ append_assoc s.names a.names b.names;
+  varnames = a.varnames ++ b.varnames;
+  varnames_are = b.varnames_are ∙ ap (λ x. x ++ b.varnames) a.varnames_are ∙ append_assoc s.varnames a.varnames b.varnames;
   constants = a.constants ++ b.constants;
   constants_are = b.constants_are ∙ ap (λ x. x ++ b.constants) a.constants_are ∙ append_assoc s.constants a.constants b.constants;
   no_codes = codes_join a.constants b.constants ∙ ap (λ x. x ++ codes_in b.constants) a.no_codes ∙ b.no_codes;
@@ -115,13 +129,15 @@ adds_join s s1 s2 is js m n a b = record {
   steps_are = b.steps_are ∙ ap (λ x. x ++ b.steps) a.steps_are ∙ append_assoc s.steps a.steps b.steps;
   reads = λ t h. read_join t a.steps b.steps is js (a.reads t (begins_before s1 s2 js n t b h)) (b.reads t h);
   inside = inside_join s2.blocks a.steps b.steps (all_inside_more a.steps s1.blocks s2.blocks (let q = b.blocks_are in omega arith) a.inside) b.inside;
-  context_are = b.context_are ∙ a.context_are;
+  around_are = b.around_are ∙ a.around_are;
 }
 
 pub adds_nothing : (s : State) → Adds s s [] 0
 adds_nothing s = record {
   names = [];
   names_are = sym (append-nil s.names);
+  varnames = [];
+  varnames_are = sym (append-nil s.varnames);
   constants = [];
   constants_are = sym (append-nil s.constants);
   no_codes = refl;
@@ -130,8 +146,13 @@ adds_nothing s = record {
   steps_are = sym (append-nil s.steps);
   reads = λ t b. tt;
   inside = tt;
-  context_are = refl;
+  around_are = refl;
 }
+
+-- another step makes no difference to the tables
+begins_same : (x : Step) (s : State) (t : Tables) → Begins (with_step x s) t → Begins s t
+unfolding with_step
+begins_same x s t b = record { names = b.names; names_are = b.names_are; varnames = b.varnames; varnames_are = b.varnames_are; constants = b.constants; constants_are = b.constants_are; cells_are = b.cells_are }
 
 -- one step
 pub adds_step : (x : Step) (s : State) (i : Item Object) → ((t : Tables) → Begins s t → StepReads t x i) → Inside s.blocks x → Adds s (with_step x s) (i ∷ []) 0
@@ -139,15 +160,17 @@ unfolding with_step
 adds_step x s i r n = record {
   names = [];
   names_are = sym (append-nil s.names);
+  varnames = [];
+  varnames_are = sym (append-nil s.varnames);
   constants = [];
   constants_are = sym (append-nil s.constants);
   no_codes = refl;
   blocks_are = omega arith;
   steps = x ∷ [];
   steps_are = refl;
-  reads = λ t b. (r t (record { names = b.names; names_are = b.names_are; constants = b.constants; constants_are = b.constants_are }), tt);
+  reads = λ t b. (r t (begins_same x s t b), tt);
   inside = (n, tt);
-  context_are = refl;
+  around_are = refl;
 }
 
 pub adds_as : (s r : State) (is js : List (Item Object)) (m n : ℕ) → is ≡ js → m ≡ n → Adds s r is m → Adds s r js n

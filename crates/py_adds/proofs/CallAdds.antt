@@ -8,12 +8,13 @@ use Rattle.py_bytecode.specs.Objects.{Object}
 use Rattle.py_bytecode.specs.Machine.{Operate}
 use Rattle.py_forms.specs.Form.{Interp, VForm, VForms, VConst, VMore, VMethod}
 use Rattle.py_forms.specs.Code.{count as form_count}
-use Rattle.py_forms.specs.Elements.{Element, Single, Spread, Callee, Function, Method, starred, bare, groups}
-use Rattle.py_forms.specs.TableParts as table
-use Rattle.py_forms.specs.TableParts.{parts_of, counted, any}
-use Rattle.py_forms.specs.EmissionParts as emitting
-use Rattle.py_forms.specs.Emitting.{Context, Emission, ◌▸◌, emit_constant, emit_count, emit_name}
-use Rattle.py_forms.specs.EmissionParts.{in_turn, checked, packed_tuple, no_assignment, emission_of_call}
+use Rattle.py_steps.specs.Elements.{Element, Single, Spread, Callee, Function, Method, starred, bare, groups}
+use Rattle.py_steps.specs.TableParts as table
+use Rattle.py_steps.specs.TableParts.{parts_of, counted, any}
+use Rattle.py_steps.specs.EmissionParts as emitting
+use Rattle.py_steps.specs.Emitting.{Around, Emission, ◌▸◌, emit_constant, emit_count, emit_mangled}
+use Rattle.py_steps.specs.Context.{mangled}
+use Rattle.py_steps.specs.EmissionParts.{in_turn, checked, packed_tuple, no_assignment, emission_of_call}
 use Rattle.py_adds.proofs.Emitting.{Yields, after_these, keep_yields, regroup, regroup_late, ungroup}
 use Rattle.py_adds.proofs.Pairwise.{Pairwise, Alike, AlikeElement, same_length, same_starred, bare_alike, bare_length, groups_alike}
 use Rattle.py_adds.proofs.Steps.{StepAdds}
@@ -22,14 +23,14 @@ use Rattle.py_adds.proofs.FormAdds.{ValueAdds, PartsAdd, CalleeAdds, AllValuesAd
 use Rattle.py_adds.proofs.DisplayAdds.{builds_as, built_adds, groups_add}
 
 -- a keyword has the same name, and its value is added
-abbrev pub NamedAdds : Interp Object → Context → List ℕ × Emission → List ℕ × VForm → Type 0
+abbrev pub NamedAdds : Interp Object → Around → List ℕ × Emission → List ℕ × VForm → Type 0
 NamedAdds i c p q = (p.0 ≡ q.0) × ValueAdds i c p.1 q.1
 
-abbrev pub KeywordsAdd : Interp Object → Context → emitting.Keywords → table.Keywords → Type 0
+abbrev pub KeywordsAdd : Interp Object → Around → emitting.Keywords → table.Keywords → Type 0
 KeywordsAdd i c = Alike (NamedAdds i c) (ValueAdds i c)
 
 -- the check of keywords emits nothing
-checked_yields : {c : Context} {n : ℕ} (ks : emitting.Keywords) → Yields c n (checked ks) [] 0
+checked_yields : {c : Around} {n : ℕ} (ks : emitting.Keywords) → Yields c n (checked ks) [] 0
 checked_yields [] = keep_yields
 checked_yields (Single p ∷ ks) = after_these (unless_debug_gives no_assignment p.0 keep_yields) (checked_yields ks)
 checked_yields (Spread v ∷ ks) = checked_yields ks
@@ -63,7 +64,7 @@ as_many_values [] = refl
 as_many_values (Single p ∷ ks) = ap suc (as_many_values ks)
 as_many_values (Spread f ∷ ks) = ap suc (as_many_values ks)
 
-module _ (i : Interp Object) (c : Context) where
+module _ (i : Interp Object) (c : Around) where
   text_adds : (x y : List ℕ) → x ≡ y → ValueAdds i c (emit_constant op.LoadConst (const.str x)) (VConst (const.str y))
   text_adds x y e = subst (λ z. ValueAdds i c (emit_constant op.LoadConst (const.str x)) (VConst (const.str z))) e (constant_adds (const.str x) refl c)
 
@@ -83,7 +84,7 @@ module _ (i : Interp Object) (c : Context) where
       let n = length ps in
       let m = length qs in
       let step : StepAdds (emit_count op.BuildMap n) (Operate (counted op.BuildMap m) (2 * m) (Some 1)) = subst (λ z. StepAdds (emit_count op.BuildMap n) (Operate (counted op.BuildMap z) (2 * z) (Some 1))) (same_length (NamedAdds i c) ps qs a) (map_adds n) in
-      operation_adds i c (counted op.BuildMap m) (in_turn (emitting.name_values ps)) (emit_count op.BuildMap n) (parts_of (table.name_values qs)) (names_add ps qs a) (subst (λ z. StepAdds (emit_count op.BuildMap n) (Operate (counted op.BuildMap m) z (Some 1))) (two_for_each qs) step)
+      operation_adds i c (counted op.BuildMap m) (in_turn (emitting.name_values ps)) (emit_count op.BuildMap n) (parts_of (table.name_values qs)) (names_add ps qs a) (subst (λ z. StepAdds (emit_count op.BuildMap n) (Operate (counted op.BuildMap m) z (Some 1))) (two_for_each qs) step c)
 
   joined_map_adds : (vs : List Emission) (fs : List VForm) → AllValuesAdd i c vs fs → PartsAdd i c (emitting.joined_map vs) (table.joined_map fs)
   joined_map_adds [] [] a = no_parts i c
@@ -100,7 +101,7 @@ module _ (i : Interp Object) (c : Context) where
   -- values, and what is built of them once the keywords are checked
   checked_adds : (x : Instruction) → Builds x → (ks : emitting.Keywords) (vs : List Emission) (fs : List VForm) (n : ℕ) → n ≡ length fs → AllValuesAdd i c vs fs → ValueAdds i c (in_turn vs ▸ checked ks ▸ emit_count x n) (table.built x fs)
   checked_adds x builds ks vs fs n e a =
-      operation_adds i c (counted x (length fs)) (in_turn vs) (checked ks ▸ emit_count x n) (parts_of fs) (values_add i c vs fs a) (λ z k. after_these (checked_yields ks) (builds_as x builds n fs e z k))
+      operation_adds i c (counted x (length fs)) (in_turn vs) (checked ks ▸ emit_count x n) (parts_of fs) (values_add i c vs fs a) (λ k. after_these (checked_yields ks) (builds_as x builds n fs e c k))
 
   packed_adds : (es : List (Element Emission Emission)) (fs : List (Element VForm VForm)) (ks : emitting.Keywords) (js : table.Keywords) → AllElementsAdd i c es fs → KeywordsAdd i c ks js → PartsAdd i c (emitting.packed es ks) (table.packed fs js)
   packed_adds es fs ks js a b =
@@ -120,14 +121,15 @@ module _ (i : Interp Object) (c : Context) where
   call_by_adds : (d : Callee Emission) (g : Callee VForm) (function method : Instruction) (args : Emission) (fs : VForms) (n m : ℕ) → n ≡ m → CalleeAdds i c d g → PartsAdd i c args fs → StepAdds (emit_count function n) (Operate (counted function n) (suc (form_count fs)) (Some 1)) → StepAdds (emit_count method n) (Operate (counted method n) (3 + form_count fs) (Some 1)) → ValueAdds i c (emitting.call_by d function method args n) (table.call_by g (counted function m) (counted method m) fs)
   call_by_adds (Function v) (Function f) function method args fs n m e h a p q =
       subst (λ z. ValueAdds i c (emitting.call_by (Function v) function method args n) (table.call_by (Function f) (counted function z) (counted method z) fs)) e (λ k.
-      regroup v args (emit_count function n) (operation_adds i c (counted function n) (v ▸ args) (emit_count function n) (VMore f fs) (more_parts i c v args f fs h a) p k))
+      regroup v args (emit_count function n) (operation_adds i c (counted function n) (v ▸ args) (emit_count function n) (VMore f fs) (more_parts i c v args f fs h a) (p c) k))
   call_by_adds (Function v) (Method name f) function method args fs n m e h a p q = absurd h
   call_by_adds (Method name v) (Function f) function method args fs n m e h a p q = absurd h
   call_by_adds (Method name v) (Method same f) function method args fs n m e h a p q =
-      let load : Emission = emit_name op.LoadMethod name in
+      let load : Emission = emit_mangled op.LoadMethod name in
+      let called : List ℕ = mangled c.context name in
       subst (λ z. ValueAdds i c (emitting.call_by (Method name v) function method args n) (table.call_by (Method z f) (counted function m) (counted method m) fs)) h.0
-      (subst (λ z. ValueAdds i c (emitting.call_by (Method name v) function method args n) (table.call_by (Method name f) (counted function z) (counted method z) fs)) e (λ k.
-      regroup_late v load args (emit_count method n) (operation_adds i c (counted method n) (v ▸ load ▸ args) (emit_count method n) (VMethod (table.named op.LoadMethod name) f fs) (method_parts i c name v args f fs h.1 a) q k)))
+      (subst (λ z. ValueAdds i c (emitting.call_by (Method name v) function method args n) (table.call_by (Method called f) (counted function z) (counted method z) fs)) e (λ k.
+      regroup_late v load args (emit_count method n) (operation_adds i c (counted method n) (v ▸ load ▸ args) (emit_count method n) (VMethod (table.named op.LoadMethod called) f fs) (method_parts i c name v args f fs h.1 a) (q c) k)))
 
   same_any : (ks : emitting.Keywords) (js : table.Keywords) → KeywordsAdd i c ks js → any ks ≡ any js
   same_any [] [] a = refl

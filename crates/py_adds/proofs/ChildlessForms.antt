@@ -14,8 +14,8 @@ use Rattle.py_bytecode.specs.Objects.{Const}
 use Rattle.py_bytecode.specs.Values.{Operation}
 use Rattle.py_forms.specs.Form.{VForm, VForms, VConst, TForm, TTruth, Target}
 use Rattle.py_forms.specs.Agree.{AllOf, kids_g, kids_gs, kids_v, kids_vs, kids_ss, kids_ls, kids_t, kids_ts}
-use Rattle.py_forms.specs.Elements.{Element, Single, Spread, Callee, Function, Method, starred, bare, grouped, groups, front, behind, pairs, sides}
-use Rattle.py_forms.specs.TableParts.{Keywords, name_values, map_of, joined_map, names_in, values_in, packed, placed, targets_of, unpacked_to, TargetForms, plain_target, ExprForms, ordinary, tested, values, elements, parts_of, built, unpacked, display, call_by, call_form, updated, map_of_pairs, dict_form, value_or, slice_form, joined_form, shorts_of, part_test, whole_test, tests_of, bool_forms, unary_test, unary_forms, links_of, compare_form}
+use Rattle.py_steps.specs.Elements.{Element, Single, Spread, Callee, Function, Method, starred, bare, grouped, groups, front, behind, pairs, sides}
+use Rattle.py_steps.specs.TableParts.{Keywords, name_values, map_of, joined_map, names_in, values_in, packed, placed, targets_of, unpacked_to, TargetForms, plain_target, ExprForms, ordinary, tested, values, elements, parts_of, built, unpacked, display, call_by, call_form, updated, map_of_pairs, dict_form, value_or, slice_form, joined_form, shorts_of, part_test, whole_test, tests_of, bool_forms, unary_test, unary_forms, links_of, compare_form}
 
 -- a value within which no scope stands
 abbrev pub Bare : VForm → Type 0

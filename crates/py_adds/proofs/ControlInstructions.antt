@@ -3,7 +3,7 @@ use Rattle.std.proofs.Common.{ℕ, List, Some, None, refl}
 use Rattle.py_bytecode.specs.declared.instruction.Instruction.TheVariants as op
 use Rattle.py_bytecode.specs.Values.{Global, Load, operation, Bare, Number, match_exception}
 use Rattle.py_bytecode.specs.Machine.{Access, Operate, ForIter, SetupExcept, SetupFinally, SetupWith, PopException, EnterFinally, EndFinally, WithCleanupStart, WithCleanupFinish, Reraise}
-use Rattle.py_forms.specs.Emitting.{emit, emit_name, jump}
+use Rattle.py_steps.specs.Emitting.{emit, emit_name, jump}
 use Rattle.py_adds.proofs.Steps.{StepAdds, emit_adds, jump_adds}
 use Rattle.py_adds.proofs.Instructions.{JumpAdds, named_adds}
 

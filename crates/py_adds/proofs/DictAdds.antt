@@ -7,12 +7,12 @@ use Rattle.py_bytecode.specs.Values.{operation, Bare}
 use Rattle.py_bytecode.specs.Machine.{Operate}
 use Rattle.py_forms.specs.Form.{Interp, VForm, VOp, VMore, VNone}
 use Rattle.py_forms.specs.Code.{count as form_count}
-use Rattle.py_forms.specs.Elements.{Element, groups, front, behind, pairs, sides}
-use Rattle.py_forms.specs.TableParts as table
-use Rattle.py_forms.specs.TableParts.{parts_of, counted, updated, dict_form, slice_form, joined_form}
-use Rattle.py_forms.specs.EmissionParts as emitting
-use Rattle.py_forms.specs.Emitting.{Context, Emission, ◌▸◌, emit, emit_count}
-use Rattle.py_forms.specs.EmissionParts.{in_turn, updates, dict_value, slice_value, joined_value}
+use Rattle.py_steps.specs.Elements.{Element, groups, front, behind, pairs, sides}
+use Rattle.py_steps.specs.TableParts as table
+use Rattle.py_steps.specs.TableParts.{parts_of, counted, updated, dict_form, slice_form, joined_form}
+use Rattle.py_steps.specs.EmissionParts as emitting
+use Rattle.py_steps.specs.Emitting.{Around, Emission, ◌▸◌, emit, emit_count}
+use Rattle.py_steps.specs.EmissionParts.{in_turn, updates, dict_value, slice_value, joined_value}
 use Rattle.py_adds.proofs.Emitting.{regroup_late, then_keep}
 use Rattle.py_adds.proofs.Pairwise.{Pairwise, Alike, same_length, front_alike, behind_alike, groups_alike}
 use Rattle.py_adds.proofs.Steps.{StepAdds, emit_adds}
@@ -20,7 +20,7 @@ use Rattle.py_adds.proofs.Instructions.{map_adds, string_builds, constant_adds}
 use Rattle.py_adds.proofs.FormAdds.{ValueAdds, OptionAdds, AllValuesAdd, AllOptionsAdd, value_or_adds, more_parts, two_parts, values_add, operation_adds, two_add}
 use Rattle.py_adds.proofs.DisplayAdds.{built_adds}
 
-module _ (i : Interp Object) (c : Context) where
+module _ (i : Interp Object) (c : Around) where
   -- a key and its value
   abbrev PairAdds : Emission × Emission → VForm × VForm → Type 0
   PairAdds p q = ValueAdds i c p.0 q.0 × ValueAdds i c p.1 q.1
@@ -59,14 +59,14 @@ module _ (i : Interp Object) (c : Context) where
   updates_add v f (w ∷ ws) (g ∷ gs) h a n =
       let step : Emission = emit op.DictUpdate 0 in
       regroup_late v w step (updates ws) (updates_add (v ▸ w ▸ step) (VOp (operation op.DictUpdate Bare) (VMore f (VMore g VNone))) ws gs
-      (two_add i c (operation op.DictUpdate Bare) v w step f g h a.0 (emit_adds op.DictUpdate 0 (Operate (operation op.DictUpdate Bare) 2 (Some 1)) (λ t. refl))) a.1 n)
+      (two_add i c (operation op.DictUpdate Bare) v w step f g h a.0 (emit_adds op.DictUpdate 0 (Operate (operation op.DictUpdate Bare) 2 (Some 1)) (λ t. refl) c)) a.1 n)
 
   dict_map_adds : (ps : List (Emission × Emission)) (qs : List (VForm × VForm)) → Pairwise PairAdds ps qs → ValueAdds i c (emitting.map_of_pairs ps) (table.map_of_pairs qs)
   dict_map_adds ps qs a =
       let n = length ps in
       let m = length qs in
       let step : StepAdds (emit_count op.BuildMap n) (Operate (counted op.BuildMap m) (2 * m) (Some 1)) = subst (λ z. StepAdds (emit_count op.BuildMap n) (Operate (counted op.BuildMap z) (2 * z) (Some 1))) (same_length PairAdds ps qs a) (map_adds n) in
-      operation_adds i c (counted op.BuildMap m) (in_turn (sides ps)) (emit_count op.BuildMap n) (parts_of (sides qs)) (values_add i c (sides ps) (sides qs) (sides_add ps qs a)) (subst (λ z. StepAdds (emit_count op.BuildMap n) (Operate (counted op.BuildMap m) z (Some 1))) (two_sides qs) step)
+      operation_adds i c (counted op.BuildMap m) (in_turn (sides ps)) (emit_count op.BuildMap n) (parts_of (sides qs)) (values_add i c (sides ps) (sides qs) (sides_add ps qs a)) (subst (λ z. StepAdds (emit_count op.BuildMap n) (Operate (counted op.BuildMap m) z (Some 1))) (two_sides qs) step c)
 
   pub dict_adds : (es : List (Element (Emission × Emission) Emission)) (fs : List (Element (VForm × VForm) VForm)) → EntriesAdd es fs → ValueAdds i c (dict_value es) (dict_form fs)
   dict_adds es fs a =
@@ -77,7 +77,7 @@ module _ (i : Interp Object) (c : Context) where
   pub slice_adds : (lower upper step : Option Emission) (f g h : Option VForm) → OptionAdds i c lower f → OptionAdds i c upper g → OptionAdds i c step h → ValueAdds i c (slice_value lower upper step) (slice_form f g h)
   slice_adds lower upper None f g None x y z =
       two_add i c (counted op.BuildSlice 0) (emitting.value_or const.none lower) (emitting.value_or const.none upper) (emit op.BuildSlice 0) (table.value_or const.none f) (table.value_or const.none g) (value_or_adds i c const.none refl lower f x) (value_or_adds i c const.none refl upper g y)
-      (emit_adds op.BuildSlice 0 (Operate (counted op.BuildSlice 0) 2 (Some 1)) (λ t. refl))
+      (emit_adds op.BuildSlice 0 (Operate (counted op.BuildSlice 0) 2 (Some 1)) (λ t. refl) c)
   slice_adds lower upper None f g (Some h) x y z = absurd z
   slice_adds lower upper (Some w) f g None x y z = absurd z
   slice_adds lower upper (Some w) f g (Some h) x y z = λ n.
@@ -87,7 +87,7 @@ module _ (i : Interp Object) (c : Context) where
       let second = table.value_or const.none g in
       regroup_late v u w (emit op.BuildSlice 1) (operation_adds i c (counted op.BuildSlice 1) (v ▸ u ▸ w) (emit op.BuildSlice 1) (VMore first (VMore second (VMore h VNone)))
       (more_parts i c v (u ▸ w) first (VMore second (VMore h VNone)) (value_or_adds i c const.none refl lower f x) (two_parts i c u w second h (value_or_adds i c const.none refl upper g y) z))
-      (emit_adds op.BuildSlice 1 (Operate (counted op.BuildSlice 1) 3 (Some 1)) (λ t. refl)) n)
+      (emit_adds op.BuildSlice 1 (Operate (counted op.BuildSlice 1) 3 (Some 1)) (λ t. refl) c) n)
 
   pub joined_adds : (text : Option (List ℕ)) (vs : List Emission) (fs : List VForm) → AllValuesAdd i c vs fs → ValueAdds i c (joined_value text vs) (joined_form text fs)
   joined_adds (Some text) vs fs a = constant_adds (const.str text) refl c

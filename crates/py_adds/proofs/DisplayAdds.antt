@@ -6,12 +6,12 @@ use Rattle.py_bytecode.specs.Objects.{Object}
 use Rattle.py_bytecode.specs.Machine.{Operate}
 use Rattle.py_forms.specs.Form.{Interp, VForm}
 use Rattle.py_forms.specs.Code.{count as form_count}
-use Rattle.py_forms.specs.Elements.{Element, starred, bare, groups}
-use Rattle.py_forms.specs.TableParts as table
-use Rattle.py_forms.specs.TableParts.{parts_of, counted}
-use Rattle.py_forms.specs.EmissionParts as emitting
-use Rattle.py_forms.specs.Emitting.{Context, Emission, emit_count}
-use Rattle.py_forms.specs.EmissionParts.{in_turn}
+use Rattle.py_steps.specs.Elements.{Element, starred, bare, groups}
+use Rattle.py_steps.specs.TableParts as table
+use Rattle.py_steps.specs.TableParts.{parts_of, counted}
+use Rattle.py_steps.specs.EmissionParts as emitting
+use Rattle.py_steps.specs.Emitting.{Around, Emission, emit_count}
+use Rattle.py_steps.specs.EmissionParts.{in_turn}
 use Rattle.py_adds.proofs.Pairwise.{same_length, same_starred, bare_alike, groups_alike}
 use Rattle.py_adds.proofs.Steps.{StepAdds}
 use Rattle.py_adds.proofs.Instructions.{Builds, tuple_builds}
@@ -23,11 +23,11 @@ builds_as x builds n fs few =
     let step : StepAdds (emit_count x n) (Operate (counted x (length fs)) (length fs) (Some 1)) = subst (λ m. StepAdds (emit_count x n) (Operate (counted x m) m (Some 1))) few (builds n) in
     subst (λ m. StepAdds (emit_count x n) (Operate (counted x (length fs)) m (Some 1))) (sym (as_many fs)) step
 
-module _ (i : Interp Object) (c : Context) where
+module _ (i : Interp Object) (c : Around) where
   -- values, and what is built of them
   pub built_adds : (x : Instruction) → Builds x → (vs : List Emission) (fs : List VForm) → AllValuesAdd i c vs fs → ValueAdds i c (emitting.built x vs) (table.built x fs)
   built_adds x builds vs fs a =
-      operation_adds i c (counted x (length fs)) (in_turn vs) (emit_count x (length vs)) (parts_of fs) (values_add i c vs fs a) (builds_as x builds (length vs) fs (same_length (ValueAdds i c) vs fs a))
+      operation_adds i c (counted x (length fs)) (in_turn vs) (emit_count x (length vs)) (parts_of fs) (values_add i c vs fs a) (builds_as x builds (length vs) fs (same_length (ValueAdds i c) vs fs a) c)
 
   -- a tuple of each run of plain elements, and the starred values
   pub groups_add : (es : List (Element Emission Emission)) (fs : List (Element VForm VForm)) → AllElementsAdd i c es fs → AllValuesAdd i c (groups (emitting.built op.BuildTuple) [] es) (groups (table.built op.BuildTuple) [] fs)

@@ -9,20 +9,22 @@ use Rattle.py_bytecode.specs.Machine.{Operate}
 use Rattle.py_bytecode.specs.Decode.{value_of}
 use Rattle.py_forms.specs.Form.{Interp, VForm, VForms, VOp, VMore, VMethod, VNone, TForm}
 use Rattle.py_forms.specs.Code.{Item, count as form_count, labels_v, labels_vs, labels_t, code_v, code_vs, code_t}
-use Rattle.py_forms.specs.Elements.{Element, Callee, Function, Method}
-use Rattle.py_forms.specs.TableParts as table
-use Rattle.py_forms.specs.TableParts.{ExprForms, parts_of, is_debug}
+use Rattle.py_steps.specs.Elements.{Element, Callee, Function, Method}
+use Rattle.py_steps.specs.Context.{mangled}
+use Rattle.py_steps.specs.TableParts as table
+use Rattle.py_steps.specs.TableParts.{ExprForms, parts_of, is_debug}
 use Rattle.py_forms.specs.declared.errors.CodegenErrorType.TheVariants as error
-use Rattle.py_forms.specs.EmissionParts as emitting
-use Rattle.py_forms.specs.Emitting.{Context, Emission, ◌▸◌, emit_name, keep, move, refuse}
-use Rattle.py_forms.specs.EmissionParts.{Emissions, unless_debug, in_turn}
+use Rattle.py_steps.specs.EmissionParts as emitting
+use Rattle.py_steps.specs.Emitting.{Around, Emission, ◌▸◌, emit_mangled, keep, move, refuse}
+use Rattle.py_steps.specs.EmissionParts.{Emissions, unless_debug, in_turn}
 use Rattle.py_adds.proofs.Emitting.{Gives, Yields, after_these, gives_as, keep_yields, moved_gives, refused_gives, regroup, then_these, then_yields}
 use Rattle.py_adds.proofs.Pairwise.{Pairwise, AlikeElement}
-use Rattle.py_adds.proofs.Steps.{StepAdds}
+use Rattle.py_adds.proofs.Steps.{StepHere}
 use Rattle.py_adds.proofs.Instructions.{constant_adds, method_adds, testing_adds}
+use Rattle.py_adds.proofs.AccessAdds.{mangled_adds}
 
 -- a change is refused, or adds what it adds
-pub unless_debug_gives : {c : Context} {n : ℕ} {v : Emission} {p : List (Item Object)} {m : ℕ} {P : Type 0} (text name : List ℕ) → Gives c n v p m P → Gives c n (unless_debug text name v) p m P
+pub unless_debug_gives : {c : Around} {n : ℕ} {v : Emission} {p : List (Item Object)} {m : ℕ} {P : Type 0} (text name : List ℕ) → Gives c n v p m P → Gives c n (unless_debug text name v) p m P
 unless_debug_gives {c = c} {n = n} {v = v} {p = p} {m = m} {P = P} text name h = go (is_debug name)
   where
     go : (b : Bool) → Gives c n (if b then refuse (error.SyntaxError text) else v) p m P
@@ -34,7 +36,7 @@ pub as_many : (fs : List VForm) → form_count (parts_of fs) ≡ length fs
 as_many [] = refl
 as_many (f ∷ fs) = ap suc (as_many fs)
 
-module _ (i : Interp Object) (c : Context) where
+module _ (i : Interp Object) (c : Around) where
   -- a value is added
   abbrev pub ValueAdds : Emission → VForm → Type 0
   ValueAdds v f = (n : ℕ) → Yields c n v (code_v i f n) (labels_v f)
@@ -54,7 +56,7 @@ module _ (i : Interp Object) (c : Context) where
   CalleeAdds (Function v) (Function f) = ValueAdds v f
   CalleeAdds (Function v) (Method name f) = ⊥
   CalleeAdds (Method name v) (Function f) = ⊥
-  CalleeAdds (Method name v) (Method same f) = (name ≡ same) × ValueAdds v f
+  CalleeAdds (Method name v) (Method same f) = (mangled c.context name ≡ same) × ValueAdds v f
 
   abbrev pub OptionAdds : Option Emission → Option VForm → Type 0
   OptionAdds None None = Unit {0}
@@ -121,8 +123,8 @@ module _ (i : Interp Object) (c : Context) where
   two_parts v w f g h j = more_parts v w f (VMore g VNone) h (one_part w g j)
 
   -- a method of a value
-  pub method_parts : (name : List ℕ) (v p : Emission) (f : VForm) (fs : VForms) → ValueAdds v f → PartsAdd p fs → PartsAdd (v ▸ emit_name op.LoadMethod name ▸ p) (VMethod (table.named op.LoadMethod name) f fs)
-  method_parts name v p f fs h a n = then_yields (h n) (after_these (method_adds name c (n + labels_v f)) (a (n + labels_v f)))
+  pub method_parts : (name : List ℕ) (v p : Emission) (f : VForm) (fs : VForms) → ValueAdds v f → PartsAdd p fs → PartsAdd (v ▸ emit_mangled op.LoadMethod name ▸ p) (VMethod (table.named op.LoadMethod (mangled c.context name)) f fs)
+  method_parts name v p f fs h a n = then_yields (h n) (after_these (mangled_adds op.LoadMethod name (λ y. Operate (table.named op.LoadMethod y) 1 (Some 3)) method_adds c (n + labels_v f)) (a (n + labels_v f)))
 
   pub values_add : (vs : List Emission) (fs : List VForm) → AllValuesAdd vs fs → PartsAdd (in_turn vs) (parts_of fs)
   values_add [] [] a = no_parts
@@ -131,13 +133,13 @@ module _ (i : Interp Object) (c : Context) where
   values_add (v ∷ vs) (f ∷ fs) a = more_parts v (in_turn vs) f (parts_of fs) a.0 (values_add vs fs a.1)
 
   -- parts, and an operation on them
-  pub operation_adds : (x : Operation) (p step : Emission) (fs : VForms) → PartsAdd p fs → StepAdds step (Operate x (form_count fs) (Some 1)) → ValueAdds (p ▸ step) (VOp x fs)
-  operation_adds x p step fs a h n = then_these (a n) (h c (n + labels_vs fs))
+  pub operation_adds : (x : Operation) (p step : Emission) (fs : VForms) → PartsAdd p fs → StepHere c step (Operate x (form_count fs) (Some 1)) → ValueAdds (p ▸ step) (VOp x fs)
+  operation_adds x p step fs a h n = then_these (a n) (h (n + labels_vs fs))
 
-  pub one_adds : (x : Operation) (v step : Emission) (f : VForm) → ValueAdds v f → StepAdds step (Operate x 1 (Some 1)) → ValueAdds (v ▸ step) (VOp x (VMore f VNone))
+  pub one_adds : (x : Operation) (v step : Emission) (f : VForm) → ValueAdds v f → StepHere c step (Operate x 1 (Some 1)) → ValueAdds (v ▸ step) (VOp x (VMore f VNone))
   one_adds x v step f h = operation_adds x v step (VMore f VNone) (one_part v f h)
 
-  pub two_add : (x : Operation) (v w step : Emission) (f g : VForm) → ValueAdds v f → ValueAdds w g → StepAdds step (Operate x 2 (Some 1)) → ValueAdds (v ▸ w ▸ step) (VOp x (VMore f (VMore g VNone)))
+  pub two_add : (x : Operation) (v w step : Emission) (f g : VForm) → ValueAdds v f → ValueAdds w g → StepHere c step (Operate x 2 (Some 1)) → ValueAdds (v ▸ w ▸ step) (VOp x (VMore f (VMore g VNone)))
   two_add x v w step f g h j k n = regroup v w step (operation_adds x (v ▸ w) step (VMore f (VMore g VNone)) (two_parts v w f g h j) k n)
 
   -- the values and the elements of expressions

@@ -19,9 +19,9 @@ use Rattle.py_bytecode.specs.Machine.{Instr, Push, Access, Operate, Unpack, Pop,
 use Rattle.py_bytecode.specs.Decode.{Tables, instr_of, value_of, for_some, within}
 use Rattle.py_bytecode.proofs.Entered.{entered_stands, constant_stands}
 use Rattle.py_forms.specs.Code.{Do}
-use Rattle.py_forms.specs.TableParts.{binary, binary_case, inplace, unary_operation, unary_case, conversion_case, comparison_operation, counted, named}
-use Rattle.py_forms.specs.Emitting.{Context, Emission, emit, emit_count, emit_name, emit_constant, jump, place_in, with_name, with_constant}
-use Rattle.py_forms.specs.EmissionParts.{keeping_jump, testing_jump, emission_of_comparison}
+use Rattle.py_steps.specs.TableParts.{binary, binary_case, inplace, unary_operation, unary_case, conversion_case, comparison_operation, counted, named}
+use Rattle.py_steps.specs.Emitting.{Around, Emission, emit, emit_count, emit_name, emit_constant, jump, place_in, with_name, with_constant}
+use Rattle.py_steps.specs.EmissionParts.{keeping_jump, testing_jump, emission_of_comparison}
 use Rattle.py_adds.proofs.Emitting.{Yields, yields}
 use Rattle.py_adds.proofs.Steps.{StepAdds, adds_constant, adds_named, emit_adds, emit_step, entry_stays, fits_if, jump_adds}
 use Rattle.py_adds.proofs.Texts.{text_eq_sound}
@@ -233,7 +233,7 @@ return_adds d v = subst (λ w. StepAdds (emit_constant op.ReturnConst d) (Return
 
 -- jumps
 abbrev pub JumpAdds : (ℕ → Emission) → (ℕ → Instr Object ℕ) → Type 0
-JumpAdds v x = (b : ℕ) (c : Context) (n : ℕ) → b < n → Yields c n (v b) (Do (x b) ∷ []) 0
+JumpAdds v x = (b : ℕ) (c : Around) (n : ℕ) → b < n → Yields c n (v b) (Do (x b) ∷ []) 0
 
 pub testing_adds : (t : Bool) → JumpAdds (jump (testing_jump t)) (JumpIf t)
 testing_adds true b = jump_adds op.JumpIfTrue b (JumpIf true b) refl (λ t. refl)

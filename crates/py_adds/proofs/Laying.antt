@@ -11,7 +11,7 @@ use Rattle.py_ir.specs.Chain.{Blk, blk, block_number, coded_item, coded_block, c
 use Rattle.py_forms.specs.Code.{Item, Do, Label}
 use Rattle.py_forms.specs.Blocks as blocks
 use Rattle.py_forms.specs.Blocks.{IsItem, Laid, Ends}
-use Rattle.py_forms.specs.Emitting.{Step}
+use Rattle.py_steps.specs.Emitting.{Step}
 use Rattle.py_forms.proofs.Laying.{laid_then}
 use Rattle.py_emit.specs.Steps.{step_of, onwards, steps_from}
 use Rattle.py_adds.proofs.Adding.{AllRead, Below, AllInside}

@@ -1,9 +1,11 @@
 pub mod Texts
 pub mod Adding
+pub mod Settled
 pub mod Emitting
 pub mod Steps
 pub mod Instructions
 pub mod ControlInstructions
+pub mod AccessAdds
 pub mod Laying
 pub mod Counting
 pub mod Small

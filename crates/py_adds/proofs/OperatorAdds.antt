@@ -14,13 +14,13 @@ use Rattle.py_bytecode.specs.Values.{flip}
 use Rattle.py_bytecode.specs.Machine.{Rotate2, Pop, Jump}
 use Rattle.py_forms.specs.Form.{Interp, VOp, VChoice, VAt, VMore, VNone, TTruth}
 use Rattle.py_forms.specs.Code.{Item, Do, Label, labels_v, labels_t, labels_ts, labels_ss, labels_ls, code_t, code_ts, code_ss, code_ls, link_code}
-use Rattle.py_forms.specs.TableParts as table
-use Rattle.py_forms.specs.TableParts.{ExprForms, no_operand, shorts_of, part_test, tests_of, bool_forms, unary_forms, links_of, compare_form, deciding, unary_operation, comparison_operation}
+use Rattle.py_steps.specs.TableParts as table
+use Rattle.py_steps.specs.TableParts.{ExprForms, no_operand, shorts_of, part_test, tests_of, bool_forms, unary_forms, links_of, compare_form, deciding, unary_operation, comparison_operation}
 use Rattle.py_forms.specs.declared.errors.CodegenErrorType.{CodegenErrorType}
 use Rattle.py_forms.specs.declared.errors.CodegenErrorType.TheVariants as error
-use Rattle.py_forms.specs.EmissionParts as emitting
-use Rattle.py_forms.specs.Emitting.{Context, Emission, ◌▸◌, refuse, emit, jump, begin, move}
-use Rattle.py_forms.specs.EmissionParts.{Emissions, in_turn, shorts, bool_value, tests, bool_test, bool_emissions, unary_value, unary_emissions, emission_of_comparison, emission_of_link, links, chain, comparisons, emission_of_compare, choice}
+use Rattle.py_steps.specs.EmissionParts as emitting
+use Rattle.py_steps.specs.Emitting.{Around, Emission, ◌▸◌, refuse, emit, jump, begin, move}
+use Rattle.py_steps.specs.EmissionParts.{Emissions, in_turn, shorts, bool_value, tests, bool_test, bool_emissions, unary_value, unary_emissions, emission_of_comparison, emission_of_link, links, chain, comparisons, emission_of_compare, choice}
 use Rattle.py_adds.proofs.Emitting.{Gives, Yields, after_these, block_gives, counts_as, moved_refused, refused_gives, so, then_keep, then_these, then_yields, two_blocks_give}
 use Rattle.py_adds.proofs.Steps.{begin_adds}
 use Rattle.py_adds.proofs.Instructions.{unary_adds, comparison_adds, keeping_adds, duplicate_adds, rotate_two_adds, rotate_three_adds, pop_adds, going_adds}
@@ -28,19 +28,19 @@ use Rattle.py_adds.proofs.Shapes.{choice_gives}
 use Rattle.py_adds.proofs.FormAdds.{ValueAdds, TestAdds, AddsForms, AllAddForms, ordinary_adds, truth_adds, moved_adds, one_adds, two_add}
 
 -- where it is not refused, this is added
-pub if_not_gives : {c : Context} {n : ℕ} {v : Emission} {p : List (Item Object)} {m : ℕ} {P : Type 0} (b : Bool) (e : CodegenErrorType) → (b ≡ false → Gives c n v p m P) → Gives c n (if b then refuse e else v) p m P
+pub if_not_gives : {c : Around} {n : ℕ} {v : Emission} {p : List (Item Object)} {m : ℕ} {P : Type 0} (b : Bool) (e : CodegenErrorType) → (b ≡ false → Gives c n v p m P) → Gives c n (if b then refuse e else v) p m P
 if_not_gives true e h = refused_gives e
 if_not_gives false e h = h refl
 
-pub if_gives : {c : Context} {n : ℕ} {v : Emission} {p : List (Item Object)} {m : ℕ} {P : Type 0} (b : Bool) (e : CodegenErrorType) → (b ≡ true → Gives c n v p m P) → Gives c n (if b then v else refuse e) p m P
+pub if_gives : {c : Around} {n : ℕ} {v : Emission} {p : List (Item Object)} {m : ℕ} {P : Type 0} (b : Bool) (e : CodegenErrorType) → (b ≡ true → Gives c n v p m P) → Gives c n (if b then v else refuse e) p m P
 if_gives true e h = h refl
 if_gives false e h = refused_gives e
 
-either_gives : {c : Context} {n : ℕ} {p : List (Item Object)} {m : ℕ} {P : Type 0} (b : Bool) (v w : Emission) → (b ≡ true → Gives c n v p m P) → (b ≡ false → Gives c n w p m P) → Gives c n (if b then v else w) p m P
+either_gives : {c : Around} {n : ℕ} {p : List (Item Object)} {m : ℕ} {P : Type 0} (b : Bool) (v w : Emission) → (b ≡ true → Gives c n v p m P) → (b ≡ false → Gives c n w p m P) → Gives c n (if b then v else w) p m P
 either_gives true v w h g = h refl
 either_gives false v w h g = g refl
 
-module _ (i : Interp Object) (c : Context) where
+module _ (i : Interp Object) (c : Around) where
   -- `and` and `or`
   shorts_add : (d : BoolOp) (end : ℕ) (x : Emissions) (f : ExprForms) (es : List Emissions) (fs : List ExprForms) → AddsForms i c x f → AllAddForms i c es fs → (n : ℕ) → end < n → Yields c n (shorts d end (x ∷ es)) (code_ss i (shorts_of f fs) (deciding d) end n) (labels_ss (shorts_of f fs))
   shorts_add d end x f [] [] h a n lt = h.value n
@@ -96,7 +96,7 @@ module _ (i : Interp Object) (c : Context) where
       (λ t to n lt. if_not_gives none (error.MalformedTree shape.NoOperand) (λ e. some_test_adds at d x f es fs a.0 a.1 t to n lt))
 
   unary_value_adds : (at : SourceLocation) (u : UnaryOp) (x : Emissions) (f : ExprForms) → AddsForms i c x f → ValueAdds i c (unary_value at u x) (unary_forms at u f).value
-  unary_value_adds at u x f h = moved_adds i c at (x.value ▸ emit op.UnaryOperation (table.unary_case u)) (VOp (unary_operation u) (VMore f.value VNone)) (one_adds i c (unary_operation u) x.value (emit op.UnaryOperation (table.unary_case u)) f.value h.value (unary_adds u))
+  unary_value_adds at u x f h = moved_adds i c at (x.value ▸ emit op.UnaryOperation (table.unary_case u)) (VOp (unary_operation u) (VMore f.value VNone)) (one_adds i c (unary_operation u) x.value (emit op.UnaryOperation (table.unary_case u)) f.value h.value (unary_adds u c))
 
   unary_test_adds : (at : SourceLocation) (u : UnaryOp) (x : Emissions) (f : ExprForms) → AddsForms i c x f → TestAdds i c (emitting.unary_test at u x) (table.unary_test at u f)
   unary_test_adds at unary.Not x f h = λ t to n lt. h.test (flip t) to n lt
@@ -135,7 +135,7 @@ module _ (i : Interp Object) (c : Context) where
   compared_adds x f (o ∷ ops) [] fs some even h a n = absurd (omega (arith, even))
   compared_adds x f (o ∷ ops) (y ∷ es) [] some even h a n = absurd a
   compared_adds x f (o ∷ []) (y ∷ []) (g ∷ []) some even h a n =
-      either_gives (nat_lt 1 (length (o ∷ []))) (chain x.value (o ∷ []) (y ∷ [])) (x.value ▸ in_turn (emitting.values (y ∷ [])) ▸ emission_of_comparison o) (λ e. absurd {0} (let z : 1 < length (o ∷ []) = search (rules, e) in omega (arith, z))) (λ e. two_add i c (comparison_operation o) x.value (in_turn (emitting.values (y ∷ []))) (emission_of_comparison o) f.value g.value h.value (λ k. then_keep (a.0.value k)) (comparison_adds o) n)
+      either_gives (nat_lt 1 (length (o ∷ []))) (chain x.value (o ∷ []) (y ∷ [])) (x.value ▸ in_turn (emitting.values (y ∷ [])) ▸ emission_of_comparison o) (λ e. absurd {0} (let z : 1 < length (o ∷ []) = search (rules, e) in omega (arith, z))) (λ e. two_add i c (comparison_operation o) x.value (in_turn (emitting.values (y ∷ []))) (emission_of_comparison o) f.value g.value h.value (λ k. then_keep (a.0.value k)) (comparison_adds o c) n)
   compared_adds x f (o ∷ []) (y ∷ []) (g ∷ j ∷ gs) some even h a n = absurd a.1
   compared_adds x f (o ∷ []) (y ∷ z ∷ es) (g ∷ gs) some even h a n = absurd (omega (arith, even))
   compared_adds x f (o ∷ p ∷ ops) (y ∷ []) (g ∷ gs) some even h a n = absurd (omega (arith, even))

@@ -1,6 +1,6 @@
 -- Lists that are related member by member, and elements that are so too.
 use Rattle.std.proofs.Common.{◌≡◌, ◌≢◌, suc, ◌+◌, List, [], ◌∷◌, ◌++◌, length, refl, ap, arith}
-use Rattle.py_forms.specs.Elements.{Element, Single, Spread, starred, bare, stars, before_star, after_star, grouped, groups, front, behind}
+use Rattle.py_steps.specs.Elements.{Element, Single, Spread, starred, bare, stars, before_star, after_star, grouped, groups, front, behind}
 
 module _ {B C : Type 0} (R : B → C → Type 0) where
   -- member by member

@@ -6,10 +6,10 @@ use Rattle.py_bytecode.specs.declared.instruction.Instruction.TheVariants as op
 use Rattle.py_bytecode.specs.Objects as const
 use Rattle.py_bytecode.specs.Objects.{Object}
 use Rattle.py_bytecode.specs.Values.{Operation}
-use Rattle.py_forms.specs.Elements.{Element, Single, Spread, Callee, Function, Method, starred, bare, groups}
+use Rattle.py_steps.specs.Elements.{Element, Single, Spread, Callee, Function, Method, starred, bare, groups}
 use Rattle.py_forms.specs.Form.{Interp, VForm, VConst, VForms}
 use Rattle.py_forms.specs.Code.{labels_v, code_v, code_vs}
-use Rattle.py_forms.specs.TableParts.{counted, parts_of, built, unpacked, call_by, Keywords, name_values, map_of, joined_map, names_in, values_in, packed, any, placed, call_form}
+use Rattle.py_steps.specs.TableParts.{counted, parts_of, built, unpacked, call_by, Keywords, name_values, map_of, joined_map, names_in, values_in, packed, any, placed, call_form}
 use Rattle.py_adds.proofs.Burden.{burden, burden-append}
 use Rattle.py_adds.proofs.Together.{Together, OneElement, join_together, push_together, bare_together}
 use Rattle.py_adds.proofs.Small.{FormSmall, CalleeSmall, parts_small}

@@ -10,7 +10,7 @@ use Rattle.py_bytecode.specs.Objects.{Object}
 use Rattle.py_bytecode.specs.Values.{flip}
 use Rattle.py_forms.specs.Form.{Interp, VChoice}
 use Rattle.py_forms.specs.Code.{labels_v, labels_t, code_v, code_ss, code_ls, code_t, code_ts}
-use Rattle.py_forms.specs.TableParts.{ExprForms, shorts_of, part_test, tests_of, bool_forms, unary_forms, unary_operation, links_of, compare_form, comparison_operation, deciding}
+use Rattle.py_steps.specs.TableParts.{ExprForms, shorts_of, part_test, tests_of, bool_forms, unary_forms, unary_operation, links_of, compare_form, comparison_operation, deciding}
 use Rattle.py_adds.proofs.Burden.{burden, burden-append}
 use Rattle.py_adds.proofs.Together.{Together}
 use Rattle.py_adds.proofs.Small.{FormSmall, Small, tested_small, one_small, two_small}

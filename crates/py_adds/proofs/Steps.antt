@@ -12,13 +12,17 @@ use Rattle.py_bytecode.specs.Decode.{Tables, instr_of, value_of}
 use Rattle.py_bytecode.proofs.Joining.{get_left}
 use Rattle.py_walks.specs.Flat.{is_jump}
 use Rattle.py_forms.specs.Code.{Item, Do, Label}
-use Rattle.py_forms.specs.Emitting.{Put, Begin, State, Outcome, Done, TooWide, Context, Emission, with_step, with_name, with_constant, emit, jump, begin}
+use Rattle.py_steps.specs.Emitting.{Put, Begin, State, Outcome, Done, TooWide, Around, Emission, with_step, with_name, with_varname, with_constant, emit, jump, begin}
 use Rattle.py_adds.proofs.Adding.{Begins, Adds, adds_step, codes_join}
 use Rattle.py_adds.proofs.Emitting.{Yields, yields, done_is}
 
--- one instruction is added
+-- one instruction is added with this around it
+abbrev pub StepHere : Around → Emission → Instr Object ℕ → Type 0
+StepHere c v x = (n : ℕ) → Yields c n v (Do x ∷ []) 0
+
+-- and with anything around it
 abbrev pub StepAdds : Emission → Instr Object ℕ → Type 0
-StepAdds v x = (c : Context) (n : ℕ) → Yields c n v (Do x ∷ []) 0
+StepAdds v x = (c : Around) → StepHere c v x
 
 pub fits_if : (b : Bool) (o : Outcome) (r : State) → (if b then o else TooWide) ≡ Done r → (b ≡ true) × (o ≡ Done r)
 fits_if true o r e = (refl, e)
@@ -35,13 +39,13 @@ emit_step i n x s r is e =
 pub emit_adds : (i : Instruction) (n : ℕ) (x : Instr Object ℕ) → ((t : Tables) → instr_of t None i n ≡ Some x) → StepAdds (emit i n) x
 emit_adds i n x is c k = yields (λ s r b z e. emit_step i n x s r (λ t h. is t) e)
 
-pub jump_adds : (i : Instruction) (b : ℕ) (x : Instr Object ℕ) → is_jump i ≡ true → ((t : Tables) → instr_of t (Some b) i 0 ≡ Some x) → (c : Context) (n : ℕ) → b < n → Yields c n (jump i b) (Do x ∷ []) 0
+pub jump_adds : (i : Instruction) (b : ℕ) (x : Instr Object ℕ) → is_jump i ≡ true → ((t : Tables) → instr_of t (Some b) i 0 ≡ Some x) → (c : Around) (n : ℕ) → b < n → Yields c n (jump i b) (Do x ∷ []) 0
 unfolding jump
 jump_adds i b x j is c n lt = yields (λ s r f z e.
     let y = Put i 0 (Some b) s.location in
     subst (λ u. Adds s u (Do x ∷ []) 0) (done_is (with_step y s) r e) (adds_step y s (Do x) (λ t h. record { fits = omega arith; is = is t; aims = λ w. absurd (cc (j, w)) }) (omega (arith, f, lt))))
 
-pub begin_adds : (b : ℕ) {c : Context} {n : ℕ} → b < n → Yields c n (begin b) (Label b ∷ []) 0
+pub begin_adds : (b : ℕ) {c : Around} {n : ℕ} → b < n → Yields c n (begin b) (Label b ∷ []) 0
 unfolding begin
 begin_adds b lt = yields (λ s r f z e. subst (λ u. Adds s u (Label b ∷ []) 0) (done_is (with_step (Begin b) s) r e) (adds_step (Begin b) s (Label b) (λ t h. refl) (omega (arith, f, lt))))
 
@@ -70,6 +74,8 @@ adds_named x s r is m a =
     record {
       names = n.0 ++ a.names;
       names_are = a.names_are ∙ ap (λ l. l ++ a.names) n.1 ∙ append_assoc s.names n.0 a.names;
+      varnames = a.varnames;
+      varnames_are = a.varnames_are;
       constants = a.constants;
       constants_are = a.constants_are;
       no_codes = a.no_codes;
@@ -78,7 +84,28 @@ adds_named x s r is m a =
       steps_are = a.steps_are;
       reads = a.reads;
       inside = a.inside;
-      context_are = a.context_are;
+      around_are = a.around_are;
+    }
+
+-- nor does one of the code's own
+pub adds_own : (x : List ℕ) (s r : State) (is : List (Item Object)) (m : ℕ) → Adds (with_varname x s) r is m → Adds s r is m
+unfolding with_varname
+adds_own x s r is m a =
+    let n = enters text_eq s.varnames x in
+    record {
+      names = a.names;
+      names_are = a.names_are;
+      varnames = n.0 ++ a.varnames;
+      varnames_are = a.varnames_are ∙ ap (λ l. l ++ a.varnames) n.1 ∙ append_assoc s.varnames n.0 a.varnames;
+      constants = a.constants;
+      constants_are = a.constants_are;
+      no_codes = a.no_codes;
+      blocks_are = a.blocks_are;
+      steps = a.steps;
+      steps_are = a.steps_are;
+      reads = a.reads;
+      inside = a.inside;
+      around_are = a.around_are;
     }
 
 plain_codes : (c : Const) → value_of c ≡ Constant c → codes_in (c ∷ []) ≡ []
@@ -103,6 +130,8 @@ adds_constant c v s r is m a =
     record {
       names = a.names;
       names_are = a.names_are;
+      varnames = a.varnames;
+      varnames_are = a.varnames_are;
       constants = n.0 ++ a.constants;
       constants_are = a.constants_are ∙ ap (λ l. l ++ a.constants) n.1 ∙ append_assoc s.constants n.0 a.constants;
       no_codes = codes_join n.0 a.constants ∙ ap (λ x. x ++ codes_in a.constants) (plain_if (list_any (const_eq c) s.constants) s.constants c v) ∙ a.no_codes;
@@ -111,5 +140,5 @@ adds_constant c v s r is m a =
       steps_are = a.steps_are;
       reads = a.reads;
       inside = a.inside;
-      context_are = a.context_are;
+      around_are = a.around_are;
     }

@@ -8,29 +8,29 @@ use Rattle.py_bytecode.specs.Values.{Operation}
 use Rattle.py_bytecode.specs.Machine.{Operate, Unpack}
 use Rattle.py_forms.specs.Form.{Interp, VForm, VForms, VKeep, Target, GPut, GDrop, targets}
 use Rattle.py_forms.specs.Code.{Do, count as form_count, labels_v, labels_vs, labels_g, labels_gs, code_g, code_gs}
-use Rattle.py_forms.specs.Elements.{Element, bare, stars, before_star, after_star}
-use Rattle.py_forms.specs.TableParts.{TargetForms, plain_target, targets_of, unpacking, unpacked_to, counted}
-use Rattle.py_forms.specs.Emitting.{Context, Emission, ◌▸◌, emit, emit_count, move, refuse}
-use Rattle.py_forms.specs.EmissionParts as emitting
-use Rattle.py_forms.specs.EmissionParts.{Stores, plain_store, in_turn, few_aside, unpack, unpack_starred, unless_debug}
+use Rattle.py_steps.specs.Elements.{Element, bare, stars, before_star, after_star}
+use Rattle.py_steps.specs.TableParts.{TargetForms, plain_target, targets_of, unpacking, unpacked_to, counted}
+use Rattle.py_steps.specs.Emitting.{Around, Emission, ◌▸◌, emit, emit_count, move, refuse}
+use Rattle.py_steps.specs.EmissionParts as emitting
+use Rattle.py_steps.specs.EmissionParts.{Stores, plain_store, in_turn, few_aside, unpack, unpack_starred, unless_debug}
 use Rattle.py_forms.specs.declared.errors.CodegenErrorType.{CodegenErrorType}
 use Rattle.py_forms.specs.declared.errors.CodegenErrorType.TheVariants as error
 use Rattle.py_adds.proofs.Emitting.{Yields, after_these, keep_yields, moved_refused, refused_gives, then_these, then_yields}
 use Rattle.py_adds.proofs.Pairwise.{Pairwise, Alike, AlikeElement, same_length, same_stars, same_before, same_after, bare_alike, bare_length, around_star}
-use Rattle.py_adds.proofs.Steps.{StepAdds}
+use Rattle.py_adds.proofs.Steps.{StepAdds, StepHere}
 use Rattle.py_adds.proofs.Instructions.{duplicate_adds, pop_adds, unpack_adds, unpack_star_adds}
 use Rattle.py_adds.proofs.FormAdds.{ValueAdds, PartsAdd, unless_debug_gives}
 
 -- a store is added
-abbrev pub TargetAdds : Interp Object → Context → Emission → Target → Type 0
+abbrev pub TargetAdds : Interp Object → Around → Emission → Target → Type 0
 TargetAdds i c v t = (n : ℕ) → Yields c n v (code_g i t n) (labels_g t)
 
 -- alone and among others
-pub record AddsTarget (i : Interp Object) (c : Context) (e : Stores) (t : TargetForms) : Type 0 where
+pub record AddsTarget (i : Interp Object) (c : Around) (e : Stores) (t : TargetForms) : Type 0 where
   pub alone : TargetAdds i c e.alone t.alone
   pub element : AlikeElement (TargetAdds i c) (TargetAdds i c) e.element t.element
 
-abbrev pub StoresAdd : Interp Object → Context → List (Element Emission Emission) → List (Element Target Target) → Type 0
+abbrev pub StoresAdd : Interp Object → Around → List (Element Emission Emission) → List (Element Target Target) → Type 0
 StoresAdd i c = Alike (TargetAdds i c) (TargetAdds i c)
 
 as_many_targets : (ts : List Target) → targets (targets_of ts) ≡ length ts
@@ -42,7 +42,7 @@ both_true true true e = (refl, refl)
 both_true true false e = absurd cc
 both_true false c e = absurd cc
 
-module _ (i : Interp Object) (c : Context) where
+module _ (i : Interp Object) (c : Around) where
   pub plain_adds : (v : Emission) (t : Target) → TargetAdds i c v t → AddsTarget i c (plain_store v) (plain_target t)
   plain_adds v t h = record { alone = h; element = h }
 
@@ -57,8 +57,8 @@ module _ (i : Interp Object) (c : Context) where
   drop_adds = pop_adds c
 
   -- parts, and an operation on them and on the value
-  pub put_adds : (x : Operation) (p step : Emission) (fs : VForms) → PartsAdd i c p fs → StepAdds step (Operate x (suc (form_count fs)) (Some 0)) → TargetAdds i c (p ▸ step) (GPut x fs)
-  put_adds x p step fs a h n = then_these (a n) (h c (n + labels_vs fs))
+  pub put_adds : (x : Operation) (p step : Emission) (fs : VForms) → PartsAdd i c p fs → StepHere c step (Operate x (suc (form_count fs)) (Some 0)) → TargetAdds i c (p ▸ step) (GPut x fs)
+  put_adds x p step fs a h n = then_these (a n) (h (n + labels_vs fs))
 
   -- a value that is stored and kept
   pub keep_adds : (v w : Emission) (f : VForm) (t : Target) → ValueAdds i c v f → TargetAdds i c w t → ValueAdds i c (v ▸ emit op.Duplicate 0 ▸ w) (VKeep f None t)

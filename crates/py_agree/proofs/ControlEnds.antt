@@ -8,29 +8,30 @@ use Rattle.py_bytecode.specs.Objects as const
 use Rattle.py_meaning.specs.Ends.{expr_end, item_end, items_end, last_of, opt_end, some_of}
 use Rattle.py_meaning.specs.ExprFaults.{Fault, expr_faults, if_any, opt_faults}
 use Rattle.py_meaning.specs.Faults.{item_faults, items_faults, match_faults, name_faults, raise_faults}
-use Rattle.py_forms.specs.Emitting.{Context, Emission, LoopBlocks, ◌▸◌, begin, by_level, emit, emit_count, emit_name, in_loop, jump, move, new_block}
-use Rattle.py_forms.specs.EmissionParts.{no_assignment}
+use Rattle.py_steps.specs.Emitting.{Around, Emission, LoopBlocks, ◌▸◌, begin, by_level, emit, emit_count, emit_name, in_loop, jump, move, new_block}
+use Rattle.py_steps.specs.EmissionParts.{no_assignment}
 use Rattle.py_emission.specs.Emission.{emission}
 use Rattle.py_meaning.specs.ControlEmissions.{asserted, before_last, caught, finally_do, for_each, handler, managed, named_body, to_last, try_body, typed_match}
 use Rattle.py_meaning.specs.EmissionStmts.{emission_of_item, emission_of_items, emission_of_message, emission_of_raise}
 use Rattle.py_adds.proofs.Emitting.{looping}
-use Rattle.py_agree.proofs.Refusing.{Ends, EndsAs, Passes, alone_ends, begin_passes, constant_passes, count_passes, emit_passes, ends_so, jump_passes, last_ends, loop_ends, moved_ends, name_passes, new_ends, nothing_passes, then_ends, three_end, unless_debug_last}
+use Rattle.py_agree.proofs.Refusing.{Ends, EndsAs, Passes, accessed_passes, alone_ends, begin_passes, constant_passes, count_passes, emit_passes, ends_so, jump_passes, last_ends, loop_ends, moved_ends, name_passes, new_ends, nothing_passes, then_ends, three_end, unless_debug_last}
 use Rattle.py_agree.proofs.RefusingTests.{TestEnds}
 use Rattle.py_agree.proofs.RefusingExprs.{both_none, expr_ends, store_ends}
+use Rattle.py_bytecode.specs.Values.{Store, Delete}
 
 -- and then what has no fault, wherever it leaves off
-closed_ends : {c : Context} {a b : Emission} {p m q : SourceLocation} {fs : List Fault} → EndsAs c a p m fs → EndsAs c b m q [] → EndsAs c (a ▸ b) p q fs
+closed_ends : {c : Around} {a b : Emission} {p m q : SourceLocation} {fs : List Fault} → EndsAs c a p m fs → EndsAs c b m q [] → EndsAs c (a ▸ b) p q fs
 closed_ends {fs = fs} x y = ends_so (append-nil fs) (then_ends x y)
 
 four_joined : (fs gs hs is : List Fault) → fs ++ (gs ++ (hs ++ is)) ≡ fs ++ gs ++ hs ++ is
 four_joined fs gs hs is = sym (simp append_assoc refl)
 
 -- what its own level decides
-pub own_level_ends : {c : Context} {p q : SourceLocation} {fs : List Fault} (a : ℕ → Emission) → EndsAs c (a c.level) p q fs → EndsAs c (by_level a) p q fs
+pub own_level_ends : {c : Around} {p q : SourceLocation} {fs : List Fault} (a : ℕ → Emission) → EndsAs c (a c.context.level) p q fs → EndsAs c (by_level a) p q fs
 unfolding by_level
-own_level_ends {c = c} {q = q} {fs = fs} a x = record { ends = λ s h z. subst (λ (d : Context). Ends c fs q (a d.level s)) (sym z) (x.ends s h z) }
+own_level_ends {c = c} {q = q} {fs = fs} a x = record { ends = λ s h z. subst (λ (d : Around). Ends c fs q (a d.context.level s)) (sym z) (x.ends s h z) }
 
-pub for_ends : {c : Context} {iter store body orelse : Emission} {p m n k q : SourceLocation} {fs gs hs is : List Fault} → EndsAs c iter p m fs → EndsAs c store m n gs → ((x : LoopBlocks) → EndsAs (looping x c) body n k hs) → EndsAs c orelse k q is → EndsAs c (for_each iter store body orelse) p q (fs ++ gs ++ hs ++ is)
+pub for_ends : {c : Around} {iter store body orelse : Emission} {p m n k q : SourceLocation} {fs gs hs is : List Fault} → EndsAs c iter p m fs → EndsAs c store m n gs → ((x : LoopBlocks) → EndsAs (looping x c) body n k hs) → EndsAs c orelse k q is → EndsAs c (for_each iter store body orelse) p q (fs ++ gs ++ hs ++ is)
 for_ends {iter = iter} {store = store} {body = body} {orelse = orelse} {fs = fs} {gs = gs} {hs = hs} {is = is} x t y z =
     let all : ℕ → ℕ → ℕ → Emission = λ start other end. emit op.SetupLoop 0 ▸ iter ▸ emit op.GetIter 0 ▸ begin start ▸ jump op.ForIter other ▸ store ▸ in_loop (record { on_break = end; on_continue = start }) body ▸ jump op.Jump start ▸ begin other ▸ emit op.PopBlock 0 ▸ orelse ▸ begin end in
     ends_so (four_joined fs gs hs is) (new_ends (λ start. new_block (λ other. new_block (λ end. all start other end))) (λ start. new_ends (λ other. new_block (λ end. all start other end)) (λ other. new_ends (λ end. all start other end) (λ end.
@@ -40,27 +41,27 @@ for_ends {iter = iter} {store = store} {body = body} {orelse = orelse} {fs = fs}
     then_ends (emit_passes op.SetupLoop 0) (then_ends x (then_ends (emit_passes op.GetIter 0) (then_ends (begin_passes start) (then_ends (jump_passes op.ForIter other) turn))))))))
 
 -- what a `with` manages leaves off where the statement stands
-pub managed_ends : {c : Context} {item store body : Emission} {p m n k : SourceLocation} {fs gs hs : List Fault} (at : SourceLocation) → EndsAs c item p m fs → EndsAs c store at n gs → EndsAs c body n k hs → EndsAs c (managed at item store body) p at (fs ++ gs ++ hs)
+pub managed_ends : {c : Around} {item store body : Emission} {p m n k : SourceLocation} {fs gs hs : List Fault} (at : SourceLocation) → EndsAs c item p m fs → EndsAs c store at n gs → EndsAs c body n k hs → EndsAs c (managed at item store body) p at (fs ++ gs ++ hs)
 managed_ends {item = item} {store = store} {body = body} {fs = fs} {gs = gs} {hs = hs} at x t y =
     new_ends (λ end. item ▸ move at ▸ jump op.SetupWith end ▸ store ▸ body ▸ move at ▸ emit op.PopBlock 0 ▸ emit op.EnterFinally 0 ▸ begin end ▸ emit op.WithCleanupStart 0 ▸ emit op.WithCleanupFinish 0) (λ end.
     let exit = then_ends (emit_passes op.PopBlock 0) (then_ends (emit_passes op.EnterFinally 0) (then_ends (begin_passes end) (then_ends (emit_passes op.WithCleanupStart 0) (emit_passes op.WithCleanupFinish 0)))) in
     ends_so (sym (append_assoc fs gs hs)) (then_ends x (moved_ends at (then_ends (jump_passes op.SetupWith end) (then_ends t (closed_ends y (moved_ends at exit)))))))
 
 -- last parts
-before_last_passes : {c : Context} {p : SourceLocation} (final : Bool) (end : ℕ) → Passes c (before_last final end) p
+before_last_passes : {c : Around} {p : SourceLocation} (final : Bool) (end : ℕ) → Passes c (before_last final end) p
 before_last_passes false end = nothing_passes
 before_last_passes true end = jump_passes op.SetupFinally end
 
-to_last_passes : {c : Context} {p : SourceLocation} (final : Bool) → Passes c (to_last final) p
+to_last_passes : {c : Around} {p : SourceLocation} (final : Bool) → Passes c (to_last final) p
 to_last_passes false = nothing_passes
 to_last_passes true = then_ends (emit_passes op.PopBlock 0) (emit_passes op.EnterFinally 0)
 
-pub finally_ends : {c : Context} {body last : Emission} {p q : SourceLocation} {fs : List Fault} → EndsAs c body p q fs → Passes c last q → EndsAs c (finally_do body last) p q fs
+pub finally_ends : {c : Around} {body last : Emission} {p q : SourceLocation} {fs : List Fault} → EndsAs c body p q fs → Passes c last q → EndsAs c (finally_do body last) p q fs
 finally_ends {body = body} {last = last} x y =
     new_ends (λ end. jump op.SetupFinally end ▸ body ▸ to_last true ▸ begin end ▸ last ▸ emit op.EndFinally 0) (λ end.
     then_ends (jump_passes op.SetupFinally end) (last_ends x (then_ends (to_last_passes true) (then_ends (begin_passes end) (then_ends y (emit_passes op.EndFinally 0))))))
 
-pub try_ends : {c : Context} {body orelse last : Emission} {handlers : ℕ → Emission} {p m n k q : SourceLocation} {fs gs hs is : List Fault} (final : Bool) → EndsAs c body p m fs → ((end : ℕ) → EndsAs c (handlers end) m n gs) → EndsAs c orelse n k hs → EndsAs c last k q is → EndsAs c (try_body final body handlers orelse last) p q (fs ++ gs ++ hs ++ is)
+pub try_ends : {c : Around} {body orelse last : Emission} {handlers : ℕ → Emission} {p m n k q : SourceLocation} {fs gs hs is : List Fault} (final : Bool) → EndsAs c body p m fs → ((end : ℕ) → EndsAs c (handlers end) m n gs) → EndsAs c orelse n k hs → EndsAs c last k q is → EndsAs c (try_body final body handlers orelse last) p q (fs ++ gs ++ hs ++ is)
 try_ends {body = body} {orelse = orelse} {last = last} {handlers = handlers} {fs = fs} {gs = gs} {hs = hs} {is = is} final x y z w =
     let all : ℕ → ℕ → ℕ → Emission = λ on_raise other end. before_last final end ▸ jump op.SetupExcept on_raise ▸ body ▸ emit op.PopBlock 0 ▸ jump op.Jump other ▸ begin on_raise ▸ handlers end ▸ begin other ▸ orelse ▸ to_last final ▸ begin end ▸ last in
     ends_so (four_joined fs gs hs is) (new_ends (λ on_raise. new_block (λ other. new_block (λ end. all on_raise other end))) (λ on_raise. new_ends (λ other. new_block (λ end. all on_raise other end)) (λ other. new_ends (λ end. all on_raise other end) (λ end.
@@ -69,23 +70,23 @@ try_ends {body = body} {orelse = orelse} {last = last} {handlers = handlers} {fs
     then_ends (before_last_passes final end) (then_ends (jump_passes op.SetupExcept on_raise) (then_ends x (then_ends (emit_passes op.PopBlock 0) (then_ends (jump_passes op.Jump other) (then_ends (begin_passes on_raise) caught)))))))))
 
 -- handlers
-pub handler_ends : {c : Context} {matches : ℕ → Emission} {body others : Emission} {p m n q : SourceLocation} {fs gs hs : List Fault} (final : Bool) (end : ℕ) → ((next : ℕ) → EndsAs c (matches next) p m fs) → EndsAs c body m n gs → EndsAs c others n q hs → EndsAs c (handler final end matches body others) p q (fs ++ gs ++ hs)
+pub handler_ends : {c : Around} {matches : ℕ → Emission} {body others : Emission} {p m n q : SourceLocation} {fs gs hs : List Fault} (final : Bool) (end : ℕ) → ((next : ℕ) → EndsAs c (matches next) p m fs) → EndsAs c body m n gs → EndsAs c others n q hs → EndsAs c (handler final end matches body others) p q (fs ++ gs ++ hs)
 handler_ends {matches = matches} {body = body} {others = others} final end x y z =
     new_ends (λ next. matches next ▸ body ▸ emit op.PopException 0 ▸ to_last final ▸ jump op.Jump end ▸ begin next ▸ others) (λ next.
     three_end (x next) y (then_ends (emit_passes op.PopException 0) (then_ends (to_last_passes final) (then_ends (jump_passes op.Jump end) (then_ends (begin_passes next) z)))))
 
-caught_ends : {c : Context} {p : SourceLocation} (name : Option (List ℕ)) → EndsAs c (caught name) p p (name_faults p name)
+caught_ends : {c : Around} {p : SourceLocation} (name : Option (List ℕ)) → EndsAs c (caught name) p p (name_faults p name)
 caught_ends None = emit_passes op.Pop 0
-caught_ends (Some x) = unless_debug_last no_assignment x (name_passes op.StoreLocal x)
+caught_ends (Some x) = unless_debug_last no_assignment x (accessed_passes Store x)
 
-typed_ends : {c : Context} {type : Emission} {p q : SourceLocation} {fs : List Fault} (name : Option (List ℕ)) (next : ℕ) → EndsAs c type p q fs → EndsAs c (typed_match type (caught name) next) p q (fs ++ name_faults q name)
+typed_ends : {c : Around} {type : Emission} {p q : SourceLocation} {fs : List Fault} (name : Option (List ℕ)) (next : ℕ) → EndsAs c type p q fs → EndsAs c (typed_match type (caught name) next) p q (fs ++ name_faults q name)
 typed_ends name next x = then_ends (emit_passes op.Duplicate 0) (then_ends x (then_ends (emit_passes op.TestOperation 4) (then_ends (jump_passes op.JumpIfFalse next) (caught_ends name))))
 
-pub named_body_ends : {c : Context} {body : Emission} {p q : SourceLocation} {fs : List Fault} (name : Option (List ℕ)) → EndsAs c body p q fs → EndsAs c (named_body name body) p q fs
+pub named_body_ends : {c : Around} {body : Emission} {p q : SourceLocation} {fs : List Fault} (name : Option (List ℕ)) → EndsAs c body p q fs → EndsAs c (named_body name body) p q fs
 named_body_ends None x = x
-named_body_ends (Some y) x = finally_ends x (then_ends (constant_passes op.LoadConst const.none) (then_ends (name_passes op.StoreLocal y) (name_passes op.DeleteLocal y)))
+named_body_ends (Some y) x = finally_ends x (then_ends (constant_passes op.LoadConst const.none) (then_ends (accessed_passes Store y) (accessed_passes Delete y)))
 
-pub asserted_ends : {c : Context} {test : Bool → ℕ → Emission} {message : Emission} {p m q : SourceLocation} {fs gs : List Fault} (count : ℕ) → TestEnds c test p m fs → EndsAs c message m q gs → EndsAs c (asserted test message count) p q (fs ++ gs)
+pub asserted_ends : {c : Around} {test : Bool → ℕ → Emission} {message : Emission} {p m q : SourceLocation} {fs gs : List Fault} (count : ℕ) → TestEnds c test p m fs → EndsAs c message m q gs → EndsAs c (asserted test message count) p q (fs ++ gs)
 asserted_ends {test = test} {message = message} count t x =
     new_ends (λ end. test true end ▸ emit_name op.LoadGlobal (codes "AssertionError") ▸ message ▸ emit_count op.CallFunctionPositional count ▸ emit op.Raise 0 ▸ begin end) (λ end.
     then_ends (t true end) (then_ends (name_passes op.LoadGlobal (codes "AssertionError")) (last_ends x (then_ends (count_passes op.CallFunctionPositional count) (then_ends (emit_passes op.Raise 0) (begin_passes end))))))
@@ -95,7 +96,7 @@ abbrev pub raise_end : SourceLocation → (exc cause : tree.OptExpr) → SourceL
 raise_end p tree.no_expr cause = p
 raise_end p (tree.some_expr e) cause = last_of (expr_end e) (some_of (opt_end cause))
 
-module _ (c : Context) (class : Option (List ℕ)) where
+module _ (c : Around) (class : Option (List ℕ)) where
   value_ends : (p : SourceLocation) (e : tree.Expr) → expr_shapes class e ≡ [] → EndsAs c (emission e) p (expr_end e) (expr_faults e)
   value_ends p e h = (expr_ends c class e h).value p
 

@@ -5,14 +5,15 @@ use Rattle.py_bytecode.specs.declared.code.CodeObject.{CodeObject}
 use Rattle.py_bytecode.specs.declared.instruction.Instruction.{Instruction}
 use Rattle.py_walks.specs.declared.info.InstructionInfo.{InstructionInfo}
 use Rattle.py_layout.specs.Written.{located, units_of, written}
-use Rattle.py_forms.specs.Emitting.{Outcome, Done, TooWide, Refused}
+use Rattle.py_steps.specs.Context.{Context}
+use Rattle.py_steps.specs.Emitting.{Outcome, Done, TooWide, Refused}
 use Rattle.py_emit.specs.Emitted.{IsEmitted}
 
--- its path is the one that was handed in
-pub path_is : (code : CodeObject) (path : List ℕ) (level : ℕ) (o : Outcome) → IsEmitted code path level o → code.source_path ≡ path
-path_is code path level (Done s) m = m.final.given.source_path ∙ m.holds.source_path
-path_is code path level TooWide h = absurd h
-path_is code path level (Refused e at) h = absurd h
+-- its path is that of the source
+pub path_is : (code : CodeObject) (c : Context) (o : Outcome) → IsEmitted code c o → code.source_path ≡ c.source
+path_is code c (Done s) m = m.final.given.source_path ∙ m.holds.source_path
+path_is code c TooWide h = absurd h
+path_is code c (Refused e at) h = absurd h
 
 units_long : (op : Instruction) (n w : ℕ) → length (units_of op n w) ≡ w
 units_long op n zero = refl
@@ -31,9 +32,9 @@ located_long f (x ∷ xs) (w ∷ ws) =
     a ∙ omega (arith, l, u, rest) ∙ sym b
 
 -- each of its units has a location
-pub locations_are : (code : CodeObject) (path : List ℕ) (level : ℕ) (o : Outcome) → IsEmitted code path level o → length code.locations ≡ length code.instructions
-locations_are code path level (Done s) m =
+pub locations_are : (code : CodeObject) (c : Context) (o : Outcome) → IsEmitted code c o → length code.locations ≡ length code.instructions
+locations_are code c (Done s) m =
     let a = m.final.laid.assembled in
     ap length a.locations_are ∙ located_long _ _ a.widths ∙ sym (ap length a.units_are)
-locations_are code path level TooWide h = absurd h
-locations_are code path level (Refused e at) h = absurd h
+locations_are code c TooWide h = absurd h
+locations_are code c (Refused e at) h = absurd h

@@ -12,14 +12,16 @@ use Rattle.py_forms.specs.Form.{Interp, VForm, VConst, VLoad, VOp, VMake, VMore,
 use Rattle.py_forms.specs.Fit.{Loops}
 use Rattle.py_forms.specs.Agree.{form_of}
 use Rattle.py_forms.specs.Code.{Do, labels, labels_v, labels_g, labels_h, labels_t, code_v, code_vs, code_g, code_h, code, tail_code, return_code, body_code}
-use Rattle.py_meaning.specs.Meaning.{body}
+use Rattle.py_scope.specs.declared.flat.ScopeEntry.{ScopeEntry}
+use Rattle.py_steps.specs.Context.{Context, outermost}
+use Rattle.py_meaning.specs.Meaning.{body, mod_form}
 use Rattle.py_meaning.specs.Table.{annotated, assertion, doc_form, expr_form, handler_forms, handler_target, item_target, iterator, message_parts, named_form, raise_form, setup_form, stmt_form, stmts_form, target_form, test_form, with_form}
 use Rattle.py_emission.specs.Texts.{after_doc, doc_of, first_text, unless_text}
 use Rattle.py_adds.proofs.Burden.{burden, burden-append}
 use Rattle.py_agree.proofs.Sizes.{expr_small, target_small}
 use Rattle.py_agree.proofs.SmallAssigns.{removals_small, assign_small, augment_small, declare_small}
 
-module _ (i : Interp Object) (l : ℕ) where
+module _ (i : Interp Object) (c : Context) where
   -- a statement weighs one more than its parts at most
   abbrev StmtSmall : SForm → ℕ → Type 0
   StmtSmall f s = (x : Loops) (n : ℕ) → burden (code i f x n) ≤ 9 * s
@@ -27,35 +29,35 @@ module _ (i : Interp Object) (l : ℕ) where
   abbrev HandlersSmall : Handlers → ℕ → Type 0
   HandlersSmall hs s = (final : Bool) (x : Loops) (end n : ℕ) → burden (code_h i hs final x end n) ≤ 9 * s + 1
 
-  item_small : (t : tree.OptExpr) (n : ℕ) → burden (code_g i (item_target l t) n) ≤ 8 * opt_expr_size t + 1
+  item_small : (t : tree.OptExpr) (n : ℕ) → burden (code_g i (item_target c t) n) ≤ 8 * opt_expr_size t + 1
   item_small tree.no_expr n = omega arith
-  item_small (tree.some_expr t) n = let p = (target_small i l t).alone n in omega (arith, p)
+  item_small (tree.some_expr t) n = let p = (target_small i c t).alone n in omega (arith, p)
 
-  items_small : (items : tree.WithItems) (f : SForm) (s : ℕ) → StmtSmall f s → StmtSmall (with_form l items f) (with_items_size items + s)
+  items_small : (items : tree.WithItems) (f : SForm) (s : ℕ) → StmtSmall f s → StmtSmall (with_form c items f) (with_items_size items + s)
   items_small tree.no_items f s h x n = let p = h x n in omega (arith, p)
   items_small (tree.more_items e t items) f s h x n =
-      let m = 1 + n + labels_v (expr_form l e) in
-      let p = (expr_small i l e).value (1 + n) in
+      let m = 1 + n + labels_v (expr_form c e) in
+      let p = (expr_small i c e).value (1 + n) in
       let q = item_small t m in
-      let r = items_small items f s h x (m + labels_g (item_target l t)) in
+      let r = items_small items f s h x (m + labels_g (item_target c t)) in
       simp burden-append (omega (arith, p, q, r))
 
-  raise_small : (exc cause : tree.OptExpr) → StmtSmall (raise_form l exc cause) (opt_expr_size exc + opt_expr_size cause + 1)
+  raise_small : (exc cause : tree.OptExpr) → StmtSmall (raise_form c exc cause) (opt_expr_size exc + opt_expr_size cause + 1)
   raise_small tree.no_expr cause x n = omega arith
-  raise_small (tree.some_expr e) tree.no_expr x n = let p = (expr_small i l e).value n in simp burden-append (omega (arith, p))
+  raise_small (tree.some_expr e) tree.no_expr x n = let p = (expr_small i c e).value n in simp burden-append (omega (arith, p))
   raise_small (tree.some_expr e) (tree.some_expr g) x n =
-      let p = (expr_small i l e).value n in
-      let q = (expr_small i l g).value (n + labels_v (expr_form l e)) in
+      let p = (expr_small i c e).value n in
+      let q = (expr_small i c g).value (n + labels_v (expr_form c e)) in
       simp burden-append (omega (arith, p, q))
 
-  message_small : (msg : tree.OptExpr) (n : ℕ) → burden (code_vs i (message_parts l msg) n) ≤ 8 * opt_expr_size msg
+  message_small : (msg : tree.OptExpr) (n : ℕ) → burden (code_vs i (message_parts c msg) n) ≤ 8 * opt_expr_size msg
   message_small tree.no_expr n = omega arith
-  message_small (tree.some_expr e) n = let p = (expr_small i l e).value n in simp burden-append (omega (arith, p))
+  message_small (tree.some_expr e) n = let p = (expr_small i c e).value n in simp burden-append (omega (arith, p))
 
-  assert_small : (b : Bool) (t : tree.Expr) (msg : tree.OptExpr) → StmtSmall (if b then SIf (TNot (test_form l t)) (SDo (operation op.Raise (Number 0)) true (VMore (assertion l msg) VNone)) else SSkip) (expr_size t + opt_expr_size msg + 1)
+  assert_small : (b : Bool) (t : tree.Expr) (msg : tree.OptExpr) → StmtSmall (if b then SIf (TNot (test_form c t)) (SDo (operation op.Raise (Number 0)) true (VMore (assertion c msg) VNone)) else SSkip) (expr_size t + opt_expr_size msg + 1)
   assert_small true t msg x n =
-      let p = (expr_small i l t).test true n (1 + n) in
-      let q = message_small msg (1 + n + labels_t (test_form l t) true + 0) in
+      let p = (expr_small i c t).test true n (1 + n) in
+      let q = message_small msg (1 + n + labels_t (test_form c t) true + 0) in
       simp burden-append (omega (arith, p, q))
   assert_small false t msg x n = omega arith
 
@@ -63,11 +65,11 @@ module _ (i : Interp Object) (l : ℕ) where
   tail_small false = omega arith
   tail_small true = omega arith
 
-  caught_small : (name : Option (List ℕ)) (n : ℕ) → burden (code_g i (handler_target name) n) ≤ 1
+  caught_small : (name : Option (List ℕ)) (n : ℕ) → burden (code_g i (handler_target c name) n) ≤ 1
   caught_small None n = omega arith
   caught_small (Some y) n = omega arith
 
-  named_small : (name : Option (List ℕ)) (f : SForm) (s : ℕ) → StmtSmall f s → StmtSmall (named_form name f) (opt_name_size name + s)
+  named_small : (name : Option (List ℕ)) (f : SForm) (s : ℕ) → StmtSmall f s → StmtSmall (named_form c name f) (opt_name_size name + s)
   named_small None f s h x n = let p = h x n in omega (arith, p)
   named_small (Some y) f s h x n = let p = h x (1 + n) in simp burden-append (omega (arith, p))
 
@@ -78,85 +80,85 @@ module _ (i : Interp Object) (l : ℕ) where
       let t = tail_small final in
       simp burden-append (omega (arith, p, q, t))
 
-  typed_small : (e : tree.Expr) (name : Option (List ℕ)) (body rest : ℕ) (f : SForm) (hs : Handlers) → StmtSmall f body → HandlersSmall hs rest → HandlersSmall (HTyped (expr_form l e) (handler_target name) (named_form name f) hs) (expr_size e + opt_name_size name + body + 1 + rest)
+  typed_small : (e : tree.Expr) (name : Option (List ℕ)) (body rest : ℕ) (f : SForm) (hs : Handlers) → StmtSmall f body → HandlersSmall hs rest → HandlersSmall (HTyped (expr_form c e) (handler_target c name) (named_form c name f) hs) (expr_size e + opt_name_size name + body + 1 + rest)
   typed_small e name body rest f hs h g final x end n =
-      let m = 1 + n + labels_v (expr_form l e) in
-      let j = m + labels_g (handler_target name) in
-      let o = (expr_small i l e).value (1 + n) in
-      let c = caught_small name m in
+      let m = 1 + n + labels_v (expr_form c e) in
+      let j = m + labels_g (handler_target c name) in
+      let o = (expr_small i c e).value (1 + n) in
+      let d = caught_small name m in
       let p = named_small name f body h x j in
-      let q = g final x end (j + labels (named_form name f)) in
+      let q = g final x end (j + labels (named_form c name f)) in
       let t = tail_small final in
-      simp burden-append (omega (arith, o, c, p, q, t))
+      simp burden-append (omega (arith, o, d, p, q, t))
 
   mutual
-    stmt_small : (t : tree.Stmt) → StmtSmall (stmt_form l t) (stmt_size t)
-    stmt_small (tree.Delete at targets) x n = let p = removals_small i l targets x n in omega (arith, p)
-    stmt_small (tree.Assign at targets value) x n = let p = assign_small i l (expr_form l value) targets (expr_size value) (expr_small i l value).value x n in omega (arith, p)
-    stmt_small (tree.AugAssign at target o value) x n = let p = augment_small i l target o (expr_form l value) (expr_size value) (expr_small i l value).value x n in omega (arith, p)
-    stmt_small (tree.AnnAssign at target annotation value simple) x n = let p = declare_small i l target annotation value x n in omega (arith, p)
+    stmt_small : (t : tree.Stmt) → StmtSmall (stmt_form c t) (stmt_size t)
+    stmt_small (tree.Delete at targets) x n = let p = removals_small i c targets x n in omega (arith, p)
+    stmt_small (tree.Assign at targets value) x n = let p = assign_small i c (expr_form c value) targets (expr_size value) (expr_small i c value).value x n in omega (arith, p)
+    stmt_small (tree.AugAssign at target o value) x n = let p = augment_small i c target o (expr_form c value) (expr_size value) (expr_small i c value).value x n in omega (arith, p)
+    stmt_small (tree.AnnAssign at target annotation value simple) x n = let p = declare_small i c target annotation value x n in omega (arith, p)
     stmt_small (tree.For at target iter body orelse) x n =
-        let m = 3 + n + labels_v (iterator (expr_form l iter)) in
-        let k = m + labels_g (target_form l target) in
-        let p = (expr_small i l iter).value (3 + n) in
-        let t = (target_small i l target).alone m in
+        let m = 3 + n + labels_v (iterator (expr_form c iter)) in
+        let k = m + labels_g (target_form c target) in
+        let p = (expr_small i c iter).value (3 + n) in
+        let t = (target_small i c target).alone m in
         let q = stmts_small body (record { inside = true; on_break = 2 + n; on_continue = n }) k in
-        let r = stmts_small orelse x (k + labels (stmts_form l body)) in
+        let r = stmts_small orelse x (k + labels (stmts_form c body)) in
         simp burden-append (omega (arith, p, t, q, r))
     stmt_small (tree.If at t body tree.no_stmts) x n =
-        let p = (expr_small i l t).test false n (1 + n) in
-        let q = stmts_small body x (1 + n + labels_t (test_form l t) false) in
+        let p = (expr_small i c t).test false n (1 + n) in
+        let q = stmts_small body x (1 + n + labels_t (test_form c t) false) in
         simp burden-append (omega (arith, p, q))
     stmt_small (tree.If at t body (tree.more_stmts d ds)) x n =
-        let p = (expr_small i l t).test false n (2 + n) in
-        let q = stmts_small body x (2 + n + labels_t (test_form l t) false) in
-        let r = stmts_small (tree.more_stmts d ds) x (2 + n + labels_t (test_form l t) false + labels (stmts_form l body)) in
+        let p = (expr_small i c t).test false n (2 + n) in
+        let q = stmts_small body x (2 + n + labels_t (test_form c t) false) in
+        let r = stmts_small (tree.more_stmts d ds) x (2 + n + labels_t (test_form c t) false + labels (stmts_form c body)) in
         simp burden-append (omega (arith, p, q, simp burden-append at r))
     stmt_small (tree.While at t body orelse) x n =
-        let p = (expr_small i l t).test false (1 + n) (3 + n) in
-        let q = stmts_small body (record { inside = true; on_break = 2 + n; on_continue = n }) (3 + n + labels_t (test_form l t) false) in
-        let r = stmts_small orelse x (3 + n + labels_t (test_form l t) false + labels (stmts_form l body)) in
+        let p = (expr_small i c t).test false (1 + n) (3 + n) in
+        let q = stmts_small body (record { inside = true; on_break = 2 + n; on_continue = n }) (3 + n + labels_t (test_form c t) false) in
+        let r = stmts_small orelse x (3 + n + labels_t (test_form c t) false + labels (stmts_form c body)) in
         simp burden-append (omega (arith, p, q, r))
-    stmt_small (tree.With at items body) x n = let p = items_small items (stmts_form l body) (stmts_size body) (stmts_small body) x n in omega (arith, p)
+    stmt_small (tree.With at items body) x n = let p = items_small items (stmts_form c body) (stmts_size body) (stmts_small body) x n in omega (arith, p)
     stmt_small (tree.Raise at exc cause) x n = raise_small exc cause x n
     stmt_small (tree.Try at body hs orelse tree.no_stmts) x n =
-        let m = 3 + n + labels (stmts_form l body) in
+        let m = 3 + n + labels (stmts_form c body) in
         let p = stmts_small body x (3 + n) in
         let h = handlers_small hs false x (2 + n) m in
-        let q = stmts_small orelse x (m + labels_h (handler_forms l hs)) in
+        let q = stmts_small orelse x (m + labels_h (handler_forms c hs)) in
         simp burden-append (omega (arith, p, h, q))
     stmt_small (tree.Try at body hs orelse (tree.more_stmts d ds)) x n =
-        let m = 3 + n + labels (stmts_form l body) in
-        let k = m + labels_h (handler_forms l hs) in
+        let m = 3 + n + labels (stmts_form c body) in
+        let k = m + labels_h (handler_forms c hs) in
         let p = stmts_small body x (3 + n) in
         let h = handlers_small hs true x (2 + n) m in
         let q = stmts_small orelse x k in
-        let r = stmts_small (tree.more_stmts d ds) x (k + labels (stmts_form l orelse)) in
+        let r = stmts_small (tree.more_stmts d ds) x (k + labels (stmts_form c orelse)) in
         simp burden-append (omega (arith, p, h, q, simp burden-append at r))
-    stmt_small (tree.Assert at t msg) x n = assert_small (nat_eq l 0) t msg x n
-    stmt_small (tree.StmtExpr at v) x n = let p = (expr_small i l v).value n in simp burden-append (omega (arith, p))
+    stmt_small (tree.Assert at t msg) x n = assert_small (nat_eq c.level 0) t msg x n
+    stmt_small (tree.StmtExpr at v) x n = let p = (expr_small i c v).value n in simp burden-append (omega (arith, p))
     stmt_small (tree.Break at) x n = omega arith
     stmt_small (tree.Continue at) x n = omega arith
     stmt_small other x n = omega arith
 
-    stmts_small : (ts : tree.Stmts) → StmtSmall (stmts_form l ts) (stmts_size ts)
+    stmts_small : (ts : tree.Stmts) → StmtSmall (stmts_form c ts) (stmts_size ts)
     stmts_small tree.no_stmts x n = omega arith
     stmts_small (tree.more_stmts t ts) x n =
         let p = stmt_small t x n in
-        let q = stmts_small ts x (n + labels (stmt_form l t)) in
+        let q = stmts_small ts x (n + labels (stmt_form c t)) in
         simp burden-append (omega (arith, p, q))
 
-    handlers_small : (hs : tree.Handlers) → HandlersSmall (handler_forms l hs) (handlers_size hs)
+    handlers_small : (hs : tree.Handlers) → HandlersSmall (handler_forms c hs) (handlers_size hs)
     handlers_small tree.no_handlers final x end n = omega arith
     handlers_small (tree.more_handlers tree.no_expr name body rest) final x end n =
-        let p = any_small (stmts_size body) (handlers_size rest) (stmts_form l body) (handler_forms l rest) (stmts_small body) (handlers_small rest) final x end n in
+        let p = any_small (stmts_size body) (handlers_size rest) (stmts_form c body) (handler_forms c rest) (stmts_small body) (handlers_small rest) final x end n in
         omega (arith, p)
     handlers_small (tree.more_handlers (tree.some_expr e) name body rest) final x end n =
-        typed_small e name (stmts_size body) (handlers_size rest) (stmts_form l body) (handler_forms l rest) (stmts_small body) (handlers_small rest) final x end n
+        typed_small e name (stmts_size body) (handlers_size rest) (stmts_form c body) (handler_forms c rest) (stmts_small body) (handlers_small rest) final x end n
 
   -- what returns a value is one instruction more at most
   return_small : (f : VForm) (n m : ℕ) → burden (code_v i f n) ≤ m → burden (return_code i f n) ≤ suc m
-  return_small (VConst c) n m h = omega (arith, h)
+  return_small (VConst d) n m h = omega (arith, h)
   return_small (VLoad x u) n m h = simp burden-append (omega (arith, h))
   return_small (VOp o fs) n m h = let k = burden-append (code_v i (VOp o fs) n) (Do ReturnValue ∷ []) in omega (arith, h, k)
   return_small (VMake flags a s name b) n m h = let k = burden-append (code_v i (VMake flags a s name b) n) (Do ReturnValue ∷ []) in omega (arith, h, k)
@@ -188,17 +190,20 @@ setup_small i true x n = omega arith
 setup_small i false x n = omega arith
 
 -- the whole code
-pub body_small : (i : Interp Object) (t : tree.Mod) (m : Mode) (l : ℕ) → burden (body_code i (form_of (body t m l))) ≤ 9 * size_of t
-body_small i (tree.Module stmts) m l =
+mod_small : (i : Interp Object) (c : Context) (t : tree.Mod) → burden (body_code i (mod_form c t)) ≤ 9 * size_of t
+mod_small i c (tree.Module stmts) =
     let none : Loops = record { inside = false; on_break = 0; on_continue = 0 } in
-    let p = doc_small i none 1 l stmts in
-    let begun = 1 + labels (doc_form (doc_of l stmts)) in
+    let p = doc_small i none 1 c.level stmts in
+    let begun = 1 + labels (doc_form (doc_of c.level stmts)) in
     let setup = setup_form (annotated (after_doc stmts)) in
     let q = setup_small i (annotated (after_doc stmts)) none begun in
-    let r = stmts_small i l (after_doc stmts) none (begun + labels setup) in
+    let r = stmts_small i c (after_doc stmts) none (begun + labels setup) in
     simp burden-append (omega (arith, p, q, r))
-body_small i (tree.Expression e) m l =
-    let p = (expr_small i l e).value 1 in
-    let q = return_small i l (expr_form l e) 1 (burden (code_v i (expr_form l e) 1)) (omega arith) in
+mod_small i c (tree.Expression e) =
+    let p = (expr_small i c e).value 1 in
+    let q = return_small i c (expr_form c e) 1 (burden (code_v i (expr_form c e) 1)) (omega arith) in
     simp append-nil (omega (arith, p, q))
-body_small i other m l = omega arith
+mod_small i c other = omega arith
+
+pub body_small : (i : Interp Object) (scopes : List ScopeEntry) (t : tree.Mod) (m : Mode) (l : ℕ) → burden (body_code i (form_of (body scopes t m l))) ≤ 9 * size_of t
+body_small i scopes t m l = mod_small i (outermost l [] scopes) t

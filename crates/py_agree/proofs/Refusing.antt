@@ -9,146 +9,192 @@ use Rattle.py_bytecode.specs.declared.instruction.Instruction.TheVariants as op
 use Rattle.py_bytecode.specs.Objects.{Const}
 use Rattle.py_bytecode.specs.Equality.{const_eq, text_eq}
 use Rattle.py_meaning.specs.ExprFaults.{Fault, fault_at, when, debug_faults}
-use Rattle.py_forms.specs.TableParts.{is_debug}
+use Rattle.py_bytecode.specs.Values.{Usage, Load, Store, Delete, Kind, Unsaid, Fast, ByName, Global, Deref, ClassDeref}
+use Rattle.py_forms.specs.Form.{Resolved}
+use Rattle.py_steps.specs.Context.{Context, access_kind, cell_place, mangled}
+use Rattle.py_steps.specs.Accesses.{access_by, accessed}
+use Rattle.py_steps.specs.TableParts.{is_debug}
 use Rattle.py_forms.specs.declared.errors.CodegenErrorType.{CodegenErrorType}
 use Rattle.py_forms.specs.declared.errors.CodegenErrorType.TheVariants as error
-use Rattle.py_forms.specs.Emitting.{State, Outcome, Done, TooWide, Refused, Context, Emission, LoopBlocks, ◌▸◌, go_on, keep, Put, with_step, with_block, with_name, with_constant, with_loops, place_in, located, refuse, emit, emit_count, emit_name, emit_constant, jump, begin, new_block, move, by_level, by_loops, in_loop}
-use Rattle.py_forms.specs.EmissionParts.{unless_debug, emission_of_comparison, emission_of_link}
+use Rattle.py_steps.specs.Emitting.{State, Outcome, Done, TooWide, Refused, Around, Emission, LoopBlocks, ◌▸◌, go_on, keep, Put, with_step, with_block, with_name, with_varname, with_constant, with_loops, place_in, located, refuse, emit, emit_count, emit_name, emit_varname, emit_mangled, emit_constant, jump, begin, new_block, move, by_context, by_level, by_loops, in_loop}
+use Rattle.py_steps.specs.EmissionParts.{unless_debug, emission_of_comparison, emission_of_link}
 use Rattle.py_adds.proofs.Emitting.{kept_on, looping}
 
 -- an operand is too large; or it is refused as the first of these faults says; or there are none, and it goes on in this context, from that place
-pub data Ends (c : Context) (fs : List Fault) (q : SourceLocation) (o : Outcome) : Type 0 where
+pub data Ends (c : Around) (fs : List Fault) (q : SourceLocation) (o : Outcome) : Type 0 where
   Wide : o ≡ TooWide → Ends c fs q o
   Stops : (e : CodegenErrorType) (at : SourceLocation) (rest : List Fault) → o ≡ Refused e (Some at) → fs ≡ fault_at e at ∷ rest → Ends c fs q o
-  GoesOn : (r : State) → r.location ≡ q → r.context ≡ c → o ≡ Done r → fs ≡ [] → Ends c fs q o
+  GoesOn : (r : State) → r.location ≡ q → r.around ≡ c → o ≡ Done r → fs ≡ [] → Ends c fs q o
 
 -- one emission after another
-ends_then : (c d : Context) (b : Emission) (fs gs : List Fault) (m q : SourceLocation) (o : Outcome) → Ends c fs m o → ((r : State) → r.location ≡ m → r.context ≡ c → Ends d gs q (b r)) → Ends d (fs ++ gs) q (go_on o b)
+ends_then : (c d : Around) (b : Emission) (fs gs : List Fault) (m q : SourceLocation) (o : Outcome) → Ends c fs m o → ((r : State) → r.location ≡ m → r.around ≡ c → Ends d gs q (b r)) → Ends d (fs ++ gs) q (go_on o b)
 ends_then c d b fs gs m q o (Wide e) next = Wide (ap (λ x. go_on x b) e)
 ends_then c d b fs gs m q o (Stops e at rest f g) next = Stops e at (rest ++ gs) (ap (λ x. go_on x b) f) (ap (λ l. l ++ gs) g)
 ends_then c d b fs gs m q o (GoesOn r at z f g) next = subst (λ l. Ends d (l ++ gs) q (go_on o b)) (sym g) (subst (λ x. Ends d gs q (go_on x b)) (sym f) (next r at z))
 
 -- what ends as the faults say from any state at the first place in this context, and goes on from the second
-pub record EndsAs (c : Context) (a : Emission) (p q : SourceLocation) (fs : List Fault) : Type 0 where
-  pub ends : (s : State) → s.location ≡ p → s.context ≡ c → Ends c fs q (a s)
+pub record EndsAs (c : Around) (a : Emission) (p q : SourceLocation) (fs : List Fault) : Type 0 where
+  pub ends : (s : State) → s.location ≡ p → s.around ≡ c → Ends c fs q (a s)
 
 -- what only goes on, from where it stands
-abbrev pub Passes : Context → Emission → SourceLocation → Type 0
+abbrev pub Passes : Around → Emission → SourceLocation → Type 0
 Passes c a p = EndsAs c a p p []
 
-pub then_ends : {c : Context} {a b : Emission} {p m q : SourceLocation} {fs gs : List Fault} → EndsAs c a p m fs → EndsAs c b m q gs → EndsAs c (a ▸ b) p q (fs ++ gs)
+pub then_ends : {c : Around} {a b : Emission} {p m q : SourceLocation} {fs gs : List Fault} → EndsAs c a p m fs → EndsAs c b m q gs → EndsAs c (a ▸ b) p q (fs ++ gs)
 then_ends {c = c} {a = a} {b = b} {m = m} {q = q} {fs = fs} {gs = gs} x y = record { ends = λ s h z. ends_then c c b fs gs m q (a s) (x.ends s h z) y.ends }
 
-pub ends_so : {c : Context} {a : Emission} {p q : SourceLocation} {fs gs : List Fault} → fs ≡ gs → EndsAs c a p q fs → EndsAs c a p q gs
+pub ends_so : {c : Around} {a : Emission} {p q : SourceLocation} {fs gs : List Fault} → fs ≡ gs → EndsAs c a p q fs → EndsAs c a p q gs
 ends_so {c = c} {a = a} {p = p} {q = q} e x = subst (EndsAs c a p q) e x
 
-pub ends_there : {c : Context} {a : Emission} {p q r : SourceLocation} {fs : List Fault} → q ≡ r → EndsAs c a p q fs → EndsAs c a p r fs
+pub ends_there : {c : Around} {a : Emission} {p q r : SourceLocation} {fs : List Fault} → q ≡ r → EndsAs c a p q fs → EndsAs c a p r fs
 ends_there {c = c} {a = a} {p = p} {fs = fs} e x = subst (λ q. EndsAs c a p q fs) e x
 
-pub three_end : {c : Context} {a b d : Emission} {p m n q : SourceLocation} {fs gs hs : List Fault} → EndsAs c a p m fs → EndsAs c b m n gs → EndsAs c d n q hs → EndsAs c (a ▸ b ▸ d) p q (fs ++ gs ++ hs)
+pub three_end : {c : Around} {a b d : Emission} {p m n q : SourceLocation} {fs gs hs : List Fault} → EndsAs c a p m fs → EndsAs c b m n gs → EndsAs c d n q hs → EndsAs c (a ▸ b ▸ d) p q (fs ++ gs ++ hs)
 three_end {fs = fs} {gs = gs} {hs = hs} x y z = ends_so (sym (append_assoc fs gs hs)) (then_ends x (then_ends y z))
 
 -- and then what only goes on, or nothing more is at fault
-pub last_ends : {c : Context} {a b : Emission} {p q : SourceLocation} {fs : List Fault} → EndsAs c a p q fs → Passes c b q → EndsAs c (a ▸ b) p q fs
+pub last_ends : {c : Around} {a b : Emission} {p q : SourceLocation} {fs : List Fault} → EndsAs c a p q fs → Passes c b q → EndsAs c (a ▸ b) p q fs
 last_ends {fs = fs} x y = ends_so (append-nil fs) (then_ends x y)
 
-pub alone_ends : {c : Context} {a : Emission} {p q : SourceLocation} {fs : List Fault} → EndsAs c a p q fs → EndsAs c a p q (fs ++ [])
+pub alone_ends : {c : Around} {a : Emission} {p q : SourceLocation} {fs : List Fault} → EndsAs c a p q fs → EndsAs c a p q (fs ++ [])
 alone_ends {fs = fs} x = ends_so (sym (append-nil fs)) x
 
 -- the same with nothing after it
-pub unkept_ends : {c : Context} {p q : SourceLocation} {fs : List Fault} (a : Emission) → EndsAs c (a ▸ keep) p q fs → EndsAs c a p q fs
+pub unkept_ends : {c : Around} {p q : SourceLocation} {fs : List Fault} (a : Emission) → EndsAs c (a ▸ keep) p q fs → EndsAs c a p q fs
 unkept_ends {c = c} {q = q} {fs = fs} a x = record { ends = λ s h z. subst (Ends c fs q) (kept_on (a s)) (x.ends s h z) }
 
-pub nothing_passes : {c : Context} {p : SourceLocation} → Passes c keep p
+pub nothing_passes : {c : Around} {p : SourceLocation} → Passes c keep p
 nothing_passes = record { ends = λ s h z. GoesOn s h z refl refl }
 
-fits_or : (b : Bool) (c : Context) (s : State) (p : SourceLocation) → s.location ≡ p → s.context ≡ c → Ends c [] p (if b then Done s else TooWide)
+fits_or : (b : Bool) (c : Around) (s : State) (p : SourceLocation) → s.location ≡ p → s.around ≡ c → Ends c [] p (if b then Done s else TooWide)
 fits_or true c s p h z = GoesOn s h z refl refl
 fits_or false c s p h z = Wide refl
 
-emit_ends : (i : Instruction) (n : ℕ) (c : Context) (s : State) (p : SourceLocation) → s.location ≡ p → s.context ≡ c → Ends c [] p (emit i n s)
+emit_ends : (i : Instruction) (n : ℕ) (c : Around) (s : State) (p : SourceLocation) → s.location ≡ p → s.around ≡ c → Ends c [] p (emit i n s)
 unfolding emit with_step
 emit_ends i n c s p h z = fits_or (nat_lt n (2 ^ 32)) c (with_step (Put i n None s.location) s) p h z
 
-pub emit_passes : {c : Context} {p : SourceLocation} (i : Instruction) (n : ℕ) → Passes c (emit i n) p
+pub emit_passes : {c : Around} {p : SourceLocation} (i : Instruction) (n : ℕ) → Passes c (emit i n) p
 emit_passes {c = c} {p = p} i n = record { ends = λ s h z. emit_ends i n c s p h z }
 
-pub jump_passes : {c : Context} {p : SourceLocation} (i : Instruction) (b : ℕ) → Passes c (jump i b) p
+pub jump_passes : {c : Around} {p : SourceLocation} (i : Instruction) (b : ℕ) → Passes c (jump i b) p
 unfolding jump with_step
 jump_passes i b = record { ends = λ s h z. GoesOn _ h z refl refl }
 
-pub begin_passes : {c : Context} {p : SourceLocation} (b : ℕ) → Passes c (begin b) p
+pub begin_passes : {c : Around} {p : SourceLocation} (b : ℕ) → Passes c (begin b) p
 unfolding begin with_step
 begin_passes b = record { ends = λ s h z. GoesOn _ h z refl refl }
 
-either_ends : (b : Bool) (c : Context) (o : Outcome) (p : SourceLocation) → Ends c [] p o → Ends c [] p (if b then o else TooWide)
+either_ends : (b : Bool) (c : Around) (o : Outcome) (p : SourceLocation) → Ends c [] p o → Ends c [] p (if b then o else TooWide)
 either_ends true c o p h = h
 either_ends false c o p h = Wide refl
 
-pub count_passes : {c : Context} {p : SourceLocation} (i : Instruction) (n : ℕ) → Passes c (emit_count i n) p
+pub count_passes : {c : Around} {p : SourceLocation} (i : Instruction) (n : ℕ) → Passes c (emit_count i n) p
 unfolding emit_count
 count_passes {c = c} {p = p} i n = record { ends = λ s h z. either_ends (nat_lt n (2 ^ 30)) c (emit i n s) p (emit_ends i n c s p h z) }
 
-pub name_passes : {c : Context} {p : SourceLocation} (i : Instruction) (x : List ℕ) → Passes c (emit_name i x) p
+pub name_passes : {c : Around} {p : SourceLocation} (i : Instruction) (x : List ℕ) → Passes c (emit_name i x) p
 unfolding emit_name with_name
 name_passes {c = c} {p = p} i x = record { ends = λ s h z. emit_ends i (place_in text_eq s.names x) c (with_name x s) p h z }
 
-pub constant_passes : {c : Context} {p : SourceLocation} (i : Instruction) (d : Const) → Passes c (emit_constant i d) p
+pub varname_passes : {c : Around} {p : SourceLocation} (i : Instruction) (x : List ℕ) → Passes c (emit_varname i x) p
+unfolding emit_varname with_varname
+varname_passes {c = c} {p = p} i x = record { ends = λ s h z. emit_ends i (place_in text_eq s.varnames x) c (with_varname x s) p h z }
+
+pub mangled_passes : {c : Around} {p : SourceLocation} (i : Instruction) (x : List ℕ) → Passes c (emit_mangled i x) p
+unfolding emit_mangled
+mangled_passes i x = record { ends = λ s h z. (name_passes i (mangled s.around.context x)).ends s h z }
+
+pub constant_passes : {c : Around} {p : SourceLocation} (i : Instruction) (d : Const) → Passes c (emit_constant i d) p
 unfolding emit_constant with_constant
 constant_passes {c = c} {p = p} i d = record { ends = λ s h z. emit_ends i (place_in const_eq s.constants d) c (with_constant d s) p h z }
 
 -- a refusal stands where it is made, whatever more is wrong
-pub refusal_ends : {c : Context} {p q : SourceLocation} (e : CodegenErrorType) (rest : List Fault) → EndsAs c (refuse e) p q (fault_at e p ∷ rest)
+pub refusal_ends : {c : Around} {p q : SourceLocation} (e : CodegenErrorType) (rest : List Fault) → EndsAs c (refuse e) p q (fault_at e p ∷ rest)
 unfolding refuse
 refusal_ends e rest = record { ends = λ s h z. Stops e s.location rest refl (ap (λ p. fault_at e p ∷ rest) (sym h)) }
 
-pub moved_ends : {c : Context} {a : Emission} {p q : SourceLocation} {fs : List Fault} (at : SourceLocation) → EndsAs c a at q fs → EndsAs c (move at ▸ a) p q fs
+pub moved_ends : {c : Around} {a : Emission} {p q : SourceLocation} {fs : List Fault} (at : SourceLocation) → EndsAs c a at q fs → EndsAs c (move at ▸ a) p q fs
 unfolding move located
 moved_ends at x = record { ends = λ s h z. x.ends (located at s) refl z }
 
 -- a block is made first
-pub new_ends : {c : Context} {p q : SourceLocation} {fs : List Fault} (a : ℕ → Emission) → ((b : ℕ) → EndsAs c (a b) p q fs) → EndsAs c (new_block a) p q fs
+pub new_ends : {c : Around} {p q : SourceLocation} {fs : List Fault} (a : ℕ → Emission) → ((b : ℕ) → EndsAs c (a b) p q fs) → EndsAs c (new_block a) p q fs
 unfolding new_block with_block
 new_ends a x = record { ends = λ s h z. (x s.blocks).ends (with_block s) h z }
 
--- what the level decides, at any level, and what the loops decide
-pub level_ends : {c : Context} {p q : SourceLocation} {fs : List Fault} (a : ℕ → Emission) → ((l : ℕ) → EndsAs c (a l) p q fs) → EndsAs c (by_level a) p q fs
-unfolding by_level
-level_ends a x = record { ends = λ s h z. (x s.context.level).ends s h z }
+-- an access to a name, whatever its scope says of it
+access_passes : {c : Around} {p : SourceLocation} (u : Usage) (k : Kind) (x : List ℕ) (n : ℕ) → Passes c (access_by u k x n) p
+access_passes Load Unsaid x n = name_passes op.LoadNameAny x
+access_passes Load Fast x n = varname_passes op.LoadFast x
+access_passes Load ByName x n = name_passes op.LoadNameAny x
+access_passes Load Global x n = name_passes op.LoadGlobal x
+access_passes Load Deref x n = emit_passes op.LoadDeref n
+access_passes Load ClassDeref x n = emit_passes op.LoadClassDeref n
+access_passes Store Unsaid x n = name_passes op.StoreLocal x
+access_passes Store Fast x n = varname_passes op.StoreFast x
+access_passes Store ByName x n = name_passes op.StoreLocal x
+access_passes Store Global x n = name_passes op.StoreGlobal x
+access_passes Store Deref x n = emit_passes op.StoreDeref n
+access_passes Store ClassDeref x n = emit_passes op.StoreDeref n
+access_passes Delete Unsaid x n = name_passes op.DeleteLocal x
+access_passes Delete Fast x n = varname_passes op.DeleteFast x
+access_passes Delete ByName x n = name_passes op.DeleteLocal x
+access_passes Delete Global x n = name_passes op.DeleteGlobal x
+access_passes Delete Deref x n = emit_passes op.DeleteDeref n
+access_passes Delete ClassDeref x n = emit_passes op.DeleteDeref n
 
-pub loops_end : {c : Context} {p q : SourceLocation} {fs : List Fault} (a : Option LoopBlocks → Emission) → EndsAs c (a c.loops) p q fs → EndsAs c (by_loops a) p q fs
+pub accessed_passes : {c : Around} {p : SourceLocation} (u : Usage) (x : List ℕ) → Passes c (accessed u x) p
+unfolding accessed
+accessed_passes u x = record {
+  ends = λ s h z.
+      let k = s.around.context in
+      let y = mangled k x in
+      (access_passes u (access_kind k u Resolved y) y (cell_place k y)).ends s h z;
+}
+
+-- what the context decides, in any context, what the level decides, at any level, and what the loops decide
+pub context_ends : {c : Around} {p q : SourceLocation} {fs : List Fault} (a : Context → Emission) → ((k : Context) → EndsAs c (a k) p q fs) → EndsAs c (by_context a) p q fs
+unfolding by_context
+context_ends a x = record { ends = λ s h z. (x s.around.context).ends s h z }
+
+pub level_ends : {c : Around} {p q : SourceLocation} {fs : List Fault} (a : ℕ → Emission) → ((l : ℕ) → EndsAs c (a l) p q fs) → EndsAs c (by_level a) p q fs
+unfolding by_level
+level_ends a x = record { ends = λ s h z. (x s.around.context.level).ends s h z }
+
+pub loops_end : {c : Around} {p q : SourceLocation} {fs : List Fault} (a : Option LoopBlocks → Emission) → EndsAs c (a c.loops) p q fs → EndsAs c (by_loops a) p q fs
 unfolding by_loops
-loops_end {c = c} {q = q} {fs = fs} a x = record { ends = λ s h z. subst (λ (d : Context). Ends c fs q (a d.loops s)) (sym z) (x.ends s h z) }
+loops_end {c = c} {q = q} {fs = fs} a x = record { ends = λ s h z. subst (λ (d : Around). Ends c fs q (a d.loops s)) (sym z) (x.ends s h z) }
 
 -- what stands in a loop of its own, after which the context is the one before
-pub loop_ends : {c : Context} {a : Emission} {p q : SourceLocation} {fs : List Fault} (x : LoopBlocks) → EndsAs (looping x c) a p q fs → EndsAs c (in_loop x a) p q fs
+pub loop_ends : {c : Around} {a : Emission} {p q : SourceLocation} {fs : List Fault} (x : LoopBlocks) → EndsAs (looping x c) a p q fs → EndsAs c (in_loop x a) p q fs
 unfolding in_loop with_loops
 loop_ends {c = c} {a = a} {q = q} {fs = fs} x h = record {
   ends = λ s l z.
       let inner : State = with_loops (Some x) s in
-      let back : Emission = λ t. Done (with_loops s.context.loops t) in
-      let last : (r : State) → r.location ≡ q → r.context ≡ looping x c → Ends c [] q (back r) = λ r m y. GoesOn (with_loops s.context.loops r) m (ap (λ (u : Context). record u { loops = s.context.loops }) y ∙ ap (λ (u : Context). record c { loops = u.loops }) z) refl refl in
+      let back : Emission = λ t. Done (with_loops s.around.loops t) in
+      let last : (r : State) → r.location ≡ q → r.around ≡ looping x c → Ends c [] q (back r) = λ r m y. GoesOn (with_loops s.around.loops r) m (ap (λ (u : Around). record u { loops = s.around.loops }) y ∙ ap (λ (u : Around). record c { loops = u.loops }) z) refl refl in
       subst (λ l. Ends c l q (go_on (a inner) back)) (append-nil fs) (ends_then (looping x c) c back fs [] q q (a inner) (h.ends inner l (ap (looping x) z)) last);
 }
 
 -- one of two
-pub if_ends : {c : Context} {v w : Emission} {p q : SourceLocation} {fs : List Fault} (b : Bool) → EndsAs c v p q fs → EndsAs c w p q fs → EndsAs c (if b then v else w) p q fs
+pub if_ends : {c : Around} {v w : Emission} {p q : SourceLocation} {fs : List Fault} (b : Bool) → EndsAs c v p q fs → EndsAs c w p q fs → EndsAs c (if b then v else w) p q fs
 if_ends true x y = x
 if_ends false x y = y
 
 -- a refusal, where the test holds
-guarded_ends : {c : Context} {v : Emission} {p q : SourceLocation} {fs : List Fault} (b : Bool) (e : CodegenErrorType) → EndsAs c v p q fs → EndsAs c (if b then refuse e else v) p q (when b (fault_at e p) ++ fs)
+guarded_ends : {c : Around} {v : Emission} {p q : SourceLocation} {fs : List Fault} (b : Bool) (e : CodegenErrorType) → EndsAs c v p q fs → EndsAs c (if b then refuse e else v) p q (when b (fault_at e p) ++ fs)
 guarded_ends {fs = fs} true e x = refusal_ends e fs
 guarded_ends false e x = x
 
 -- a change of what has that name
-pub unless_debug_ends : {c : Context} {v : Emission} {p q : SourceLocation} {fs : List Fault} (text name : List ℕ) → EndsAs c v p q fs → EndsAs c (unless_debug text name v) p q (debug_faults text p name ++ fs)
+pub unless_debug_ends : {c : Around} {v : Emission} {p q : SourceLocation} {fs : List Fault} (text name : List ℕ) → EndsAs c v p q fs → EndsAs c (unless_debug text name v) p q (debug_faults text p name ++ fs)
 unless_debug_ends text name x = guarded_ends (is_debug name) (error.SyntaxError text) x
 
-pub unless_debug_last : {c : Context} {v : Emission} {p : SourceLocation} (text name : List ℕ) → Passes c v p → EndsAs c (unless_debug text name v) p p (debug_faults text p name)
+pub unless_debug_last : {c : Around} {v : Emission} {p : SourceLocation} (text name : List ℕ) → Passes c v p → EndsAs c (unless_debug text name v) p p (debug_faults text p name)
 unless_debug_last {p = p} text name x = ends_so (append-nil (debug_faults text p name)) (unless_debug_ends text name x)
 
-pub comparison_passes : {c : Context} {p : SourceLocation} (o : CmpOp) → Passes c (emission_of_comparison o) p
+pub comparison_passes : {c : Around} {p : SourceLocation} (o : CmpOp) → Passes c (emission_of_comparison o) p
 comparison_passes comparison.Lt = emit_passes op.CompareOperation 0
 comparison_passes comparison.Gt = emit_passes op.CompareOperation 1
 comparison_passes comparison.NotEq = emit_passes op.CompareOperation 2
@@ -160,5 +206,5 @@ comparison_passes comparison.NotIn = emit_passes op.TestOperation 1
 comparison_passes comparison.Is = emit_passes op.TestOperation 2
 comparison_passes comparison.IsNot = emit_passes op.TestOperation 3
 
-pub link_passes : {c : Context} {p : SourceLocation} (o : CmpOp) (out : ℕ) → Passes c (emission_of_link o out) p
+pub link_passes : {c : Around} {p : SourceLocation} (o : CmpOp) (out : ℕ) → Passes c (emission_of_link o out) p
 link_passes o out = then_ends (emit_passes op.Duplicate 0) (then_ends (emit_passes op.Rotate3 0) (then_ends (comparison_passes o) (jump_passes op.JumpIfFalseOrPop out)))

@@ -6,24 +6,24 @@ use Rattle.py_base.specs.declared.location.SourceLocation.{SourceLocation}
 use Rattle.py_bytecode.specs.declared.instruction.Instruction.{Instruction}
 use Rattle.py_bytecode.specs.declared.instruction.Instruction.TheVariants as op
 use Rattle.py_bytecode.specs.Objects as const
-use Rattle.py_forms.specs.Elements.{Element, Single, Spread, Callee, Function, Method, starred, bare, groups}
+use Rattle.py_steps.specs.Elements.{Element, Single, Spread, Callee, Function, Method, starred, bare, groups}
 use Rattle.py_meaning.specs.Ends.{last_of, expr_end, ends_of, keyword_ends, args_end}
 use Rattle.py_meaning.specs.ExprFaults.{Fault, in_order, faults_in, all_faults, keyword_faults, keyword_values}
 use Rattle.py_meaning.specs.ExprFaults as fault
-use Rattle.py_forms.specs.TableParts.{any}
-use Rattle.py_forms.specs.Emitting.{Context, Emission, ◌▸◌, emit_constant}
-use Rattle.py_forms.specs.EmissionParts.{elements, in_turn, built, call_by, checked, name_values, map_of, joined_map, names_in, values_in, packed_tuple, packed, placed, emission_of_call, no_assignment}
+use Rattle.py_steps.specs.TableParts.{any}
+use Rattle.py_steps.specs.Emitting.{Around, Emission, ◌▸◌, emit_constant}
+use Rattle.py_steps.specs.EmissionParts.{elements, in_turn, built, call_by, checked, name_values, map_of, joined_map, names_in, values_in, packed_tuple, packed, placed, emission_of_call, no_assignment}
 use Rattle.py_emission.specs.Emission.{emissions, all_emissions, keyword_emissions}
-use Rattle.py_agree.proofs.Refusing.{EndsAs, then_ends, three_end, last_ends, alone_ends, unkept_ends, ends_so, nothing_passes, count_passes, name_passes, constant_passes, if_ends, unless_debug_last}
+use Rattle.py_agree.proofs.Refusing.{EndsAs, then_ends, three_end, last_ends, alone_ends, unkept_ends, ends_so, nothing_passes, count_passes, mangled_passes, constant_passes, if_ends, unless_debug_last}
 use Rattle.py_agree.proofs.RefusingTests.{CalleeEnds, EndsWell, AllEnding}
 use Rattle.py_agree.proofs.RefusingPacks.{maps, last_grouped, group_step}
 use Rattle.py_agree.proofs.RefusingDisplays.{bare_ends, tuples_end}
 
-called_ends : {c : Context} {args : Emission} {p m q : SourceLocation} {gs : List Fault} (d : Callee Emission) (fs : List Fault) (function method : Instruction) (n : ℕ) → CalleeEnds c d p m fs → EndsAs c args m q gs → EndsAs c (call_by d function method args n) p q (fs ++ gs)
+called_ends : {c : Around} {args : Emission} {p m q : SourceLocation} {gs : List Fault} (d : Callee Emission) (fs : List Fault) (function method : Instruction) (n : ℕ) → CalleeEnds c d p m fs → EndsAs c args m q gs → EndsAs c (call_by d function method args n) p q (fs ++ gs)
 called_ends (Function v) fs function method n x y = then_ends x (last_ends y (count_passes function n))
-called_ends (Method name v) fs function method n x y = then_ends x (then_ends (name_passes op.LoadMethod name) (last_ends y (count_passes method n)))
+called_ends (Method name v) fs function method n x y = then_ends x (then_ends (mangled_passes op.LoadMethod name) (last_ends y (count_passes method n)))
 
-joined_map_ends : {c : Context} {p q : SourceLocation} {fs : List Fault} (vs : List Emission) → EndsAs c (in_turn vs) p q fs → EndsAs c (joined_map vs) p q fs
+joined_map_ends : {c : Around} {p q : SourceLocation} {fs : List Fault} (vs : List Emission) → EndsAs c (in_turn vs) p q fs → EndsAs c (joined_map vs) p q fs
 joined_map_ends [] x = x
 joined_map_ends (v ∷ []) x = unkept_ends v x
 joined_map_ends (v ∷ w ∷ ws) x = last_ends x (count_passes op.BuildMapForCall (length (v ∷ w ∷ ws)))
@@ -38,7 +38,7 @@ args_faults p es ks = in_order (fault.elements (all_faults es)) ++ keyword_fault
 regrouped : (fs gs hs is : List Fault) → fs ++ (gs ++ hs ++ is) ≡ fs ++ gs ++ hs ++ is
 regrouped fs gs hs is = sym (append_assoc fs (gs ++ hs) is) ∙ ap (λ l. l ++ is) (sym (append_assoc fs gs hs))
 
-module _ (c : Context) where
+module _ (c : Around) where
   abbrev pub KeywordsEnding : tree.Keywords → Type 0
   KeywordsEnding tree.no_keywords = Unit {0}
   KeywordsEnding (tree.more_keywords name e ks) = EndsWell c e × KeywordsEnding ks

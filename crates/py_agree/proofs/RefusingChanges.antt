@@ -10,33 +10,35 @@ use Rattle.py_bytecode.specs.declared.instruction.Instruction.TheVariants as op
 use Rattle.py_bytecode.specs.Objects as const
 use Rattle.py_meaning.specs.Ends.{expr_end, store_end, delete_end, deletes_end}
 use Rattle.py_meaning.specs.ExprFaults.{Fault, expr_faults, delete_faults, deletes_faults, assign_faults, augment_faults, declared_faults}
-use Rattle.py_forms.specs.TableParts.{binary_case}
+use Rattle.py_steps.specs.TableParts.{binary_case}
 use Rattle.py_forms.specs.declared.errors.CodegenErrorType.TheVariants as error
-use Rattle.py_forms.specs.Emitting.{Context, Emission, ◌▸◌}
-use Rattle.py_forms.specs.EmissionParts.{no_assignment, no_deletion}
+use Rattle.py_steps.specs.Emitting.{Around, Emission, ◌▸◌, emit_constant}
+use Rattle.py_bytecode.specs.Values.{Store, Delete}
+use Rattle.py_steps.specs.Context.{mangled}
+use Rattle.py_steps.specs.EmissionParts.{no_assignment, no_deletion}
 use Rattle.py_emission.specs.Emission.{emission, emission_of_delete, emission_of_deletes, deletion_name}
 use Rattle.py_meaning.specs.EmissionStmts.{emission_of_assign, emission_of_augment, emission_of_declared, emission_of_annotation, emission_of_operand}
-use Rattle.py_agree.proofs.Refusing.{EndsAs, Passes, then_ends, three_end, last_ends, alone_ends, ends_so, nothing_passes, emit_passes, name_passes, constant_passes, refusal_ends, unless_debug_ends, unless_debug_last}
+use Rattle.py_agree.proofs.Refusing.{EndsAs, Passes, then_ends, three_end, last_ends, alone_ends, ends_so, nothing_passes, emit_passes, name_passes, mangled_passes, accessed_passes, context_ends, constant_passes, refusal_ends, unless_debug_ends, unless_debug_last}
 use Rattle.py_agree.proofs.RefusingExprs.{both_none, name_load_passes, no_target, expr_ends, store_ends}
 
 -- in any context an emission ends as the faults say, and goes on from some place
 pub record Leaves (a : Emission) (p : SourceLocation) (fs : List Fault) : Type 0 where
   pub place : SourceLocation
-  pub ends : (c : Context) → EndsAs c a p place fs
+  pub ends : (c : Around) → EndsAs c a p place fs
 
-leaves : {a : Emission} {p q : SourceLocation} {fs : List Fault} → ((c : Context) → EndsAs c a p q fs) → Leaves a p fs
+leaves : {a : Emission} {p q : SourceLocation} {fs : List Fault} → ((c : Around) → EndsAs c a p q fs) → Leaves a p fs
 leaves {q = q} x = record { place = q; ends = x }
 
-module _ (c : Context) (class : Option (List ℕ)) where
+module _ (c : Around) (class : Option (List ℕ)) where
   value_ends : (p : SourceLocation) (e : tree.Expr) → expr_shapes class e ≡ [] → EndsAs c (emission e) p (expr_end e) (expr_faults e)
   value_ends p e h = (expr_ends c class e h).value p
 
   mutual
     delete_ends : (p : SourceLocation) (e : tree.Expr) → expr_shapes class e ≡ [] → EndsAs c (emission_of_delete e) p (delete_end p e) (delete_faults p e)
-    delete_ends p (tree.Name at x) h = unless_debug_last no_deletion x (name_passes op.DeleteLocal x)
+    delete_ends p (tree.Name at x) h = unless_debug_last no_deletion x (accessed_passes Delete x)
     delete_ends p (tree.Attribute at value attr) h =
         let s = both_none (name_shapes attr) (expr_shapes class value) h in
-        unless_debug_ends no_deletion attr (last_ends (value_ends p value s.1) (name_passes op.DeleteAttr attr))
+        unless_debug_ends no_deletion attr (last_ends (value_ends p value s.1) (mangled_passes op.DeleteAttr attr))
     delete_ends p (tree.Subscript at value slice) h =
         let s = both_none (expr_shapes class value) (expr_shapes class slice) h in
         then_ends (value_ends p value s.0) (last_ends (value_ends (expr_end value) slice s.1) (emit_passes op.DeleteSubscript 0))
@@ -55,7 +57,7 @@ module _ (c : Context) (class : Option (List ℕ)) where
   operand_ends p o value v = last_ends (value_ends p value v) (emit_passes op.BinaryOperationInplace (binary_case o))
 
   annotation_passes : {p : SourceLocation} (target : tree.Expr) → Passes c (emission_of_annotation target) p
-  annotation_passes (tree.Name at x) = then_ends (name_passes op.LoadNameAny (codes "__annotations__")) (then_ends (constant_passes op.LoadConst (const.str x)) (emit_passes op.StoreSubscript 0))
+  annotation_passes (tree.Name at x) = then_ends (name_passes op.LoadNameAny (codes "__annotations__")) (then_ends (context_ends (λ k. emit_constant op.LoadConst (const.str (mangled k x))) (λ k. constant_passes op.LoadConst (const.str (mangled k x)))) (emit_passes op.StoreSubscript 0))
   annotation_passes other = emit_passes op.Pop 0
 
 module _ (class : Option (List ℕ)) where
@@ -72,12 +74,12 @@ module _ (class : Option (List ℕ)) where
   assign_ends p (tree.more_exprs e es) some h = let s = both_none (expr_shapes class e) (exprs_shapes class es) h in some_assign_ends p e es s.0 s.1
 
   pub augment_ends : (p : SourceLocation) (target : tree.Expr) (o : Operator) (value : tree.Expr) → expr_shapes class target ≡ [] → expr_shapes class value ≡ [] → Leaves (emission_of_augment target o (emission value)) p (augment_faults p target value)
-  augment_ends p (tree.Name at x) o value h v = leaves (λ c. then_ends (name_load_passes x) (then_ends (operand_ends c class p o value v) (unless_debug_last no_assignment x (name_passes op.StoreLocal x))))
+  augment_ends p (tree.Name at x) o value h v = leaves (λ c. then_ends (name_load_passes x) (then_ends (operand_ends c class p o value v) (unless_debug_last no_assignment x (accessed_passes Store x))))
   augment_ends p (tree.Attribute at object attr) o value h v =
       let s = both_none (name_shapes attr) (expr_shapes class object) h in
       leaves (λ c.
-      let result = last_ends (operand_ends c class (expr_end object) o value v) (then_ends (emit_passes op.Rotate2 0) (name_passes op.StoreAttr attr)) in
-      let stored = unless_debug_ends no_assignment attr (then_ends (value_ends c class p object s.1) (then_ends (emit_passes op.Duplicate 0) (then_ends (name_passes op.LoadAttr attr) result))) in
+      let result = last_ends (operand_ends c class (expr_end object) o value v) (then_ends (emit_passes op.Rotate2 0) (mangled_passes op.StoreAttr attr)) in
+      let stored = unless_debug_ends no_assignment attr (then_ends (value_ends c class p object s.1) (then_ends (emit_passes op.Duplicate 0) (then_ends (mangled_passes op.LoadAttr attr) result))) in
       ends_so (sym (append_assoc _ (expr_faults object) (expr_faults value))) stored)
   augment_ends p (tree.Subscript at object slice) o value h v =
       let s = both_none (expr_shapes class object) (expr_shapes class slice) h in

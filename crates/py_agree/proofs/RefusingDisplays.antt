@@ -6,12 +6,12 @@ use Rattle.py_bytecode.specs.declared.instruction.Instruction.{Instruction}
 use Rattle.py_bytecode.specs.declared.instruction.Instruction.TheVariants as op
 use Rattle.py_bytecode.specs.Objects as const
 use Rattle.py_bytecode.specs.Objects.{Const}
-use Rattle.py_forms.specs.Elements.{starred, bare, grouped, groups, front, behind, pairs, sides, flat}
+use Rattle.py_steps.specs.Elements.{starred, bare, grouped, groups, front, behind, pairs, sides, flat}
 use Rattle.py_meaning.specs.Ends.{last_of, some_of, parts_entered, expr_end, ends_of, opt_end, opts_ends}
 use Rattle.py_meaning.specs.ExprFaults.{Fault, in_order, if_any, joined_faults, faults_in, all_faults, opt_faults, opts_faults}
 use Rattle.py_meaning.specs.ExprFaults as fault
-use Rattle.py_forms.specs.Emitting.{Context, Emission, ◌▸◌, emit_count, keep}
-use Rattle.py_forms.specs.EmissionParts.{values, elements, in_turn, built, display, updates, map_of_pairs, dict_value, value_or, slice_step, slice_value, joined_value}
+use Rattle.py_steps.specs.Emitting.{Around, Emission, ◌▸◌, emit_count, keep}
+use Rattle.py_steps.specs.EmissionParts.{values, elements, in_turn, built, display, updates, map_of_pairs, dict_value, value_or, slice_step, slice_value, joined_value}
 use Rattle.py_emission.specs.Emission.{emission, emissions, all_emissions, opt_emission, opt_emissions}
 use Rattle.py_adds.proofs.Emitting.{grouped as go_on_grouped, kept_on}
 use Rattle.py_agree.proofs.Refusing.{EndsAs, then_ends, three_end, last_ends, ends_so, ends_there, nothing_passes, emit_passes, count_passes, constant_passes, if_ends}
@@ -29,7 +29,7 @@ nothing_after v = λ i s. kept_on (v s) i
 first_two : (a b d : Emission) → (a ▸ b ▸ d) ≡ ((a ▸ b) ▸ d)
 first_two a b d = λ i s. go_on_grouped (a s) b d i
 
-grouped_ends : {c : Context} {p q : SourceLocation} {fs : List Fault} (a b d : Emission) → EndsAs c (a ▸ b ▸ d) p q fs → EndsAs c ((a ▸ b) ▸ d) p q fs
+grouped_ends : {c : Around} {p q : SourceLocation} {fs : List Fault} (a b d : Emission) → EndsAs c (a ▸ b ▸ d) p q fs → EndsAs c ((a ▸ b) ▸ d) p q fs
 grouped_ends {c = c} {p = p} {q = q} {fs = fs} a b d x = subst (λ (e : Emission). EndsAs c e p q fs) (first_two a b d) x
 
 sides_more : (ps : List (Emission × Emission)) (k v : Emission) → in_turn (sides (ps ++ (k, v) ∷ [])) ≡ (in_turn (sides ps) ▸ k ▸ v)
@@ -39,7 +39,7 @@ sides_more (p ∷ ps) k v =
     ∙ ap {B = Emission} (λ (f : Emission). p.0 ▸ f) (first_two p.1 (in_turn (sides ps)) (k ▸ v))
     ∙ first_two p.0 (p.1 ▸ in_turn (sides ps)) (k ▸ v)
 
-module _ (c : Context) where
+module _ (c : Around) where
   pub bare_ends : (p : SourceLocation) (es : tree.Exprs) → AllEnding c es → EndsAs c (in_turn (bare (elements (all_emissions es)))) p (last_of p (ends_of es)) (in_order (fault.elements (all_faults es)))
   bare_ends p tree.no_exprs x = nothing_passes
   bare_ends p (tree.more_exprs e es) x = bare_step c (faults_in e).element (emissions e).element (elements (all_emissions es)) (x.0.element p) (bare_ends (expr_end e) es x.1)

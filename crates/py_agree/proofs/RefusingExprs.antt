@@ -10,22 +10,24 @@ use Rattle.py_base.specs.declared.shapes.Malformed.TheVariants as shape
 use Rattle.py_bytecode.specs.declared.instruction.Instruction.{Instruction}
 use Rattle.py_bytecode.specs.declared.instruction.Instruction.TheVariants as op
 use Rattle.py_bytecode.specs.Objects as const
-use Rattle.py_forms.specs.Elements.{bare}
+use Rattle.py_steps.specs.Elements.{bare}
 use Rattle.py_meaning.specs.Ends.{last_of, expr_end, ends_of, store_end, stores_end}
 use Rattle.py_meaning.specs.ExprFaults.{Fault, ExprFaults, either, in_order, fault_at, faults_in, all_faults, faults_to, all_faults_to}
 use Rattle.py_meaning.specs.ExprFaults as fault
 use Rattle.py_emission.specs.Texts.{texts_of}
-use Rattle.py_forms.specs.TableParts.{binary_case, conversion_case, constant_of, debug_constant, is_debug}
+use Rattle.py_steps.specs.TableParts.{binary_case, conversion_case, constant_of, debug_constant, is_debug}
 use Rattle.py_forms.specs.declared.errors.CodegenErrorType.TheVariants as error
-use Rattle.py_forms.specs.Emitting.{Context, Emission, ◌▸◌, refuse, emit_constant, emit_name, move}
-use Rattle.py_forms.specs.EmissionParts.{tested, elements, display, in_turn, emission_of_name, no_assignment, lone_star}
+use Rattle.py_steps.specs.Emitting.{Around, Emission, ◌▸◌, refuse, emit_constant, emit_mangled, move}
+use Rattle.py_bytecode.specs.Values.{Load, Store}
+use Rattle.py_steps.specs.EmissionParts.{tested, elements, display, in_turn, no_assignment, lone_star}
 use Rattle.py_emission.specs.Emission.{emissions, all_emissions, stores, all_stores, unbuilt}
-use Rattle.py_agree.proofs.Refusing.{EndsAs, Passes, then_ends, last_ends, nothing_passes, emit_passes, name_passes, constant_passes, if_ends, level_ends, moved_ends, refusal_ends, unless_debug_ends, unless_debug_last}
+use Rattle.py_agree.proofs.Refusing.{EndsAs, Passes, then_ends, last_ends, nothing_passes, emit_passes, mangled_passes, accessed_passes, constant_passes, if_ends, level_ends, moved_ends, refusal_ends, unless_debug_ends, unless_debug_last}
 use Rattle.py_agree.proofs.RefusingTests.{Ending, EndsWell, AllEnding, truth_ends, at_ends, bool_ends, unary_ends, compare_ends, choice_ends}
 use Rattle.py_agree.proofs.RefusingPacks.{bare_step}
 use Rattle.py_agree.proofs.RefusingDisplays.{OptEnding, OptsEnding, display_ends, dict_ends, value_or_ends, slice_ends, joined_ends}
 use Rattle.py_agree.proofs.RefusingCalls.{KeywordsEnding, call_ends}
 use Rattle.py_agree.proofs.RefusingTargets.{Storing, plain_ends, list_ends}
+use Rattle.py_steps.specs.Accesses.{emission_of_name}
 
 -- no wrong shape in two parts
 pub both_none : {A : Type 0} (xs ys : List A) → xs ++ ys ≡ [] → (xs ≡ []) × (ys ≡ [])
@@ -44,28 +46,28 @@ as_many : (es : tree.Exprs) → length (all_emissions es) ≡ count es
 as_many tree.no_exprs = refl
 as_many (tree.more_exprs e es) = let h = as_many es in omega (arith, h)
 
-pub name_load_passes : {c : Context} {p : SourceLocation} (x : List ℕ) → Passes c (emission_of_name x) p
-name_load_passes x = if_ends (is_debug x) (level_ends (λ l. emit_constant op.LoadConst (debug_constant l)) (λ l. constant_passes op.LoadConst (debug_constant l))) (name_passes op.LoadNameAny x)
+pub name_load_passes : {c : Around} {p : SourceLocation} (x : List ℕ) → Passes c (emission_of_name x) p
+name_load_passes x = if_ends (is_debug x) (level_ends (λ l. emit_constant op.LoadConst (debug_constant l)) (λ l. constant_passes op.LoadConst (debug_constant l))) (accessed_passes Load x)
 
-displayed_ends : (c : Context) (at : SourceLocation) (build unpack : Instruction) (es : tree.Exprs) → AllEnding c es → Ending c (tested (move at ▸ display build unpack (elements (all_emissions es)))) (last_of at (ends_of es)) (either (in_order (fault.elements (all_faults es))))
+displayed_ends : (c : Around) (at : SourceLocation) (build unpack : Instruction) (es : tree.Exprs) → AllEnding c es → Ending c (tested (move at ▸ display build unpack (elements (all_emissions es)))) (last_of at (ends_of es)) (either (in_order (fault.elements (all_faults es))))
 displayed_ends c at build unpack es x = at_ends at (display_ends c at build unpack es x)
 
-attribute_ends : {c : Context} {v : Emission} {p q : SourceLocation} {fs : List Fault} (at : SourceLocation) (name : List ℕ) → EndsAs c v at q fs → EndsAs c (move at ▸ v ▸ emit_name op.LoadAttr name) p q fs
-attribute_ends at name x = moved_ends at (last_ends x (name_passes op.LoadAttr name))
+attribute_ends : {c : Around} {v : Emission} {p q : SourceLocation} {fs : List Fault} (at : SourceLocation) (name : List ℕ) → EndsAs c v at q fs → EndsAs c (move at ▸ v ▸ emit_mangled op.LoadAttr name) p q fs
+attribute_ends at name x = moved_ends at (last_ends x (mangled_passes op.LoadAttr name))
 
 -- a starred expression that is no element
-lone_ends : {c : Context} {p q : SourceLocation} (at : SourceLocation) (fs : List Fault) → EndsAs c (move at ▸ refuse error.InvalidStarExpr) p q (fault_at error.InvalidStarExpr at ∷ fs)
+lone_ends : {c : Around} {p q : SourceLocation} (at : SourceLocation) (fs : List Fault) → EndsAs c (move at ▸ refuse error.InvalidStarExpr) p q (fault_at error.InvalidStarExpr at ∷ fs)
 lone_ends at fs = moved_ends at (refusal_ends error.InvalidStarExpr fs)
 
 -- what is not compiled yet is at fault itself, whatever stands within it
-unbuilt_ends : {c : Context} (at : SourceLocation) → Ending c (tested (unbuilt at)) at (either (fault.unbuilt at))
+unbuilt_ends : {c : Around} (at : SourceLocation) → Ending c (tested (unbuilt at)) at (either (fault.unbuilt at))
 unbuilt_ends at = at_ends at (refusal_ends error.NotImplementedYet [])
 
 -- what is no target
-pub no_target : {c : Context} {q : SourceLocation} (p : SourceLocation) (e : tree.Expr) → EndsAs c (refuse (error.Assign (python_name e))) p q (fault_at (error.Assign (python_name e)) p ∷ [])
+pub no_target : {c : Around} {q : SourceLocation} (p : SourceLocation) (e : tree.Expr) → EndsAs c (refuse (error.Assign (python_name e))) p q (fault_at (error.Assign (python_name e)) p ∷ [])
 no_target p e = refusal_ends (error.Assign (python_name e)) []
 
-module _ (c : Context) (class : Option (List ℕ)) where
+module _ (c : Around) (class : Option (List ℕ)) where
   mutual
     pub expr_ends : (e : tree.Expr) → expr_shapes class e ≡ [] → EndsWell c e
     expr_ends (tree.BoolOp at o operands) h =
@@ -147,10 +149,10 @@ module _ (c : Context) (class : Option (List ℕ)) where
 
     -- as a target, from the place where its store begins
     pub store_ends : (p : SourceLocation) (e : tree.Expr) → expr_shapes class e ≡ [] → Storing c (stores e) p (store_end p e) (faults_to p e)
-    store_ends p (tree.Name at x) h = plain_ends (unless_debug_last no_assignment x (name_passes op.StoreLocal x))
+    store_ends p (tree.Name at x) h = plain_ends (unless_debug_last no_assignment x (accessed_passes Store x))
     store_ends p (tree.Attribute at value attr) h =
         let s = both_none (name_shapes attr) (expr_shapes class value) h in
-        plain_ends (unless_debug_ends no_assignment attr (last_ends ((expr_ends value s.1).value p) (name_passes op.StoreAttr attr)))
+        plain_ends (unless_debug_ends no_assignment attr (last_ends ((expr_ends value s.1).value p) (mangled_passes op.StoreAttr attr)))
     store_ends p (tree.Subscript at value slice) h =
         let s = both_none (expr_shapes class value) (expr_shapes class slice) h in
         plain_ends (then_ends ((expr_ends value s.0).value p) (last_ends ((expr_ends slice s.1).value (expr_end value)) (emit_passes op.StoreSubscript 0)))

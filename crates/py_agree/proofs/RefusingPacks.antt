@@ -3,10 +3,10 @@ use Rattle.std.proofs.Common.{◌≡◌, ℕ, List, [], ◌∷◌, ◌++◌, ref
 use Rattle.py_base.specs.declared.location.SourceLocation.{SourceLocation}
 use Rattle.py_bytecode.specs.declared.instruction.Instruction.TheVariants as op
 use Rattle.py_bytecode.specs.Objects as const
-use Rattle.py_forms.specs.Elements.{Element, Single, Spread, bare, grouped, groups}
+use Rattle.py_steps.specs.Elements.{Element, Single, Spread, bare, grouped, groups}
 use Rattle.py_meaning.specs.ExprFaults.{Fault}
-use Rattle.py_forms.specs.Emitting.{Context, Emission, ◌▸◌, emit_constant, keep}
-use Rattle.py_forms.specs.EmissionParts.{in_turn, built, name_values, map_of}
+use Rattle.py_steps.specs.Emitting.{Around, Emission, ◌▸◌, emit_constant, keep}
+use Rattle.py_steps.specs.EmissionParts.{in_turn, built, name_values, map_of}
 use Rattle.py_adds.proofs.Emitting.{grouped as go_on_grouped, kept_on}
 use Rattle.py_agree.proofs.Refusing.{EndsAs, then_ends, last_ends, ends_so, nothing_passes, count_passes}
 use Rattle.py_agree.proofs.RefusingTests.{ElementEnds}
@@ -23,7 +23,7 @@ names_more : (ps : List (List ℕ × Emission)) (p : List ℕ × Emission) → i
 names_more [] p = λ i s. kept_on (named p s) i
 names_more (w ∷ ws) p = ap {B = Emission} (λ (f : Emission). named w ▸ f) (names_more ws p) ∙ (λ i s. go_on_grouped (named w s) (in_turn (name_values ws)) (named p) i)
 
-module _ (c : Context) where
+module _ (c : Around) where
   -- an element, starred or not
   pub bare_step : {p m q : SourceLocation} {gs : List Fault} (fs : List Fault) (x : Element Emission Emission) (rest : List (Element Emission Emission)) → ElementEnds c x p m fs → EndsAs c (in_turn (bare rest)) m q gs → EndsAs c (in_turn (bare (x ∷ rest))) p q (fs ++ gs)
   bare_step fs (Single v) rest x y = then_ends x y

@@ -10,69 +10,69 @@ use Rattle.py_base.specs.declared.operators.UnaryOp.TheVariants as unary
 use Rattle.py_base.specs.declared.shapes.Malformed.TheVariants as shape
 use Rattle.py_bytecode.specs.declared.instruction.Instruction.TheVariants as op
 use Rattle.py_bytecode.specs.Values.{flip}
-use Rattle.py_forms.specs.Elements.{Element, Single, Spread, Callee, Function, Method}
+use Rattle.py_steps.specs.Elements.{Element, Single, Spread, Callee, Function, Method}
 use Rattle.py_meaning.specs.Ends.{last_of, expr_end, ends_of}
 use Rattle.py_meaning.specs.ExprFaults.{Fault, ExprFaults, either, in_order, faults_in, all_faults}
 use Rattle.py_meaning.specs.ExprFaults as fault
-use Rattle.py_forms.specs.TableParts.{unary_case, deciding}
+use Rattle.py_steps.specs.TableParts.{unary_case, deciding}
 use Rattle.py_forms.specs.declared.errors.CodegenErrorType.{CodegenErrorType}
 use Rattle.py_forms.specs.declared.errors.CodegenErrorType.TheVariants as error
-use Rattle.py_forms.specs.Emitting.{Context, Emission, ◌▸◌, refuse, emit, jump, begin, new_block, move}
-use Rattle.py_forms.specs.EmissionParts.{keeping_jump, testing_jump, Emissions, ordinary, truth_of, tested, values, in_turn, shorts, tests, some_test, bool_emissions, unary_value, unary_emissions, links, chain, first_comparison, comparisons, emission_of_compare, choice}
+use Rattle.py_steps.specs.Emitting.{Around, Emission, ◌▸◌, refuse, emit, jump, begin, new_block, move}
+use Rattle.py_steps.specs.EmissionParts.{keeping_jump, testing_jump, Emissions, ordinary, truth_of, tested, values, in_turn, shorts, tests, some_test, bool_emissions, unary_value, unary_emissions, links, chain, first_comparison, comparisons, emission_of_compare, choice}
 use Rattle.py_emission.specs.Emission.{emissions, all_emissions}
 use Rattle.py_agree.proofs.Refusing.{EndsAs, Passes, then_ends, three_end, last_ends, alone_ends, nothing_passes, emit_passes, jump_passes, begin_passes, moved_ends, new_ends, if_ends, comparison_passes, link_passes}
 
 -- an element and what is called end as their values do
-abbrev pub ElementEnds : Context → Element Emission Emission → (p q : SourceLocation) → List Fault → Type 0
+abbrev pub ElementEnds : Around → Element Emission Emission → (p q : SourceLocation) → List Fault → Type 0
 ElementEnds c (Single v) p q fs = EndsAs c v p q fs
 ElementEnds c (Spread v) p q fs = EndsAs c v p q fs
 
-abbrev pub CalleeEnds : Context → Callee Emission → (p q : SourceLocation) → List Fault → Type 0
+abbrev pub CalleeEnds : Around → Callee Emission → (p q : SourceLocation) → List Fault → Type 0
 CalleeEnds c (Function v) p q fs = EndsAs c v p q fs
 CalleeEnds c (Method name v) p q fs = EndsAs c v p q fs
 
 -- an expression ends as its faults say, from any place, and goes on from there
-pub record Ending (c : Context) (e : Emissions) (q : SourceLocation) (f : ExprFaults) : Type 0 where
+pub record Ending (c : Around) (e : Emissions) (q : SourceLocation) (f : ExprFaults) : Type 0 where
   pub value : (p : SourceLocation) → EndsAs c e.value p q f.value
   pub test : (p : SourceLocation) (t : Bool) (to : ℕ) → EndsAs c (e.test t to) p q f.value
   pub element : (p : SourceLocation) → ElementEnds c e.element p q f.element
   pub callee : (p : SourceLocation) → CalleeEnds c e.callee p q f.value
 
 -- a test ends as the faults say, at whatever truth it jumps
-abbrev pub TestEnds : Context → (Bool → ℕ → Emission) → (p q : SourceLocation) → List Fault → Type 0
+abbrev pub TestEnds : Around → (Bool → ℕ → Emission) → (p q : SourceLocation) → List Fault → Type 0
 TestEnds c t p q fs = (b : Bool) (to : ℕ) → EndsAs c (t b to) p q fs
 
-pub truth_ends : {c : Context} {v : Emission} {p q : SourceLocation} {fs : List Fault} → EndsAs c v p q fs → TestEnds c (truth_of v) p q fs
+pub truth_ends : {c : Around} {v : Emission} {p q : SourceLocation} {fs : List Fault} → EndsAs c v p q fs → TestEnds c (truth_of v) p q fs
 truth_ends x b to = last_ends x (jump_passes (testing_jump b) to)
 
-pub ordinary_ends : {c : Context} {v : Emission} {t : Bool → ℕ → Emission} {q : SourceLocation} {fs : List Fault} → ((p : SourceLocation) → EndsAs c v p q fs) → ((p : SourceLocation) → TestEnds c t p q fs) → Ending c (ordinary v t) q (either fs)
+pub ordinary_ends : {c : Around} {v : Emission} {t : Bool → ℕ → Emission} {q : SourceLocation} {fs : List Fault} → ((p : SourceLocation) → EndsAs c v p q fs) → ((p : SourceLocation) → TestEnds c t p q fs) → Ending c (ordinary v t) q (either fs)
 ordinary_ends x y = record { value = x; test = y; element = x; callee = x }
 
-pub tested_ends : {c : Context} {v : Emission} {q : SourceLocation} {fs : List Fault} → ((p : SourceLocation) → EndsAs c v p q fs) → Ending c (tested v) q (either fs)
+pub tested_ends : {c : Around} {v : Emission} {q : SourceLocation} {fs : List Fault} → ((p : SourceLocation) → EndsAs c v p q fs) → Ending c (tested v) q (either fs)
 tested_ends x = ordinary_ends x (λ p. truth_ends (x p))
 
-pub at_ends : {c : Context} {v : Emission} {q : SourceLocation} {fs : List Fault} (at : SourceLocation) → EndsAs c v at q fs → Ending c (tested (move at ▸ v)) q (either fs)
+pub at_ends : {c : Around} {v : Emission} {q : SourceLocation} {fs : List Fault} (at : SourceLocation) → EndsAs c v at q fs → Ending c (tested (move at ▸ v)) q (either fs)
 at_ends at x = tested_ends (λ p. moved_ends at x)
 
 -- there is an operand
-some_ends : {c : Context} {a : Emission} {p q : SourceLocation} {fs : List Fault} (b : Bool) (e : CodegenErrorType) → b ≡ false → EndsAs c a p q fs → EndsAs c (if b then refuse e else a) p q fs
+some_ends : {c : Around} {a : Emission} {p q : SourceLocation} {fs : List Fault} (b : Bool) (e : CodegenErrorType) → b ≡ false → EndsAs c a p q fs → EndsAs c (if b then refuse e else a) p q fs
 some_ends true e d x = absurd cc
 some_ends false e d x = x
 
 -- there are operators, and a comparator for each
-even_ends : {c : Context} {a : Emission} {p q : SourceLocation} {fs : List Fault} (b o : Bool) (d e : CodegenErrorType) → b ≡ false → o ≡ true → EndsAs c a p q fs → EndsAs c (if b then refuse d else (if o then a else refuse e)) p q fs
+even_ends : {c : Around} {a : Emission} {p q : SourceLocation} {fs : List Fault} (b o : Bool) (d e : CodegenErrorType) → b ≡ false → o ≡ true → EndsAs c a p q fs → EndsAs c (if b then refuse d else (if o then a else refuse e)) p q fs
 even_ends true o d e f g x = absurd cc
 even_ends false true d e f g x = x
 even_ends false false d e f g x = absurd cc
 
 -- one of two values or bodies
-pub choice_ends : {c : Context} {test : Bool → ℕ → Emission} {body orelse : Emission} {p m n q : SourceLocation} {fs gs hs : List Fault} → TestEnds c test p m fs → EndsAs c body m n gs → EndsAs c orelse n q hs → EndsAs c (choice test body orelse) p q (fs ++ gs ++ hs)
+pub choice_ends : {c : Around} {test : Bool → ℕ → Emission} {body orelse : Emission} {p m n q : SourceLocation} {fs gs hs : List Fault} → TestEnds c test p m fs → EndsAs c body m n gs → EndsAs c orelse n q hs → EndsAs c (choice test body orelse) p q (fs ++ gs ++ hs)
 choice_ends {test = test} {body = body} {orelse = orelse} t x y =
     new_ends (λ other. new_block (λ end. test false other ▸ body ▸ jump op.Jump end ▸ begin other ▸ orelse ▸ begin end)) (λ other.
     new_ends (λ end. test false other ▸ body ▸ jump op.Jump end ▸ begin other ▸ orelse ▸ begin end) (λ end.
     three_end (t false other) x (then_ends (jump_passes op.Jump end) (then_ends (begin_passes other) (last_ends y (begin_passes end))))))
 
-module _ (c : Context) where
+module _ (c : Around) where
   abbrev pub EndsWell : tree.Expr → Type 0
   EndsWell e = Ending c (emissions e) (expr_end e) (faults_in e)
 

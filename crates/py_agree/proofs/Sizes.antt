@@ -12,7 +12,8 @@ use Rattle.py_bytecode.specs.Values.{Bare, operation}
 use Rattle.py_forms.specs.Form.{Interp, VForm, VConst, VLoad, VOp, VNone, VMore, VAt, VKeep, GPut, Resolved}
 use Rattle.py_emission.specs.Texts.{texts_of}
 use Rattle.py_forms.specs.Code.{labels_v}
-use Rattle.py_forms.specs.TableParts.{ExprForms, tested, values, elements, parts_of, conversion_case, counted, named, binary, display, value_or, debug_constant, is_debug, no_operand, unpacked_to}
+use Rattle.py_steps.specs.TableParts.{ExprForms, tested, values, elements, parts_of, conversion_case, counted, named, binary, display, value_or, debug_constant, is_debug, no_operand, unpacked_to}
+use Rattle.py_steps.specs.Context.{Context, mangled}
 use Rattle.py_meaning.specs.Table.{expr_forms, all_forms, opt_form, opt_forms, keyword_forms, target_forms, all_targets, unbuilt}
 use Rattle.py_adds.proofs.Burden.{burden-append}
 use Rattle.py_adds.proofs.Together.{Together, Possible, OneElement}
@@ -50,97 +51,97 @@ module _ (i : Interp Object) where
   unbuilt_small at s some = tested_small i (VAt at no_operand) s (λ n. omega (arith, some))
 
   mutual
-    pub expr_small : (l : ℕ) (t : tree.Expr) → Small i (expr_forms l t) (expr_size t)
-    expr_small l (tree.BoolOp at o operands) = bool_small i at o (all_forms l operands) (exprs_size operands) (exprs_small l operands)
-    expr_small l (tree.NamedExpr at target value) =
-        let f = (expr_forms l value).value in
-        let t = (target_forms l target).alone in
-        let kept = keep_small i f t (expr_size value) (expr_size target) (expr_small l value).value (target_small l target).alone in
+    pub expr_small : (c : Context) (t : tree.Expr) → Small i (expr_forms c t) (expr_size t)
+    expr_small c (tree.BoolOp at o operands) = bool_small i at o (all_forms c operands) (exprs_size operands) (exprs_small c operands)
+    expr_small c (tree.NamedExpr at target value) =
+        let f = (expr_forms c value).value in
+        let t = (target_forms c target).alone in
+        let kept = keep_small i f t (expr_size value) (expr_size target) (expr_small c value).value (target_small c target).alone in
         tested_small i (VAt at (VKeep f None t)) (expr_size target + expr_size value + 1) (λ n. let p = kept n in omega (arith, p))
-    expr_small l (tree.BinOp at left o right) =
-        tested_small i _ _ (two_small i (binary o) (expr_forms l left).value (expr_forms l right).value (expr_size left) (expr_size right) (expr_small l left).value (expr_small l right).value)
-    expr_small l (tree.UnaryOp at o operand) = unary_small i at o (expr_forms l operand) (expr_size operand) (expr_small l operand)
-    expr_small l (tree.IfExp at t body orelse) =
-        tested_small i _ _ (choice_small i (expr_forms l t) (expr_forms l body) (expr_forms l orelse) (expr_size t) (expr_size body) (expr_size orelse) (expr_small l t) (expr_small l body) (expr_small l orelse))
-    expr_small l (tree.Dict at keys others) =
-        tested_small i _ _ (dict_small i (opt_forms l keys) (values (all_forms l others)) (keys_size keys) (exprs_size others) (keys_small l keys) (values_small i (all_forms l others) (exprs_size others) (exprs_small l others)))
-    expr_small l (tree.Set at elts) = displayed_small at op.BuildSet op.BuildSetUnpack (all_forms l elts) (exprs_size elts) (exprs_small l elts)
-    expr_small l (tree.Compare at left ops others) =
-        tested_small i _ _ (compare_small i (expr_forms l left) ops (all_forms l others) (expr_size left) (exprs_size others) (expr_small l left) (exprs_small l others))
-    expr_small l (tree.Call at func args keywords) =
-        let places = elements_small i (all_forms l args) (exprs_size args) (exprs_small l args) in
-        tested_small i _ _ (call_small i (expr_forms l func).callee (elements (all_forms l args)) (keyword_forms l keywords) (expr_size func) (exprs_size args) (keywords_size keywords) (expr_small l func).callee places (keywords_small l keywords))
-    expr_small l (tree.FormattedValue at value c spec) =
-        tested_small i _ _ (formatted_small (conversion_case c) (opt_form l spec) (expr_forms l value).value (expr_size value) (opt_expr_size spec) (opt_small l spec) (expr_small l value).value)
-    expr_small l (tree.JoinedStr at parts) =
-        tested_small i _ _ (joined_small i (texts_of parts) (values (all_forms l parts)) (exprs_size parts) (values_small i (all_forms l parts) (exprs_size parts) (exprs_small l parts)))
-    expr_small l (tree.Constant at v) = tested_small i _ _ (λ n. omega arith)
-    expr_small l (tree.Attribute at value attr) =
-        let x = expr_small l value in
+    expr_small c (tree.BinOp at left o right) =
+        tested_small i _ _ (two_small i (binary o) (expr_forms c left).value (expr_forms c right).value (expr_size left) (expr_size right) (expr_small c left).value (expr_small c right).value)
+    expr_small c (tree.UnaryOp at o operand) = unary_small i at o (expr_forms c operand) (expr_size operand) (expr_small c operand)
+    expr_small c (tree.IfExp at t body orelse) =
+        tested_small i _ _ (choice_small i (expr_forms c t) (expr_forms c body) (expr_forms c orelse) (expr_size t) (expr_size body) (expr_size orelse) (expr_small c t) (expr_small c body) (expr_small c orelse))
+    expr_small c (tree.Dict at keys others) =
+        tested_small i _ _ (dict_small i (opt_forms c keys) (values (all_forms c others)) (keys_size keys) (exprs_size others) (keys_small c keys) (values_small i (all_forms c others) (exprs_size others) (exprs_small c others)))
+    expr_small c (tree.Set at elts) = displayed_small at op.BuildSet op.BuildSetUnpack (all_forms c elts) (exprs_size elts) (exprs_small c elts)
+    expr_small c (tree.Compare at left ops others) =
+        tested_small i _ _ (compare_small i (expr_forms c left) ops (all_forms c others) (expr_size left) (exprs_size others) (expr_small c left) (exprs_small c others))
+    expr_small c (tree.Call at func args keywords) =
+        let places = elements_small i (all_forms c args) (exprs_size args) (exprs_small c args) in
+        tested_small i _ _ (call_small i (expr_forms c func).callee (elements (all_forms c args)) (keyword_forms c keywords) (expr_size func) (exprs_size args) (keywords_size keywords) (expr_small c func).callee places (keywords_small c keywords))
+    expr_small c (tree.FormattedValue at value conversion spec) =
+        tested_small i _ _ (formatted_small (conversion_case conversion) (opt_form c spec) (expr_forms c value).value (expr_size value) (opt_expr_size spec) (opt_small c spec) (expr_small c value).value)
+    expr_small c (tree.JoinedStr at parts) =
+        tested_small i _ _ (joined_small i (texts_of parts) (values (all_forms c parts)) (exprs_size parts) (values_small i (all_forms c parts) (exprs_size parts) (exprs_small c parts)))
+    expr_small c (tree.Constant at v) = tested_small i _ _ (λ n. omega arith)
+    expr_small c (tree.Attribute at value attr) =
+        let x = expr_small c value in
         let s = expr_size value in
-        let whole = attribute_small (expr_forms l value).value attr s x.value in
-        let y = tested_small i (VAt at (VOp (named op.LoadAttr attr) (VMore (expr_forms l value).value VNone))) (s + 2) whole in
+        let whole = attribute_small (expr_forms c value).value (mangled c attr) s x.value in
+        let y = tested_small i (VAt at (VOp (named op.LoadAttr (mangled c attr)) (VMore (expr_forms c value).value VNone))) (s + 2) whole in
         record { value = whole; test = y.test; element = whole; callee = λ n. let p = x.value n in omega (arith, p) }
-    expr_small l (tree.Subscript at value slice) =
-        tested_small i _ _ (two_small i (operation op.Subscript Bare) (expr_forms l value).value (expr_forms l slice).value (expr_size value) (expr_size slice) (expr_small l value).value (expr_small l slice).value)
-    expr_small l (tree.Starred at value) =
-        let x = expr_small l value in
-        let f = (expr_forms l value).value in
+    expr_small c (tree.Subscript at value slice) =
+        tested_small i _ _ (two_small i (operation op.Subscript Bare) (expr_forms c value).value (expr_forms c slice).value (expr_size value) (expr_size slice) (expr_small c value).value (expr_small c slice).value)
+    expr_small c (tree.Starred at value) =
+        let x = expr_small c value in
+        let f = (expr_forms c value).value in
         let s = expr_size value in
         let more : FormSmall i f (s + 1) = λ n. let p = x.value n in omega (arith, p) in
         let y = tested_small i (VAt at f) (s + 1) more in
         record { value = more; test = y.test; element = more; callee = more }
-    expr_small l (tree.Name at x) = tested_small i _ _ (named_small l (is_debug x) x)
-    expr_small l (tree.List at elts) = displayed_small at op.BuildList op.BuildListUnpack (all_forms l elts) (exprs_size elts) (exprs_small l elts)
-    expr_small l (tree.Tuple at elts) = displayed_small at op.BuildTuple op.BuildTupleUnpack (all_forms l elts) (exprs_size elts) (exprs_small l elts)
-    expr_small l (tree.Slice at lower upper step) =
-        tested_small i _ _ (slice_small i (opt_form l lower) (opt_form l upper) (opt_form l step) (opt_expr_size lower) (opt_expr_size upper) (opt_expr_size step) (opt_small l lower) (opt_small l upper) (opt_small l step))
-    expr_small l other = unbuilt_small (tree.expr_location other) (expr_size other) (expr_some other)
+    expr_small c (tree.Name at x) = tested_small i _ _ (named_small c.level (is_debug x) (mangled c x))
+    expr_small c (tree.List at elts) = displayed_small at op.BuildList op.BuildListUnpack (all_forms c elts) (exprs_size elts) (exprs_small c elts)
+    expr_small c (tree.Tuple at elts) = displayed_small at op.BuildTuple op.BuildTupleUnpack (all_forms c elts) (exprs_size elts) (exprs_small c elts)
+    expr_small c (tree.Slice at lower upper step) =
+        tested_small i _ _ (slice_small i (opt_form c lower) (opt_form c upper) (opt_form c step) (opt_expr_size lower) (opt_expr_size upper) (opt_expr_size step) (opt_small c lower) (opt_small c upper) (opt_small c step))
+    expr_small c other = unbuilt_small (tree.expr_location other) (expr_size other) (expr_some other)
 
-    pub exprs_small : (l : ℕ) (ts : tree.Exprs) → Together (Small i) (all_forms l ts) (exprs_size ts)
-    exprs_small l tree.no_exprs = tt
-    exprs_small l (tree.more_exprs t ts) = (expr_size t, exprs_size ts, expr_small l t, exprs_small l ts, omega arith)
+    pub exprs_small : (c : Context) (ts : tree.Exprs) → Together (Small i) (all_forms c ts) (exprs_size ts)
+    exprs_small c tree.no_exprs = tt
+    exprs_small c (tree.more_exprs t ts) = (expr_size t, exprs_size ts, expr_small c t, exprs_small c ts, omega arith)
 
-    opt_small : (l : ℕ) (o : tree.OptExpr) → Possible (FormSmall i) (opt_form l o) (opt_expr_size o)
-    opt_small l tree.no_expr = tt
-    opt_small l (tree.some_expr t) = (expr_small l t).value
+    opt_small : (c : Context) (o : tree.OptExpr) → Possible (FormSmall i) (opt_form c o) (opt_expr_size o)
+    opt_small c tree.no_expr = tt
+    opt_small c (tree.some_expr t) = (expr_small c t).value
 
     -- a key that is missing needs nothing
-    key_small : (l : ℕ) (o : tree.OptExpr) → Possible (FormSmall i) (opt_form l o) (key_size o)
-    key_small l tree.no_expr = tt
-    key_small l (tree.some_expr t) = (expr_small l t).value
+    key_small : (c : Context) (o : tree.OptExpr) → Possible (FormSmall i) (opt_form c o) (key_size o)
+    key_small c tree.no_expr = tt
+    key_small c (tree.some_expr t) = (expr_small c t).value
 
-    keys_small : (l : ℕ) (os : tree.OptExprs) → Together (Possible (FormSmall i)) (opt_forms l os) (keys_size os)
-    keys_small l tree.no_opts = tt
-    keys_small l (tree.more_opts o os) = (key_size o, keys_size os, key_small l o, keys_small l os, omega arith)
+    keys_small : (c : Context) (os : tree.OptExprs) → Together (Possible (FormSmall i)) (opt_forms c os) (keys_size os)
+    keys_small c tree.no_opts = tt
+    keys_small c (tree.more_opts o os) = (key_size o, keys_size os, key_small c o, keys_small c os, omega arith)
 
-    keywords_small : (l : ℕ) (ks : tree.Keywords) → Together (KeywordSmall i) (keyword_forms l ks) (keywords_size ks)
-    keywords_small l tree.no_keywords = tt
-    keywords_small l (tree.more_keywords None t ks) =
-        let x = (expr_small l t).value in
-        (expr_size t + 1, keywords_size ks, (λ n. let p = x n in omega (arith, p)), keywords_small l ks, omega arith)
-    keywords_small l (tree.more_keywords (Some name) t ks) =
-        let x = (expr_small l t).value in
-        (1 + expr_size t + 1, keywords_size ks, (λ n. let p = x n in omega (arith, p)), keywords_small l ks, omega arith)
+    keywords_small : (c : Context) (ks : tree.Keywords) → Together (KeywordSmall i) (keyword_forms c ks) (keywords_size ks)
+    keywords_small c tree.no_keywords = tt
+    keywords_small c (tree.more_keywords None t ks) =
+        let x = (expr_small c t).value in
+        (expr_size t + 1, keywords_size ks, (λ n. let p = x n in omega (arith, p)), keywords_small c ks, omega arith)
+    keywords_small c (tree.more_keywords (Some name) t ks) =
+        let x = (expr_small c t).value in
+        (1 + expr_size t + 1, keywords_size ks, (λ n. let p = x n in omega (arith, p)), keywords_small c ks, omega arith)
 
-    pub target_small : (l : ℕ) (t : tree.Expr) → SmallTarget i (target_forms l t) (expr_size t)
-    target_small l (tree.Name at x) = store_small i x 2 (omega arith)
-    target_small l (tree.Attribute at value attr) =
-        let f = (expr_forms l value).value in
-        let put = put_one_small i (named op.StoreAttr attr) f (expr_size value) (expr_small l value).value in
-        plain_small i (GPut (named op.StoreAttr attr) (parts_of (f ∷ []))) (expr_size value + 2) (λ n. let p = put n in omega (arith, p))
-    target_small l (tree.Subscript at value slice) =
-        let f = (expr_forms l value).value in
-        let g = (expr_forms l slice).value in
-        let put = put_two_small i (operation op.StoreSubscript Bare) f g (expr_size value) (expr_size slice) (expr_small l value).value (expr_small l slice).value in
+    pub target_small : (c : Context) (t : tree.Expr) → SmallTarget i (target_forms c t) (expr_size t)
+    target_small c (tree.Name at x) = store_small i (mangled c x) 2 (omega arith)
+    target_small c (tree.Attribute at value attr) =
+        let f = (expr_forms c value).value in
+        let put = put_one_small i (named op.StoreAttr (mangled c attr)) f (expr_size value) (expr_small c value).value in
+        plain_small i (GPut (named op.StoreAttr (mangled c attr)) (parts_of (f ∷ []))) (expr_size value + 2) (λ n. let p = put n in omega (arith, p))
+    target_small c (tree.Subscript at value slice) =
+        let f = (expr_forms c value).value in
+        let g = (expr_forms c slice).value in
+        let put = put_two_small i (operation op.StoreSubscript Bare) f g (expr_size value) (expr_size slice) (expr_small c value).value (expr_small c slice).value in
         plain_small i (GPut (operation op.StoreSubscript Bare) (parts_of (f ∷ g ∷ []))) (expr_size value + expr_size slice + 1) put
-    target_small l (tree.List at elts) = plain_small i (unpacked_to (all_targets l elts)) (exprs_size elts + 1) (unpack_small i (all_targets l elts) (exprs_size elts) (targets_small l elts))
-    target_small l (tree.Tuple at elts) = plain_small i (unpacked_to (all_targets l elts)) (exprs_size elts + 1) (unpack_small i (all_targets l elts) (exprs_size elts) (targets_small l elts))
-    target_small l (tree.Starred at value) =
-        let x = (target_small l value).alone in
+    target_small c (tree.List at elts) = plain_small i (unpacked_to (all_targets c elts)) (exprs_size elts + 1) (unpack_small i (all_targets c elts) (exprs_size elts) (targets_small c elts))
+    target_small c (tree.Tuple at elts) = plain_small i (unpacked_to (all_targets c elts)) (exprs_size elts + 1) (unpack_small i (all_targets c elts) (exprs_size elts) (targets_small c elts))
+    target_small c (tree.Starred at value) =
+        let x = (target_small c value).alone in
         record { alone = (drop_small i (expr_size value + 1) (omega arith)).alone; element = λ n. let p = x n in omega (arith, p) }
-    target_small l other = drop_small i (expr_size other) (expr_some other)
+    target_small c other = drop_small i (expr_size other) (expr_some other)
 
-    targets_small : (l : ℕ) (ts : tree.Exprs) → Together (OneElement (TargetSmall i) (TargetSmall i)) (all_targets l ts) (exprs_size ts)
-    targets_small l tree.no_exprs = tt
-    targets_small l (tree.more_exprs t ts) = (expr_size t, exprs_size ts, (target_small l t).element, targets_small l ts, omega arith)
+    targets_small : (c : Context) (ts : tree.Exprs) → Together (OneElement (TargetSmall i) (TargetSmall i)) (all_targets c ts) (exprs_size ts)
+    targets_small c tree.no_exprs = tt
+    targets_small c (tree.more_exprs t ts) = (expr_size t, exprs_size ts, (target_small c t).element, targets_small c ts, omega arith)

@@ -6,11 +6,13 @@ use Rattle.py_base.specs.declared.location.SourceLocation.{SourceLocation}
 use Rattle.py_bytecode.specs.declared.instruction.Instruction.TheVariants as op
 use Rattle.py_bytecode.specs.Objects as const
 use Rattle.py_forms.specs.declared.errors.CodegenErrorType.TheVariants as error
-use Rattle.py_forms.specs.Elements.{Element, Single, Spread, Function, Method, pairs}
+use Rattle.py_steps.specs.Elements.{Element, Single, Spread, Function, Method, pairs}
 use Rattle.py_emission.specs.Texts.{texts_of}
-use Rattle.py_forms.specs.TableParts.{binary_case, conversion_case, constant_of, is_debug, debug_constant}
-use Rattle.py_forms.specs.Emitting.{Emission, ◌▸◌, by_level, emit, emit_constant, emit_name, keep, move, refuse}
-use Rattle.py_forms.specs.EmissionParts.{Emissions, Keywords, Stores, bool_emissions, built, choice, dict_value, display, elements, emission_of_call, emission_of_compare, emission_of_name, in_turn, joined_value, lone_star, no_assignment, no_deletion, plain_store, slice_value, tested, truth_of, unary_emissions, unless_debug, unpack, value_or, values}
+use Rattle.py_steps.specs.TableParts.{binary_case, conversion_case, constant_of, is_debug, debug_constant}
+use Rattle.py_bytecode.specs.Values.{Load}
+use Rattle.py_steps.specs.Accesses.{accessed, emission_of_deleted, emission_of_name, emission_of_stored}
+use Rattle.py_steps.specs.Emitting.{Emission, ◌▸◌, by_level, emit, emit_constant, emit_mangled, keep, move, refuse}
+use Rattle.py_steps.specs.EmissionParts.{Emissions, Keywords, Stores, bool_emissions, built, choice, dict_value, display, elements, emission_of_call, emission_of_compare, in_turn, joined_value, lone_star, no_assignment, no_deletion, plain_store, slice_value, tested, truth_of, unary_emissions, unless_debug, unpack, value_or, values}
 
 -- a node that is not compiled yet
 abbrev pub unbuilt : SourceLocation → Emission
@@ -31,7 +33,7 @@ abbrev mutual
   emissions (tree.JoinedStr at parts) = tested (move at ▸ joined_value (texts_of parts) (values (all_emissions parts)))
   emissions (tree.Constant at value) = tested (move at ▸ emit_constant op.LoadConst (constant_of value))
   emissions (tree.Attribute at value attr) =
-      let v : Emission = move at ▸ (emissions value).value ▸ emit_name op.LoadAttr attr in
+      let v : Emission = move at ▸ (emissions value).value ▸ emit_mangled op.LoadAttr attr in
       record { value = v; test = truth_of v; element = Single v; callee = Method attr (emissions value).value }
   emissions (tree.Subscript at value slice) = tested (move at ▸ (emissions value).value ▸ (emissions slice).value ▸ emit op.Subscript 0)
   emissions (tree.Starred at value) =
@@ -61,8 +63,8 @@ abbrev mutual
   keyword_emissions (tree.more_keywords (Some name) e ks) = Single (name, (emissions e).value) ∷ keyword_emissions ks
 
   pub stores : tree.Expr → Stores
-  stores (tree.Name at id) = plain_store (unless_debug no_assignment id (emit_name op.StoreLocal id))
-  stores (tree.Attribute at value attr) = plain_store (unless_debug no_assignment attr ((emissions value).value ▸ emit_name op.StoreAttr attr))
+  stores (tree.Name at id) = plain_store (emission_of_stored id)
+  stores (tree.Attribute at value attr) = plain_store (unless_debug no_assignment attr ((emissions value).value ▸ emit_mangled op.StoreAttr attr))
   stores (tree.Subscript at value slice) = plain_store ((emissions value).value ▸ (emissions slice).value ▸ emit op.StoreSubscript 0)
   stores (tree.List at elts) = plain_store (unpack at (all_stores elts))
   stores (tree.Tuple at elts) = plain_store (unpack at (all_stores elts))
@@ -97,8 +99,8 @@ deletion_name other = python_name other
 -- what deletes an expression, a list or a tuple element by element
 abbrev mutual
   pub emission_of_delete : tree.Expr → Emission
-  emission_of_delete (tree.Name at id) = unless_debug no_deletion id (emit_name op.DeleteLocal id)
-  emission_of_delete (tree.Attribute at value attr) = unless_debug no_deletion attr (emission value ▸ emit_name op.DeleteAttr attr)
+  emission_of_delete (tree.Name at id) = emission_of_deleted id
+  emission_of_delete (tree.Attribute at value attr) = unless_debug no_deletion attr (emission value ▸ emit_mangled op.DeleteAttr attr)
   emission_of_delete (tree.Subscript at value slice) = emission value ▸ emission slice ▸ emit op.DeleteSubscript 0
   emission_of_delete (tree.List at elts) = emission_of_deletes elts
   emission_of_delete (tree.Tuple at elts) = emission_of_deletes elts
@@ -115,7 +117,7 @@ joined_return None vs = built op.BuildString vs ▸ emit op.ReturnValue 0
 
 -- the name `__debug__` is a constant too
 abbrev pub name_return : List ℕ → Emission
-name_return x = if is_debug x then by_level (λ l. emit_constant op.ReturnConst (debug_constant l)) else emit_name op.LoadNameAny x ▸ emit op.ReturnValue 0
+name_return x = if is_debug x then by_level (λ l. emit_constant op.ReturnConst (debug_constant l)) else accessed Load x ▸ emit op.ReturnValue 0
 
 -- what returns the value of an expression: a constant by one instruction
 abbrev pub emission_of_return : tree.Expr → Emission

@@ -9,7 +9,7 @@ use Rattle.py_walks.specs.declared.info.InstructionInfo.{InstructionInfo}
 use Rattle.py_ir.specs.declared.blocks.Block.{Block}
 use Rattle.py_ir.specs.Chain.{Blk, blk, plain}
 use Rattle.py_ir.specs.BlockList.{BlockList, IsOutside, IsWhole, block_at, current_block, empty_block, leading_to, placed, pushed, with_items, with_new_block}
-use Rattle.py_forms.specs.Emitting.{Step, Begin, State}
+use Rattle.py_steps.specs.Emitting.{Step, Begin, State}
 use Rattle.py_emit.specs.Steps.{step_of, onwards, steps_from, steps_in, Begun, IsOpen}
 use Rattle.py_emit.proofs.Chains.{Leads, chain_leads, chain_short, short_list}
 

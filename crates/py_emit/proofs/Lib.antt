@@ -8,3 +8,7 @@ pub mod Sealed
 mod Samples
 pub mod Placed
 pub mod SealedLaid
+pub mod Cells
+pub mod Within
+pub mod CellPlaces
+pub mod Closures

@@ -1,39 +1,42 @@
 -- States and rests by their parts.
-use Rattle.std.proofs.Common.{◌≡◌, ℕ, suc, List, [], ◌∷◌, ◌++◌, length, map, refl}
+use Rattle.std.proofs.Common.{◌≡◌, ℕ, suc, [], ◌∷◌, ◌++◌, length, map, false, None, refl}
+use Rattle.py_base.specs.declared.location.SourceLocation.{SourceLocation}
 use Rattle.py_bytecode.specs.View.{constant}
 use Rattle.py_ir.specs.Chain.{plain}
 use Rattle.py_ir.specs.FlatCode.{info_of}
-use Rattle.py_forms.specs.Emitting.{Done, Step, State, nothing, refuse, with_block, with_step}
+use Rattle.py_steps.specs.Context.{Context}
+use Rattle.py_steps.specs.Emitting.{Done, Step, State, begun, refuse, with_block, with_step}
+use Rattle.py_steps.specs.Sealed.{Head}
 use Rattle.py_forms.specs.declared.errors.CodegenErrorType.{CodegenErrorType}
-use Rattle.py_emit.specs.States.{around, IsFirst, IsUnrefused, first_rest, info, no_context, rest, state}
+use Rattle.py_emit.specs.States.{IsFirst, IsUnrefused, Source, context_of, flagged, head_of, info, loop_blocks, rest, source_of, state, state_of}
+use Rattle.py_emit.specs.declared.scopes.OpenScope.{OpenScope}
 use Rattle.py_emit.specs.Emitted.{Holds}
 use Rattle.py_emit.specs.Steps.{steps_in}
 use Rattle.py_emit.specs.declared.emitter.Emitter.{Emitter}
 
-pub stepped : (x : Step) (s r : State) → r.steps ≡ s.steps ++ x ∷ [] → r.blocks ≡ s.blocks → r.names ≡ s.names → r.constants ≡ s.constants → r.location ≡ s.location → r.context ≡ s.context → r ≡ with_step x s
+pub stepped : (x : Step) (s r : State) → r.steps ≡ s.steps ++ x ∷ [] → r.blocks ≡ s.blocks → r.names ≡ s.names → r.varnames ≡ s.varnames → r.constants ≡ s.constants → r.generator ≡ s.generator → r.location ≡ s.location → r.next ≡ s.next → r.around ≡ s.around → r ≡ with_step x s
 unfolding with_step
-stepped x s r p q n c l a = λ i. record { steps = p i; blocks = q i; names = n i; constants = c i; location = l i; context = a i }
+stepped x s r p q n v c g l k a = λ i. record { steps = p i; blocks = q i; names = n i; varnames = v i; constants = c i; generator = g i; location = l i; next = k i; around = a i }
 
-pub blocked : (s r : State) → r.steps ≡ s.steps → r.blocks ≡ suc s.blocks → r.names ≡ s.names → r.constants ≡ s.constants → r.location ≡ s.location → r.context ≡ s.context → r ≡ with_block s
+pub blocked : (s r : State) → r.steps ≡ s.steps → r.blocks ≡ suc s.blocks → r.names ≡ s.names → r.varnames ≡ s.varnames → r.constants ≡ s.constants → r.generator ≡ s.generator → r.location ≡ s.location → r.next ≡ s.next → r.around ≡ s.around → r ≡ with_block s
 unfolding with_block
-blocked s r p q n c l a = λ i. record { steps = p i; blocks = q i; names = n i; constants = c i; location = l i; context = a i }
+blocked s r p q n v c g l k a = λ i. record { steps = p i; blocks = q i; names = n i; varnames = v i; constants = c i; generator = g i; location = l i; next = k i; around = a i }
 
--- an emitter with the code of a program before anything is emitted
-pub first_state : (e : Emitter) (path : List ℕ) → IsFirst e.code path → e.location.row ≡ 1 → e.location.column ≡ 1 → e.context ≡ no_context → state e ≡ nothing e.opts.optimize
-first_state e path f r c n = λ i. record {
+-- a scope before anything is emitted of it, within this context
+pub begun_state : (x : Source) (o : OpenScope) (h : Head) (c : Context) (at : SourceLocation) (next : ℕ) → IsFirst o.code h → o.generator ≡ false → context_of x o ≡ c → o.context.loop_blocks ≡ None → state_of x o at next ≡ begun c at next
+begun_state x o h c at next f g e l = λ i. record {
   steps = steps_in (map plain (f.body i).blocks);
   blocks = length (f.body i).blocks;
   names = f.names i;
+  varnames = f.varnames i;
   constants = map constant (f.constants i);
-  location = record { row = r i; column = c i };
-  context = around e.opts (n i);
+  generator = g i;
+  location = at;
+  next = next;
+  around = record { context = e i; loops = loop_blocks (l i) };
 }
 
-pub rest_is : (e : Emitter) → IsFirst e.code e.source_path → e.context ≡ no_context → rest e ≡ first_rest e.opts e.source_path
-unfolding rest
-rest_is e f c = λ i. record { opts = e.opts; context = c i; path = e.source_path; head = f.head i }
-
-pub unrefused : (e : Emitter) → IsUnrefused (rest e).opts.optimize (info e) → IsUnrefused e.opts.optimize (info_of e.code)
+pub unrefused : (e : Emitter) → IsUnrefused (rest e).opts.optimize (info e) → IsUnrefused e.opts.optimize (info_of (flagged e.scope))
 unfolding rest info
 unrefused e h = h
 
@@ -43,9 +46,8 @@ unfolding refuse
 never_refused e s o h = absurd cc
 
 -- what becomes a code object holds what is emitted
-pub info_holds : (e : Emitter) → Holds (info e) (rest e).head (state e)
-unfolding info rest
-info_holds e = record {
+pub scope_holds : (x : Source) (o : OpenScope) (at : SourceLocation) (next : ℕ) → Holds (info_of (flagged o)) (head_of o.code) (state_of x o at next)
+scope_holds x o at next = record {
   flags = refl;
   posonlyarg_count = refl;
   arg_count = refl;
@@ -61,3 +63,7 @@ info_holds e = record {
   cellvars = refl;
   freevars = refl;
 }
+
+pub info_holds : (e : Emitter) → Holds (info e) (rest e).head (state e)
+unfolding info rest
+info_holds e = scope_holds (source_of e) e.scope e.location e.next

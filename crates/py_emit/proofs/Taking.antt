@@ -9,7 +9,7 @@ use Rattle.py_walks.specs.declared.info.InstructionInfo.{InstructionInfo}
 use Rattle.py_ir.specs.declared.blocks.Block.{Block}
 use Rattle.py_ir.specs.Chain.{Blk, blk, block_number, plain}
 use Rattle.py_ir.specs.BlockList.{BlockList, IsWhole, current_block, empty_block, last_item, popped, pushed, with_items, without_last}
-use Rattle.py_forms.specs.Emitting.{Step, Put, Begin, State, with_step}
+use Rattle.py_steps.specs.Emitting.{Step, Put, Begin, State, with_step}
 use Rattle.py_emit.specs.Steps.{EndsAtBegin, closed, returned, step_of, steps_in, with_closed, with_return}
 use Rattle.py_emit.proofs.Holding.{Tails, along, blk_at, path_steps, push_steps, tail_inside}
 

@@ -1,8 +1,7 @@
 -- What an emitter holds: what is emitted, and the rest, which steps of an emission leave as it is.
-use Rattle.std.specs.Prelude.{◌≡◌, ◌≢◌, ◌<◌, ℕ, List, [], length, map, codes, false, Option, Some, None, Result, Ok, Err}
+use Rattle.std.specs.Prelude.{◌≡◌, ◌≢◌, ◌<◌, ℕ, List, [], ◌∷◌, ◌++◌, length, map, codes, false, Option, Some, None, Result, Ok, Err}
 use Rattle.py_base.specs.declared.location.SourceLocation.{SourceLocation}
 use Rattle.py_base.specs.declared.location.LocatedError.{LocatedError}
-use Rattle.py_bytecode.specs.Equality.{text_eq, entered}
 use Rattle.py_bytecode.specs.View.{constant}
 use Rattle.py_walks.specs.declared.info.BlockIdx.{BlockIdx}
 use Rattle.py_ir.specs.declared.error.FinalizeError.{FinalizeError}
@@ -14,12 +13,21 @@ use Rattle.py_ir.specs.BlockList.{one_block}
 use Rattle.py_ir.specs.FlatCode.{info_of}
 use Rattle.py_ir.specs.declared.flat_code.FlatCode.{FlatCode}
 use Rattle.py_ir.specs.Refusals.{TooLong, Refused as IsRefused}
-use Rattle.py_forms.specs.Emitting.{Context, State, LoopBlocks, Outcome, Done, Refused}
-use Rattle.py_forms.specs.Sealed.{Head}
+use Rattle.py_scope.specs.declared.flat.ScopeEntry.{ScopeEntry}
+use Rattle.py_scope.specs.declared.table_type.SymbolTableType.{SymbolTableType}
+use Rattle.py_scope.specs.declared.symbols.Symbol.{Symbol}
+use Rattle.py_steps.specs.Context.{Context, cells_among, frees_among, inside, outermost, with_path, within_class}
+use Rattle.py_steps.specs.Emitting.{Around, State, LoopBlocks, Outcome, Done, Refused}
+use Rattle.py_steps.specs.Sealed.{Head, flags_of}
+use Rattle.py_steps.specs.Children.{Shape, code_head}
 use Rattle.py_forms.specs.declared.errors.CodegenErrorType.{CodegenErrorType}
 use Rattle.py_forms.specs.declared.errors.CodegenErrorType.TheVariants as error
 use Rattle.py_emit.specs.declared.context.CompileOpts.{CompileOpts}
 use Rattle.py_emit.specs.declared.context.EmitContext.{EmitContext}
+use Rattle.py_emit.specs.declared.context.Naming.{Naming}
+use Rattle.py_emit.specs.declared.context.ScopeHead.{ScopeHead}
+use Rattle.py_emit.specs.declared.context.Naming.TheVariants as naming
+use Rattle.py_emit.specs.declared.scopes.OpenScope.{OpenScope}
 use Rattle.py_emit.specs.declared.emitter.Emitter.{Emitter}
 use Rattle.py_emit.specs.Steps.{steps_in}
 
@@ -28,19 +36,50 @@ abbrev pub loop_blocks : Option (BlockIdx × BlockIdx) → Option LoopBlocks
 loop_blocks None = None
 loop_blocks (Some blocks) = Some (record { on_break = blocks.1.0; on_continue = blocks.0.0 })
 
--- what stands around the present node
-abbrev pub around : CompileOpts → EmitContext → Context
-around opts context = record { level = opts.optimize; loops = loop_blocks context.loop_blocks }
+-- what is the same for all scopes: how the tree is compiled, the path that errors name, and all scopes in preorder
+pub record Source : Type 0 where
+  pub opts : CompileOpts
+  pub path : List ℕ
+  pub scopes : List ScopeEntry
+
+abbrev pub context_of : Source → OpenScope → Context
+context_of x o = record {
+  level = x.opts.optimize;
+  source = x.path;
+  class = o.class;
+  path = o.path;
+  postponed = o.context.future_annotations;
+  over = o.context.future_over;
+  typ = o.typ;
+  scopes = x.scopes;
+  here = o.here;
+  cells = o.code.cellvar_cache;
+  frees = o.code.freevar_cache;
+}
+
+-- what stands around the present node of a scope
+abbrev pub around : Source → OpenScope → Around
+around x o = record { context = context_of x o; loops = loop_blocks o.context.loop_blocks }
+
+-- what is emitted of a scope, where the next instruction stands there and the next scope within has this number
+abbrev pub state_of : Source → OpenScope → SourceLocation → (next : ℕ) → State
+state_of x o at next = record {
+  steps = steps_in (map plain o.code.body.blocks);
+  blocks = length o.code.body.blocks;
+  names = o.code.name_cache;
+  varnames = o.code.varname_cache;
+  constants = map constant o.code.constants;
+  generator = o.generator;
+  location = at;
+  next = next;
+  around = around x o;
+}
+
+abbrev pub source_of : Emitter → Source
+source_of e = record { opts = e.opts; path = e.source_path; scopes = e.scopes }
 
 abbrev pub state : Emitter → State
-state e = record {
-  steps = steps_in (map plain e.code.body.blocks);
-  blocks = length e.code.body.blocks;
-  names = e.code.name_cache;
-  constants = map constant e.code.constants;
-  location = e.location;
-  context = around e.opts e.context;
-}
+state e = state_of (source_of e) e.scope e.location e.next
 
 abbrev pub head_of : FlatCode → Head
 head_of c = record {
@@ -51,48 +90,57 @@ head_of c = record {
   source_path = c.source_path;
   first_line_number = c.first_line_number;
   obj_name = c.obj_name;
-  varnames = c.varname_cache;
   cellvars = c.cellvar_cache;
   freevars = c.freevar_cache;
 }
 
--- how it is compiled, what the code around says, the path that errors name, and what the scope is
+-- how it is compiled, what the code around says, the path that errors name, all scopes, what the scope is, and those around it, which wait
 pub record Rest : Type 0 where
   pub opts : CompileOpts
   pub context : EmitContext
   pub path : List ℕ
+  pub scopes : List ScopeEntry
   pub head : Head
+  pub outer : List OpenScope
 
 unfoldable pub rest : Emitter → Rest
-rest e = record { opts = e.opts; context = e.context; path = e.source_path; head = head_of e.code }
+rest e = record { opts = e.opts; context = e.scope.context; path = e.source_path; scopes = e.scopes; head = head_of e.scope.code; outer = e.outer.items }
 
 -- a program has names of its own and no arguments, and is named `<module>`
-abbrev pub module_head : (path : List ℕ) → Head
-module_head path = record { flags = 1; posonlyarg_count = 0; arg_count = 0; kwonlyarg_count = 0; source_path = path; first_line_number = 1; obj_name = codes "<module>"; varnames = []; cellvars = []; freevars = [] }
+abbrev pub module_shape : Shape
+module_shape = record { flags = 1; posonlyarg_count = 0; arg_count = 0; kwonlyarg_count = 0; obj_name = codes "<module>" }
 
--- the code of a program before anything is emitted
-pub record IsFirst (code : FlatCode) (path : List ℕ) : Type 0 where
+abbrev pub module_head : Context → Head
+module_head c = code_head c module_shape (record { row = 1; column = 1 })
+
+-- the code of a scope with these cells and free names before anything is emitted
+pub record IsFirst (code : FlatCode) (h : Head) : Type 0 where
   pub body : code.body ≡ one_block
   pub names : code.name_cache ≡ []
+  pub varnames : code.varname_cache ≡ []
   pub constants : code.constants ≡ []
-  pub head : head_of code ≡ module_head path
+  pub head : head_of code ≡ h
 
 abbrev pub no_context : EmitContext
 no_context = record { loop_blocks = None; future_over = false; future_annotations = false }
 
-abbrev pub first_rest : CompileOpts → (path : List ℕ) → Rest
-first_rest opts path = record { opts = opts; context = no_context; path = path; head = module_head path }
+abbrev pub first_rest : CompileOpts → (path : List ℕ) → List ScopeEntry → Rest
+first_rest opts path scopes = record { opts = opts; context = no_context; path = path; scopes = scopes; head = module_head (outermost opts.optimize path scopes); outer = [] }
 
-abbrev pub with_context : EmitContext → Rest → Rest
-with_context context r = record { opts = r.opts; context = context; path = r.path; head = r.head }
+abbrev pub looped : Option (BlockIdx × BlockIdx) → Rest → Rest
+looped loops r = record r { context = record r.context { loop_blocks = loops } }
 
--- the name is entered among those of the code object's own
-unfoldable pub with_varname : List ℕ → Rest → Rest
-with_varname x r = record r { head = record r.head { varnames = entered text_eq r.head.varnames x } }
+-- the code of a scope, which is a generator or not
+abbrev pub flagged : OpenScope → FlatCode
+flagged o = record o.code { flags = record { 0 = flags_of o.generator o.code.flags.0 } }
 
 -- what becomes a code object
 unfoldable pub info : Emitter → CodeInfo
-info e = info_of e.code
+info e = info_of (flagged e.scope)
+
+-- no loop of the scope around is one of the scope within
+abbrev pub unlooped : EmitContext → EmitContext
+unlooped x = record x { loop_blocks = None }
 
 -- these blocks are made
 abbrev pub AreMade : Option (BlockIdx × BlockIdx) → Type 0
@@ -124,3 +172,44 @@ Same (Err e) after before = e.source_path ≡ before.path
 abbrev pub IsUnrefused : (level : ℕ) → CodeInfo → Type 0
 IsUnrefused level i =
     (chain : List ℕ) → IsChain (map plain i.blocks) chain → ¬ TooLong (lens_of (tables_of i)) → (e : FinalizeError) → IsRefused (tables_of i) level (map plain i.blocks) e → e ≡ FinalizeError.OutOfMemory
+
+-- what class mangles the names within a scope, and the qualified name of what stands around them
+abbrev pub named_in : Naming → Context → Context
+named_in naming.AsAround c = c
+named_in (naming.Function path) c = with_path path c
+named_in (naming.Class name path) c = with_path path (within_class name c)
+
+-- a scope within, which begins with nothing
+abbrev pub entered : SymbolTableType → Naming → State → Context
+entered typ n s = inside typ s.next (named_in n s.around.context)
+
+-- what a code object says of its scope, which begins at that line and has these symbols
+abbrev pub head_in : Shape → (source : List ℕ) → (line : ℕ) → List Symbol → Head
+head_in h source line symbols = record {
+  flags = h.flags;
+  posonlyarg_count = h.posonlyarg_count;
+  arg_count = h.arg_count;
+  kwonlyarg_count = h.kwonlyarg_count;
+  source_path = source;
+  first_line_number = line;
+  obj_name = h.obj_name;
+  cellvars = cells_among symbols;
+  freevars = frees_among symbols;
+}
+
+abbrev pub shape_of : ScopeHead → Shape
+shape_of h = record { flags = h.flags.0; posonlyarg_count = h.posonlyarg_count; arg_count = h.arg_count; kwonlyarg_count = h.kwonlyarg_count; obj_name = h.obj_name }
+
+-- the scope around waits
+abbrev pub entered_rest : (scope : OpenScope) → Head → Rest → Rest
+entered_rest o h r = record r { context = unlooped r.context; head = h; outer = r.outer ++ o ∷ [] }
+
+abbrev pub source_in : Rest → Source
+source_in r = record { opts = r.opts; path = r.path; scopes = r.scopes }
+
+-- the scope that waited goes on where the one within leaves off
+abbrev pub left : Rest → OpenScope → State → State
+left r o t = state_of (source_in r) o t.location t.next
+
+abbrev pub left_rest : (outer : List OpenScope) → OpenScope → Rest → Rest
+left_rest outer o r = record r { context = o.context; head = head_of o.code; outer = outer }

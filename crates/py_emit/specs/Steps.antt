@@ -4,7 +4,7 @@ use Rattle.py_base.specs.declared.location.SourceLocation.{SourceLocation}
 use Rattle.py_bytecode.specs.declared.instruction.Instruction.TheVariants as op
 use Rattle.py_walks.specs.declared.info.InstructionInfo.{InstructionInfo}
 use Rattle.py_ir.specs.Chain.{Blk, blk, block_number}
-use Rattle.py_forms.specs.Emitting.{Step, Put, Begin, State}
+use Rattle.py_steps.specs.Emitting.{Step, Put, Begin, State}
 
 abbrev pub step_of : InstructionInfo → Step
 step_of x = Put x.instr x.arg.0 (block_number x.target.0) x.location

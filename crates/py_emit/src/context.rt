@@ -29,6 +29,17 @@ pub struct ScopeHead {
     pub obj_name: Text,
 }
 
+/// By what class the names of a scope are mangled, and what qualified name stands before those within it.
+#[derive(Drop)]
+pub enum Naming {
+    /// As in the scope around: a lambda or a comprehension.
+    AsAround,
+    /// A function: `f.<locals>` behind what stands around.
+    Function { path: Text },
+    /// A class, whose name mangles those within it.
+    Class { name: Text, path: Text },
+}
+
 /// What the code around says.
 #[derive(Clone, Copy, Debug)]
 pub struct EmitContext {
@@ -38,4 +49,13 @@ pub struct EmitContext {
     pub future_over: bool,
     /// Whether annotations are postponed (PEP 563).
     pub future_annotations: bool,
+}
+
+impl EmitContext {
+    /// No loop, and nothing said of future imports yet.
+    pub const OUTERMOST: EmitContext = EmitContext {
+        loop_blocks: None,
+        future_over: false,
+        future_annotations: false,
+    };
 }

@@ -1,62 +1,83 @@
 //! The emitter.
-ghost use Rattle.std.specs.Prelude.{◌≡◌, ◌≢◌, ◌<◌, None, Some, IfOk, IfErr, OnOk};
+ghost use Rattle.std.specs.Prelude.{◌≡◌, ◌≢◌, ◌<◌, ◌++◌, ◌∷◌, [], ℕ, suc, None, Some, IfOk, IfErr, OnOk, List as Scopes};
 ghost use Rattle.py_bytecode.specs.View.{object};
 ghost use Rattle.py_ir.specs.Chain.{block_number};
 ghost use Rattle.py_ir.specs.Final.{IsFinal};
-ghost use Rattle.py_forms.specs.Emitting.{Begin, Put, emit as emission_of, emit_count, jump as jumping, located, nothing, with_block, with_loops, with_step};
-ghost use Rattle.py_forms.specs.Sealed.{sealed};
-ghost use Rattle.py_emit.specs.States.{Goes, Same, IsFirst, IsStarved, IsUnrefused, first_rest, info, loop_blocks, placed_error, rest, state, with_context};
+ghost use Rattle.py_base.specs.declared.location.SourceLocation.{SourceLocation as Location};
+ghost use Rattle.py_steps.specs.Children.{code_head};
+ghost use Rattle.py_steps.specs.Context.{inside, outermost, symbols_in};
+ghost use Rattle.py_steps.specs.Emitting.{Begin, Done, Put, begun, emit as emission_of, emit_count, generating, jump as jumping, located, nothing, with_block, with_loops, with_step};
+ghost use Rattle.py_steps.specs.Sealed.{sealed};
+ghost use Rattle.py_emit.specs.States.{Goes, Same, IsFirst, IsStarved, IsUnrefused, entered, entered_rest, first_rest, head_in, head_of, info, left, left_rest, loop_blocks, looped, module_shape, named_in, placed_error, rest, shape_of, source_of, state, state_of, unlooped};
 ghost use Rattle.py_emit.specs.Steps.{IsOpen, step_of};
 
-use crate::context::{CompileOpts, EmitContext};
+use crate::context::{CompileOpts, EmitContext, Naming, ScopeHead};
 use crate::refusals::{has_short_tables, only_starved, starved};
+use crate::scopes::{OpenScope, first_code, laid_out};
 use py_base::{LocatedError, OneIndexed, SourceLocation, Text};
 use py_bytecode::{CodeFlags, CodeObject, Instruction, OpArg};
 use py_forms::{CodegenError, CodegenErrorType};
-use py_ir::{BlockIdx, ConstantSet, FlatBlocks, FlatCode, InstructionInfo, NameSet};
+use py_ir::{BlockIdx, FlatCode, InstructionInfo};
+use py_scope::{FlatScopes, SymbolTableType};
 use std::alloc::{AllocError, Global};
 use std::mem;
 
 /// The number of values that no instruction counts.
 const COUNT_LIMIT: usize = 1 << 30;
 
-/// What is emitted so far, and where the next instruction stands in the source. Besides what its contract says and the
-/// table entry of an instruction that it appends, a call changes nothing. After an error it may only be dropped.
+/// What is emitted so far of the present scope, and of those around it, which wait, and where the next instruction stands
+/// in the source. Besides what its contract says and the table entry of an instruction that it appends, a call changes
+/// nothing. After an error it may only be dropped.
 #[derive(Drop)]
 pub struct Emitter {
     alloc: Global,
     opts: CompileOpts,
     source_path: Text,
+    pub(crate) scopes: FlatScopes,
     location: SourceLocation,
-    context: EmitContext,
-    pub(crate) code: FlatCode,
+    /// The number of the next scope within, in the order in which they are compiled.
+    next: usize,
+    pub(crate) scope: OpenScope,
+    outer: Vec<OpenScope>,
 }
 
 impl Emitter {
-    /// One scope `<module>` with one empty block, at row 1 and column 1, with no loop around.
+    /// One scope `<module>`, which is the first of these, with one empty block, at row 1 and column 1, with no class and
+    /// no loop around.
     ///
     /// # Errors
     /// OutOfMemory alone.
     #[tactic(auto, unfolding(crate::specs::States::rest))]
-    pub fn new(alloc: Global, opts: CompileOpts, source_path: Text) -> Result<Emitter, CodegenError>
-        ensures state { IfOk result (λ em. state em ≡ nothing opts.optimize) }
-        ensures rest { IfOk result (λ em. rest em ≡ first_rest opts source_path) }
+    pub fn new(
+        alloc: Global,
+        opts: CompileOpts,
+        source_path: Text,
+        scopes: FlatScopes,
+    ) -> Result<Emitter, CodegenError>
+        ensures state { IfOk result (λ em. state em ≡ nothing (outermost opts.optimize source_path scopes)) }
+        ensures rest { IfOk result (λ em. rest em ≡ first_rest opts source_path scopes) }
         ensures err { IfErr result (λ e. IsStarved e source_path) }
     {
-        let Ok(code) = module_code(alloc, &source_path) else {
+        let Ok(code) = module_code(alloc, &source_path, &scopes) else {
             return Err(starved(source_path));
         };
         Ok(Emitter {
             alloc,
             opts,
             source_path,
+            scopes,
             location: SourceLocation::default(),
-            context: EmitContext {
-                loop_blocks: None,
-                future_over: false,
-                future_annotations: false,
+            next: 1,
+            scope: OpenScope {
+                code,
+                generator: false,
+                typ: SymbolTableType::Module,
+                here: 0,
+                class: None,
+                path: Text::from_string(String::new(alloc)),
+                context: EmitContext::OUTERMOST,
             },
-            code,
+            outer: Vec::new(alloc),
         })
     }
 
@@ -78,21 +99,21 @@ impl Emitter {
     pub fn context(&self) -> EmitContext
         ensures { result ≡ (rest self.now).context }
     {
-        self.context
+        self.scope.context
     }
 
-    /// Another context. Answers the old one.
-    #[tactic(auto, unfolding(py_forms::specs::Emitting::with_loops, crate::specs::States::rest))]
-    pub fn set_context(&mut self, context: EmitContext) -> EmitContext
-        ensures old { result ≡ (rest self.old).context }
-        ensures state { state self.new ≡ with_loops (loop_blocks context.loop_blocks) (state self.old) }
-        ensures rest { rest self.new ≡ with_context context (rest self.old) }
+    /// The blocks to which `continue` and `break` of the innermost loop go, where there is one. Answers the old ones.
+    #[tactic(auto, unfolding(py_steps::specs::Emitting::with_loops, crate::specs::States::rest))]
+    pub fn set_loops(&mut self, loops: Option<(BlockIdx, BlockIdx)>) -> Option<(BlockIdx, BlockIdx)>
+        ensures old { result ≡ (rest self.old).context.loop_blocks }
+        ensures state { state self.new ≡ with_loops (loop_blocks loops) (state self.old) }
+        ensures rest { rest self.new ≡ looped loops (rest self.old) }
     {
-        mem::replace(&mut self.context, context)
+        mem::replace(&mut self.scope.context.loop_blocks, loops)
     }
 
     /// What follows stands there in the source.
-    #[tactic(auto, unfolding(py_forms::specs::Emitting::located, crate::specs::States::rest))]
+    #[tactic(auto, unfolding(py_steps::specs::Emitting::located, crate::specs::States::rest))]
     pub fn set_location(&mut self, location: SourceLocation)
         ensures state { state self.new ≡ located location (state self.old) }
         ensures rest { rest self.new ≡ rest self.old }
@@ -149,7 +170,7 @@ impl Emitter {
         ensures rest { OnOk result (rest self.new ≡ rest self.old) }
         ensures err { IfErr result (λ e. IsStarved e (rest self.old).path) }
     {
-        match self.code.body.push(info) {
+        match self.scope.code.body.push(info) {
             Ok(()) => Ok(()),
             Err(_) => Err(self.error(CodegenErrorType::OutOfMemory)),
         }
@@ -159,7 +180,7 @@ impl Emitter {
     ///
     /// # Errors
     /// OutOfMemory alone.
-    #[tactic(auto, unfolding(py_forms::specs::Emitting::emit))]
+    #[tactic(auto, unfolding(py_steps::specs::Emitting::emit))]
     pub fn emit_arg(&mut self, instr: Instruction, arg: u32) -> Result<(), CodegenError>
         ensures goes { Goes result (state self.new) (emission_of instr arg (state self.old)) }
         ensures same { Same result (rest self.new) (rest self.old) }
@@ -172,7 +193,7 @@ impl Emitter {
     ///
     /// # Errors
     /// OutOfMemory alone.
-    #[tactic(auto, unfolding(py_forms::specs::Emitting::emit_count))]
+    #[tactic(auto, unfolding(py_steps::specs::Emitting::emit_count))]
     pub fn emit_count(&mut self, instr: Instruction, count: usize) -> Result<(), CodegenError>
         ensures goes { Goes result (state self.new) (emit_count instr count (state self.old)) }
         ensures same { Same result (rest self.new) (rest self.old) }
@@ -187,7 +208,7 @@ impl Emitter {
     ///
     /// # Errors
     /// OutOfMemory alone.
-    #[tactic(auto, unfolding(py_forms::specs::Emitting::jump))]
+    #[tactic(auto, unfolding(py_steps::specs::Emitting::jump))]
     pub fn emit_jump(&mut self, instr: Instruction, target: BlockIdx) -> Result<(), CodegenError>
         requires { target.0 < 0xffff_ffff }
         ensures goes { Goes result (state self.new) (jumping instr target.0 (state self.old)) }
@@ -209,7 +230,7 @@ impl Emitter {
         ensures rest { OnOk result (rest self.new ≡ rest self.old) }
         ensures err { IfErr result (λ e. IsStarved e (rest self.old).path) }
     {
-        match self.code.body.new_block() {
+        match self.scope.code.body.new_block() {
             Ok(block) => Ok(block),
             Err(_) => Err(self.error(CodegenErrorType::OutOfMemory)),
         }
@@ -223,10 +244,100 @@ impl Emitter {
         ensures state { state self.new ≡ with_step (Begin block.0) (state self.old) }
         ensures rest { rest self.new ≡ rest self.old }
     {
-        self.code.body.place(block);
+        self.scope.code.body.place(block);
     }
 
-    /// The code object, laid out at the level of the options.
+    /// Goes into a scope within, whose number is that of the next one. It has this head, the cells and the free names that
+    /// its symbols say, the row of the present location as its first line, and one empty block; the scope around waits.
+    ///
+    /// # Errors
+    /// OutOfMemory alone.
+    #[tactic(auto, unfolding(crate::specs::States::rest))]
+    pub fn enter_scope(
+        &mut self,
+        head: ScopeHead,
+        typ: SymbolTableType,
+        naming: Naming,
+    ) -> Result<(), CodegenError>
+        ensures state { OnOk result (state self.new ≡ begun (entered typ naming (state self.old)) (state self.old).location (suc (state self.old).next)) }
+        ensures rest { OnOk result (rest self.new ≡ entered_rest self.old.scope (code_head (entered typ naming (state self.old)) (shape_of head) (state self.old).location) (rest self.old)) }
+        ensures err { IfErr result (λ e. IsStarved e (rest self.old).path) }
+    {
+        let number = self.next;
+        let Ok(scope) = self.scope_within(head, typ, naming, number) else {
+            return Err(self.error(CodegenErrorType::OutOfMemory));
+        };
+        let Some(next) = number.checked_add(1) else {
+            return Err(self.error(CodegenErrorType::OutOfMemory));
+        };
+        let around = mem::replace(&mut self.scope, scope);
+        let Ok(()) = push_scope(&mut self.outer, around) else {
+            return Err(self.error(CodegenErrorType::OutOfMemory));
+        };
+        self.next = next;
+        Ok(())
+    }
+
+    /// Leaves the present scope, which stands within another, and lays its code out at the level of the options. The scope
+    /// around goes on.
+    ///
+    /// # Errors
+    /// OutOfMemory alone: a table of 2^31 entries, and blocks that have no code, which no tree within the limits comes to,
+    /// count as that.
+    #[tactic(auto, unfolding(crate::specs::States::rest))]
+    pub fn leave_scope(&mut self) -> Result<CodeObject, CodegenError>
+        requires inner { (rest self.old).outer ≢ [] }
+        ensures code { IfOk result (λ code. object code ≡ sealed (rest self.old).opts.optimize (rest self.old).head (state self.old)) }
+        ensures state { OnOk result ((outer : Scopes OpenScope) (o : OpenScope) → (rest self.old).outer ≡ outer ++ o ∷ [] → state self.new ≡ left (rest self.old) o (state self.old)) }
+        ensures rest { OnOk result ((outer : Scopes OpenScope) (o : OpenScope) → (rest self.old).outer ≡ outer ++ o ∷ [] → rest self.new ≡ left_rest outer o (rest self.old)) }
+        ensures err { IfErr result (λ e. IsStarved e (rest self.old).path) }
+    {
+        let Some(around) = self.outer.pop() else {
+            return Err(self.error(CodegenErrorType::OutOfMemory));
+        };
+        let scope = mem::replace(&mut self.scope, around);
+        if !has_short_tables(&scope.code) {
+            return Err(self.error(CodegenErrorType::OutOfMemory));
+        }
+        match laid_out(self.alloc, self.opts.optimize, scope) {
+            Ok(code) => Ok(code),
+            Err(_) => Err(self.error(CodegenErrorType::OutOfMemory)),
+        }
+    }
+
+    /// The number of the next scope within.
+    pub fn next_scope(&self) -> usize
+        ensures { result ≡ (state self.now).next }
+    {
+        self.next
+    }
+
+    /// The scopes up to this number stand in parts that are scanned and not compiled, and are passed over.
+    #[tactic(auto, unfolding(crate::specs::States::rest))]
+    pub fn pass_scopes(&mut self, number: usize)
+        ensures state { state self.new ≡ record (state self.old) { next = number } }
+        ensures rest { rest self.new ≡ rest self.old }
+    {
+        self.next = number;
+    }
+
+    /// The scope's code is a generator.
+    #[tactic(auto, unfolding(py_steps::specs::Emitting::generating, crate::specs::States::rest))]
+    pub fn mark_generator(&mut self)
+        ensures goes { generating (state self.old) ≡ Done (state self.new) }
+        ensures rest { rest self.new ≡ rest self.old }
+    {
+        self.scope.generator = true;
+    }
+
+    /// The kind of the present scope.
+    pub fn scope_type(&self) -> SymbolTableType
+        ensures { result ≡ (state self.now).around.context.typ }
+    {
+        self.scope.typ
+    }
+
+    /// The code object of the outermost scope, laid out at the level of the options.
     ///
     /// # Errors
     /// OutOfMemory alone. A table of 2^31 entries counts as that.
@@ -241,40 +352,108 @@ impl Emitter {
             alloc,
             opts,
             source_path,
+            scopes: _,
             location: _,
-            context: _,
-            code,
+            next: _,
+            scope,
+            outer: _,
         } = self;
-        if !has_short_tables(&code) {
+        if !has_short_tables(&scope.code) {
             return Err(starved(source_path));
         }
-        match code.finalize(alloc, opts.optimize) {
+        match laid_out(alloc, opts.optimize, scope) {
             Ok(code) => Ok(code),
             Err(error) => Err(only_starved(error, source_path)),
         }
     }
+
+    /// A scope within before anything is emitted.
+    fn scope_within(
+        &self,
+        head: ScopeHead,
+        typ: SymbolTableType,
+        naming: Naming,
+        number: usize,
+    ) -> Result<OpenScope, AllocError>
+        ensures state { IfOk result (λ o. (at : Location) (next : ℕ) → state_of (source_of self.now) o at next ≡ begun (inside typ number (named_in naming (state self.now).around.context)) at next) }
+        ensures head { IfOk result (λ o. head_of o.code ≡ head_in (shape_of head) self.now.source_path self.now.location.row (symbols_in self.now.scopes number)) }
+        ensures context { IfOk result (λ o. o.context ≡ unlooped self.now.scope.context) }
+    {
+        let line = self.location.row;
+        let code = first_code(
+            self.alloc,
+            head,
+            &self.source_path,
+            line,
+            &self.scopes,
+            number,
+        )?;
+        let (class, path) = self.names_within(naming)?;
+        Ok(OpenScope {
+            code,
+            generator: false,
+            typ,
+            here: number,
+            class,
+            path,
+            context: EmitContext {
+                loop_blocks: None,
+                ..self.scope.context
+            },
+        })
+    }
+
+    /// What class mangles the names of a scope within, and the qualified name of what stands around them.
+    #[tactic(auto, unfolding(py_steps::specs::Context::with_path, py_steps::specs::Context::within_class))]
+    fn names_within(&self, naming: Naming) -> Result<(Option<Text>, Text), AllocError>
+        ensures class { IfOk result (λ names. names.0 ≡ (named_in naming (state self.now).around.context).class) }
+        ensures path { IfOk result (λ names. names.1 ≡ (named_in naming (state self.now).around.context).path) }
+    {
+        match naming {
+            Naming::AsAround => Ok((self.class_name()?, self.scope.path.try_clone(self.alloc)?)),
+            Naming::Function { path } => Ok((self.class_name()?, path)),
+            Naming::Class { name, path } => Ok((Some(name), path)),
+        }
+    }
+
+    /// A copy of the name of the innermost class, where there is one.
+    fn class_name(&self) -> Result<Option<Text>, AllocError>
+        ensures { IfOk result (λ name. name ≡ self.now.scope.class) }
+    {
+        match &self.scope.class {
+            Some(name) => Ok(Some(name.try_clone(self.alloc)?)),
+            None => Ok(None),
+        }
+    }
+}
+
+/// The scope goes last.
+///
+/// # Errors
+/// There is no memory for it.
+fn push_scope(outer: &mut Vec<OpenScope>, scope: OpenScope) -> Result<(), AllocError>
+    ensures { OnOk result (outer.new.items ≡ outer.old.items ++ scope ∷ []) }
+{
+    match outer.push(scope) {
+        Ok(()) => Ok(()),
+        Err(_) => Err(AllocError),
+    }
 }
 
 /// The code of a program before anything is emitted.
-fn module_code(alloc: Global, source_path: &Text) -> Result<FlatCode, AllocError>
-    ensures { IfOk result (λ code. IsFirst code source_path.now) }
+fn module_code(
+    alloc: Global,
+    source_path: &Text,
+    scopes: &FlatScopes,
+) -> Result<FlatCode, AllocError>
+    ensures { IfOk result (λ code. IsFirst code (head_in module_shape source_path.now 1 (symbols_in scopes.now 0))) }
 {
-    let body = FlatBlocks::new(alloc)?;
-    let source_path = source_path.try_clone(alloc)?;
-    let obj_name = Text::from_string(String::from_str(alloc, "<module>")?);
-    Ok(FlatCode {
+    let head = ScopeHead {
         flags: CodeFlags::NEW_LOCALS,
         posonlyarg_count: 0,
         arg_count: 0,
         kwonlyarg_count: 0,
-        source_path,
-        first_line_number: OneIndexed::MIN,
-        obj_name,
-        body,
-        constants: ConstantSet::new(alloc),
-        name_cache: NameSet::new(alloc),
-        varname_cache: NameSet::new(alloc),
-        cellvar_cache: NameSet::new(alloc),
-        freevar_cache: NameSet::new(alloc),
-    })
+        obj_name: Text::from_string(String::from_str(alloc, "<module>")?),
+    };
+    first_code(alloc, head, source_path, OneIndexed::MIN, scopes, 0)
 }

@@ -1,6 +1,6 @@
 //! The last instruction of a block, and the return of a value.
 ghost use Rattle.std.specs.Prelude.{◌≡◌, IfNone, IfSome, IfErr, OnOk};
-ghost use Rattle.py_forms.specs.Emitting.{with_step};
+ghost use Rattle.py_steps.specs.Emitting.{with_step};
 ghost use Rattle.py_emit.specs.States.{IsStarved, rest, state};
 ghost use Rattle.py_emit.specs.Steps.{EndsAtBegin, step_of, with_closed, with_return};
 
@@ -18,7 +18,7 @@ impl Emitter {
         ensures none { IfNone result (state self.new ≡ state self.old) }
         ensures rest { rest self.new ≡ rest self.old }
     {
-        self.code.body.pop()
+        self.scope.code.body.pop()
     }
 
     /// Appends the return of the value on top: a `LoadConst` that is last in the current block becomes `ReturnConst`

@@ -1,6 +1,7 @@
 //! What is emitted of a scope: instructions with their locations, in blocks, and the tables that their operands name.
 #![tactic(auto)]
 
+mod children;
 mod context;
 mod emitter;
 mod endings;
@@ -8,9 +9,10 @@ mod laws;
 mod macros;
 mod names;
 mod refusals;
+mod scopes;
 mod tables;
 
-pub use context::{CompileOpts, EmitContext, NameUsage, ScopeHead};
+pub use context::{CompileOpts, EmitContext, NameUsage, Naming, ScopeHead};
 pub use emitter::Emitter;
 pub use laws::sealed_runs;
-pub use names::{debug_constant, is_debug};
+pub use names::{Access, debug_constant, is_debug};

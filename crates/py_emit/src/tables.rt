@@ -1,11 +1,10 @@
 //! The tables that operands name, and the instructions that name them.
-ghost use Rattle.std.specs.Prelude.{◌≡◌, ◌≢◌, true, false, IfOk, IfErr, OnOk};
+ghost use Rattle.std.specs.Prelude.{◌≡◌, IfOk, IfErr, OnOk};
 ghost use Rattle.py_bytecode.specs.Equality.{const_eq, text_eq};
 ghost use Rattle.py_bytecode.specs.View.{constant as constant_of};
-ghost use Rattle.py_forms.specs.Emitting.{Refused, emit_constant, emit_name as emission_of_name, place_in, refuse, with_constant, with_name};
-ghost use Rattle.py_forms.specs.EmissionParts.{no_assignment};
-ghost use Rattle.py_forms.specs.TableParts.{is_debug as named_debug};
-ghost use Rattle.py_emit.specs.States.{Goes, Same, IsStarved, rest, state, with_varname};
+ghost use Rattle.py_steps.specs.Emitting.{add_varname, emit_constant, emit_name as emission_of_name, emit_varname as emission_of_varname, place_in, with_constant, with_name, with_varname};
+ghost use Rattle.py_steps.specs.EmissionParts.{no_assignment, unless_debug};
+ghost use Rattle.py_emit.specs.States.{Goes, Same, IsStarved, rest, state};
 
 use crate::emitter::Emitter;
 use crate::names::is_debug;
@@ -18,7 +17,7 @@ impl Emitter {
     ///
     /// # Errors
     /// OutOfMemory alone.
-    #[tactic(auto, unfolding(py_forms::specs::Emitting::with_name, crate::specs::States::rest))]
+    #[tactic(auto, unfolding(py_steps::specs::Emitting::with_name, crate::specs::States::rest))]
     pub fn name(&mut self, name: &str) -> Result<u32, CodegenError>
         ensures place { IfOk result (λ place. place ≡ place_in text_eq (state self.old).names name.now) }
         ensures next { OnOk result (state self.new ≡ with_name name.now (state self.old)) }
@@ -28,7 +27,12 @@ impl Emitter {
         let Ok(copy) = String::from_str(self.alloc(), name) else {
             return Err(self.error(CodegenErrorType::OutOfMemory));
         };
-        match self.code.name_cache.insert_full(Text::from_string(copy)) {
+        match self
+            .scope
+            .code
+            .name_cache
+            .insert_full(Text::from_string(copy))
+        {
             Ok(place) => self.narrow(place),
             Err(_) => Err(self.error(CodegenErrorType::OutOfMemory)),
         }
@@ -37,39 +41,65 @@ impl Emitter {
     /// The place of a name among those that the code object has of its own, where it is entered if it is new.
     ///
     /// # Errors
+    /// OutOfMemory alone.
+    #[tactic(auto, unfolding(py_steps::specs::Emitting::with_varname, crate::specs::States::rest))]
+    fn varname(&mut self, name: &str) -> Result<u32, CodegenError>
+        ensures place { IfOk result (λ place. place ≡ place_in text_eq (state self.old).varnames name.now) }
+        ensures next { OnOk result (state self.new ≡ with_varname name.now (state self.old)) }
+        ensures rest { OnOk result (rest self.new ≡ rest self.old) }
+        ensures err { IfErr result (λ e. IsStarved e (rest self.old).path) }
+    {
+        let copy = self.text(name)?;
+        match self.scope.code.varname_cache.insert_full(copy) {
+            Ok(place) => self.narrow(place),
+            Err(_) => Err(self.error(CodegenErrorType::OutOfMemory)),
+        }
+    }
+
+    /// Enters the name of a parameter, as the innermost class writes it, among those that the code object has of its own.
+    ///
+    /// # Errors
     /// SyntaxError where the name is `__debug__`, at the present location, or OutOfMemory.
-    #[tactic(auto, unfolding(crate::specs::States::rest, crate::specs::States::with_varname))]
-    pub fn varname(&mut self, name: &str) -> Result<u32, CodegenError>
-        ensures place { IfOk result (λ place. place ≡ place_in text_eq (rest self.old).head.varnames name.now) }
-        ensures other { OnOk result (named_debug name.now ≡ false) }
-        ensures state { OnOk result (state self.new ≡ state self.old) }
-        ensures rest { OnOk result (rest self.new ≡ with_varname name.now (rest self.old)) }
-        ensures debug { IfErr result (λ e. e.error ≢ CodegenErrorType.OutOfMemory → named_debug name.now ≡ true) }
-        ensures err { IfErr result (λ e. e.error ≢ CodegenErrorType.OutOfMemory → refuse (CodegenErrorType.SyntaxError no_assignment) (state self.old) ≡ Refused e.error e.location) }
-        ensures path { IfErr result (λ e. e.source_path ≡ (rest self.old).path) }
+    #[tactic(auto, unfolding(py_steps::specs::Emitting::add_varname))]
+    pub fn add_parameter(&mut self, name: &str) -> Result<(), CodegenError>
+        ensures goes { Goes result (state self.new) (unless_debug no_assignment name.now (add_varname name.now) (state self.old)) }
+        ensures same { Same result (rest self.new) (rest self.old) }
     {
         if is_debug(name) {
             return Err(self.syntax_error("cannot assign to __debug__"));
         }
-        let copy = self.text(name)?;
-        match self.code.varname_cache.insert_full(copy) {
-            Ok(place) => self.narrow(place),
-            Err(_) => Err(self.error(CodegenErrorType::OutOfMemory)),
-        }
+        match self.mangled(name)? {
+            Some(other) => self.varname(other.as_str())?,
+            None => self.varname(name)?,
+        };
+        Ok(())
+    }
+
+    /// Appends an instruction that names a name of the code object's own.
+    ///
+    /// # Errors
+    /// OutOfMemory alone.
+    #[tactic(auto, unfolding(py_steps::specs::Emitting::emit_varname))]
+    pub fn emit_varname(&mut self, instr: Instruction, name: &str) -> Result<(), CodegenError>
+        ensures goes { Goes result (state self.new) (emission_of_varname instr name.now (state self.old)) }
+        ensures same { Same result (rest self.new) (rest self.old) }
+    {
+        let place = self.varname(name)?;
+        self.emit_arg(instr, place)
     }
 
     /// The place of a constant in the constant table, where it is entered if it is new.
     ///
     /// # Errors
     /// OutOfMemory alone.
-    #[tactic(auto, unfolding(py_forms::specs::Emitting::with_constant, crate::specs::States::rest), using(py_bytecode::proofs::Entered::constants_entered, py_bytecode::proofs::Entered::constant_place))]
+    #[tactic(auto, unfolding(py_steps::specs::Emitting::with_constant, crate::specs::States::rest), using(py_bytecode::proofs::Entered::constants_entered, py_bytecode::proofs::Entered::constant_place))]
     pub fn add_constant(&mut self, constant: ConstantData) -> Result<u32, CodegenError>
         ensures place { IfOk result (λ place. place ≡ place_in const_eq (state self.old).constants (constant_of constant)) }
         ensures next { OnOk result (state self.new ≡ with_constant (constant_of constant) (state self.old)) }
         ensures rest { OnOk result (rest self.new ≡ rest self.old) }
         ensures err { IfErr result (λ e. IsStarved e (rest self.old).path) }
     {
-        match self.code.constants.insert_full(constant) {
+        match self.scope.code.constants.insert_full(constant) {
             Ok(place) => self.narrow(place),
             Err(_) => Err(self.error(CodegenErrorType::OutOfMemory)),
         }
@@ -91,7 +121,7 @@ impl Emitter {
     ///
     /// # Errors
     /// OutOfMemory alone.
-    #[tactic(auto, unfolding(py_forms::specs::Emitting::emit_constant))]
+    #[tactic(auto, unfolding(py_steps::specs::Emitting::emit_constant))]
     pub fn load_const(&mut self, constant: ConstantData) -> Result<(), CodegenError>
         ensures goes { Goes result (state self.new) (emit_constant Instruction.LoadConst (constant_of constant) (state self.old)) }
         ensures same { Same result (rest self.new) (rest self.old) }
@@ -104,7 +134,7 @@ impl Emitter {
     ///
     /// # Errors
     /// OutOfMemory alone.
-    #[tactic(auto, unfolding(py_forms::specs::Emitting::emit_constant))]
+    #[tactic(auto, unfolding(py_steps::specs::Emitting::emit_constant))]
     pub fn return_const(&mut self, constant: ConstantData) -> Result<(), CodegenError>
         ensures goes { Goes result (state self.new) (emit_constant Instruction.ReturnConst (constant_of constant) (state self.old)) }
         ensures same { Same result (rest self.new) (rest self.old) }
@@ -117,7 +147,7 @@ impl Emitter {
     ///
     /// # Errors
     /// OutOfMemory alone.
-    #[tactic(auto, unfolding(py_forms::specs::Emitting::emit_name))]
+    #[tactic(auto, unfolding(py_steps::specs::Emitting::emit_name))]
     pub fn emit_name(&mut self, instr: Instruction, name: &str) -> Result<(), CodegenError>
         ensures goes { Goes result (state self.new) (emission_of_name instr name.now (state self.old)) }
         ensures same { Same result (rest self.new) (rest self.old) }

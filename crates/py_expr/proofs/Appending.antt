@@ -8,7 +8,7 @@ use Rattle.py_tree.specs.View.{expr_tree, exprs, literal_list, literal_of}
 use Rattle.py_bytecode.specs.Objects.{Const, consts_of}
 use Rattle.py_bytecode.specs.View.{constant}
 use Rattle.py_bytecode.specs.declared.code.ConstantData.{ConstantData}
-use Rattle.py_forms.specs.TableParts.{constant_of, constants_of}
+use Rattle.py_steps.specs.TableParts.{constant_of, constants_of}
 use Rattle.py_emission.specs.Texts.{joined, text_of, texts_of}
 use Rattle.py_expr.specs.Appending.{Appended}
 use Rattle.std.specs.Bool.{then_some}

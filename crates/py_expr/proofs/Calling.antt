@@ -8,10 +8,10 @@ use Rattle.py_tree.specs.declared.expressions.Expr.{Expr}
 use Rattle.py_tree.specs.declared.expressions.KeywordOf.{KeywordOf}
 use Rattle.py_bytecode.specs.declared.instruction.Instruction.{Instruction}
 use Rattle.py_bytecode.specs.declared.instruction.Instruction.TheVariants as op
-use Rattle.py_forms.specs.Elements.{Element, Single, Spread, Callee, Function, Method, bare, groups, starred}
-use Rattle.py_forms.specs.TableParts.{any}
-use Rattle.py_forms.specs.Emitting.{Emission, State, ◌▸◌, emit_count, emit_name, located}
-use Rattle.py_forms.specs.EmissionParts.{Keywords, built, call_by, checked, elements, emission_of_call, in_turn, joined_map, map_of, packed, packed_tuple, placed}
+use Rattle.py_steps.specs.Elements.{Element, Single, Spread, Callee, Function, Method, bare, groups, starred}
+use Rattle.py_steps.specs.TableParts.{any}
+use Rattle.py_steps.specs.Emitting.{Emission, State, ◌▸◌, emit_count, emit_mangled, located}
+use Rattle.py_steps.specs.EmissionParts.{Keywords, built, call_by, checked, elements, emission_of_call, in_turn, joined_map, map_of, packed, packed_tuple, placed}
 use Rattle.py_emission.specs.Emission.{all_emissions, emission, emissions, keyword_emissions}
 use Rattle.py_expr.specs.declared.calls.CallType.{CallType}
 use Rattle.py_expr.specs.declared.calls.CallType.TheVariants as call
@@ -33,9 +33,9 @@ same_count (Spread v ∷ es) = ap suc (same_count es)
 by_type : (c : Callee Emission) (f m : Instruction) (args : Emission) (n : ℕ) (t : CallType) → f ≡ function_call t → m ≡ method_call t → n ≡ call_operand t → call_by c f m args n ≡ callee_value c ▸ args ▸ calling (is_method c) t
 by_type (Function v) f m args n t e g h = ap (λ i. v ▸ args ▸ emit_count i n) e ∙ ap (λ o. v ▸ args ▸ emit_count (function_call t) o) h
 by_type (Method name v) f m args n t e g h =
-    ap (λ i. v ▸ emit_name op.LoadMethod name ▸ args ▸ emit_count i n) g
-    ∙ ap (λ o. v ▸ emit_name op.LoadMethod name ▸ args ▸ emit_count (method_call t) o) h
-    ∙ sym (joined v (emit_name op.LoadMethod name) (args ▸ emit_count (method_call t) (call_operand t)))
+    ap (λ i. v ▸ emit_mangled op.LoadMethod name ▸ args ▸ emit_count i n) g
+    ∙ ap (λ o. v ▸ emit_mangled op.LoadMethod name ▸ args ▸ emit_count (method_call t) o) h
+    ∙ sym (joined v (emit_mangled op.LoadMethod name) (args ▸ emit_count (method_call t) (call_operand t)))
 
 -- no value lies before the arguments
 tuple_alone : (es : List (Element Emission Emission)) (ks : Keywords) → packed_tuple es ks ≡ argument_tuple 0 es ks

@@ -3,9 +3,14 @@ use Rattle.std.proofs.Common.{◌≡◌, ◌≢◌, ℕ, ◌<◌, ◌≤◌, ◌
 use Rattle.std.specs.Prelude.{nat_eq, nat_lt, if◌then◌else◌}
 use Rattle.py_base.specs.declared.location.SourceLocation.{SourceLocation}
 use Rattle.py_bytecode.specs.declared.instruction.Instruction.{Instruction}
+use Rattle.py_bytecode.specs.declared.instruction.Instruction.TheVariants as op
 use Rattle.py_bytecode.specs.Objects.{Const}
+use Rattle.py_bytecode.specs.Values.{Usage, Load, Store, Delete, Kind, Unsaid, Fast, ByName, Global, Deref, ClassDeref}
+use Rattle.py_forms.specs.Form.{Resolved}
 use Rattle.py_forms.specs.declared.errors.CodegenErrorType.{CodegenErrorType}
-use Rattle.py_forms.specs.Emitting.{Step, Put, Begin, State, Outcome, Done, TooWide, Emission, LoopBlocks, ◌▸◌, keep, with_step, with_block, with_name, with_constant, with_loops, located, refuse, emit, emit_count, emit_name, emit_constant, jump, begin, new_block, move, by_level, by_loops, in_loop}
+use Rattle.py_steps.specs.Accesses.{access_by, accessed, delete_by, load_by, store_by}
+use Rattle.py_steps.specs.Context.{Context, access_kind, cell_place, mangled}
+use Rattle.py_steps.specs.Emitting.{Step, Put, Begin, State, Outcome, Done, TooWide, Emission, LoopBlocks, ◌▸◌, keep, with_step, with_block, with_name, with_varname, with_constant, with_loops, located, refuse, emit, emit_count, emit_mangled, emit_name, emit_varname, emit_constant, jump, begin, new_block, move, by_context, by_level, by_loops, in_loop}
 use Rattle.py_emit.specs.Steps.{Begun, IsOpen}
 use Rattle.py_emit.proofs.States.{never_refused}
 use Rattle.py_emit.proofs.Joined.{between, chosen_done, counted_done, done_same}
@@ -58,6 +63,10 @@ grows_named : (z s : State) (x : List ℕ) → Grows z s → Grows z (with_name 
 unfolding with_name
 grows_named z s x g = record { blocks = g.blocks; begun = g.begun }
 
+grows_varnamed : (z s : State) (x : List ℕ) → Grows z s → Grows z (with_varname x s)
+unfolding with_varname
+grows_varnamed z s x g = record { blocks = g.blocks; begun = g.begun }
+
 grows_constant : (z s : State) (c : Const) → Grows z s → Grows z (with_constant c s)
 unfolding with_constant
 grows_constant z s c g = record { blocks = g.blocks; begun = g.begun }
@@ -88,6 +97,14 @@ move_keeps at z s r g e = subst (Grows z) (done_same (located at s) r e) (grows_
 pub name_keeps : (i : Instruction) (x : List ℕ) → Keeps (emit_name i x)
 unfolding emit_name
 name_keeps i x z s r g e = emit_keeps i _ z (with_name x s) r (grows_named z s x g) e
+
+pub varname_keeps : (i : Instruction) (x : List ℕ) → Keeps (emit_varname i x)
+unfolding emit_varname
+varname_keeps i x z s r g e = emit_keeps i _ z (with_varname x s) r (grows_varnamed z s x g) e
+
+pub mangled_keeps : (i : Instruction) (x : List ℕ) → Keeps (emit_mangled i x)
+unfolding emit_mangled
+mangled_keeps i x z s r g e = name_keeps i (mangled s.around.context x) z s r g e
 
 pub constant_keeps : (i : Instruction) (c : Const) → Keeps (emit_constant i c)
 unfolding emit_constant
@@ -123,17 +140,58 @@ either_keeps false v w x y = y
 
 pub level_keeps : (a : ℕ → Emission) → ((l : ℕ) → Keeps (a l)) → Keeps (by_level a)
 unfolding by_level
-level_keeps a h z s r g e = h s.context.level z s r g e
+level_keeps a h z s r g e = h s.around.context.level z s r g e
+
+pub context_keeps : (a : Context → Emission) → ((c : Context) → Keeps (a c)) → Keeps (by_context a)
+unfolding by_context
+context_keeps a h z s r g e = h s.around.context z s r g e
+
+loaded_keeps : (k : Kind) (x : List ℕ) (p : ℕ) → Keeps (load_by k x p)
+loaded_keeps Unsaid x p = name_keeps op.LoadNameAny x
+loaded_keeps Fast x p = varname_keeps op.LoadFast x
+loaded_keeps ByName x p = name_keeps op.LoadNameAny x
+loaded_keeps Global x p = name_keeps op.LoadGlobal x
+loaded_keeps Deref x p = emit_keeps op.LoadDeref p
+loaded_keeps ClassDeref x p = emit_keeps op.LoadClassDeref p
+
+stored_keeps : (k : Kind) (x : List ℕ) (p : ℕ) → Keeps (store_by k x p)
+stored_keeps Unsaid x p = name_keeps op.StoreLocal x
+stored_keeps Fast x p = varname_keeps op.StoreFast x
+stored_keeps ByName x p = name_keeps op.StoreLocal x
+stored_keeps Global x p = name_keeps op.StoreGlobal x
+stored_keeps Deref x p = emit_keeps op.StoreDeref p
+stored_keeps ClassDeref x p = emit_keeps op.StoreDeref p
+
+deleted_keeps : (k : Kind) (x : List ℕ) (p : ℕ) → Keeps (delete_by k x p)
+deleted_keeps Unsaid x p = name_keeps op.DeleteLocal x
+deleted_keeps Fast x p = varname_keeps op.DeleteFast x
+deleted_keeps ByName x p = name_keeps op.DeleteLocal x
+deleted_keeps Global x p = name_keeps op.DeleteGlobal x
+deleted_keeps Deref x p = emit_keeps op.DeleteDeref p
+deleted_keeps ClassDeref x p = emit_keeps op.DeleteDeref p
+
+by_keeps : (u : Usage) (k : Kind) (x : List ℕ) (p : ℕ) → Keeps (access_by u k x p)
+by_keeps Load k x p = loaded_keeps k x p
+by_keeps Store k x p = stored_keeps k x p
+by_keeps Delete k x p = deleted_keeps k x p
+
+-- an access, whatever the name is
+pub accessed_keeps : (u : Usage) (x : List ℕ) → Keeps (accessed u x)
+unfolding accessed
+accessed_keeps u x z s r g e =
+    let c = s.around.context in
+    let n = mangled c x in
+    by_keeps u (access_kind c u Resolved n) n (cell_place c n) z s r g e
 
 pub loops_keep : (a : Option LoopBlocks → Emission) → ((x : Option LoopBlocks) → Keeps (a x)) → Keeps (by_loops a)
 unfolding by_loops
-loops_keep a h z s r g e = h s.context.loops z s r g e
+loops_keep a h z s r g e = h s.around.loops z s r g e
 
 pub loop_keeps : (x : LoopBlocks) (a : Emission) → Keeps a → Keeps (in_loop x a)
 unfolding in_loop
 loop_keeps x a h z s r g e =
-    let m = between (a (with_loops (Some x) s)) (λ t. Done (with_loops s.context.loops t)) r e in
-    subst (Grows z) (done_same (with_loops s.context.loops m.mid) r m.second) (grows_looped z m.mid s.context.loops (h z (with_loops (Some x) s) m.mid (grows_looped z s (Some x) g) m.first))
+    let m = between (a (with_loops (Some x) s)) (λ t. Done (with_loops s.around.loops t)) r e in
+    subst (Grows z) (done_same (with_loops s.around.loops m.mid) r m.second) (grows_looped z m.mid s.around.loops (h z (with_loops (Some x) s) m.mid (grows_looped z s (Some x) g) m.first))
 
 pub moved_keeps : (at : SourceLocation) (v : Emission) → Keeps v → Keeps (move at ▸ v)
 moved_keeps at v h = then_keeps (move at) v (move_keeps at) h

@@ -4,11 +4,11 @@ use Rattle.std.specs.Prelude.{◌||◌}
 use Rattle.py_bytecode.specs.declared.instruction.Instruction.{Instruction}
 use Rattle.py_bytecode.specs.declared.instruction.Instruction.TheVariants as op
 use Rattle.py_bytecode.specs.Objects as const
-use Rattle.py_forms.specs.Elements.{Element, Single, Spread, Callee, Function, Method, bare, grouped, groups, starred}
-use Rattle.py_forms.specs.TableParts.{any}
-use Rattle.py_forms.specs.Emitting.{Emission, ◌▸◌, emit_constant, emit_count, emit_name, keep}
-use Rattle.py_forms.specs.EmissionParts.{Keywords, built, call_by, checked, emission_of_call, in_turn, joined_map, map_of, name_values, names_in, no_assignment, packed, packed_tuple, placed, values_in}
-use Rattle.py_expr.proofs.Keeping.{Keeps, constant_keeps, count_keeps, either_keeps, idle_keeps, name_keeps, then_keeps}
+use Rattle.py_steps.specs.Elements.{Element, Single, Spread, Callee, Function, Method, bare, grouped, groups, starred}
+use Rattle.py_steps.specs.TableParts.{any}
+use Rattle.py_steps.specs.Emitting.{Emission, ◌▸◌, emit_constant, emit_count, emit_mangled, keep}
+use Rattle.py_steps.specs.EmissionParts.{Keywords, built, call_by, checked, emission_of_call, in_turn, joined_map, map_of, name_values, names_in, no_assignment, packed, packed_tuple, placed, values_in}
+use Rattle.py_expr.proofs.Keeping.{Keeps, constant_keeps, count_keeps, either_keeps, idle_keeps, mangled_keeps, then_keeps}
 use Rattle.py_expr.proofs.KeptParts.{CalleeKeeps, TurnsKeep, turn_keeps}
 use Rattle.py_expr.proofs.KeptDisplays.{ElementsKeep, append_keep, bare_keep, built_keeps, groups_keep}
 use Rattle.py_expr.proofs.KeptTargets.{debug_keeps}
@@ -72,7 +72,7 @@ packed_keeps es ks a b = then_keeps (packed_tuple es ks) (joined_map (groups map
 
 by_keeps : (c : Callee Emission) (function method : Instruction) (args : Emission) (n : ℕ) → CalleeKeeps c → Keeps args → Keeps (call_by c function method args n)
 by_keeps (Function v) function method args n h a = then_keeps v _ h (then_keeps args (emit_count function n) a (count_keeps function n))
-by_keeps (Method name v) function method args n h a = then_keeps v _ h (then_keeps (emit_name op.LoadMethod name) _ (name_keeps op.LoadMethod name) (then_keeps args (emit_count method n) a (count_keeps method n)))
+by_keeps (Method name v) function method args n h a = then_keeps v _ h (then_keeps (emit_mangled op.LoadMethod name) _ (mangled_keeps op.LoadMethod name) (then_keeps args (emit_count method n) a (count_keeps method n)))
 
 placed_keeps : (c : Callee Emission) (vs : List Emission) (ks : Keywords) → CalleeKeeps c → TurnsKeep vs → KeywordsKeep ks → Keeps (placed c vs ks)
 placed_keeps c vs [] h a b = by_keeps c op.CallFunctionPositional op.CallMethodPositional (in_turn vs) (length vs) h (turn_keeps vs a)

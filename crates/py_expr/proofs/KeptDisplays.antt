@@ -4,9 +4,9 @@ use Rattle.py_bytecode.specs.declared.instruction.Instruction.{Instruction}
 use Rattle.py_bytecode.specs.declared.instruction.Instruction.TheVariants as op
 use Rattle.py_bytecode.specs.Objects as const
 use Rattle.py_bytecode.specs.Objects.{Const}
-use Rattle.py_forms.specs.Elements.{Element, Single, Spread, starred, bare, grouped, groups, front, behind, pairs, sides}
-use Rattle.py_forms.specs.Emitting.{Emission, emit, emit_count}
-use Rattle.py_forms.specs.EmissionParts.{Emissions, built, dict_value, display, elements, in_turn, joined_value, map_of_pairs, slice_step, slice_value, unpacked, updates, value_or, values}
+use Rattle.py_steps.specs.Elements.{Element, Single, Spread, starred, bare, grouped, groups, front, behind, pairs, sides}
+use Rattle.py_steps.specs.Emitting.{Emission, emit, emit_count}
+use Rattle.py_steps.specs.EmissionParts.{Emissions, built, dict_value, display, elements, in_turn, joined_value, map_of_pairs, slice_step, slice_value, unpacked, updates, value_or, values}
 use Rattle.py_expr.proofs.Keeping.{Keeps, constant_keeps, count_keeps, either_keeps, emit_keeps, idle_keeps, then_keeps}
 use Rattle.py_expr.proofs.KeptParts.{ElementKeeps, AllKeep, TurnsKeep, turn_keeps}
 

@@ -9,20 +9,22 @@ use Rattle.py_bytecode.specs.declared.instruction.Instruction.{Instruction}
 use Rattle.py_bytecode.specs.declared.instruction.Instruction.TheVariants as op
 use Rattle.py_bytecode.specs.Objects as const
 use Rattle.py_emission.specs.Texts.{texts_of}
-use Rattle.py_forms.specs.TableParts.{binary_case, constant_of, conversion_case, debug_constant, is_debug}
+use Rattle.py_steps.specs.TableParts.{binary_case, constant_of, conversion_case, debug_constant, is_debug}
 use Rattle.py_forms.specs.declared.errors.CodegenErrorType.TheVariants as error
-use Rattle.py_forms.specs.Emitting.{State, Begin, Done, Emission, with_step, with_block, located, refuse, by_level, emit, emit_name, emit_constant, jump}
-use Rattle.py_forms.specs.EmissionParts.{values, elements, value_or, shorts, tests, bool_value, links, lone_star, no_assignment, no_deletion, emission_of_name}
+use Rattle.py_steps.specs.Emitting.{State, Begin, Done, Emission, with_step, with_block, located, refuse, by_level, emit, emit_mangled, emit_constant, jump}
+use Rattle.py_steps.specs.EmissionParts.{values, elements, value_or, shorts, tests, bool_value, links, lone_star, no_assignment, no_deletion}
+use Rattle.py_bytecode.specs.Values.{Load, Store, Delete}
+use Rattle.py_steps.specs.Accesses.{accessed, emission_of_name}
 use Rattle.py_emission.specs.Emission.{opt_emission, opt_emissions, emission, emission_of_test, emissions, all_emissions, all_stores, stores, keyword_emissions, deletion_name, emission_of_delete, emission_of_deletes, unbuilt}
 use Rattle.py_emit.specs.Steps.{IsOpen}
-use Rattle.py_expr.proofs.Keeping.{Keeps, grows_same, grows_block, grows_located, begun_other, still_open, opens, emit_keeps, jump_keeps, idle_keeps, name_keeps, constant_keeps, level_keeps, either_keeps, then_keeps, moved_keeps, refuse_keeps}
+use Rattle.py_expr.proofs.Keeping.{Keeps, grows_same, grows_block, grows_located, begun_other, still_open, opens, emit_keeps, jump_keeps, idle_keeps, accessed_keeps, mangled_keeps, constant_keeps, level_keeps, either_keeps, then_keeps, moved_keeps, refuse_keeps}
 use Rattle.py_expr.proofs.KeptParts.{EachKeeps, AllKeep, ordinary_keeps, truth_keeps, shorts_keep, tests_keep, bool_test_keeps, bool_value_keeps, tested_keeps, unary_keeps, links_keep, choice_keeps, compare_keeps, values_keep}
 use Rattle.py_expr.proofs.KeptDisplays.{ElementsKeep, MaybeKeeps, MaybesKeep, dict_keeps, display_keeps, elements_keep, joined_keeps, slice_keeps, value_or_keeps}
 use Rattle.py_expr.proofs.KeptTargets.{StoreKeeps, debug_keeps, plain_keeps, unpack_keeps}
 use Rattle.py_expr.proofs.KeptCalls.{KeywordsKeep, call_keeps}
 
 pub named_keeps : (x : List ℕ) → Keeps (emission_of_name x)
-named_keeps x = either_keeps (is_debug x) (by_level (λ l. emit_constant op.LoadConst (debug_constant l))) (emit_name op.LoadNameAny x) (level_keeps (λ l. emit_constant op.LoadConst (debug_constant l)) (λ l. constant_keeps op.LoadConst (debug_constant l))) (name_keeps op.LoadNameAny x)
+named_keeps x = either_keeps (is_debug x) (by_level (λ l. emit_constant op.LoadConst (debug_constant l))) (accessed Load x) (level_keeps (λ l. emit_constant op.LoadConst (debug_constant l)) (λ l. constant_keeps op.LoadConst (debug_constant l))) (accessed_keeps Load x)
 
 -- nothing follows what is not compiled yet
 pub unbuilt_keeps : (at : SourceLocation) → Keeps (unbuilt at)
@@ -46,7 +48,7 @@ mutual
   expr_keeps (tree.JoinedStr at parts) = tested_keeps _ (moved_keeps at _ (joined_keeps (texts_of parts) (values (all_emissions parts)) (values_keep (all_emissions parts) (exprs_keep parts))))
   expr_keeps (tree.Constant at v) = tested_keeps _ (moved_keeps at _ (constant_keeps op.LoadConst (constant_of v)))
   expr_keeps (tree.Attribute at value attr) =
-      let h = moved_keeps at _ (then_keeps (emissions value).value (emit_name op.LoadAttr attr) (expr_keeps value).value (name_keeps op.LoadAttr attr)) in
+      let h = moved_keeps at _ (then_keeps (emissions value).value (emit_mangled op.LoadAttr attr) (expr_keeps value).value (mangled_keeps op.LoadAttr attr)) in
       record { value = h; test = truth_keeps _ h; element = h; callee = (expr_keeps value).value }
   expr_keeps (tree.Subscript at value slice) =
       tested_keeps _ (moved_keeps at _ (then_keeps (emissions value).value _ (expr_keeps value).value (then_keeps (emissions slice).value (emit op.Subscript 0) (expr_keeps slice).value (emit_keeps op.Subscript 0))))
@@ -77,8 +79,8 @@ mutual
   keywords_keep (tree.more_keywords (Some name) t ks) = ((expr_keeps t).value, keywords_keep ks)
 
   pub store_keeps : (t : tree.Expr) → StoreKeeps (stores t)
-  store_keeps (tree.Name at x) = plain_keeps _ (debug_keeps no_assignment x (emit_name op.StoreLocal x) (name_keeps op.StoreLocal x))
-  store_keeps (tree.Attribute at value x) = plain_keeps _ (debug_keeps no_assignment x _ (then_keeps (emissions value).value (emit_name op.StoreAttr x) (expr_keeps value).value (name_keeps op.StoreAttr x)))
+  store_keeps (tree.Name at x) = plain_keeps _ (debug_keeps no_assignment x (accessed Store x) (accessed_keeps Store x))
+  store_keeps (tree.Attribute at value x) = plain_keeps _ (debug_keeps no_assignment x _ (then_keeps (emissions value).value (emit_mangled op.StoreAttr x) (expr_keeps value).value (mangled_keeps op.StoreAttr x)))
   store_keeps (tree.Subscript at value slice) =
       plain_keeps _ (then_keeps (emissions value).value _ (expr_keeps value).value (then_keeps (emissions slice).value (emit op.StoreSubscript 0) (expr_keeps slice).value (emit_keeps op.StoreSubscript 0)))
   store_keeps (tree.List at elts) = plain_keeps _ (unpack_keeps at (all_stores elts) (stores_keep elts))
@@ -92,8 +94,8 @@ mutual
 
 mutual
   pub delete_keeps : (t : tree.Expr) → Keeps (emission_of_delete t)
-  delete_keeps (tree.Name at x) = debug_keeps no_deletion x (emit_name op.DeleteLocal x) (name_keeps op.DeleteLocal x)
-  delete_keeps (tree.Attribute at value x) = debug_keeps no_deletion x _ (then_keeps (emissions value).value (emit_name op.DeleteAttr x) (expr_keeps value).value (name_keeps op.DeleteAttr x))
+  delete_keeps (tree.Name at x) = debug_keeps no_deletion x (accessed Delete x) (accessed_keeps Delete x)
+  delete_keeps (tree.Attribute at value x) = debug_keeps no_deletion x _ (then_keeps (emissions value).value (emit_mangled op.DeleteAttr x) (expr_keeps value).value (mangled_keeps op.DeleteAttr x))
   delete_keeps (tree.Subscript at value slice) = then_keeps (emissions value).value _ (expr_keeps value).value (then_keeps (emissions slice).value (emit op.DeleteSubscript 0) (expr_keeps slice).value (emit_keeps op.DeleteSubscript 0))
   delete_keeps (tree.List at elts) = deletes_keep elts
   delete_keeps (tree.Tuple at elts) = deletes_keep elts

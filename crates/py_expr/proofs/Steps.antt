@@ -4,7 +4,7 @@ use Rattle.py_tree.specs.declared.expressions.Expr.{Expr}
 use Rattle.py_tree.specs.View.{expr_tree, exprs}
 use Rattle.py_base.specs.declared.location.SourceLocation.{SourceLocation}
 use Rattle.py_forms.specs.declared.errors.CodegenErrorType.{CodegenErrorType}
-use Rattle.py_forms.specs.Emitting.{Begin, Done, Emission, Refused, State, begin, by_level, located, move, new_block, refuse, with_block, with_step}
+use Rattle.py_steps.specs.Emitting.{Begin, Done, Emission, Refused, State, begin, by_level, located, move, new_block, refuse, with_block, with_step}
 use Rattle.py_emission.specs.Emission.{all_emissions}
 
 pub move_goes : (at : SourceLocation) (s : State) → move at s ≡ Done (located at s)
@@ -23,7 +23,7 @@ pub refuse_goes : (e : CodegenErrorType) (s : State) → refuse e s ≡ Refused 
 unfolding refuse
 refuse_goes e s = refl
 
-pub level_goes : (a : ℕ → Emission) (s : State) → by_level a s ≡ a s.context.level s
+pub level_goes : (a : ℕ → Emission) (s : State) → by_level a s ≡ a s.around.context.level s
 unfolding by_level
 level_goes a s = refl
 

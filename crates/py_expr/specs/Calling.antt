@@ -4,9 +4,9 @@ use Rattle.py_tree.specs.Tree as tree
 use Rattle.py_bytecode.specs.declared.instruction.Instruction.{Instruction}
 use Rattle.py_bytecode.specs.declared.instruction.Instruction.TheVariants as op
 use Rattle.py_bytecode.specs.Objects as const
-use Rattle.py_forms.specs.Elements.{Element, Single, Spread, Callee, Function, Method, bare, groups, starred}
-use Rattle.py_forms.specs.Emitting.{Emission, ◌▸◌, emit_constant, emit_count, emit_name, keep}
-use Rattle.py_forms.specs.EmissionParts.{Keywords, built, checked, in_turn, joined_map, map_of, names_in, no_assignment, unless_debug, values_in}
+use Rattle.py_steps.specs.Elements.{Element, Single, Spread, Callee, Function, Method, bare, groups, starred}
+use Rattle.py_steps.specs.Emitting.{Emission, ◌▸◌, emit_constant, emit_count, emit_mangled, keep}
+use Rattle.py_steps.specs.EmissionParts.{Keywords, built, checked, in_turn, joined_map, map_of, names_in, no_assignment, unless_debug, values_in}
 use Rattle.py_emission.specs.Emission.{emissions}
 use Rattle.py_expr.specs.declared.calls.CallType.{CallType}
 use Rattle.py_expr.specs.declared.calls.CallType.TheVariants as call
@@ -19,7 +19,7 @@ is_method (Method name v) = true
 -- what pushes what is called
 abbrev pub callee_value : Callee Emission → Emission
 callee_value (Function v) = v
-callee_value (Method name v) = v ▸ emit_name op.LoadMethod name
+callee_value (Method name v) = v ▸ emit_mangled op.LoadMethod name
 
 -- a tuple of arguments, behind so many values: where some are starred, the tuple of these values stands before the groups
 abbrev pub argument_tuple : (additional : ℕ) → List (Element Emission Emission) → Keywords → Emission

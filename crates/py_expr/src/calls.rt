@@ -1,9 +1,9 @@
 //! Calls.
 ghost use Rattle.std.specs.Prelude.{◌≡◌, ◌+◌, ◌||◌, ℕ, false, length, IfErr, IfOk, OnOk, if◌then◌else◌};
 ghost use Rattle.py_tree.specs.View.{call_tree, expr_tree, exprs, keywords as keyword_trees};
-ghost use Rattle.py_forms.specs.EmissionParts.{elements, in_turn};
+ghost use Rattle.py_steps.specs.EmissionParts.{elements, in_turn};
 ghost use Rattle.py_emission.specs.Emission.{all_emissions, emission, emissions, keyword_emissions};
-ghost use Rattle.py_forms.specs.Elements.{bare, starred};
+ghost use Rattle.py_steps.specs.Elements.{bare, starred};
 ghost use Rattle.py_emit.specs.States.{Goes, IsStarved, Same, rest, state};
 ghost use Rattle.py_expr.specs.Calling.{argument_tuple, arguments, call_operand, called, callee_value, calling, function_call, is_method, keyworded, method_call, positional, taken, type_of};
 
@@ -56,7 +56,7 @@ fn compile_callee(em: &mut Emitter, func: &Expr) -> Result<bool, CodegenError>
     match func {
         Expr::Attribute(e) => {
             compile_expression(em, &e.value)?;
-            em.emit_name(Instruction::LoadMethod, e.attr.as_str())?;
+            em.emit_mangled(Instruction::LoadMethod, e.attr.as_str())?;
             Ok(true)
         }
         _ => {

@@ -1,8 +1,8 @@
 //! Comparisons, one or a chain of them.
 ghost use Rattle.std.specs.Prelude.{◌≡◌, ◌<◌, length};
 ghost use Rattle.py_tree.specs.View.{compare_tree, expr_tree, exprs};
-ghost use Rattle.py_forms.specs.Emitting.{◌▸◌, emit as emitting};
-ghost use Rattle.py_forms.specs.EmissionParts.{chain, emission_of_compare, emission_of_comparison, emission_of_link, in_turn, links, first_comparison, values};
+ghost use Rattle.py_steps.specs.Emitting.{◌▸◌, emit as emitting};
+ghost use Rattle.py_steps.specs.EmissionParts.{chain, emission_of_compare, emission_of_comparison, emission_of_link, in_turn, links, first_comparison, values};
 ghost use Rattle.py_emission.specs.Emission.{all_emissions, emission, emissions};
 ghost use Rattle.py_emit.specs.States.{Goes, Same, rest, state};
 ghost use Rattle.py_expr.specs.Turns.{linked};

@@ -1,9 +1,9 @@
 //! Tests, and the values of `and` and `or`.
 ghost use Rattle.std.specs.Prelude.{◌≡◌, ◌<◌, if◌then◌else◌};
 ghost use Rattle.py_tree.specs.View.{bool_op_tree, expr_tree, exprs, unary_op_tree};
-ghost use Rattle.py_forms.specs.TableParts.{deciding};
-ghost use Rattle.py_forms.specs.Emitting.{jump as jumping};
-ghost use Rattle.py_forms.specs.EmissionParts.{bool_test, bool_value, keeping_jump, past_tests, shorts, some_test, some_values, testing_jump, tests, values, truth_of};
+ghost use Rattle.py_steps.specs.TableParts.{deciding};
+ghost use Rattle.py_steps.specs.Emitting.{jump as jumping};
+ghost use Rattle.py_steps.specs.EmissionParts.{bool_test, bool_value, keeping_jump, past_tests, shorts, some_test, some_values, testing_jump, tests, values, truth_of};
 ghost use Rattle.py_emission.specs.Emission.{all_emissions, emission, emission_of_test};
 ghost use Rattle.py_emit.specs.States.{Goes, Same, rest, state};
 ghost use Rattle.py_expr.specs.Turns.{short};

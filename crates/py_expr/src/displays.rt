@@ -2,8 +2,8 @@
 ghost use Rattle.std.specs.Prelude.{◌≡◌, ◌≤◌, ◌<◌, ◌⊎◌, length};
 ghost use Rattle.py_tree.specs.View.{dict_tree, expr_tree, exprs, list_tree, opt_box, opt_expr, opt_exprs, set_tree, slice_tree, tuple_tree};
 ghost use Rattle.py_bytecode.specs.Objects as object;
-ghost use Rattle.py_forms.specs.Elements.{pairs};
-ghost use Rattle.py_forms.specs.EmissionParts.{dict_value, display, elements, slice_step, value_or, values};
+ghost use Rattle.py_steps.specs.Elements.{pairs};
+ghost use Rattle.py_steps.specs.EmissionParts.{dict_value, display, elements, slice_step, value_or, values};
 ghost use Rattle.py_emission.specs.Emission.{all_emissions, emission, opt_emission, opt_emissions};
 ghost use Rattle.py_emit.specs.States.{Goes, Same, rest, state};
 ghost use Rattle.py_expr.specs.Dicts.{begun_by, closed_pairs, entry_begun, entry_ended, pairs_by};

@@ -1,8 +1,8 @@
 //! Elements, some of which may be starred.
 ghost use Rattle.std.specs.Prelude.{◌≡◌, ◌<◌, ℕ, [], length, IfOk};
 ghost use Rattle.py_tree.specs.View.{expr_tree, exprs};
-ghost use Rattle.py_forms.specs.Elements.{groups, starred};
-ghost use Rattle.py_forms.specs.EmissionParts.{built, elements, in_turn, unpacked};
+ghost use Rattle.py_steps.specs.Elements.{groups, starred};
+ghost use Rattle.py_steps.specs.EmissionParts.{built, elements, in_turn, unpacked};
 ghost use Rattle.py_emission.specs.Emission.{all_emissions, emissions, stores};
 ghost use Rattle.py_emit.specs.States.{Goes, Same, rest, state};
 ghost use Rattle.py_expr.specs.Turns.{is_spread, groups_by, element_behind, run_behind, runs, closed};

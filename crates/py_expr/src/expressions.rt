@@ -1,7 +1,7 @@
 //! Expressions: those that open no scope are compiled, the others are refused.
 ghost use Rattle.std.specs.Prelude.{◌≡◌};
 ghost use Rattle.py_tree.specs.View.{attribute_tree, bin_op_tree, expr_tree, exprs, if_exp_tree, name_tree, starred_tree, subscript_tree, unary_op_tree};
-ghost use Rattle.py_forms.specs.TableParts.{binary_case, unary_case};
+ghost use Rattle.py_steps.specs.TableParts.{binary_case, unary_case};
 ghost use Rattle.py_emission.specs.Emission.{emission, emission_of_exprs, unbuilt};
 ghost use Rattle.py_emit.specs.States.{Goes, Same, rest, state};
 
@@ -158,7 +158,7 @@ fn compile_attribute(em: &mut Emitter, e: &ExprAttribute) -> Result<(), CodegenE
 {
     em.set_location(e.location);
     compile_expression(em, &e.value)?;
-    em.emit_name(Instruction::LoadAttr, e.attr.as_str())
+    em.emit_mangled(Instruction::LoadAttr, e.attr.as_str())
 }
 
 #[cycle(code)]

@@ -3,9 +3,9 @@ ghost use Rattle.std.specs.Prelude.{◌≡◌, ◌<◌, ℕ, [], length, IfErr, 
 ghost use Rattle.py_tree.specs.View.{expr_tree, keywords as keyword_trees};
 ghost use Rattle.py_bytecode.specs.View.{constant};
 ghost use Rattle.py_bytecode.specs.Objects.{str, tuple};
-ghost use Rattle.py_forms.specs.Elements.{groups, starred};
-ghost use Rattle.py_forms.specs.Emitting.{emit_constant, keep};
-ghost use Rattle.py_forms.specs.EmissionParts.{checked, in_turn, joined_map, map_of, names_in, no_assignment, unless_debug, values_in};
+ghost use Rattle.py_steps.specs.Elements.{groups, starred};
+ghost use Rattle.py_steps.specs.Emitting.{emit_constant, keep};
+ghost use Rattle.py_steps.specs.EmissionParts.{checked, in_turn, joined_map, map_of, names_in, no_assignment, unless_debug, values_in};
 ghost use Rattle.py_emission.specs.Emission.{emission, keyword_emissions};
 ghost use Rattle.py_emit.specs.States.{Goes, IsStarved, Same, rest, state};
 ghost use Rattle.py_expr.specs.Calling.{checked_name, closed_map, keyword_behind, keyword_emission, named_if_any, named_values};

@@ -2,8 +2,8 @@
 ghost use Rattle.std.specs.Prelude.{ℕ};
 ghost use Rattle.py_tree.specs.View.{constant_tree, expr_tree, exprs, joined_str_tree, name_tree};
 ghost use Rattle.py_emission.specs.Texts.{texts_of};
-ghost use Rattle.py_forms.specs.Emitting.{◌▸◌, emit as emitting};
-ghost use Rattle.py_forms.specs.EmissionParts.{values};
+ghost use Rattle.py_steps.specs.Emitting.{◌▸◌, emit as emitting};
+ghost use Rattle.py_steps.specs.EmissionParts.{values};
 ghost use Rattle.py_emission.specs.Emission.{all_emissions, emission, emission_of_return, joined_return, name_return};
 ghost use Rattle.py_emit.specs.States.{Goes, Same, rest, state};
 
@@ -82,7 +82,7 @@ fn return_name(em: &mut Emitter, e: &ExprName) -> Result<(), CodegenError>
 }
 
 /// Emits the return of what a name stands for, which is a constant where it is `__debug__`.
-#[tactic(auto, unfolding(py_forms::specs::Emitting::by_level, py_emit::specs::States::rest))]
+#[tactic(auto, unfolding(py_steps::specs::Emitting::by_level, py_emit::specs::States::rest))]
 fn return_access(em: &mut Emitter, name: &str) -> Result<(), CodegenError>
     ensures goes { Goes result (state em.new) (name_return name.now (state em.old)) }
     ensures same { Same result (rest em.new) (rest em.old) }

@@ -3,9 +3,9 @@
 ghost use Rattle.std.specs.Prelude.{◌≡◌, ◌<◌, ◌≢◌, ℕ, length};
 ghost use Rattle.py_tree.specs.View.{attribute_tree, expr_tree, exprs, named_expr_tree, subscript_tree};
 ghost use Rattle.py_tree.specs.PythonName.{python_name};
-ghost use Rattle.py_forms.specs.Elements.{after_star, bare, before_star, stars};
-ghost use Rattle.py_forms.specs.Emitting.{◌▸◌, Refused, emit_name, refuse, emit as emitting};
-ghost use Rattle.py_forms.specs.EmissionParts.{in_turn, lone_star, unless_debug, unpack, unpack_starred, unpacking};
+ghost use Rattle.py_steps.specs.Elements.{after_star, bare, before_star, stars};
+ghost use Rattle.py_steps.specs.Emitting.{◌▸◌, Refused, emit_mangled, refuse, emit as emitting};
+ghost use Rattle.py_steps.specs.EmissionParts.{in_turn, lone_star, unless_debug, unpack, unpack_starred, unpacking};
 ghost use Rattle.py_emission.specs.Emission.{all_stores, deletion_name, emission, emission_of_delete, emission_of_deletes, emission_of_store, stores};
 ghost use Rattle.py_emit.specs.States.{Goes, Same, rest, state};
 ghost use Rattle.py_expr.specs.Targets.{bare_of};
@@ -54,14 +54,14 @@ fn compile_attribute_change(
     instr: Instruction,
     text: &str,
 ) -> Result<(), CodegenError>
-    ensures goes { Goes result (state em.new) (unless_debug text.now e.now.attr (emission (expr_tree e.now.value.value) ▸ emit_name instr e.now.attr) (state em.old)) }
+    ensures goes { Goes result (state em.new) (unless_debug text.now e.now.attr (emission (expr_tree e.now.value.value) ▸ emit_mangled instr e.now.attr) (state em.old)) }
     ensures same { Same result (rest em.new) (rest em.old) }
 {
     if is_debug(e.attr.as_str()) {
         refuse!(em, SyntaxError: text);
     }
     compile_expression(em, &e.value)?;
-    em.emit_name(instr, e.attr.as_str())
+    em.emit_mangled(instr, e.attr.as_str())
 }
 
 /// Emits an object, a subscript of it and what changes that.

@@ -4,8 +4,8 @@ ghost use Rattle.py_tree.specs.View.{constant_tree, expr_tree, exprs, formatted_
 ghost use Rattle.py_bytecode.specs.View.{constant};
 ghost use Rattle.py_bytecode.specs.Objects as object;
 ghost use Rattle.py_emission.specs.Texts.{text_in, text_of, texts_of};
-ghost use Rattle.py_forms.specs.TableParts.{constants_of, conversion_case, constant_of as literal_constant};
-ghost use Rattle.py_forms.specs.EmissionParts.{built, joined_value, value_or, values};
+ghost use Rattle.py_steps.specs.TableParts.{constants_of, conversion_case, constant_of as literal_constant};
+ghost use Rattle.py_steps.specs.EmissionParts.{built, joined_value, value_or, values};
 ghost use Rattle.py_emission.specs.Emission.{all_emissions, emission, opt_emission};
 ghost use Rattle.py_emit.specs.States.{Goes, IsStarved, Same, rest, state};
 ghost use Rattle.py_expr.specs.Appending.{Appended};

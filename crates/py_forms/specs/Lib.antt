@@ -11,9 +11,3 @@ pub mod Places
 pub mod Walks
 pub mod Agreement
 pub mod Messages
-pub mod Elements
-pub mod TableParts
-pub mod Emitting
-pub mod Listed
-pub mod Sealed
-pub mod EmissionParts

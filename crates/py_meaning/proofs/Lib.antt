@@ -1,5 +1,7 @@
 mod SampleTools
 mod MeaningSamples
+mod ContextSamples
+mod ScannedSamples
 mod ControlSamples
 mod UnbuiltSamples
 mod LoopSamples

@@ -9,6 +9,7 @@ use Rattle.py_bytecode.specs.declared.instruction.Instruction.TheVariants as op
 use Rattle.py_bytecode.specs.Objects as const
 use Rattle.py_bytecode.specs.Values.{Constant, Given, Gives, Raised, Event, Operates, Accesses, Unsaid, Load, Number, operation, ran, It, Returned, RaisedOut, Stopped}
 use Rattle.py_forms.specs.Form.{Scope}
+use Rattle.py_steps.specs.Context.{inside}
 use Rattle.py_meaning.specs.Meaning.{body, meaning}
 
 abbrev at : ℕ → SourceLocation
@@ -28,13 +29,16 @@ abbrev calls : Event Scope
 calls = Operates (operation op.CallFunctionPositional (Number 1)) (Given 0 0 ∷ Given 2 0 ∷ [])
 
 -- each operation gives a value
-given_all : meaning (body sum_called Exec 0) (Gives 1 ∷ Gives 1 ∷ Gives 1 ∷ Gives 1 ∷ []) ≡ ran (loads (codes "f") ∷ loads (codes "a") ∷ adds ∷ calls ∷ []) (Returned (It (Constant const.none)))
+given_all : meaning (body [] sum_called Exec 0) (Gives 1 ∷ Gives 1 ∷ Gives 1 ∷ Gives 1 ∷ []) ≡ ran (loads (codes "f") ∷ loads (codes "a") ∷ adds ∷ calls ∷ []) (Returned (It (Constant const.none)))
+unfolding inside
 given_all = refl
 
 -- the second load raises
-load_raises : meaning (body sum_called Exec 0) (Gives 1 ∷ Raised ∷ []) ≡ ran (loads (codes "f") ∷ loads (codes "a") ∷ []) (RaisedOut (Given 1 0))
+load_raises : meaning (body [] sum_called Exec 0) (Gives 1 ∷ Raised ∷ []) ≡ ran (loads (codes "f") ∷ loads (codes "a") ∷ []) (RaisedOut (Given 1 0))
+unfolding inside
 load_raises = refl
 
 -- no answer
-no_answer : meaning (body sum_called Exec 0) [] ≡ ran (loads (codes "f") ∷ []) Stopped
+no_answer : meaning (body [] sum_called Exec 0) [] ≡ ran (loads (codes "f") ∷ []) Stopped
+unfolding inside
 no_answer = refl

@@ -3,12 +3,17 @@ use Rattle.std.specs.Prelude.{ℕ, suc, List, [], ◌∷◌, Option, Some, None,
 use Rattle.py_base.specs.declared.location.SourceLocation.{SourceLocation}
 use Rattle.py_bytecode.specs.declared.instruction.Instruction.{Instruction}
 use Rattle.py_bytecode.specs.Objects.{Const}
-use Rattle.py_forms.specs.Emitting.{Outcome, Done, TooWide, Refused, Step, Put, Begin}
+use Rattle.py_steps.specs.Emitting.{Outcome, Done, TooWide, Refused, Step, Put, Begin}
+use Rattle.py_steps.specs.Context.{Context, outermost}
 use Rattle.py_forms.specs.Messages.{message}
 use Rattle.py_meaning.specs.ExprFaults.{Fault}
 
 abbrev pub at : (row column : ℕ) → SourceLocation
 at r c = record { row = r; column = c }
+
+-- a module of whose names nothing is known, so each is looked up by name
+abbrev pub unscoped : (level : ℕ) → Context
+unscoped level = outermost level [] []
 
 -- an instruction with its operand, or the number of the one that it jumps to
 pub record Line : Type 0 where
@@ -19,14 +24,18 @@ pub record Line : Type 0 where
 abbrev pub line : Instruction → (operand row column : ℕ) → Line
 line i n r c = record { instruction = i; operand = n; location = at r c }
 
--- what is emitted, with the names and the constants
+-- what is emitted, with the names, the names of the code's own and the constants
 pub record Lines : Type 0 where
   pub lines : List Line
   pub names : List (List ℕ)
+  pub varnames : List (List ℕ)
   pub constants : List Const
 
+abbrev pub told_with : List Line → (names varnames : List (List ℕ)) → List Const → Option Lines
+told_with ls ns vs cs = Some (record { lines = ls; names = ns; varnames = vs; constants = cs })
+
 abbrev pub told_as : List Line → (names : List (List ℕ)) → List Const → Option Lines
-told_as ls ns cs = Some (record { lines = ls; names = ns; constants = cs })
+told_as ls ns cs = told_with ls ns [] cs
 
 -- how many instructions stand before a block begins
 abbrev start_of : (block : ℕ) → List Step → ℕ
@@ -44,7 +53,7 @@ lines_of all (Put i n to p ∷ xs) = record { instruction = i; operand = operand
 lines_of all (Begin b ∷ xs) = lines_of all xs
 
 abbrev pub lines_in : Outcome → Option Lines
-lines_in (Done s) = Some (record { lines = lines_of s.steps s.steps; names = s.names; constants = s.constants })
+lines_in (Done s) = Some (record { lines = lines_of s.steps s.steps; names = s.names; varnames = s.varnames; constants = s.constants })
 lines_in TooWide = None
 lines_in (Refused e p) = None
 

@@ -6,10 +6,12 @@ use Rattle.py_base.specs.declared.location.SourceLocation.{SourceLocation}
 use Rattle.py_base.specs.declared.shapes.Malformed.TheVariants.{WrongMode}
 use Rattle.py_tree.specs.declared.modules.Mode.TheVariants.{Exec, Eval, Single, BlockExpr}
 use Rattle.py_forms.specs.declared.errors.CodegenErrorType.TheVariants as error
-use Rattle.py_forms.specs.Emitting.{Refused, by_level, by_loops, located, move, refuse}
+use Rattle.py_steps.specs.Emitting.{Refused, by_level, by_loops, located, move, refuse}
+use Rattle.py_steps.specs.Context.{inside}
 use Rattle.py_meaning.specs.EmissionStmts.{emitted}
 use Rattle.py_meaning.specs.ExprFaults.{Fault, fault_at}
 use Rattle.py_meaning.specs.Faults.{faults, unbuilt_tree}
+use Rattle.py_meaning.proofs.SampleTools.{unscoped}
 
 abbrev at : ℕ → SourceLocation
 at column = record { row = 1; column = column }
@@ -35,16 +37,16 @@ not_yet place = fault_at error.NotImplementedYet place
 def_alone : faults (tree.Module (one (def_f (at 1)))) Exec 0 ≡ not_yet (at 1) ∷ []
 def_alone = refl
 
-def_refused : emitted (tree.Module (one (def_f (at 1)))) 0 ≡ Refused error.NotImplementedYet (Some (at 1))
-unfolding move refuse located by_level by_loops
+def_refused : emitted (tree.Module (one (def_f (at 1)))) (unscoped 0) ≡ Refused error.NotImplementedYet (Some (at 1))
+unfolding move refuse located by_level by_loops inside
 def_refused = refl
 
 -- what is at fault before it comes first
 break_before : faults (tree.Module (tree.more_stmts (tree.Break (at 1)) (one (def_f (at 8))))) Exec 0 ≡ fault_at error.InvalidBreak (at 1) ∷ not_yet (at 8) ∷ []
 break_before = refl
 
-break_decides : emitted (tree.Module (tree.more_stmts (tree.Break (at 1)) (one (def_f (at 8))))) 0 ≡ Refused error.InvalidBreak (Some (at 1))
-unfolding move refuse located by_level by_loops
+break_decides : emitted (tree.Module (tree.more_stmts (tree.Break (at 1)) (one (def_f (at 8))))) (unscoped 0) ≡ Refused error.InvalidBreak (Some (at 1))
+unfolding move refuse located by_level by_loops inside
 break_decides = refl
 
 -- an expression too
@@ -62,7 +64,7 @@ prompted = refl
 blocked : faults (tree.Interactive tree.no_stmts) BlockExpr 0 ≡ unbuilt_tree ∷ []
 blocked = refl
 
-prompt_refused : emitted (tree.Interactive tree.no_stmts) 0 ≡ Refused error.NotImplementedYet None
+prompt_refused : emitted (tree.Interactive tree.no_stmts) (unscoped 0) ≡ Refused error.NotImplementedYet None
 prompt_refused = refl
 
 -- the wrong mode comes first

@@ -3,8 +3,9 @@ use Rattle.std.specs.Prelude.{ℕ, List, Bool, true, false, Option, Some, None, 
 use Rattle.py_base.specs.declared.location.SourceLocation.{SourceLocation}
 use Rattle.py_bytecode.specs.declared.instruction.Instruction.TheVariants as op
 use Rattle.py_bytecode.specs.Objects as const
-use Rattle.py_forms.specs.Emitting.{Emission, ◌▸◌, begin, emit, emit_constant, emit_count, emit_name, in_loop, jump, keep, move, new_block}
-use Rattle.py_forms.specs.EmissionParts.{no_assignment, unless_debug}
+use Rattle.py_steps.specs.Emitting.{Emission, ◌▸◌, begin, emit, emit_constant, emit_count, emit_name, in_loop, jump, keep, move, new_block}
+use Rattle.py_bytecode.specs.Values.{Store, Delete}
+use Rattle.py_steps.specs.Accesses.{accessed, emission_of_stored}
 
 -- a body for each value of an iterator, and another one at its end
 abbrev pub for_each : (iter store body orelse : Emission) → Emission
@@ -60,11 +61,11 @@ typed_match type store next = emit op.Duplicate 0 ▸ type ▸ emit op.TestOpera
 -- the name of a handler gets the exception
 abbrev pub caught : Option (List ℕ) → Emission
 caught None = emit op.Pop 0
-caught (Some name) = unless_debug no_assignment name (emit_name op.StoreLocal name)
+caught (Some name) = emission_of_stored name
 
 -- a name is set to None and deleted
 abbrev pub forgotten : (name : List ℕ) → Emission
-forgotten name = emit_constant op.LoadConst const.none ▸ emit_name op.StoreLocal name ▸ emit_name op.DeleteLocal name
+forgotten name = emit_constant op.LoadConst const.none ▸ accessed Store name ▸ accessed Delete name
 
 -- the name of a handler is forgotten on every way out of its body
 abbrev pub named_body : Option (List ℕ) → (body : Emission) → Emission

@@ -11,11 +11,13 @@ use Rattle.py_bytecode.specs.Objects as const
 use Rattle.py_forms.specs.declared.errors.CodegenErrorType.{CodegenErrorType}
 use Rattle.py_forms.specs.declared.errors.CodegenErrorType.TheVariants as error
 use Rattle.py_emission.specs.Texts.{after_doc, doc_of}
-use Rattle.py_forms.specs.TableParts.{binary_case}
+use Rattle.py_steps.specs.TableParts.{binary_case}
 use Rattle.py_meaning.specs.ControlEmissions.{any_match, asserted, caught, for_each, handler, managed, named_body, raise_again, try_body, typed_match}
 use Rattle.py_meaning.specs.Table.{annotated, message_count}
-use Rattle.py_forms.specs.Emitting.{Emission, LoopBlocks, Outcome, Refused, ◌▸◌, begin, by_level, by_loops, emit, emit_constant, emit_name, in_loop, jump, keep, move, new_block, nothing, refuse}
-use Rattle.py_forms.specs.EmissionParts.{choice, emission_of_name, no_assignment, only, unless_debug}
+use Rattle.py_steps.specs.Emitting.{Emission, LoopBlocks, Outcome, Refused, ◌▸◌, begin, by_context, by_level, by_loops, emit, emit_constant, emit_mangled, emit_name, in_loop, jump, keep, move, new_block, nothing, refuse}
+use Rattle.py_steps.specs.Accesses.{emission_of_name, emission_of_stored}
+use Rattle.py_steps.specs.Context.{Context, mangled}
+use Rattle.py_steps.specs.EmissionParts.{choice, no_assignment, only, unless_debug}
 use Rattle.py_emission.specs.Emission.{emission, emission_of_deletes, emission_of_return, emission_of_store, emission_of_test, unbuilt}
 
 abbrev pub none : tree.Stmts → Bool
@@ -34,9 +36,9 @@ emission_of_operand o v = v ▸ emit op.BinaryOperationInplace (binary_case o)
 
 -- the present value, the operand and the result, which goes back to where the first came from
 abbrev pub emission_of_augment : tree.Expr → Operator → Emission → Emission
-emission_of_augment (tree.Name at id) o v = emission_of_name id ▸ emission_of_operand o v ▸ unless_debug no_assignment id (emit_name op.StoreLocal id)
+emission_of_augment (tree.Name at id) o v = emission_of_name id ▸ emission_of_operand o v ▸ emission_of_stored id
 emission_of_augment (tree.Attribute at value attr) o v =
-    unless_debug no_assignment attr (emission value ▸ emit op.Duplicate 0 ▸ emit_name op.LoadAttr attr ▸ emission_of_operand o v ▸ emit op.Rotate2 0 ▸ emit_name op.StoreAttr attr)
+    unless_debug no_assignment attr (emission value ▸ emit op.Duplicate 0 ▸ emit_mangled op.LoadAttr attr ▸ emission_of_operand o v ▸ emit op.Rotate2 0 ▸ emit_mangled op.StoreAttr attr)
 emission_of_augment (tree.Subscript at value slice) o v =
     emission value ▸ emission slice ▸ emit op.Duplicate2 0 ▸ emit op.Subscript 0 ▸ emission_of_operand o v ▸ emit op.Rotate3 0 ▸ emit op.StoreSubscript 0
 emission_of_augment other o v = refuse (error.Assign (python_name other))
@@ -48,7 +50,7 @@ emission_of_declared target (tree.some_expr e) = emission e ▸ emission_of_stor
 
 -- the annotation of a name is kept in `__annotations__`, that of another target is dropped
 abbrev pub emission_of_annotation : tree.Expr → Emission
-emission_of_annotation (tree.Name at id) = emit_name op.LoadNameAny (codes "__annotations__") ▸ emit_constant op.LoadConst (const.str id) ▸ emit op.StoreSubscript 0
+emission_of_annotation (tree.Name at id) = emit_name op.LoadNameAny (codes "__annotations__") ▸ by_context (λ c. emit_constant op.LoadConst (const.str (mangled c id))) ▸ emit op.StoreSubscript 0
 emission_of_annotation other = emit op.Pop 0
 
 -- a break or a continue, where there is a loop
@@ -148,5 +150,6 @@ emission_of_mod (tree.Module body) = emission_of_program body
 emission_of_mod (tree.Expression body) = emission_of_return body
 emission_of_mod other = unbuilt_tree
 
-abbrev pub emitted : tree.Mod → (level : ℕ) → Outcome
-emitted t level = emission_of_mod t (nothing level)
+-- where this is the context of the outermost scope
+abbrev pub emitted : tree.Mod → Context → Outcome
+emitted t c = emission_of_mod t (nothing c)

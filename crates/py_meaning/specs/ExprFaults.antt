@@ -2,11 +2,11 @@
 use Rattle.std.specs.Prelude.{ℕ, List, [], ◌∷◌, ◌++◌, Bool, not, Option, Some, None, nat_eq, if◌then◌else◌}
 use Rattle.py_tree.specs.Tree as tree
 use Rattle.py_tree.specs.PythonName.{python_name}
-use Rattle.py_forms.specs.Elements.{Element, Single, Spread, stars, pairs, flat}
-use Rattle.py_forms.specs.EmissionParts.{few_aside, lone_star, no_assignment, no_deletion}
+use Rattle.py_steps.specs.Elements.{Element, Single, Spread, stars, pairs, flat}
+use Rattle.py_steps.specs.EmissionParts.{few_aside, lone_star, no_assignment, no_deletion}
 use Rattle.py_emission.specs.Emission.{deletion_name}
 use Rattle.py_meaning.specs.Ends.{args_end, delete_end, expr_end, store_end}
-use Rattle.py_forms.specs.TableParts.{is_debug}
+use Rattle.py_steps.specs.TableParts.{is_debug}
 use Rattle.py_emission.specs.Texts.{texts_of}
 use Rattle.py_forms.specs.declared.errors.CodegenErrorType.TheVariants as error
 use Rattle.py_forms.specs.declared.errors.CodegenErrorType.{CodegenErrorType}

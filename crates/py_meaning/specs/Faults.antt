@@ -7,13 +7,14 @@ use Rattle.py_shapes.specs.Valid.{shapes}
 use Rattle.py_tree.specs.declared.modules.Mode.{Mode}
 use Rattle.py_base.specs.declared.shapes.Malformed.{Malformed}
 use Rattle.py_base.specs.declared.limits.TreeLimit.TheVariants as limit
-use Rattle.py_forms.specs.EmissionParts.{no_assignment}
+use Rattle.py_steps.specs.EmissionParts.{no_assignment}
 use Rattle.py_meaning.specs.Ends.{expr_end, items_end}
 use Rattle.py_emission.specs.Texts.{after_doc}
 use Rattle.py_forms.specs.declared.errors.CodegenErrorType.TheVariants as error
 use Rattle.py_forms.specs.declared.errors.CodegenErrorType.{CodegenErrorType}
 use Rattle.py_base.specs.declared.location.SourceLocation.{SourceLocation}
 use Rattle.py_meaning.specs.EmissionStmts.{itemless, none}
+use Rattle.py_meaning.specs.Scanned.{scan_faults}
 use Rattle.py_meaning.specs.ExprFaults.{Fault, assign_faults, augment_faults, debug_faults, declared_faults, deletes_faults, expr_faults, fault_at, faults_to, if_any, opt_faults, unbuilt, when}
 
 -- a fault of the whole tree, where it is at fault
@@ -105,7 +106,7 @@ abbrev pub malformed : List Malformed → List Fault
 malformed [] = []
 malformed (m ∷ ms) = record { error = error.MalformedTree m; location = None } ∷ malformed ms
 
--- nesting, then size, then shapes, then what is wrong with the nodes that are compiled
+-- nesting, then size, then shapes, then what is wrong with names and scopes, then with the nodes that are compiled
 abbrev pub faults : tree.Mod → Mode → (level : ℕ) → List Fault
 faults t mode level =
-    whole too_deep (2 ^ 10) (nesting t) ++ whole too_large (2 ^ 22) (size_of t) ++ malformed (shapes t mode) ++ compile_faults level t
+    whole too_deep (2 ^ 10) (nesting t) ++ whole too_large (2 ^ 22) (size_of t) ++ malformed (shapes t mode) ++ scan_faults t ++ compile_faults level t

@@ -4,4 +4,5 @@ pub mod Meaning
 pub mod ControlEmissions
 pub mod EmissionStmts
 pub mod ExprFaults
+pub mod Scanned
 pub mod Faults

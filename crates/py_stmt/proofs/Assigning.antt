@@ -6,7 +6,7 @@ use Rattle.py_tree.specs.Tree as tree
 use Rattle.py_tree.specs.View.{expr_tree, exprs}
 use Rattle.py_tree.specs.declared.expressions.Expr.{Expr}
 use Rattle.py_bytecode.specs.declared.instruction.Instruction.TheVariants as op
-use Rattle.py_forms.specs.Emitting.{◌▸◌, emit, refuse}
+use Rattle.py_steps.specs.Emitting.{◌▸◌, emit, refuse}
 use Rattle.py_emission.specs.Emission.{emission_of_store}
 use Rattle.py_meaning.specs.EmissionStmts.{emission_of_assign}
 use Rattle.py_forms.specs.declared.errors.CodegenErrorType.TheVariants as error

@@ -4,10 +4,12 @@ use Rattle.std.specs.Prelude.{codes}
 use Rattle.py_base.specs.declared.location.SourceLocation.{SourceLocation}
 use Rattle.py_bytecode.specs.declared.instruction.Instruction.TheVariants as op
 use Rattle.py_bytecode.specs.Objects as const
-use Rattle.py_forms.specs.Emitting.{Emission, begin, emit, emit_constant, emit_count, emit_name, in_loop, jump, move}
-use Rattle.py_forms.specs.EmissionParts.{no_assignment}
+use Rattle.py_bytecode.specs.Values.{Store, Delete}
+use Rattle.py_steps.specs.Accesses.{accessed}
+use Rattle.py_steps.specs.Emitting.{Emission, begin, emit, emit_constant, emit_count, emit_name, in_loop, jump, move}
+use Rattle.py_steps.specs.EmissionParts.{no_assignment}
 use Rattle.py_meaning.specs.ControlEmissions.{asserted, before_last, caught, finally_do, for_each, forgotten, handler, managed, named_body, to_last, try_body, typed_match}
-use Rattle.py_expr.proofs.Keeping.{Keeps, begin_keeps, block_from, constant_keeps, count_keeps, emit_keeps, idle_keeps, jump_keeps, loop_keeps, move_keeps, name_keeps, then_from, then_keeps}
+use Rattle.py_expr.proofs.Keeping.{Keeps, begin_keeps, block_from, constant_keeps, count_keeps, emit_keeps, idle_keeps, jump_keeps, loop_keeps, move_keeps, accessed_keeps, name_keeps, then_from, then_keeps}
 use Rattle.py_expr.proofs.KeptTargets.{debug_keeps}
 use Rattle.py_stmt.specs.Managing.{entered}
 
@@ -79,7 +81,7 @@ handler_keeps last end matches body others m b o z = block_from z _ (λ next l.
 
 pub caught_keeps : (name : Option (List ℕ)) → Keeps (caught name)
 caught_keeps None = emit_keeps op.Pop 0
-caught_keeps (Some name) = debug_keeps no_assignment name (emit_name op.StoreLocal name) (name_keeps op.StoreLocal name)
+caught_keeps (Some name) = debug_keeps no_assignment name (accessed Store name) (accessed_keeps Store name)
 
 pub match_keeps : (type : Emission) (name : Option (List ℕ)) → Keeps type → (next : ℕ) → Keeps (typed_match type (caught name) next)
 match_keeps type name t next =
@@ -88,7 +90,7 @@ match_keeps type name t next =
 
 pub forgotten_keeps : (name : List ℕ) → Keeps (forgotten name)
 forgotten_keeps name =
-    then_keeps (emit_constant op.LoadConst const.none) _ (constant_keeps op.LoadConst const.none) (then_keeps (emit_name op.StoreLocal name) (emit_name op.DeleteLocal name) (name_keeps op.StoreLocal name) (name_keeps op.DeleteLocal name))
+    then_keeps (emit_constant op.LoadConst const.none) _ (constant_keeps op.LoadConst const.none) (then_keeps (accessed Store name) (accessed Delete name) (accessed_keeps Store name) (accessed_keeps Delete name))
 
 pub named_body_keeps : (name : Option (List ℕ)) (body : Emission) → Keeps body → Keeps (named_body name body)
 named_body_keeps None body b = b

@@ -8,7 +8,7 @@ use Rattle.py_tree.specs.declared.statements.WithItemOf.{WithItemOf}
 use Rattle.py_base.specs.declared.location.SourceLocation.{SourceLocation}
 use Rattle.py_bytecode.specs.declared.instruction.Instruction.TheVariants as op
 use Rattle.py_walks.specs.declared.info.BlockIdx.{BlockIdx}
-use Rattle.py_forms.specs.Emitting.{Begin, Done, Emission, Outcome, State, ◌▸◌, begin, emit, go_on, jump, move, new_block, with_block, with_step}
+use Rattle.py_steps.specs.Emitting.{Begin, Done, Emission, Outcome, State, ◌▸◌, begin, emit, go_on, jump, move, new_block, with_block, with_step}
 use Rattle.py_emission.specs.Emission.{emission}
 use Rattle.py_meaning.specs.ControlEmissions.{managed}
 use Rattle.py_meaning.specs.EmissionStmts.{emission_of_item, emission_of_items}

@@ -9,17 +9,20 @@ use Rattle.py_tree.specs.PythonName.{python_name}
 use Rattle.py_bytecode.specs.declared.instruction.Instruction.{Instruction}
 use Rattle.py_bytecode.specs.declared.instruction.Instruction.TheVariants as op
 use Rattle.py_bytecode.specs.Objects as const
-use Rattle.py_forms.specs.TableParts.{binary_case}
+use Rattle.py_steps.specs.TableParts.{binary_case}
 use Rattle.py_forms.specs.declared.errors.CodegenErrorType.{CodegenErrorType}
 use Rattle.py_forms.specs.declared.errors.CodegenErrorType.TheVariants as error
-use Rattle.py_forms.specs.Emitting.{State, Done, Emission, LoopBlocks, begin, emit, emit_count, emit_name, emit_constant, in_loop, jump, keep, refuse}
-use Rattle.py_forms.specs.EmissionParts.{choice, emission_of_name, no_assignment, only}
+use Rattle.py_steps.specs.Emitting.{State, Done, Emission, LoopBlocks, begin, by_context, emit, emit_count, emit_mangled, emit_name, emit_constant, in_loop, jump, keep, refuse}
+use Rattle.py_bytecode.specs.Values.{Store}
+use Rattle.py_steps.specs.Accesses.{accessed, emission_of_name}
+use Rattle.py_steps.specs.Context.{Context, mangled}
+use Rattle.py_steps.specs.EmissionParts.{choice, no_assignment, only}
 use Rattle.py_emission.specs.Emission.{emission, emission_of_test, emissions, stores}
 use Rattle.py_meaning.specs.ControlEmissions.{any_match, asserted, before_last, caught, named_body, to_last, typed_match}
 use Rattle.py_meaning.specs.EmissionStmts.{emission_of_annotation, emission_of_assert, emission_of_assign, emission_of_augment, emission_of_declared, emission_of_handlers, emission_of_item, emission_of_items, emission_of_last, emission_of_message, emission_of_operand, emission_of_raise, emission_of_stmt, emission_of_stmts, itemless, leave_loop, none}
 use Rattle.py_meaning.specs.Table.{message_count}
 use Rattle.py_emit.specs.Steps.{IsOpen}
-use Rattle.py_expr.proofs.Keeping.{Keeps, begin_keeps, block_from, constant_keeps, count_keeps, either_keeps, emit_keeps, idle_keeps, jump_keeps, level_keeps, loop_keeps, loops_keep, move_keeps, moved_keeps, name_keeps, opens, refuse_keeps, then_from, then_keeps}
+use Rattle.py_expr.proofs.Keeping.{Keeps, begin_keeps, block_from, constant_keeps, count_keeps, either_keeps, emit_keeps, idle_keeps, jump_keeps, level_keeps, loop_keeps, loops_keep, move_keeps, moved_keeps, name_keeps, accessed_keeps, context_keeps, mangled_keeps, opens, refuse_keeps, then_from, then_keeps}
 use Rattle.py_expr.proofs.KeptParts.{choice_keeps, only_keeps}
 use Rattle.py_expr.proofs.KeptTargets.{debug_keeps}
 use Rattle.py_expr.proofs.Opening.{deletes_keep, expr_keeps, named_keeps, store_keeps, unbuilt_keeps}
@@ -36,11 +39,11 @@ operand_keeps : (d : Operator) (v : Emission) → Keeps v → Keeps (emission_of
 operand_keeps d v h = then_keeps v (emit op.BinaryOperationInplace (binary_case d)) h (emit_keeps op.BinaryOperationInplace (binary_case d))
 
 augment_keeps : (t : tree.Expr) (d : Operator) (v : Emission) → Keeps v → Keeps (emission_of_augment t d v)
-augment_keeps (tree.Name at x) d v h = then_keeps (emission_of_name x) _ (named_keeps x) (then_keeps (emission_of_operand d v) _ (operand_keeps d v h) (debug_keeps no_assignment x (emit_name op.StoreLocal x) (name_keeps op.StoreLocal x)))
+augment_keeps (tree.Name at x) d v h = then_keeps (emission_of_name x) _ (named_keeps x) (then_keeps (emission_of_operand d v) _ (operand_keeps d v h) (debug_keeps no_assignment x (accessed Store x) (accessed_keeps Store x)))
 augment_keeps (tree.Attribute at value x) d v h =
     debug_keeps no_assignment x _
-    (then_keeps (emissions value).value _ (expr_keeps value).value (then_keeps (emit op.Duplicate 0) _ (emit_keeps op.Duplicate 0) (then_keeps (emit_name op.LoadAttr x) _ (name_keeps op.LoadAttr x)
-    (then_keeps (emission_of_operand d v) _ (operand_keeps d v h) (then_keeps (emit op.Rotate2 0) (emit_name op.StoreAttr x) (emit_keeps op.Rotate2 0) (name_keeps op.StoreAttr x))))))
+    (then_keeps (emissions value).value _ (expr_keeps value).value (then_keeps (emit op.Duplicate 0) _ (emit_keeps op.Duplicate 0) (then_keeps (emit_mangled op.LoadAttr x) _ (mangled_keeps op.LoadAttr x)
+    (then_keeps (emission_of_operand d v) _ (operand_keeps d v h) (then_keeps (emit op.Rotate2 0) (emit_mangled op.StoreAttr x) (emit_keeps op.Rotate2 0) (mangled_keeps op.StoreAttr x))))))
 augment_keeps (tree.Subscript at value slice) d v h =
     then_keeps (emissions value).value _ (expr_keeps value).value (then_keeps (emissions slice).value _ (expr_keeps slice).value (then_keeps (emit op.Duplicate2 0) _ (emit_keeps op.Duplicate2 0) (then_keeps (emit op.Subscript 0) _ (emit_keeps op.Subscript 0)
     (then_keeps (emission_of_operand d v) _ (operand_keeps d v h) (then_keeps (emit op.Rotate3 0) (emit op.StoreSubscript 0) (emit_keeps op.Rotate3 0) (emit_keeps op.StoreSubscript 0))))))
@@ -52,7 +55,7 @@ declared_keeps t (tree.some_expr v) = then_keeps (emissions v).value (stores t).
 
 annotation_keeps : (t : tree.Expr) → Keeps (emission_of_annotation t)
 annotation_keeps (tree.Name at x) =
-    then_keeps (emit_name op.LoadNameAny (codes "__annotations__")) _ (name_keeps op.LoadNameAny (codes "__annotations__")) (then_keeps (emit_constant op.LoadConst (const.str x)) (emit op.StoreSubscript 0) (constant_keeps op.LoadConst (const.str x)) (emit_keeps op.StoreSubscript 0))
+    then_keeps (emit_name op.LoadNameAny (codes "__annotations__")) _ (name_keeps op.LoadNameAny (codes "__annotations__")) (then_keeps (by_context (λ c. emit_constant op.LoadConst (const.str (mangled c x)))) (emit op.StoreSubscript 0) (context_keeps (λ c. emit_constant op.LoadConst (const.str (mangled c x))) (λ c. constant_keeps op.LoadConst (const.str (mangled c x)))) (emit_keeps op.StoreSubscript 0))
 annotation_keeps t = emit_keeps op.Pop 0
 
 leave_keeps : (i : Instruction) (to : LoopBlocks → ℕ) (e : CodegenErrorType) (x : Option LoopBlocks) → Keeps (leave_loop i to e x)

@@ -7,7 +7,7 @@ use Rattle.py_tree.specs.View.{expr_tree, handlers, opt_box, stmt_tree, stmts}
 use Rattle.py_tree.specs.declared.statements.Stmt.{Stmt}
 use Rattle.py_tree.specs.declared.statements.ExceptHandlerOf.{ExceptHandlerOf}
 use Rattle.py_bytecode.specs.declared.instruction.Instruction.TheVariants as op
-use Rattle.py_forms.specs.Emitting.{Emission, State, ◌▸◌, begin, emit, in_loop, jump, new_block, with_block}
+use Rattle.py_steps.specs.Emitting.{Emission, State, ◌▸◌, begin, emit, in_loop, jump, new_block, with_block}
 use Rattle.py_emission.specs.Emission.{emission}
 use Rattle.py_meaning.specs.ControlEmissions.{any_match, before_last, caught, for_each, handler, named_body, to_last, try_body, typed_match}
 use Rattle.py_meaning.specs.EmissionStmts.{emission_of_handlers, emission_of_last, emission_of_stmts}

@@ -6,11 +6,11 @@ use Rattle.py_tree.specs.declared.statements.Stmt.{Stmt}
 use Rattle.py_tree.specs.declared.statements.WithItemOf.{WithItemOf}
 use Rattle.py_tree.specs.declared.expressions.Expr.{Expr}
 use Rattle.py_tree.specs.View.{stmt_tree, stmts, with_items}
-use Rattle.py_forms.specs.Emitting.{Emission, LoopBlocks, State, by_loops}
+use Rattle.py_steps.specs.Emitting.{Emission, LoopBlocks, State, by_loops}
 use Rattle.py_meaning.specs.EmissionStmts.{itemless, none}
 use Rattle.py_expr.proofs.Steps.{begin_goes, block_goes, level_goes, located_at, many_emissions, move_goes, refuse_goes}
 
-pub loops_go : (a : Option LoopBlocks → Emission) (s : State) → by_loops a s ≡ a s.context.loops s
+pub loops_go : (a : Option LoopBlocks → Emission) (s : State) → by_loops a s ≡ a s.around.loops s
 unfolding by_loops
 loops_go a s = refl
 

@@ -2,7 +2,7 @@
 use Rattle.std.specs.Prelude.{ℕ, List, Bool, Option}
 use Rattle.py_tree.specs.Tree as tree
 use Rattle.py_bytecode.specs.declared.instruction.Instruction.TheVariants as op
-use Rattle.py_forms.specs.Emitting.{Emission, ◌▸◌, begin, emit, in_loop, jump, new_block}
+use Rattle.py_steps.specs.Emitting.{Emission, ◌▸◌, begin, emit, in_loop, jump, new_block}
 use Rattle.py_emission.specs.Emission.{emission}
 use Rattle.py_meaning.specs.ControlEmissions.{any_match, before_last, caught, named_body, to_last, typed_match}
 use Rattle.py_meaning.specs.EmissionStmts.{emission_of_stmts}

@@ -2,8 +2,9 @@
 ghost use Rattle.std.specs.Prelude.{◌≡◌};
 ghost use Rattle.py_tree.specs.View.{ann_assign_tree, assign_tree, attribute_tree, aug_assign_tree, delete_tree, expr_tree, exprs, name_tree, opt_box, subscript_tree};
 ghost use Rattle.py_bytecode.specs.Objects.{str};
-ghost use Rattle.py_forms.specs.TableParts.{binary_case};
-ghost use Rattle.py_forms.specs.Emitting.{◌▸◌, emit as emitting, emit_constant, emit_name};
+ghost use Rattle.py_steps.specs.TableParts.{binary_case};
+ghost use Rattle.py_steps.specs.Emitting.{◌▸◌, by_context, emit as emitting, emit_constant, emit_name};
+ghost use Rattle.py_steps.specs.Context.{mangled};
 ghost use Rattle.py_emission.specs.Emission.{emission, emission_of_deletes};
 ghost use Rattle.py_meaning.specs.EmissionStmts.{emission_of_annotation, emission_of_assign, emission_of_augment, emission_of_declared, emission_of_operand, emission_of_stmt};
 ghost use Rattle.py_emit.specs.States.{Goes, Same, rest, state};
@@ -117,10 +118,10 @@ fn augment_attribute(
     }
     compile_expression(em, &e.value)?;
     emit!(em, Instruction::Duplicate);
-    em.emit_name(Instruction::LoadAttr, e.attr.as_str())?;
+    em.emit_mangled(Instruction::LoadAttr, e.attr.as_str())?;
     compile_operand(em, s)?;
     emit!(em, Instruction::Rotate2);
-    em.emit_name(Instruction::StoreAttr, e.attr.as_str())
+    em.emit_mangled(Instruction::StoreAttr, e.attr.as_str())
 }
 
 fn augment_subscript(
@@ -186,15 +187,28 @@ fn keep_annotation(em: &mut Emitter, e: &ExprName) -> Result<(), CodegenError>
     store_key(em, "__annotations__", e.id.as_str())
 }
 
-/// Emits what stores the value that lies there under a key, in the map that a name stands for.
+/// Emits what stores the value that lies there under a key, as the innermost class writes it, in the map that a name
+/// stands for.
 fn store_key(em: &mut Emitter, map: &str, key: &str) -> Result<(), CodegenError>
-    ensures goes { Goes result (state em.new) ((emit_name Instruction.LoadNameAny map.now ▸ emit_constant Instruction.LoadConst (str key.now) ▸ emitting Instruction.StoreSubscript 0) (state em.old)) }
+    ensures goes { Goes result (state em.new) ((emit_name Instruction.LoadNameAny map.now ▸ by_context (λ c. emit_constant Instruction.LoadConst (str (mangled c key.now))) ▸ emitting Instruction.StoreSubscript 0) (state em.old)) }
     ensures same { Same result (rest em.new) (rest em.old) }
 {
     em.emit_name(Instruction::LoadNameAny, map)?;
-    load_text(em, key)?;
+    load_mangled(em, key)?;
     emit!(em, Instruction::StoreSubscript);
     Ok(())
+}
+
+/// Emits the load of a name as a text, as the innermost class writes it.
+#[tactic(auto, unfolding(py_steps::specs::Emitting::by_context))]
+fn load_mangled(em: &mut Emitter, name: &str) -> Result<(), CodegenError>
+    ensures goes { Goes result (state em.new) (by_context (λ c. emit_constant Instruction.LoadConst (str (mangled c name.now))) (state em.old)) }
+    ensures same { Same result (rest em.new) (rest em.old) }
+{
+    match em.mangled(name)? {
+        Some(other) => load_text(em, other.as_str()),
+        None => load_text(em, name),
+    }
 }
 
 /// Emits the load of a text.

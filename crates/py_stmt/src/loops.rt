@@ -1,7 +1,7 @@
 //! Loops, and what leaves them.
 ghost use Rattle.std.specs.Prelude.{◌≡◌, ◌<◌};
 ghost use Rattle.py_tree.specs.View.{break_tree, continue_tree, expr_tree, for_tree, stmt_tree, stmts, while_tree};
-ghost use Rattle.py_forms.specs.Emitting.{in_loop};
+ghost use Rattle.py_steps.specs.Emitting.{in_loop};
 ghost use Rattle.py_emission.specs.Emission.{emission, emission_of_store};
 ghost use Rattle.py_meaning.specs.EmissionStmts.{emission_of_stmt, emission_of_stmts, leave_loop};
 ghost use Rattle.py_emit.specs.States.{AreMade, Goes, Same, rest, state};
@@ -9,7 +9,7 @@ ghost use Rattle.py_stmt.specs.Parts.{each_begun, each_by_parts, each_ended, eac
 
 use crate::statements::compile_statements;
 use py_bytecode::Instruction;
-use py_emit::{EmitContext, Emitter, emit, refuse};
+use py_emit::{Emitter, emit, refuse};
 use py_expr::{compile_expression, compile_jump_if, compile_store};
 use py_forms::{CodegenError, CodegenErrorType};
 use py_ir::BlockIdx;
@@ -116,7 +116,7 @@ pub(crate) fn compile_while(em: &mut Emitter, s: &StmtWhile) -> Result<(), Codeg
 
 /// Emits the body of a loop, in which `continue` goes to the start and `break` to the end.
 #[cycle(code)]
-#[tactic(auto, unfolding(py_forms::specs::Emitting::in_loop))]
+#[tactic(auto, unfolding(py_steps::specs::Emitting::in_loop))]
 fn compile_loop_body(
     em: &mut Emitter,
     start: BlockIdx,
@@ -128,14 +128,9 @@ fn compile_loop_body(
     ensures goes { Goes result (state em.new) (in_loop (record { on_break = end.0; on_continue = start.0 }) (emission_of_stmts (stmts stmt_tree body.now)) (state em.old)) }
     ensures same { Same result (rest em.new) (rest em.old) }
 {
-    let context = em.context();
-    em.set_context(EmitContext {
-        loop_blocks: Some((start, end)),
-        future_over: context.future_over,
-        future_annotations: context.future_annotations,
-    });
+    let around = em.set_loops(Some((start, end)));
     compile_statements(em, body)?;
-    em.set_context(context);
+    em.set_loops(around);
     Ok(())
 }
 
@@ -153,7 +148,7 @@ pub(crate) fn compile_break(em: &mut Emitter, s: &StmtBreak) -> Result<(), Codeg
 #[tactic(auto, unfolding(py_emit::specs::States::rest), using(crate::proofs::Steps::steps))]
 fn break_loop(em: &mut Emitter) -> Result<(), CodegenError>
     requires loops { AreMade (rest em.old).context.loop_blocks }
-    ensures goes { Goes result (state em.new) (leave_loop Instruction.Break (λ x. x.on_break) CodegenErrorType.InvalidBreak (state em.old).context.loops (state em.old)) }
+    ensures goes { Goes result (state em.new) (leave_loop Instruction.Break (λ x. x.on_break) CodegenErrorType.InvalidBreak (state em.old).around.loops (state em.old)) }
     ensures same { Same result (rest em.new) (rest em.old) }
 {
     match em.context().loop_blocks {
@@ -179,7 +174,7 @@ pub(crate) fn compile_continue(em: &mut Emitter, s: &StmtContinue) -> Result<(),
 #[tactic(auto, unfolding(py_emit::specs::States::rest), using(crate::proofs::Steps::steps))]
 fn continue_loop(em: &mut Emitter) -> Result<(), CodegenError>
     requires loops { AreMade (rest em.old).context.loop_blocks }
-    ensures goes { Goes result (state em.new) (leave_loop Instruction.Continue (λ x. x.on_continue) CodegenErrorType.InvalidContinue (state em.old).context.loops (state em.old)) }
+    ensures goes { Goes result (state em.new) (leave_loop Instruction.Continue (λ x. x.on_continue) CodegenErrorType.InvalidContinue (state em.old).around.loops (state em.old)) }
     ensures same { Same result (rest em.new) (rest em.old) }
 {
     match em.context().loop_blocks {

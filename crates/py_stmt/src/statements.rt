@@ -1,8 +1,8 @@
 //! Statements.
 ghost use Rattle.std.specs.Prelude.{◌≡◌};
 ghost use Rattle.py_tree.specs.View.{expr_tree, if_tree, pass_tree, stmt_expr_tree, stmt_tree, stmts};
-ghost use Rattle.py_forms.specs.Emitting.{Done};
-ghost use Rattle.py_forms.specs.EmissionParts.{choice, only};
+ghost use Rattle.py_steps.specs.Emitting.{Done};
+ghost use Rattle.py_steps.specs.EmissionParts.{choice, only};
 ghost use Rattle.py_emission.specs.Emission.{emission_of_test};
 ghost use Rattle.py_meaning.specs.EmissionStmts.{emission_of_stmt, emission_of_stmts};
 ghost use Rattle.py_emit.specs.States.{AreMade, Goes, Same, rest, state};

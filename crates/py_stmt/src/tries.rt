@@ -265,8 +265,8 @@ fn forget(em: &mut Emitter, name: &Text) -> Result<(), CodegenError>
     ensures same { Same result (rest em.new) (rest em.old) }
 {
     em.load_const(ConstantData::None)?;
-    em.emit_name(Instruction::StoreLocal, name.as_str())?;
-    em.emit_name(Instruction::DeleteLocal, name.as_str())
+    em.access(NameUsage::Store, name.as_str())?;
+    em.access(NameUsage::Delete, name.as_str())
 }
 
 /// Emits the way out of a handler.

@@ -1,5 +1,5 @@
 -- What is due, and the line for it.
-use Rattle.std.proofs.Common.{◌≡◌, ◌≤◌, ◌≢◌, ℕ, List, length, Option, Some, None, IsSome, IfSome, IsOk, Result, Err, refl, subst, String, Global}
+use Rattle.std.proofs.Common.{◌≡◌, ◌≤◌, ◌≢◌, ℕ, List, length, Option, Some, None, IsSome, IsNone, IfSome, IsOk, Result, Err, refl, subst, String, Global}
 use Rattle.pyc.specs.declared.report.Status.{Status}
 use Rattle.pyc.specs.declared.report.Status.TheVariants as status
 use Rattle.pyc.specs.declared.writing.WriteFailed.{WriteFailed}
@@ -69,6 +69,18 @@ pub room_not_for : (room : Option ℕ) (line : List ℕ) (s : Status) (none : Ty
     → IfSome room (λ n. length line ≤ n → none → (s ≢ status.WriteFault) × (now ≡ before))
 room_not_for None line s none before now e h = tt
 room_not_for (Some n) line s none before now e h = λ l k. absurd (not_ok e (h l).0)
+
+some_is_not_none : {A : Type 0} (x : A) → IsNone (Some x) → ⊥
+some_is_not_none x h = cc
+
+no_room_due : (line : List ℕ) (room : Option ℕ) (code : CodeObject) (P : Type 0) → IfSome room (λ n. length line ≤ n → IsNone (Some code) → P)
+no_room_due line None code P = tt
+no_room_due line (Some n) code P = λ l k. absurd (some_is_not_none code k)
+
+-- where a code is reported, no line has to find room
+pub no_line_due : (line : Option (List ℕ)) (room : Option ℕ) (code : CodeObject) (P : Type 0) → IfSome line (λ l. IfSome room (λ n. length l ≤ n → IsNone (Some code) → P))
+no_line_due None room code P = tt
+no_line_due (Some l) room code P = no_room_due l room code P
 
 -- a tree that is refused, and an input that is at fault, are not done
 pub refused_not_done : (o : Option Verdict) (line : List ℕ) (A B C D : Type 0) → IfSome o (λ v. IsRefused v line) → IfSome o (λ v. status_of v ≡ status.Done → A → B → C → D)

@@ -6,6 +6,7 @@ use Rattle.py_bytecode.specs.View.{object}
 use Rattle.py_bytecode.specs.declared.code.CodeObject.{CodeObject}
 use Rattle.py_forms.specs.Agreement.{Agree}
 use Rattle.py_meaning.specs.Meaning.{body}
+use Rattle.py_meaning.specs.Scanned.{scopes_of}
 use Rattle.py_forms.specs.Messages.{message}
 use Rattle.py_rows_fields.specs.declared.error.RowsError.{RowsError}
 use Rattle.py_rows_fields.specs.declared.error.RowsError.TheVariants.{NotJson, NotRows, WrongRow, WideInteger, LaterRow, WrongKind, NamedTwice, TooDeep, NoMod, NotNamed, OutOfMemory}
@@ -75,7 +76,7 @@ verdict_of words left = option_and_then (λ c. option_map (verdict c) left) (wor
 abbrev pub IsCodeOf : Verdict → CodeObject → Type 0
 IsCodeOf (Misread text) code = ⊥
 IsCodeOf (Refused f) code = ⊥
-IsCodeOf (Sound c t) code = Agree (object code) (body t c.mode c.level)
+IsCodeOf (Sound c t) code = Agree (object code) (body (scopes_of t) t c.mode c.level)
 
 -- the line says what is wrong with the input
 abbrev pub IsMisread : Verdict → List ℕ → Type 0

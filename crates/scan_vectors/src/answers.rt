@@ -1,6 +1,7 @@
 //! What is written of a case.
 
 use bitflags::Flags;
+use py_forms::CodegenError;
 use py_rows::read_rows;
 use py_tree::{Mod, Text};
 use std::alloc::{AllocError, Global};
@@ -40,13 +41,19 @@ fn push_table(
     Ok(())
 }
 
-/// The line of a refusal: where the fault stands, and what it is.
-fn refusal(alloc: Global, error: SymbolTableError) -> Result<String, AllocError> {
-    let error = into_codegen_error(error, Text::from_string(String::new(alloc)));
+/// Where the fault stands, and what it is.
+fn refusal_line(alloc: Global, error: &CodegenError) -> Result<String, AllocError> {
     match error.location {
         Some(at) => { format!(in alloc; "{}:{} {}\n", at.row.get(), at.column.get(), error.error) }
         None => format!(in alloc; "-:- {}\n", error.error),
     }
+}
+
+fn refusal(alloc: Global, error: SymbolTableError) -> Result<String, AllocError> {
+    refusal_line(
+        alloc,
+        &into_codegen_error(error, Text::from_string(String::new(alloc))),
+    )
 }
 
 fn table_of(alloc: Global, tree: &Mod) -> Option<Result<SymbolTable, SymbolTableError>> {

@@ -1,8 +1,8 @@
 use Rattle.std.proofs.Common.{◌≡◌, ◌≤◌, ◌+◌, ◌*◌, [], drop, length}
 use Rattle.py_bytecode.specs.declared.instruction.Instruction.TheVariants as op
 use Rattle.py_tree.specs.View.{expr_tree, exprs, keywords}
-use Rattle.py_forms.specs.Elements.{bare, groups}
-use Rattle.py_forms.specs.EmissionParts.{map_of, values_in, built, elements, dict_value, in_turn, links, shorts, tests}
+use Rattle.py_steps.specs.Elements.{bare, groups}
+use Rattle.py_steps.specs.EmissionParts.{map_of, values_in, built, elements, dict_value, in_turn, links, shorts, tests}
 use Rattle.py_emission.specs.Emission.{all_emissions, all_stores, keyword_emissions, emission_of_exprs}
 use Rattle.py_emit.specs.States.{rest, state}
 use Rattle.py_expr.specs.Calling.{map_rest}

@@ -1,22 +1,24 @@
+mod Around
 mod Iterating
 mod Managing
 mod Trying
-use Rattle.std.proofs.Common.{ap, false, sym, ◌∙◌}
+use Rattle.std.proofs.Common.{Option, ap, false, sym, ◌∙◌}
 use Rattle.std.specs.Prelude.{if◌then◌else◌}
 use Rattle.py_bytecode.specs.declared.instruction.Instruction.TheVariants as op
 use Rattle.py_tree.specs.View.{expr_tree, stmt_tree, stmts}
-use Rattle.py_forms.specs.Emitting.{Done, Emission, State, go_on, in_loop, located, with_loops}
-use Rattle.py_forms.specs.EmissionParts.{choice, only}
+use Rattle.py_steps.specs.Emitting.{Done, Emission, State, go_on, in_loop, located, with_loops}
+use Rattle.py_steps.specs.EmissionParts.{choice, only}
 use Rattle.py_emission.specs.Emission.{emission_of_test}
 use Rattle.py_meaning.specs.EmissionStmts.{emission_of_stmts, none}
 use Rattle.py_emit.specs.States.{loop_blocks, rest, state}
-use Rattle.py_emit.specs.declared.context.EmitContext.{EmitContext}
+use Rattle.py_walks.specs.declared.info.BlockIdx.{BlockIdx}
 use Rattle.py_emit.proofs.Joined.{goes_as, went}
 use Rattle.py_expr.proofs.Turns.{if_not}
 use Rattle.py_stmt.proofs.Steps.{none_is}
 use Rattle.py_expr.proofs.Steps.{move_goes}
 use Rattle.py_expr.proofs.Opening.{apart, begin_opens, block_opens, emit_opens, jump_opens, test_opens}
 use Rattle.py_stmt.proofs.Opening.{loop_opens, stmts_open}
+use Rattle.py_stmt.proofs.+code.Answers.Around.{each_around, last_around, unguarded_around, while_around}
 use Rattle.py_stmt.proofs.+code.Answers.Iterating.{end_begins, end_refused, for_goes, other_begins, turn_begins, turn_refused}
 use Rattle.py_stmt.proofs.+code.Answers.Managing.{left_open, no_body, no_items, some_body, some_items}
 use Rattle.py_stmt.proofs.+code.Answers.Trying.{catch_begins, else_begins, forgetting_begins, handler_refused, handlers_go_on, last_begins, last_goes, last_refused, next_begins, try_goes}
@@ -93,11 +95,11 @@ statements::compile_if-returns-clause-goes t c =
 pub loops::compile_loop_body-returns-clause-goes : goal.loops::compile_loop_body-returns-clause-goes
 unfolding in_loop rest
 loops::compile_loop_body-returns-clause-goes t c =
-    let behind : Emission = λ r. Done (with_loops (state c.args.em.now).context.loops r) in
-    ap (λ (s : State). go_on (emission_of_stmts (stmts stmt_tree c.args.body.now) s) behind) (sym c.set_context.ensures.state)
+    let behind : Emission = λ r. Done (with_loops (state c.args.em.now).around.loops r) in
+    ap (λ (s : State). go_on (emission_of_stmts (stmts stmt_tree c.args.body.now) s) behind) (sym c.set_loops-around.ensures.state)
     ∙ went _ behind _ c.in_ok-compile_statements.ensures.goes
-    ∙ ap (λ (x : EmitContext). Done (with_loops (loop_blocks x.loop_blocks) (state c.compile_statements.new.em))) (sym c.context-context.ensures)
-    ∙ ap Done (sym c.set_context-2.ensures.state)
+    ∙ ap (λ (x : Option (BlockIdx × BlockIdx)). Done (with_loops (loop_blocks x) (state c.compile_statements.new.em))) (sym c.set_loops-around.ensures.old)
+    ∙ ap Done (sym c.set_loops.ensures.state)
 
 pub loops::compile_for-returns-clause-goes : goal.loops::compile_for-returns-clause-goes
 loops::compile_for-returns-clause-goes = for_goes
@@ -161,3 +163,15 @@ tries::compile_last-returns-clause-goes = last_refused
 
 pub tries::compile_last-returns-2-clause-goes : goal.tries::compile_last-returns-2-clause-goes
 tries::compile_last-returns-2-clause-goes = last_goes
+
+pub loops::compile_each-end_each-requires : goal.loops::compile_each-end_each-requires
+loops::compile_each-end_each-requires = each_around
+
+pub loops::compile_while-compile_statements-requires : goal.loops::compile_while-compile_statements-requires
+loops::compile_while-compile_statements-requires = while_around
+
+pub tries::compile_parts-compile_unguarded-requires : goal.tries::compile_parts-compile_unguarded-requires
+tries::compile_parts-compile_unguarded-requires = unguarded_around
+
+pub tries::compile_parts-compile_last-requires : goal.tries::compile_parts-compile_last-requires
+tries::compile_parts-compile_last-requires = last_around

@@ -2,8 +2,8 @@
 use Rattle.std.proofs.Common.{rules, subst, ◌≡◌, ◌∙◌, ap, length, sym}
 use Rattle.std.specs.Prelude.{IfOk}
 use Rattle.py_tree.specs.View.{expr_tree, exprs, keywords}
-use Rattle.py_forms.specs.Emitting.{Emission, move}
-use Rattle.py_forms.specs.EmissionParts.{elements, emission_of_call, in_turn}
+use Rattle.py_steps.specs.Emitting.{Emission, move}
+use Rattle.py_steps.specs.EmissionParts.{elements, emission_of_call, in_turn}
 use Rattle.py_emission.specs.Emission.{all_emissions, emissions, keyword_emissions}
 use Rattle.py_emit.specs.States.{state}
 use Rattle.py_emit.proofs.Joined.{goes_as, went}

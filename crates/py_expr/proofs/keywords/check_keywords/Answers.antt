@@ -1,7 +1,7 @@
 use Rattle.std.proofs.Common.{◌≡◌, ◌+◌, Err, ap, ◌∙◌, drop, arith}
 use Rattle.py_tree.specs.View.{expr_tree, keywords}
-use Rattle.py_forms.specs.Emitting.{Emission}
-use Rattle.py_forms.specs.EmissionParts.{checked}
+use Rattle.py_steps.specs.Emitting.{Emission}
+use Rattle.py_steps.specs.EmissionParts.{checked}
 use Rattle.py_emission.specs.Emission.{keyword_emissions}
 use Rattle.py_emit.specs.States.{state}
 use Rattle.py_emit.proofs.Joined.{first_refuses, went}

@@ -1,5 +1,5 @@
 use Rattle.std.proofs.Common.{ap, rules}
-use Rattle.py_forms.specs.Emitting.{Emission}
+use Rattle.py_steps.specs.Emitting.{Emission}
 use Rattle.py_emit.proofs.Joined.{goes_as}
 use Rattle.py_expr.proofs.Otherwise.{value_return}
 use Rattle.py_tree.proofs.View.{tree_Constant}

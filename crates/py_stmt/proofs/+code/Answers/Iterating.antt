@@ -3,7 +3,7 @@ use Rattle.std.proofs.Common.{◌≡◌, ◌∙◌, Err, List, ap, arith, sym}
 use Rattle.py_tree.specs.declared.expressions.Expr.{Expr}
 use Rattle.py_tree.specs.declared.statements.Stmt.{Stmt}
 use Rattle.py_tree.specs.View.{expr_tree, stmt_tree, stmts}
-use Rattle.py_forms.specs.Emitting.{Emission, ◌▸◌, begin, located}
+use Rattle.py_steps.specs.Emitting.{Emission, ◌▸◌, begin, located}
 use Rattle.py_emission.specs.Emission.{emission, emission_of_store}
 use Rattle.py_meaning.specs.ControlEmissions.{for_each}
 use Rattle.py_meaning.specs.EmissionStmts.{emission_of_stmts}

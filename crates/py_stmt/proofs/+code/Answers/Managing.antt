@@ -4,7 +4,7 @@ use Rattle.py_base.specs.declared.location.LocatedError.{LocatedError}
 use Rattle.py_tree.specs.View.{stmt_tree, stmts, with_items}
 use Rattle.py_forms.specs.declared.errors.CodegenErrorType.{CodegenErrorType}
 use Rattle.py_forms.specs.declared.errors.CodegenErrorType.TheVariants as error
-use Rattle.py_forms.specs.Emitting.{Emission}
+use Rattle.py_steps.specs.Emitting.{Emission}
 use Rattle.py_meaning.specs.EmissionStmts.{emission_of_items, emission_of_stmts}
 use Rattle.py_emit.specs.States.{state}
 use Rattle.py_emit.proofs.Joined.{goes_as}

@@ -3,7 +3,7 @@ use Rattle.std.proofs.Common.{◌≡◌, ◌∙◌, Err, ap, arith, rules, sym, 
 use Rattle.std.specs.Prelude.{not}
 use Rattle.py_tree.specs.View.{expr_tree, handlers, opt_box, stmt_tree, stmts}
 use Rattle.py_bytecode.specs.declared.instruction.Instruction.TheVariants as op
-use Rattle.py_forms.specs.Emitting.{Emission, emit, located}
+use Rattle.py_steps.specs.Emitting.{Emission, emit, located}
 use Rattle.py_meaning.specs.ControlEmissions.{try_body}
 use Rattle.py_meaning.specs.EmissionStmts.{emission_of_handlers, emission_of_last, emission_of_stmts, none}
 use Rattle.py_emit.specs.States.{state}

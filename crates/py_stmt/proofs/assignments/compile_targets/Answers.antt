@@ -1,5 +1,5 @@
 use Rattle.std.proofs.Common.{◌≡◌, ◌∙◌, Err, refl, ap, sym, arith}
-use Rattle.py_forms.specs.Emitting.{Emission}
+use Rattle.py_steps.specs.Emitting.{Emission}
 use Rattle.py_emit.specs.States.{state}
 use Rattle.py_emit.proofs.Joined.{first_refuses, same_error, went}
 use Rattle.py_expr.proofs.Turns.{refused_shape}

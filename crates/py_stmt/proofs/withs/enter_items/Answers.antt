@@ -1,7 +1,7 @@
 use Rattle.std.proofs.Common.{◌≡◌, ◌+◌, ◌∙◌, [], ◌∷◌, ◌++◌, Err, ap, drop, subst, sym, arith}
 use Rattle.std.specs.Prelude.{IfErr}
 use Rattle.py_tree.specs.View.{expr_tree, opt_box, with_items}
-use Rattle.py_forms.specs.Emitting.{Refused, ◌▸◌}
+use Rattle.py_steps.specs.Emitting.{Refused, ◌▸◌}
 use Rattle.py_meaning.specs.EmissionStmts.{emission_of_items}
 use Rattle.py_emit.specs.States.{rest, state}
 use Rattle.py_stmt.specs.Managing.{AllOpen, IsRefusing, left_all}

@@ -1,10 +1,10 @@
 use Rattle.std.proofs.Common.{◌≡◌, ◌≢◌, ◌≤◌, List, ℕ, length, None, IsNone, IfSome, Ok, string_bytes}
 use Rattle.std.specs.Io.KnownBytes.{Appends}
-use Rattle.pyc.specs.Runs.{AppendsFront}
+use Rattle.pyc.specs.Runs.{AppendsFront, line_of}
 use Rattle.pyc.specs.Statuses.{verdict_of}
 use Rattle.py_bytecode.specs.declared.code.CodeObject.{CodeObject}
 use Rattle.pyc.specs.declared.report.Status.TheVariants as status
-use Rattle.pyc.proofs.Dues.{sound_due, refused_due, misread_due, refused_line, misread_line, usage_due, room_for, room_not_for, refused_not_done, misread_not_done}
+use Rattle.pyc.proofs.Dues.{sound_due, refused_due, misread_due, refused_line, misread_line, usage_due, room_for, room_not_for, no_line_due, refused_not_done, misread_not_done}
 use Rattle.pyc.proofs.engine.run.Goals as goal
 
 pub returns-in-Ok-clause-due : goal.returns-in-Ok-clause-due
@@ -45,6 +45,12 @@ pub returns-in-Misuse-clause-err : goal.returns-in-Misuse-clause-err
 returns-in-Misuse-clause-err g c =
     usage_due c.args.words.now (g.S.Source.left c.args.source.now) (AppendsFront (g.E.Sink.held c.args.err.now) (g.E.Sink.held c.write_all-in-Misuse.new.sink)) c.in-Misuse.ensures.form
     (rw c.as_bytes-in-Misuse.ensures.value at c.in-Err-write_all-3.ensures.front)
+
+pub returns-in-Ok-clause-line_room : goal.returns-in-Ok-clause-line_room
+returns-in-Ok-clause-line_room g c = no_line_due (line_of c.args.words.now (g.S.Source.left c.args.source.now)) (g.E.Sink.room c.args.err.now) c.in-Listing.code _
+
+pub returns-in-Listing-clause-line_room : goal.returns-in-Listing-clause-line_room
+returns-in-Listing-clause-line_room g c = no_line_due (line_of c.args.words.now (g.S.Source.left c.args.source.now)) (g.E.Sink.room c.args.err.now) c.in-Listing.code _
 
 pub returns-in-Ok-write_all-clause-line_room : goal.returns-in-Ok-write_all-clause-line_room
 returns-in-Ok-write_all-clause-line_room g c =

@@ -4,7 +4,7 @@ use Rattle.py_emit.proofs.emitter.Emitter.finish.Goals as goal
 
 pub only_starved-requires : goal.only_starved-requires
 only_starved-requires c =
-    let w = c.finalize.ensures.whole in
+    let w = c.laid_out.ensures.whole in
     unrefused c.args.self c.requires w.chain w.is_chain (c.has_short_tables.ensures c.if-not-has_short_tables.false) c.in-Err.error c.in-Err.ensures.refused
 
 pub returns-in-Ok-clause-sealed : goal.returns-in-Ok-clause-sealed

@@ -9,8 +9,8 @@ use Rattle.py_emit.proofs.emitter.Emitter.put.Goals as goal
 
 pub returns-in-Ok-clause-ok : goal.returns-in-Ok-clause-ok
 returns-in-Ok-clause-ok c =
-    let v = c.args.self.now.code.body in
+    let v = c.args.self.now.scope.code.body in
     stepped (step_of c.args.info) (state c.args.self.now) _
     (ap (λ (u : BlockList). steps_in (map plain u.blocks)) c.in-Ok.ensures.ok ∙ push_steps v c.args.info c.in-Ok.ensures.whole)
     (ap (λ (u : BlockList). length u.blocks) c.in-Ok.ensures.ok ∙ push_long v c.args.info)
-    refl refl refl refl
+    refl refl refl refl refl refl refl

@@ -13,12 +13,9 @@ use Rattle.py_bytecode.specs.Objects as const
 use Rattle.py_bytecode.specs.Objects.{Const, Consts, no_consts, more_consts}
 use Rattle.py_bytecode.specs.Values.{flip}
 use Rattle.py_forms.specs.declared.errors.CodegenErrorType.TheVariants as error
-use Rattle.py_forms.specs.Elements.{Element, Single, Spread, Callee, Function, Method, starred, bare, stars, before_star, after_star, groups, front, behind, sides}
-use Rattle.py_forms.specs.TableParts.{unary_case, deciding, is_debug, debug_constant, any}
-use Rattle.py_forms.specs.Emitting.{Emission, ◌▸◌, begin, by_level, emit, emit_constant, emit_count, emit_name, jump, keep, move, new_block, refuse}
-
-abbrev pub emission_of_name : List ℕ → Emission
-emission_of_name x = if is_debug x then by_level (λ l. emit_constant op.LoadConst (debug_constant l)) else emit_name op.LoadNameAny x
+use Rattle.py_steps.specs.Elements.{Element, Single, Spread, Callee, Function, Method, starred, bare, stars, before_star, after_star, groups, front, behind, sides}
+use Rattle.py_steps.specs.TableParts.{unary_case, deciding, is_debug, any}
+use Rattle.py_steps.specs.Emitting.{Emission, ◌▸◌, begin, emit, emit_constant, emit_count, emit_mangled, jump, keep, move, new_block, refuse}
 
 -- the jump that keeps a value where its truth is this
 abbrev pub keeping_jump : Bool → Instruction
@@ -90,7 +87,7 @@ display build unpack es = if starred es then unpacked unpack es else built build
 -- a call of a function, or of a method that its value gives
 abbrev pub call_by : Callee Emission → (function method : Instruction) → (args : Emission) → (count : ℕ) → Emission
 call_by (Function v) function method args n = v ▸ args ▸ emit_count function n
-call_by (Method name v) function method args n = v ▸ emit_name op.LoadMethod name ▸ args ▸ emit_count method n
+call_by (Method name v) function method args n = v ▸ emit_mangled op.LoadMethod name ▸ args ▸ emit_count method n
 
 -- the keywords of a call: a value with its name, or a starred map
 abbrev pub Keywords : Type 0

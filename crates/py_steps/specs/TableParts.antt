@@ -19,7 +19,7 @@ use Rattle.py_bytecode.specs.declared.instruction.Instruction.TheVariants as op
 use Rattle.py_bytecode.specs.Objects as const
 use Rattle.py_bytecode.specs.Objects.{Const, Consts, no_consts, more_consts}
 use Rattle.py_bytecode.specs.Values.{Operation, operation, Bare, Number, Named}
-use Rattle.py_forms.specs.Elements.{Element, Single, Spread, Callee, Function, Method, starred, bare, stars, before_star, after_star, groups, front, behind, sides}
+use Rattle.py_steps.specs.Elements.{Element, Single, Spread, Callee, Function, Method, starred, bare, stars, before_star, after_star, groups, front, behind, sides}
 use Rattle.py_forms.specs.Form.{VForm, VConst, VLoad, VOp, VShort, VChain, VAt, VForms, VNone, VMore, VMethod, Shorts, OneShort, MoreShort, Links, LastLink, MoreLink, TForm, TTruth, TNot, TAll, Tests, OneTest, MoreTest, Resolved, Target, GUnpack, Targets, NoTarget, MoreTarget}
 
 -- the number of a binary operator among the operations
@@ -71,8 +71,9 @@ is_debug name = pointwise nat_eq name (codes "__debug__")
 abbrev pub debug_constant : (level : ℕ) → Const
 debug_constant level = const.boolean (nat_eq level 0)
 
-abbrev pub name_form : (level : ℕ) → List ℕ → VForm
-name_form level name = if is_debug name then VConst (debug_constant level) else VLoad Resolved name
+-- a mangled name is looked up
+abbrev pub name_form : (level : ℕ) → (name mangled : List ℕ) → VForm
+name_form level name mangled = if is_debug name then VConst (debug_constant level) else VLoad Resolved mangled
 
 abbrev pub binary : Operator → Operation
 binary o = operation op.BinaryOperation (Number (binary_case o))

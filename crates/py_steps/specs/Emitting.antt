@@ -1,11 +1,12 @@
 -- What is emitted: steps, and what each adds to those before it. An emission goes on from where another has come to, and the first refusal ends it.
-use Rattle.std.specs.Prelude.{ℕ, suc, ◌^◌, List, [], ◌∷◌, ◌++◌, Bool, Option, Some, None, nat_lt, if◌then◌else◌}
+use Rattle.std.specs.Prelude.{ℕ, suc, ◌^◌, List, [], ◌∷◌, ◌++◌, Bool, true, false, Option, Some, None, nat_lt, if◌then◌else◌}
 use Rattle.std.specs.List.{position_or_len}
 use Rattle.py_base.specs.declared.location.SourceLocation.{SourceLocation}
 use Rattle.py_bytecode.specs.declared.instruction.Instruction.{Instruction}
 use Rattle.py_bytecode.specs.Objects.{Const}
 use Rattle.py_bytecode.specs.Equality.{const_eq, text_eq, entered}
 use Rattle.py_forms.specs.declared.errors.CodegenErrorType.{CodegenErrorType}
+use Rattle.py_steps.specs.Context.{Context, mangled}
 
 -- an instruction with its operand or the block that it jumps to, and where it stands in the source; or the place where a block begins
 pub data Step : Type 0 where
@@ -17,19 +18,24 @@ pub record LoopBlocks : Type 0 where
   pub on_break : ℕ
   pub on_continue : ℕ
 
--- what stands around the present node: the level of optimization, and the innermost loop of its scope
-pub record Context : Type 0 where
-  pub level : ℕ
+-- what stands around the present node, and the innermost loop of its scope
+pub record Around : Type 0 where
+  pub context : Context
   pub loops : Option LoopBlocks
 
--- what is emitted so far, in order; how many blocks are made, where block 0 begins it all; the tables that operands name; where the next instruction stands; and what stands around
+-- what is emitted so far, in order; how many blocks are made, where block 0 begins it all; the tables that operands name: names, names of
+-- the code object's own, and constants; whether it is a generator; where the next instruction stands; the number of the next scope
+-- within; and what stands around
 pub record State : Type 0 where
   pub steps : List Step
   pub blocks : ℕ
   pub names : List (List ℕ)
+  pub varnames : List (List ℕ)
   pub constants : List Const
+  pub generator : Bool
   pub location : SourceLocation
-  pub context : Context
+  pub next : ℕ
+  pub around : Around
 
 -- all is emitted; or an operand is too large; or the tree is refused
 pub data Outcome : Type 0 where
@@ -68,6 +74,9 @@ with_block s = record s { blocks = suc s.blocks }
 unfoldable pub with_name : List ℕ → State → State
 with_name x s = record s { names = entered text_eq s.names x }
 
+unfoldable pub with_varname : List ℕ → State → State
+with_varname x s = record s { varnames = entered text_eq s.varnames x }
+
 unfoldable pub with_constant : Const → State → State
 with_constant c s = record s { constants = entered const_eq s.constants c }
 
@@ -75,7 +84,10 @@ unfoldable pub located : SourceLocation → State → State
 located at s = record s { location = at }
 
 unfoldable pub with_loops : Option LoopBlocks → State → State
-with_loops x s = record s { context = record s.context { loops = x } }
+with_loops x s = record s { around = record s.around { loops = x } }
+
+unfoldable pub with_context : Context → State → State
+with_context c s = record s { around = record s.around { context = c } }
 
 unfoldable pub refuse : CodegenErrorType → Emission
 refuse e s = Refused e (Some s.location)
@@ -101,24 +113,54 @@ emit_count i n s = if nat_lt n (2 ^ 30) then emit i n s else TooWide
 unfoldable pub emit_name : Instruction → List ℕ → Emission
 emit_name i x s = emit i (place_in text_eq s.names x) (with_name x s)
 
+unfoldable pub emit_varname : Instruction → List ℕ → Emission
+emit_varname i x s = emit i (place_in text_eq s.varnames x) (with_varname x s)
+
 unfoldable pub emit_constant : Instruction → Const → Emission
 emit_constant i c s = emit i (place_in const_eq s.constants c) (with_constant c s)
+
+-- a name as the innermost class writes it
+unfoldable pub emit_mangled : Instruction → List ℕ → Emission
+emit_mangled i x s = emit_name i (mangled s.around.context x) s
+
+-- the name of a parameter, as the innermost class writes it, and a constant, which no instruction names yet
+unfoldable pub add_varname : List ℕ → Emission
+add_varname x s = Done (with_varname (mangled s.around.context x) s)
+
+unfoldable pub add_constant : Const → Emission
+add_constant c s = Done (with_constant c s)
+
+-- the scope's code is a generator
+unfoldable pub generating : Emission
+generating s = Done (record s { generator = true })
+
+-- the scopes of parts that are scanned and not compiled are passed over
+unfoldable pub pass_over : (after : ℕ → ℕ) → Emission
+pass_over after s = Done (record s { next = after s.next })
 
 unfoldable pub move : SourceLocation → Emission
 move at s = Done (located at s)
 
+-- what is emitted by what stands around
+unfoldable pub by_context : (Context → Emission) → Emission
+by_context a s = a s.around.context s
+
 -- what is emitted by the level of optimization
 unfoldable pub by_level : (ℕ → Emission) → Emission
-by_level a s = a s.context.level s
+by_level a s = a s.around.context.level s
 
 -- what is emitted by the innermost loop, where there is one
 unfoldable pub by_loops : (Option LoopBlocks → Emission) → Emission
-by_loops a s = a s.context.loops s
+by_loops a s = a s.around.loops s
 
 -- what is emitted within a loop with these blocks
 unfoldable pub in_loop : LoopBlocks → Emission → Emission
-in_loop x a s = go_on (a (with_loops (Some x) s)) (λ t. Done (with_loops s.context.loops t))
+in_loop x a s = go_on (a (with_loops (Some x) s)) (λ t. Done (with_loops s.around.loops t))
 
--- before anything is emitted there is one block, and what follows stands at row 1 and column 1, in no loop
-abbrev pub nothing : (level : ℕ) → State
-nothing l = record { steps = []; blocks = 1; names = []; constants = []; location = record { row = 1; column = 1 }; context = record { level = l; loops = None } }
+-- before anything is emitted of a scope there is one block, and it stands in no loop
+abbrev pub begun : Context → SourceLocation → (next : ℕ) → State
+begun c at n = record { steps = []; blocks = 1; names = []; varnames = []; constants = []; generator = false; location = at; next = n; around = record { context = c; loops = None } }
+
+-- the outermost scope begins at row 1 and column 1; scope 1 is the first within
+abbrev pub nothing : Context → State
+nothing c = begun c (record { row = 1; column = 1 }) 1

@@ -3,7 +3,7 @@ use Rattle.std.specs.Prelude.{ℕ, zero, suc, List, [], ◌∷◌, map, Bool, tr
 use Rattle.std.specs.List.{range_with_len}
 use Rattle.py_bytecode.specs.Table.{row_of}
 use Rattle.py_walks.specs.declared.info.InstructionInfo.{InstructionInfo}
-use Rattle.py_forms.specs.Emitting.{Step, Put, Begin}
+use Rattle.py_steps.specs.Emitting.{Step, Put, Begin}
 
 -- the number that stands for a block, and the one for none
 abbrev pub number_of : Option ℕ → ℕ

@@ -1,0 +1,6 @@
+use Rattle.std.proofs.Common.{◌≡◌, take}
+use Rattle.py_steps.specs.Context.{cells_among}
+use Rattle.py_emit.proofs.scopes.cells_among.Given as goal
+
+abbrev pub invariant-loop-i : goal.invariant-loop-i
+invariant-loop-i l = l.names ≡ cells_among (take l.i l.symbols)

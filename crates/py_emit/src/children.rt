@@ -1,0 +1,106 @@
+//! Functions of the code objects of scopes within.
+ghost use Rattle.std.specs.Prelude.{◌≡◌, IfOk, length, if◌then◌else◌};
+ghost use Rattle.py_bytecode.specs.Objects.{code as code_constant};
+ghost use Rattle.py_bytecode.specs.View.{object};
+ghost use Rattle.py_steps.specs.Children.{cell_loads, closure, load_cell as cell_load, made, some_flag};
+ghost use Rattle.py_steps.specs.EmissionParts.{in_turn};
+ghost use Rattle.py_steps.specs.Emitting.{◌▸◌, emit_constant, emit_count};
+ghost use Rattle.py_emit.specs.States.{Goes, Same, rest, state};
+
+use crate::emitter::Emitter;
+use bitflags::Flags;
+use py_base::Text;
+use py_bytecode::{CodeObject, ConstantData, Instruction, MakeFunctionFlags};
+use py_forms::{CodegenError, CodegenErrorType};
+
+impl Emitter {
+    /// Appends the load of a cell.
+    ///
+    /// # Errors
+    /// OutOfMemory alone.
+    #[tactic(auto, unfolding(py_steps::specs::Children::load_cell))]
+    fn load_cell(&mut self, name: &str) -> Result<(), CodegenError>
+        ensures goes { Goes result (state self.new) (cell_load name.now (state self.old)) }
+        ensures same { Same result (rest self.new) (rest self.old) }
+    {
+        let place = self.cell_place(name)?;
+        self.emit_arg(Instruction::LoadClosure, place)
+    }
+
+    /// Appends the load of each cell in turn.
+    fn load_cells(&mut self, names: &[Text]) -> Result<(), CodegenError>
+        ensures goes { Goes result (state self.new) (in_turn (cell_loads names.now) (state self.old)) }
+        ensures same { Same result (rest self.new) (rest self.old) }
+    {
+        match names {
+            [] => Ok(()),
+            [name, rest @ ..] => {
+                self.load_cell(name.as_str())?;
+                self.load_cells(rest)
+            }
+        }
+    }
+
+    /// Appends what builds the tuple of the cells that a code object has from outside: one `LoadClosure` for each, in
+    /// order, and one `BuildTuple`. False where there is none, and then nothing is appended.
+    ///
+    /// # Errors
+    /// OutOfMemory alone.
+    #[tactic(auto, using(crate::proofs::Closures::closure_is))]
+    pub fn build_closure(&mut self, code: &CodeObject) -> Result<bool, CodegenError>
+        ensures goes { Goes result (state self.new) (closure code.now.freevars (state self.old)) }
+        ensures any { IfOk result (λ any. some_flag 1 code.now.freevars ≡ (if any then 1 else 0)) }
+        ensures same { Same result (rest self.new) (rest self.old) }
+    {
+        let names = code.freevars.as_slice();
+        if names.is_empty() {
+            return Ok(false);
+        }
+        self.build_cells(names)?;
+        Ok(true)
+    }
+
+    /// Appends the loads of cells, and the tuple of them.
+    fn build_cells(&mut self, names: &[Text]) -> Result<(), CodegenError>
+        ensures goes { Goes result (state self.new) ((in_turn (cell_loads names.now) ▸ emit_count Instruction.BuildTuple (length names.now)) (state self.old)) }
+        ensures same { Same result (rest self.new) (rest self.old) }
+    {
+        self.load_cells(names)?;
+        self.emit_count(Instruction::BuildTuple, names.len())
+    }
+
+    /// Appends what makes a function of a code object, under this name: its closure, its code, its name, and one
+    /// `MakeFunction` with these flags, and that of a closure where there is one.
+    ///
+    /// # Errors
+    /// OutOfMemory alone.
+    pub fn make_function(
+        &mut self,
+        flags: MakeFunctionFlags,
+        name: Text,
+        code: CodeObject,
+    ) -> Result<(), CodegenError>
+        ensures goes { Goes result (state self.new) (made flags.0 name (object code) (state self.old)) }
+        ensures same { Same result (rest self.new) (rest self.old) }
+    {
+        let closed = self.build_closure(&code)?;
+        self.load_code(code)?;
+        self.load_const(ConstantData::Str { value: name })?;
+        let flags = u32::from(flags.bits());
+        self.emit_arg(Instruction::MakeFunction, flags + closed as u32)
+    }
+
+    /// Appends the load of a code object.
+    ///
+    /// # Errors
+    /// OutOfMemory alone.
+    fn load_code(&mut self, code: CodeObject) -> Result<(), CodegenError>
+        ensures goes { Goes result (state self.new) (emit_constant Instruction.LoadConst (code_constant (object code)) (state self.old)) }
+        ensures same { Same result (rest self.new) (rest self.old) }
+    {
+        match Box::new(self.alloc(), code) {
+            Ok(code) => self.load_const(ConstantData::Code { code }),
+            Err(_) => Err(self.error(CodegenErrorType::OutOfMemory)),
+        }
+    }
+}

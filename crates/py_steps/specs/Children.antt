@@ -1,0 +1,93 @@
+-- What is emitted of a scope within: it begins where its parent stands, its code object is a constant of the parent, and the parent goes on where it leaves off.
+use Rattle.std.specs.Prelude.{ℕ, suc, ◌+◌, List, [], ◌∷◌}
+use Rattle.py_base.specs.declared.location.SourceLocation.{SourceLocation}
+use Rattle.py_bytecode.specs.declared.instruction.Instruction.TheVariants as op
+use Rattle.py_bytecode.specs.Objects as const
+use Rattle.py_bytecode.specs.Objects.{Object}
+use Rattle.py_steps.specs.Context.{Context, cell_place}
+use Rattle.py_steps.specs.Emitting.{Emission, Outcome, State, ◌▸◌, Done, TooWide, Refused, begun, emit, emit_constant, keep}
+use Rattle.py_steps.specs.EmissionParts.{built, map_of}
+use Rattle.py_steps.specs.Sealed.{Head, sealed}
+
+-- what a node says of its scope's code object
+pub record Shape : Type 0 where
+  pub flags : ℕ
+  pub posonlyarg_count : ℕ
+  pub arg_count : ℕ
+  pub kwonlyarg_count : ℕ
+  pub obj_name : List ℕ
+
+-- the head of a scope's code object, whose first line is that of the place where it begins
+abbrev pub code_head : Context → Shape → SourceLocation → Head
+code_head c h at = record {
+  flags = h.flags;
+  posonlyarg_count = h.posonlyarg_count;
+  arg_count = h.arg_count;
+  kwonlyarg_count = h.kwonlyarg_count;
+  source_path = c.source;
+  first_line_number = at.row;
+  obj_name = h.obj_name;
+  cellvars = c.cells;
+  freevars = c.frees;
+}
+
+-- a parent goes on where its child leaves off
+abbrev pub behind_child : (parent child : State) → State
+behind_child s t = record s { location = t.location; next = t.next }
+
+-- what a child comes to is sealed, and what follows goes on with its code object
+abbrev pub on_sealed : (level : ℕ) → Head → (parent : State) → Outcome → (Object → Emission) → Outcome
+on_sealed level h s (Done t) k = k (sealed level h t) (behind_child s t)
+on_sealed level h s TooWide k = TooWide
+on_sealed level h s (Refused e at) k = Refused e at
+
+-- a child within, which the present context and the number of the next scope tell
+unfoldable pub child : (within : Context → (number : ℕ) → Context) → Shape → (body : Emission) → (Object → Emission) → Emission
+child within h body k s =
+    let c = within s.around.context s.next in
+    on_sealed c.level (code_head c h s.location) s (body (begun c s.location (suc s.next))) k
+
+-- a cell that a function is made of
+unfoldable pub load_cell : List ℕ → Emission
+load_cell x s = emit op.LoadClosure (cell_place s.around.context x) s
+
+abbrev pub cell_loads : List (List ℕ) → List Emission
+cell_loads [] = []
+cell_loads (x ∷ xs) = load_cell x ∷ cell_loads xs
+
+-- the tuple of the cells that are handed on, where there are any
+abbrev pub closure : List (List ℕ) → Emission
+closure [] = keep
+closure (x ∷ xs) = built op.BuildTuple (cell_loads (x ∷ xs))
+
+-- a flag, where there is anything
+abbrev pub some_flag : {A : Type 0} → (flag : ℕ) → List A → ℕ
+some_flag flag [] = 0
+some_flag flag (x ∷ xs) = flag
+
+-- the names that the code object has from outside
+abbrev pub free_names : Object → List (List ℕ)
+free_names o = (const.head o).freevars
+
+-- a function of a code object
+abbrev pub made : (flags : ℕ) → (name : List ℕ) → Object → Emission
+made flags name o =
+    closure (free_names o) ▸ emit_constant op.LoadConst (const.code o) ▸ emit_constant op.LoadConst (const.str name) ▸ emit op.MakeFunction (flags + some_flag 0x01 (free_names o))
+
+-- values and what is built of them, where there are any
+abbrev pub some_emitted : {A : Type 0} → (List A → Emission) → List A → Emission
+some_emitted build [] = keep
+some_emitted build (x ∷ xs) = build (x ∷ xs)
+
+-- the defaults of a function
+pub record DefaultEmissions : Type 0 where
+  pub positional : List Emission
+  pub keyword : List (List ℕ × Emission)
+
+-- a tuple and a map, where there are any
+abbrev pub emission_of_defaults : DefaultEmissions → Emission
+emission_of_defaults d = some_emitted (built op.BuildTuple) d.positional ▸ some_emitted map_of d.keyword
+
+-- the flags of the defaults that there are
+abbrev pub flags_of_defaults : DefaultEmissions → ℕ
+flags_of_defaults d = some_flag 0x08 d.positional + some_flag 0x04 d.keyword

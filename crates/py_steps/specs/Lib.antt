@@ -1,0 +1,9 @@
+pub mod Elements
+pub mod TableParts
+pub mod Context
+pub mod Emitting
+pub mod Listed
+pub mod Sealed
+pub mod EmissionParts
+pub mod Accesses
+pub mod Children
