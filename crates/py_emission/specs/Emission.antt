@@ -1,22 +1,40 @@
 -- What is emitted for each expression, in which order, and where it stands.
-use Rattle.std.specs.Prelude.{ℕ, List, [], ◌∷◌, Bool, Option, Some, None, codes, if◌then◌else◌}
+use Rattle.std.specs.Prelude.{ℕ, List, [], ◌∷◌, ◌++◌, Bool, Option, Some, None, codes, if◌then◌else◌}
 use Rattle.py_tree.specs.PythonName.{python_name}
 use Rattle.py_tree.specs.Tree as tree
 use Rattle.py_base.specs.declared.location.SourceLocation.{SourceLocation}
 use Rattle.py_bytecode.specs.declared.instruction.Instruction.TheVariants as op
 use Rattle.py_bytecode.specs.Objects as const
 use Rattle.py_forms.specs.declared.errors.CodegenErrorType.TheVariants as error
-use Rattle.py_steps.specs.Elements.{Element, Single, Spread, Function, Method, pairs}
+use Rattle.py_steps.specs.Elements.{Element, Single, Spread, Method}
+use Rattle.py_counts.specs.Counts.{scopes_in_annotations}
+use Rattle.py_emission.specs.Parameters.{function_shape, parameters}
 use Rattle.py_emission.specs.Texts.{texts_of}
 use Rattle.py_steps.specs.TableParts.{binary_case, conversion_case, constant_of, is_debug, debug_constant}
 use Rattle.py_bytecode.specs.Values.{Load}
 use Rattle.py_steps.specs.Accesses.{accessed, emission_of_deleted, emission_of_name, emission_of_stored}
-use Rattle.py_steps.specs.Emitting.{Emission, ◌▸◌, by_level, emit, emit_constant, emit_mangled, keep, move, refuse}
-use Rattle.py_steps.specs.EmissionParts.{Emissions, Keywords, Stores, bool_emissions, built, choice, dict_value, display, elements, emission_of_call, emission_of_compare, in_turn, joined_value, lone_star, no_assignment, no_deletion, plain_store, slice_value, tested, truth_of, unary_emissions, unless_debug, unpack, value_or, values}
+use Rattle.py_steps.specs.Children.{DefaultEmissions, child, emission_of_defaults, flags_of_defaults, function_scope, lambda_inside, made}
+use Rattle.py_steps.specs.Emitting.{Emission, ◌▸◌, by_level, emit, emit_constant, emit_mangled, generating, keep, move, refuse}
+use Rattle.py_steps.specs.EmissionParts.{Emissions, Keywords, Stores, bool_emissions, built, choice, constant_emissions, display, elements, emission_of_call, emission_of_compare, emission_of_dict, in_turn, joined_value, lone_star, no_assignment, no_deletion, only_in_function, pass_scopes, plain_store, slice_value, tested, unary_emissions, unless_debug, unpack, value_or, values}
 
 -- a node that is not compiled yet
 abbrev pub unbuilt : SourceLocation → Emission
 unbuilt at = move at ▸ refuse error.NotImplementedYet
+
+-- one text is returned by one instruction
+abbrev pub joined_return : Option (List ℕ) → List Emission → Emission
+joined_return (Some text) vs = emit_constant op.ReturnConst (const.str text)
+joined_return None vs = built op.BuildString vs ▸ emit op.ReturnValue 0
+
+-- the name `__debug__` is a constant too
+abbrev pub name_return : List ℕ → Emission
+name_return x = if is_debug x then by_level (λ l. emit_constant op.ReturnConst (debug_constant l)) else accessed Load x ▸ emit op.ReturnValue 0
+
+-- a lambda of these parameters with their defaults, whose body is returned so
+unfoldable pub lambda_value : tree.Arguments → DefaultEmissions → (returned : Emission) → Emission
+lambda_value params d returned =
+    emission_of_defaults d ▸ child lambda_inside (function_shape params (codes "<lambda>")) (function_scope (parameters params) returned)
+    (λ o. pass_scopes (λ postponed. scopes_in_annotations postponed params) ▸ made (flags_of_defaults d) (codes "<lambda>") o)
 
 abbrev mutual
   pub emissions : tree.Expr → Emissions
@@ -24,22 +42,28 @@ abbrev mutual
   emissions (tree.NamedExpr at target value) = tested (move at ▸ (emissions value).value ▸ emit op.Duplicate 0 ▸ (stores target).alone)
   emissions (tree.BinOp at left o right) = tested (move at ▸ (emissions left).value ▸ (emissions right).value ▸ emit op.BinaryOperation (binary_case o))
   emissions (tree.UnaryOp at o operand) = unary_emissions at o (emissions operand)
+  emissions (tree.Lambda at params body) = tested (move at ▸ lambda_value params (default_emissions params) (emissions body).returned)
   emissions (tree.IfExp at t body orelse) = tested (move at ▸ choice (emissions t).test (emissions body).value (emissions orelse).value)
-  emissions (tree.Dict at keys others) = tested (move at ▸ dict_value (pairs (opt_emissions keys) (values (all_emissions others))))
+  emissions (tree.Dict at keys others) = tested (move at ▸ emission_of_dict (opt_emissions keys) (values (all_emissions others)))
   emissions (tree.Set at elts) = tested (move at ▸ display op.BuildSet op.BuildSetUnpack (elements (all_emissions elts)))
+  emissions (tree.Await at value) = tested (move at ▸ refuse error.InvalidAwait)
+  emissions (tree.Yield at value) = tested (move at ▸ only_in_function error.InvalidYield (generating ▸ value_or const.none (opt_emission value) ▸ emit op.YieldValue 0))
+  emissions (tree.YieldFrom at value) =
+      tested (move at ▸ only_in_function error.InvalidYieldFrom (generating ▸ (emissions value).value ▸ emit op.GetIter 0 ▸ emit_constant op.LoadConst const.none ▸ emit op.YieldFrom 0))
   emissions (tree.Compare at left ops others) = tested (move at ▸ emission_of_compare (emissions left).value ops (all_emissions others))
   emissions (tree.Call at func args keywords) = tested (move at ▸ emission_of_call (emissions func).callee (elements (all_emissions args)) (keyword_emissions keywords))
   emissions (tree.FormattedValue at value c spec) = tested (move at ▸ (emissions value).value ▸ value_or (const.str []) (opt_emission spec) ▸ emit op.FormatValue (conversion_case c))
-  emissions (tree.JoinedStr at parts) = tested (move at ▸ joined_value (texts_of parts) (values (all_emissions parts)))
-  emissions (tree.Constant at value) = tested (move at ▸ emit_constant op.LoadConst (constant_of value))
+  emissions (tree.JoinedStr at parts) =
+      let vs = values (all_emissions parts) in record (tested (move at ▸ joined_value (texts_of parts) vs)) { returned = move at ▸ joined_return (texts_of parts) vs }
+  emissions (tree.Constant at value) = constant_emissions at (constant_of value)
   emissions (tree.Attribute at value attr) =
       let v : Emission = move at ▸ (emissions value).value ▸ emit_mangled op.LoadAttr attr in
-      record { value = v; test = truth_of v; element = Single v; callee = Method attr (emissions value).value }
+      record (tested v) { callee = Method attr (emissions value).value }
   emissions (tree.Subscript at value slice) = tested (move at ▸ (emissions value).value ▸ (emissions slice).value ▸ emit op.Subscript 0)
   emissions (tree.Starred at value) =
       let v : Emission = move at ▸ refuse error.InvalidStarExpr in
-      record { value = v; test = truth_of v; element = Spread (emissions value).value; callee = Function v }
-  emissions (tree.Name at id) = tested (move at ▸ emission_of_name id)
+      record (tested v) { element = Spread (emissions value).value }
+  emissions (tree.Name at id) = record (tested (move at ▸ emission_of_name id)) { returned = move at ▸ name_return id }
   emissions (tree.List at elts) = tested (move at ▸ display op.BuildList op.BuildListUnpack (elements (all_emissions elts)))
   emissions (tree.Tuple at elts) = tested (move at ▸ display op.BuildTuple op.BuildTupleUnpack (elements (all_emissions elts)))
   emissions (tree.Slice at lower upper step) = tested (move at ▸ slice_value (opt_emission lower) (opt_emission upper) (opt_emission step))
@@ -61,6 +85,21 @@ abbrev mutual
   keyword_emissions tree.no_keywords = []
   keyword_emissions (tree.more_keywords None e ks) = Spread (emissions e).value ∷ keyword_emissions ks
   keyword_emissions (tree.more_keywords (Some name) e ks) = Single (name, (emissions e).value) ∷ keyword_emissions ks
+
+  -- positional ones first
+  pub default_emissions : tree.Arguments → DefaultEmissions
+  default_emissions (tree.arguments posonly args vararg kwonly kwarg) = record { positional = positional_emissions posonly ++ positional_emissions args; keyword = keyword_only_emissions kwonly }
+
+  pub positional_emissions : tree.Args → List Emission
+  positional_emissions tree.no_args = []
+  positional_emissions (tree.more_args a tree.no_expr rest) = positional_emissions rest
+  positional_emissions (tree.more_args a (tree.some_expr e) rest) = (emissions e).value ∷ positional_emissions rest
+
+  -- by their names, which are not mangled
+  pub keyword_only_emissions : tree.Args → List (List ℕ × Emission)
+  keyword_only_emissions tree.no_args = []
+  keyword_only_emissions (tree.more_args a tree.no_expr rest) = keyword_only_emissions rest
+  keyword_only_emissions (tree.more_args (tree.arg at name annotation) (tree.some_expr e) rest) = (name, (emissions e).value) ∷ keyword_only_emissions rest
 
   pub stores : tree.Expr → Stores
   stores (tree.Name at id) = plain_store (emission_of_stored id)
@@ -110,18 +149,6 @@ abbrev mutual
   emission_of_deletes tree.no_exprs = keep
   emission_of_deletes (tree.more_exprs e es) = emission_of_delete e ▸ emission_of_deletes es
 
--- one text is returned by one instruction
-abbrev pub joined_return : Option (List ℕ) → List Emission → Emission
-joined_return (Some text) vs = emit_constant op.ReturnConst (const.str text)
-joined_return None vs = built op.BuildString vs ▸ emit op.ReturnValue 0
-
--- the name `__debug__` is a constant too
-abbrev pub name_return : List ℕ → Emission
-name_return x = if is_debug x then by_level (λ l. emit_constant op.ReturnConst (debug_constant l)) else accessed Load x ▸ emit op.ReturnValue 0
-
 -- what returns the value of an expression: a constant by one instruction
 abbrev pub emission_of_return : tree.Expr → Emission
-emission_of_return (tree.Constant at value) = move at ▸ emit_constant op.ReturnConst (constant_of value)
-emission_of_return (tree.JoinedStr at parts) = move at ▸ joined_return (texts_of parts) (values (all_emissions parts))
-emission_of_return (tree.Name at id) = move at ▸ name_return id
-emission_of_return e = emission e ▸ emit op.ReturnValue 0
+emission_of_return e = (emissions e).returned

@@ -57,10 +57,10 @@ class_kind u FixedGlobal n = Global
 class_kind u FixedFast n = ByName
 
 abbrev method : Scope
-method = MkScope (record { kind = λ u x n. Deref; place = λ u x n. 0; cell_place = λ n. 0; free = codes "__class__" ∷ []; class_cell = [] }) (SAt (at 2 18) (SReturn (VAt (at 2 25) (VLoad Resolved (codes "__class__")))))
+method = MkScope (record { number = 2; kind = λ u x n. Deref; place = λ u x n. 0; cell_place = λ n. 0; free = codes "__class__" ∷ []; class_cell = [] }) (SAt (at 2 18) (SReturn (VAt (at 2 25) (VLoad Resolved (codes "__class__")))))
 
 abbrev class_body : Scope
-class_body = MkScope (record { kind = class_kind; place = λ u x n. 0; cell_place = λ n. 0; free = []; class_cell = codes "__class__" ∷ [] }) (SThen (SInto (VLoad FixedGlobal (codes "__name__")) (GStore FixedByName (codes "__module__"))) (SThen (SInto (VConst (obj.str (codes "A"))) (GStore FixedByName (codes "__qualname__"))) (SThen (SInto (VConst obj.none) (GStore FixedByName (codes "__doc__"))) (SThen (SAt (at 2 5) (SInto (VMake 0 VNone method (codes "A.g") VNone) (GStore Resolved (codes "g")))) SClassEnd))))
+class_body = MkScope (record { number = 1; kind = class_kind; place = λ u x n. 0; cell_place = λ n. 0; free = []; class_cell = codes "__class__" ∷ [] }) (SThen (SInto (VLoad FixedGlobal (codes "__name__")) (GStore FixedByName (codes "__module__"))) (SThen (SInto (VConst (obj.str (codes "A"))) (GStore FixedByName (codes "__qualname__"))) (SThen (SInto (VConst obj.none) (GStore FixedByName (codes "__doc__"))) (SThen (SAt (at 2 5) (SInto (VMake 0 VNone method (codes "A.g") VNone) (GStore Resolved (codes "g")))) SClassEnd))))
 
 abbrev cells : List Cell
 cells = record { name = codes "__class__"; place = 0 } ∷ []

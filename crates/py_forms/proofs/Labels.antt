@@ -226,3 +226,10 @@ module _ {K : Type 0} (i : Interp K) where
       let a : List (Item K) = code i f (record { inside = false; on_break = 0; on_continue = 0 }) 1 in
       let o = (in_s f (record { inside = false; on_break = 0; on_continue = 0 }) 1).owns k in
       omega (arith, o.within lo hi, occurs-append k a (closing (closes f)), no_closing K k (closes f))
+
+  -- and no other: block 0 begins it all
+  pub never_placed : (f : SForm) → occurs 0 (body_code i f) ≡ 0
+  never_placed f =
+      let a : List (Item K) = code i f (record { inside = false; on_break = 0; on_continue = 0 }) 1 in
+      let o = (in_s f (record { inside = false; on_break = 0; on_continue = 0 }) 1).owns 0 in
+      omega (arith, o.below (omega arith), occurs-append 0 a (closing (closes f)), no_closing K 0 (closes f))

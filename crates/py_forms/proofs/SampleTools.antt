@@ -44,7 +44,7 @@ kind_where k FixedGlobal = Global
 kind_where k FixedFast = Fast
 
 abbrev head_where : Kind → Head
-head_where k = record { kind = λ u x n. kind_where k x; place = λ u x n. 0; cell_place = λ n. 0; free = []; class_cell = [] }
+head_where k = record { number = 0; kind = λ u x n. kind_where k x; place = λ u x n. 0; cell_place = λ n. 0; free = []; class_cell = [] }
 
 abbrev pub program_head : Head
 program_head = head_where ByName

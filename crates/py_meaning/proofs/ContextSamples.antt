@@ -83,7 +83,7 @@ unfolding with_step with_block with_name with_varname with_constant with_loops l
 method_names = refl
 
 abbrev method : Scope
-method = MkScope (head_of in_method) (SReturn (expr_form in_method returned))
+method = MkScope (head_of in_method) (SReturn (expr_form in_method 4 returned))
 
 -- and so it is read
 method_means : meaning_by (exactly (λ s. s)) method (Gives 1 ∷ Gives 1 ∷ Gives 1 ∷ Gives 3 ∷ Gives 1 ∷ Gives 1 ∷ Gives 1 ∷ []) ≡ ran (Accesses Global Load (codes "_A__x") 0 [] ∷ Accesses Deref Load (codes "q") 0 [] ∷ Accesses Fast Load (codes "self") 0 [] ∷ Operates (operation op.LoadMethod (Named (codes "_A__m"))) (Given 2 0 ∷ []) ∷ Operates (operation op.CallMethodPositional (Number 0)) (Given 3 0 ∷ Given 3 1 ∷ Given 3 2 ∷ []) ∷ Accesses Deref Load (codes "A") 1 [] ∷ Operates (operation op.BuildTuple (Number 4)) (Given 0 0 ∷ Given 1 0 ∷ Given 4 0 ∷ Given 5 0 ∷ []) ∷ []) (Returned (It (Given 6 0)))

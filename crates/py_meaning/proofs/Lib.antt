@@ -1,4 +1,5 @@
 mod SampleTools
+mod ObjectTools
 mod MeaningSamples
 mod ContextSamples
 mod ScannedSamples
@@ -8,3 +9,4 @@ mod LoopSamples
 mod RaiseSamples
 mod WithSamples
 mod OrderSamples
+mod FunctionSamples

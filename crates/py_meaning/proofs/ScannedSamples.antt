@@ -64,7 +64,7 @@ unscanned = refl
 abbrev redeclares : tree.Mod
 redeclares = tree.Module (one (tree.FunctionDef (at 1 1) (codes "f") (tree.arguments tree.no_args (tree.more_args (tree.arg (at 1 7) (codes "x") tree.no_expr) tree.no_expr tree.no_args) tree.no_arg tree.no_args tree.no_arg) (one (tree.Global (at 2 5) (codes "x" ∷ []))) tree.no_exprs tree.no_expr tree.no_type_params))
 
-redeclared : faults redeclares Exec 0 ≡ fault_at (error.SyntaxError (codes "name 'x' is parameter and global")) (at 2 5) ∷ fault_at error.NotImplementedYet (at 1 1) ∷ []
+redeclared : faults redeclares Exec 0 ≡ fault_at (error.SyntaxError (codes "name 'x' is parameter and global")) (at 2 5) ∷ []
 redeclared = refl
 
 redeclared_scopes : scopes_of redeclares ≡ []
@@ -72,5 +72,5 @@ redeclared_scopes = refl
 
 -- break
 -- nonlocal x
-outermost_nonlocal : faults (tree.Module (tree.more_stmts (tree.Break (at 1 1)) (one (tree.Nonlocal (at 2 1) (codes "x" ∷ []))))) Exec 0 ≡ fault_at (error.SyntaxError (codes "cannot define nonlocal 'x' at top level.")) (at 2 1) ∷ fault_at error.InvalidBreak (at 1 1) ∷ fault_at error.NotImplementedYet (at 2 1) ∷ []
+outermost_nonlocal : faults (tree.Module (tree.more_stmts (tree.Break (at 1 1)) (one (tree.Nonlocal (at 2 1) (codes "x" ∷ []))))) Exec 0 ≡ fault_at (error.SyntaxError (codes "cannot define nonlocal 'x' at top level.")) (at 2 1) ∷ fault_at error.InvalidBreak (at 1 1) ∷ []
 outermost_nonlocal = refl

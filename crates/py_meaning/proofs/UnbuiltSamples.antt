@@ -1,5 +1,5 @@
 -- What is not compiled yet: what is emitted of it, and its faults.
-use Rattle.std.proofs.Common.{◌≡◌, refl, ℕ, [], ◌∷◌, None, Some, codes, pos}
+use Rattle.std.proofs.Common.{◌≡◌, refl, ℕ, [], ◌∷◌, false, None, Some, codes, pos}
 use Rattle.py_base.specs.Literal as literal
 use Rattle.py_tree.specs.Tree as tree
 use Rattle.py_base.specs.declared.location.SourceLocation.{SourceLocation}
@@ -22,18 +22,18 @@ no_arguments = tree.arguments tree.no_args tree.no_args tree.no_arg tree.no_args
 abbrev one : tree.Stmt → tree.Stmts
 one s = tree.more_stmts s tree.no_stmts
 
--- `def f(): break`
+-- `async def f(): break`
 abbrev def_f : SourceLocation → tree.Stmt
-def_f place = tree.FunctionDef place (codes "f") no_arguments (one (tree.Break (at 10))) tree.no_exprs tree.no_expr tree.no_type_params
+def_f place = tree.AsyncFunctionDef place (codes "f") no_arguments (one (tree.Break (at 16))) tree.no_exprs tree.no_expr tree.no_type_params
 
--- `lambda: 1`
-abbrev constant_lambda : SourceLocation → tree.Expr
-constant_lambda place = tree.Lambda place no_arguments (tree.Constant (at 9) (literal.Int (pos 1)))
+-- `[1 for x in y]`
+abbrev ones : SourceLocation → tree.Expr
+ones place = tree.ListComp place (tree.Constant (at 2) (literal.Int (pos 1))) (tree.more_generators (tree.Name (at 8) (codes "x")) (tree.Name (at 13) (codes "y")) tree.no_exprs false tree.no_generators)
 
 abbrev not_yet : SourceLocation → Fault
 not_yet place = fault_at error.NotImplementedYet place
 
--- a def is at fault where it stands, and nothing within it is told
+-- an async def is at fault where it stands, and nothing within it is told
 def_alone : faults (tree.Module (one (def_f (at 1)))) Exec 0 ≡ not_yet (at 1) ∷ []
 def_alone = refl
 
@@ -50,12 +50,12 @@ unfolding move refuse located by_level by_loops inside
 break_decides = refl
 
 -- an expression too
-lambda_called : faults (tree.Module (one (tree.StmtExpr (at 1) (tree.Call (at 1) (constant_lambda (at 2)) tree.no_exprs tree.no_keywords)))) Exec 0 ≡ not_yet (at 2) ∷ []
-lambda_called = refl
+ones_called : faults (tree.Module (one (tree.StmtExpr (at 1) (tree.Call (at 1) (ones (at 2)) tree.no_exprs tree.no_keywords)))) Exec 0 ≡ not_yet (at 2) ∷ []
+ones_called = refl
 
 -- as a target it is none
-lambda_stored : faults (tree.Module (one (tree.Assign (at 1) (tree.more_exprs (constant_lambda (at 1)) tree.no_exprs) (tree.Name (at 13) (codes "x"))))) Exec 0 ≡ fault_at (error.Assign (codes "lambda")) (at 13) ∷ []
-lambda_stored = refl
+ones_stored : faults (tree.Module (one (tree.Assign (at 1) (tree.more_exprs (ones (at 1)) tree.no_exprs) (tree.Name (at 18) (codes "x"))))) Exec 0 ≡ fault_at (error.Assign (codes "list comprehension")) (at 18) ∷ []
+ones_stored = refl
 
 -- an interactive tree is at fault as a whole, where its mode is one of a prompt
 prompted : faults (tree.Interactive tree.no_stmts) Single 0 ≡ unbuilt_tree ∷ []

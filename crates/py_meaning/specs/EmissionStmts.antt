@@ -1,5 +1,5 @@
 -- What is emitted for each statement and for a whole tree, in which order, and where it stands.
-use Rattle.std.specs.Prelude.{ℕ, List, Bool, true, false, not, Option, Some, None, codes, nat_eq, if◌then◌else◌}
+use Rattle.std.specs.Prelude.{ℕ, ◌+◌, List, Bool, true, false, not, Option, Some, None, codes, nat_eq, if◌then◌else◌}
 use Rattle.py_tree.specs.PythonName.{python_name}
 use Rattle.py_tree.specs.Tree as tree
 use Rattle.py_base.specs.declared.location.SourceLocation.{SourceLocation}
@@ -10,19 +10,18 @@ use Rattle.py_bytecode.specs.declared.instruction.Instruction.TheVariants as op
 use Rattle.py_bytecode.specs.Objects as const
 use Rattle.py_forms.specs.declared.errors.CodegenErrorType.{CodegenErrorType}
 use Rattle.py_forms.specs.declared.errors.CodegenErrorType.TheVariants as error
-use Rattle.py_emission.specs.Texts.{after_doc, doc_of}
+use Rattle.py_counts.specs.Counts.{scopes_in, scopes_in_opt}
+use Rattle.py_emission.specs.Texts.{after_doc, doc_of, stmt_text}
 use Rattle.py_steps.specs.TableParts.{binary_case}
 use Rattle.py_meaning.specs.ControlEmissions.{any_match, asserted, caught, for_each, handler, managed, named_body, raise_again, try_body, typed_match}
-use Rattle.py_meaning.specs.Table.{annotated, message_count}
+use Rattle.py_meaning.specs.EmissionDefs.{emission_of_def, emission_of_end}
+use Rattle.py_meaning.specs.StmtParts.{annotated, but_doc, message_count, none}
+use Rattle.py_steps.specs.Children.{decorated}
 use Rattle.py_steps.specs.Emitting.{Emission, LoopBlocks, Outcome, Refused, ◌▸◌, begin, by_context, by_level, by_loops, emit, emit_constant, emit_mangled, emit_name, in_loop, jump, keep, move, new_block, nothing, refuse}
 use Rattle.py_steps.specs.Accesses.{emission_of_name, emission_of_stored}
-use Rattle.py_steps.specs.Context.{Context, mangled}
-use Rattle.py_steps.specs.EmissionParts.{choice, no_assignment, only, unless_debug}
-use Rattle.py_emission.specs.Emission.{emission, emission_of_deletes, emission_of_return, emission_of_store, emission_of_test, unbuilt}
-
-abbrev pub none : tree.Stmts → Bool
-none tree.no_stmts = true
-none (tree.more_stmts s ss) = false
+use Rattle.py_steps.specs.Context.{Context, is_function, mangled}
+use Rattle.py_steps.specs.EmissionParts.{choice, no_assignment, only, only_in_function, pass_scopes, unless_debug, values}
+use Rattle.py_emission.specs.Emission.{all_emissions, emission, emission_of_deletes, emission_of_return, emission_of_store, emission_of_test, unbuilt}
 
 -- a value is stored to each target, and kept for those that follow
 abbrev pub emission_of_assign : tree.Exprs → Emission
@@ -43,15 +42,24 @@ emission_of_augment (tree.Subscript at value slice) o v =
     emission value ▸ emission slice ▸ emit op.Duplicate2 0 ▸ emit op.Subscript 0 ▸ emission_of_operand o v ▸ emit op.Rotate3 0 ▸ emit op.StoreSubscript 0
 emission_of_augment other o v = refuse (error.Assign (python_name other))
 
--- the value of an annotated target, where there is one
+-- the value of an annotated target; without one the target is only scanned
 abbrev pub emission_of_declared : tree.Expr → tree.OptExpr → Emission
-emission_of_declared target tree.no_expr = keep
+emission_of_declared target tree.no_expr = pass_scopes (λ postponed. scopes_in postponed target)
 emission_of_declared target (tree.some_expr e) = emission e ▸ emission_of_store target
 
 -- the annotation of a name is kept in `__annotations__`, that of another target is dropped
 abbrev pub emission_of_annotation : tree.Expr → Emission
 emission_of_annotation (tree.Name at id) = emit_name op.LoadNameAny (codes "__annotations__") ▸ by_context (λ c. emit_constant op.LoadConst (const.str (mangled c id))) ▸ emit op.StoreSubscript 0
 emission_of_annotation other = emit op.Pop 0
+
+-- a function does nothing with the annotations of its names, which are only scanned
+abbrev pub emission_of_annotated : (target annotation : tree.Expr) → Emission
+emission_of_annotated target annotation = by_context (λ c. if is_function c.typ then pass_scopes (λ postponed. scopes_in postponed annotation) else emission annotation ▸ emission_of_annotation target)
+
+-- what is returned, or None
+abbrev pub emission_of_returned : tree.OptExpr → Emission
+emission_of_returned tree.no_expr = emit_constant op.ReturnConst const.none
+emission_of_returned (tree.some_expr e) = emission_of_return e
 
 -- a break or a continue, where there is a loop
 abbrev pub leave_loop : Instruction → (LoopBlocks → ℕ) → CodegenErrorType → Option LoopBlocks → Emission
@@ -82,9 +90,11 @@ abbrev pub emission_of_message : tree.OptExpr → Emission
 emission_of_message tree.no_expr = keep
 emission_of_message (tree.some_expr e) = emission e
 
--- above level 0 nothing is asserted
+-- above level 0 an assertion is only scanned
 abbrev pub emission_of_assert : tree.Expr → tree.OptExpr → (level : ℕ) → Emission
-emission_of_assert t msg level = if nat_eq level 0 then asserted (emission_of_test t) (emission_of_message msg) (message_count msg) else keep
+emission_of_assert t msg level =
+    if nat_eq level 0 then asserted (emission_of_test t) (emission_of_message msg) (message_count msg)
+    else pass_scopes (λ postponed. scopes_in postponed t + scopes_in_opt postponed msg)
 
 -- the last part of a `try`, where there is one
 abbrev pub emission_of_last : tree.Stmts → Emission → Emission
@@ -93,10 +103,13 @@ emission_of_last (tree.more_stmts s ss) last = last ▸ emit op.EndFinally 0
 
 abbrev mutual
   pub emission_of_stmt : tree.Stmt → Emission
+  emission_of_stmt (tree.FunctionDef at name params body decorators returns tree.no_type_params) =
+      move at ▸ decorated (values (all_emissions decorators)) (emission_of_def name params body returns (emission_of_rest body ▸ emission_of_end (after_doc body))) ▸ emission_of_stored name
+  emission_of_stmt (tree.Return at value) = move at ▸ only_in_function error.InvalidReturn (emission_of_returned value)
   emission_of_stmt (tree.Delete at targets) = move at ▸ emission_of_deletes targets
   emission_of_stmt (tree.Assign at targets value) = move at ▸ emission value ▸ emission_of_assign targets
   emission_of_stmt (tree.AugAssign at target o value) = move at ▸ emission_of_augment target o (emission value)
-  emission_of_stmt (tree.AnnAssign at target annotation value simple) = move at ▸ emission_of_declared target value ▸ emission annotation ▸ emission_of_annotation target
+  emission_of_stmt (tree.AnnAssign at target annotation value simple) = move at ▸ emission_of_declared target value ▸ emission_of_annotated target annotation
   emission_of_stmt (tree.If at t body orelse) =
       move at ▸ (if none orelse then only (emission_of_test t) (emission_of_stmts body) else choice (emission_of_test t) (emission_of_stmts body) (emission_of_stmts orelse))
   emission_of_stmt (tree.While at t body orelse) =
@@ -110,6 +123,8 @@ abbrev mutual
   emission_of_stmt (tree.Try at body excepts orelse finalbody) =
       move at ▸ try_body (not (none finalbody)) (emission_of_stmts body) (emission_of_handlers excepts (not (none finalbody))) (emission_of_stmts orelse) (emission_of_last finalbody (emission_of_stmts finalbody))
   emission_of_stmt (tree.Assert at t msg) = move at ▸ by_level (emission_of_assert t msg)
+  emission_of_stmt (tree.Global at names) = move at
+  emission_of_stmt (tree.Nonlocal at names) = move at
   emission_of_stmt (tree.StmtExpr at value) = move at ▸ emission value ▸ emit op.Pop 0
   emission_of_stmt (tree.Break at) = move at ▸ by_loops (leave_loop op.Break (λ x. x.on_break) error.InvalidBreak)
   emission_of_stmt (tree.Continue at) = move at ▸ by_loops (leave_loop op.Continue (λ x. x.on_continue) error.InvalidContinue)
@@ -119,6 +134,11 @@ abbrev mutual
   pub emission_of_stmts : tree.Stmts → Emission
   emission_of_stmts tree.no_stmts = keep
   emission_of_stmts (tree.more_stmts s ss) = emission_of_stmt s ▸ emission_of_stmts ss
+
+  -- the statements of a scope within, but a docstring
+  pub emission_of_rest : tree.Stmts → Emission
+  emission_of_rest tree.no_stmts = keep
+  emission_of_rest (tree.more_stmts s ss) = but_doc (stmt_text s) (emission_of_stmts ss) (emission_of_stmt s ▸ emission_of_stmts ss)
 
   -- one handler after another; one without a type takes no name
   pub emission_of_handlers : tree.Handlers → (last : Bool) → (end : ℕ) → Emission

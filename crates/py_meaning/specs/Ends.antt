@@ -25,9 +25,13 @@ abbrev mutual
   expr_end (tree.NamedExpr at target value) = store_end (expr_end value) target
   expr_end (tree.BinOp at left o right) = expr_end right
   expr_end (tree.UnaryOp at o operand) = expr_end operand
+  expr_end (tree.Lambda at params body) = expr_end body
   expr_end (tree.IfExp at t body orelse) = expr_end orelse
   expr_end (tree.Dict at keys others) = last_of at (flat (pairs (opts_ends keys) (ends_of others)))
   expr_end (tree.Set at elts) = last_of at (ends_of elts)
+  expr_end (tree.Await at value) = expr_end value
+  expr_end (tree.Yield at value) = last_of at (some_of (opt_end value))
+  expr_end (tree.YieldFrom at value) = expr_end value
   expr_end (tree.Compare at left ops others) = last_of (expr_end left) (ends_of others)
   expr_end (tree.Call at func args keywords) = last_of (last_of (expr_end func) (ends_of args)) (keyword_ends keywords)
   expr_end (tree.FormattedValue at value c spec) = last_of (expr_end value) (some_of (opt_end spec))

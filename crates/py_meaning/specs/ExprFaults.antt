@@ -1,11 +1,13 @@
 -- What is wrong in expressions, targets and the statements that assign and delete, in the order in which they are compiled.
-use Rattle.std.specs.Prelude.{ℕ, List, [], ◌∷◌, ◌++◌, Bool, not, Option, Some, None, nat_eq, if◌then◌else◌}
+use Rattle.std.specs.Prelude.{ℕ, List, [], ◌∷◌, ◌++◌, Bool, true, not, Option, Some, None, nat_eq, if◌then◌else◌}
 use Rattle.py_tree.specs.Tree as tree
 use Rattle.py_tree.specs.PythonName.{python_name}
 use Rattle.py_steps.specs.Elements.{Element, Single, Spread, stars, pairs, flat}
 use Rattle.py_steps.specs.EmissionParts.{few_aside, lone_star, no_assignment, no_deletion}
 use Rattle.py_emission.specs.Emission.{deletion_name}
-use Rattle.py_meaning.specs.Ends.{args_end, delete_end, expr_end, store_end}
+use Rattle.py_emission.specs.Parameters.{parameters}
+use Rattle.py_meaning.specs.Ends.{args_end, delete_end, expr_end, last_of, store_end}
+use Rattle.py_meaning.specs.StmtEnds.{default_ends}
 use Rattle.py_steps.specs.TableParts.{is_debug}
 use Rattle.py_emission.specs.Texts.{texts_of}
 use Rattle.py_forms.specs.declared.errors.CodegenErrorType.TheVariants as error
@@ -83,6 +85,11 @@ abbrev pub if_any : Option (List Fault) → List Fault
 if_any None = []
 if_any (Some fs) = fs
 
+-- parameters, which are entered there
+abbrev pub parameter_faults : SourceLocation → List (List ℕ) → List Fault
+parameter_faults p [] = []
+parameter_faults p (x ∷ xs) = debug_faults no_assignment p x ++ parameter_faults p xs
+
 -- one text has nothing wrong
 abbrev pub joined_faults : Option (List ℕ) → List (List Fault) → List Fault
 joined_faults (Some text) fs = []
@@ -90,87 +97,116 @@ joined_faults None fs = in_order fs
 
 -- a starred expression that is no element, before what is wrong in its value
 abbrev mutual
-  pub faults_in : tree.Expr → ExprFaults
-  faults_in (tree.BoolOp at o operands) = either (in_order (values (all_faults operands)))
-  faults_in (tree.NamedExpr at target value) = either ((faults_in value).value ++ (faults_to (expr_end value) target).alone)
-  faults_in (tree.BinOp at left o right) = either ((faults_in left).value ++ (faults_in right).value)
-  faults_in (tree.UnaryOp at o operand) = either (faults_in operand).value
-  faults_in (tree.IfExp at t body orelse) = either ((faults_in t).value ++ (faults_in body).value ++ (faults_in orelse).value)
-  faults_in (tree.Dict at keys others) = either (in_order (flat (pairs (opts_faults keys) (values (all_faults others)))))
-  faults_in (tree.Set at elts) = either (in_order (elements (all_faults elts)))
-  faults_in (tree.Compare at left ops others) = either ((faults_in left).value ++ in_order (values (all_faults others)))
-  faults_in (tree.Call at func args keywords) = either ((faults_in func).value ++ in_order (elements (all_faults args)) ++ keyword_faults (args_end func args) keywords ++ in_order (keyword_values keywords))
-  faults_in (tree.FormattedValue at value c spec) = either ((faults_in value).value ++ if_any (opt_faults spec))
-  faults_in (tree.JoinedStr at parts) = either (joined_faults (texts_of parts) (values (all_faults parts)))
-  faults_in (tree.Constant at value) = either []
-  faults_in (tree.Attribute at value attr) = either (faults_in value).value
-  faults_in (tree.Subscript at value slice) = either ((faults_in value).value ++ (faults_in slice).value)
-  faults_in (tree.Starred at value) = record { value = fault_at error.InvalidStarExpr at ∷ (faults_in value).value; element = (faults_in value).value }
-  faults_in (tree.Name at id) = either []
-  faults_in (tree.List at elts) = either (in_order (elements (all_faults elts)))
-  faults_in (tree.Tuple at elts) = either (in_order (elements (all_faults elts)))
-  faults_in (tree.Slice at lower upper step) = either (if_any (opt_faults lower) ++ if_any (opt_faults upper) ++ if_any (opt_faults step))
-  faults_in other = either (unbuilt (tree.expr_location other))
+  pub faults_in : (in_function : Bool) → tree.Expr → ExprFaults
+  faults_in b (tree.BoolOp at o operands) = either (in_order (values (all_faults b operands)))
+  faults_in b (tree.NamedExpr at target value) = either ((faults_in b value).value ++ (faults_to b (expr_end value) target).alone)
+  faults_in b (tree.BinOp at left o right) = either ((faults_in b left).value ++ (faults_in b right).value)
+  faults_in b (tree.UnaryOp at o operand) = either (faults_in b operand).value
+  faults_in b (tree.Lambda at params body) = either (default_faults b params ++ (parameter_faults (last_of at (default_ends params)) (parameters params) ++ (faults_in true body).value))
+  faults_in b (tree.IfExp at t body orelse) = either ((faults_in b t).value ++ (faults_in b body).value ++ (faults_in b orelse).value)
+  faults_in b (tree.Dict at keys others) = either (in_order (flat (pairs (opts_faults b keys) (values (all_faults b others)))))
+  faults_in b (tree.Set at elts) = either (in_order (elements (all_faults b elts)))
+  faults_in b (tree.Await at value) = either (fault_at error.InvalidAwait at ∷ (faults_in b value).value)
+  faults_in b (tree.Yield at value) = either (when (not b) (fault_at error.InvalidYield at) ++ if_any (opt_faults b value))
+  faults_in b (tree.YieldFrom at value) = either (when (not b) (fault_at error.InvalidYieldFrom at) ++ (faults_in b value).value)
+  faults_in b (tree.Compare at left ops others) = either ((faults_in b left).value ++ in_order (values (all_faults b others)))
+  faults_in b (tree.Call at func args keywords) = either ((faults_in b func).value ++ in_order (elements (all_faults b args)) ++ keyword_faults (args_end func args) keywords ++ in_order (keyword_values b keywords))
+  faults_in b (tree.FormattedValue at value conversion spec) = either ((faults_in b value).value ++ if_any (opt_faults b spec))
+  faults_in b (tree.JoinedStr at parts) = either (joined_faults (texts_of parts) (values (all_faults b parts)))
+  faults_in b (tree.Constant at value) = either []
+  faults_in b (tree.Attribute at value attr) = either (faults_in b value).value
+  faults_in b (tree.Subscript at value slice) = either ((faults_in b value).value ++ (faults_in b slice).value)
+  faults_in b (tree.Starred at value) = record { value = fault_at error.InvalidStarExpr at ∷ (faults_in b value).value; element = (faults_in b value).value }
+  faults_in b (tree.Name at id) = either []
+  faults_in b (tree.List at elts) = either (in_order (elements (all_faults b elts)))
+  faults_in b (tree.Tuple at elts) = either (in_order (elements (all_faults b elts)))
+  faults_in b (tree.Slice at lower upper step) = either (if_any (opt_faults b lower) ++ if_any (opt_faults b upper) ++ if_any (opt_faults b step))
+  faults_in b other = either (unbuilt (tree.expr_location other))
 
-  pub all_faults : tree.Exprs → List ExprFaults
-  all_faults tree.no_exprs = []
-  all_faults (tree.more_exprs e es) = faults_in e ∷ all_faults es
+  -- each of them
+  pub all_faults : (in_function : Bool) → tree.Exprs → List ExprFaults
+  all_faults b tree.no_exprs = []
+  all_faults b (tree.more_exprs e es) = faults_in b e ∷ all_faults b es
 
-  pub opt_faults : tree.OptExpr → Option (List Fault)
-  opt_faults tree.no_expr = None
-  opt_faults (tree.some_expr e) = Some (faults_in e).value
+  -- where there is one
+  pub opt_faults : (in_function : Bool) → tree.OptExpr → Option (List Fault)
+  opt_faults b tree.no_expr = None
+  opt_faults b (tree.some_expr e) = Some (faults_in b e).value
 
-  pub opts_faults : tree.OptExprs → List (Option (List Fault))
-  opts_faults tree.no_opts = []
-  opts_faults (tree.more_opts e es) = opt_faults e ∷ opts_faults es
+  -- the keys of a dict display
+  pub opts_faults : (in_function : Bool) → tree.OptExprs → List (Option (List Fault))
+  opts_faults b tree.no_opts = []
+  opts_faults b (tree.more_opts e es) = opt_faults b e ∷ opts_faults b es
 
-  pub keyword_values : tree.Keywords → List (List Fault)
-  keyword_values tree.no_keywords = []
-  keyword_values (tree.more_keywords name e ks) = (faults_in e).value ∷ keyword_values ks
+  -- the values of keywords
+  pub keyword_values : (in_function : Bool) → tree.Keywords → List (List Fault)
+  keyword_values b tree.no_keywords = []
+  keyword_values b (tree.more_keywords name e ks) = (faults_in b e).value ∷ keyword_values b ks
+
+  -- the defaults of some parameters
+  pub arg_faults : (in_function : Bool) → tree.Args → List Fault
+  arg_faults b tree.no_args = []
+  arg_faults b (tree.more_args a default rest) = if_any (opt_faults b default) ++ arg_faults b rest
+
+  -- those of positional parameters come first
+  pub default_faults : (in_function : Bool) → tree.Arguments → List Fault
+  default_faults b (tree.arguments posonly args vararg kwonly kwarg) = arg_faults b posonly ++ (arg_faults b args ++ arg_faults b kwonly)
 
   -- a store that begins there
-  pub faults_to : SourceLocation → tree.Expr → TargetFaults
-  faults_to p (tree.Name at id) = both (debug_faults no_assignment p id)
-  faults_to p (tree.Attribute at value attr) = both (debug_faults no_assignment p attr ++ (faults_in value).value)
-  faults_to p (tree.Subscript at value slice) = both ((faults_in value).value ++ (faults_in slice).value)
-  faults_to p (tree.List at elts) = both (star_faults at p (starring elts) ++ all_faults_to p elts)
-  faults_to p (tree.Tuple at elts) = both (star_faults at p (starring elts) ++ all_faults_to p elts)
-  faults_to p (tree.Starred at value) = record { alone = fault_at (error.SyntaxError lone_star) p ∷ []; element = (faults_to p value).alone }
-  faults_to p other = both (fault_at (error.Assign (python_name other)) p ∷ [])
+  pub faults_to : (in_function : Bool) → SourceLocation → tree.Expr → TargetFaults
+  faults_to b p (tree.Name at id) = both (debug_faults no_assignment p id)
+  faults_to b p (tree.Attribute at value attr) = both (debug_faults no_assignment p attr ++ (faults_in b value).value)
+  faults_to b p (tree.Subscript at value slice) = both ((faults_in b value).value ++ (faults_in b slice).value)
+  faults_to b p (tree.List at elts) = both (star_faults at p (starring elts) ++ all_faults_to b p elts)
+  faults_to b p (tree.Tuple at elts) = both (star_faults at p (starring elts) ++ all_faults_to b p elts)
+  faults_to b p (tree.Starred at value) = record { alone = fault_at (error.SyntaxError lone_star) p ∷ []; element = (faults_to b p value).alone }
+  faults_to b p other = both (fault_at (error.Assign (python_name other)) p ∷ [])
 
-  pub all_faults_to : SourceLocation → tree.Exprs → List Fault
-  all_faults_to p tree.no_exprs = []
-  all_faults_to p (tree.more_exprs e es) = (faults_to p e).element ++ all_faults_to (store_end p e) es
+  -- the targets of a list or a tuple, each where the one before leaves off
+  pub all_faults_to : (in_function : Bool) → SourceLocation → tree.Exprs → List Fault
+  all_faults_to b p tree.no_exprs = []
+  all_faults_to b p (tree.more_exprs e es) = (faults_to b p e).element ++ all_faults_to b (store_end p e) es
 
-abbrev pub expr_faults : tree.Expr → List Fault
-expr_faults e = (faults_in e).value
+-- an expression as a value
+abbrev pub expr_faults : (in_function : Bool) → tree.Expr → List Fault
+expr_faults b e = (faults_in b e).value
+
+-- one that may be missing
+abbrev pub opt_expr_faults : (in_function : Bool) → tree.OptExpr → List Fault
+opt_expr_faults b e = if_any (opt_faults b e)
+
+-- expressions one after another
+abbrev pub exprs_faults : (in_function : Bool) → tree.Exprs → List Fault
+exprs_faults b es = in_order (values (all_faults b es))
 
 -- a deletion that begins there
 abbrev mutual
-  pub delete_faults : SourceLocation → tree.Expr → List Fault
-  delete_faults p (tree.Name at id) = debug_faults no_deletion p id
-  delete_faults p (tree.Attribute at value attr) = debug_faults no_deletion p attr ++ expr_faults value
-  delete_faults p (tree.Subscript at value slice) = expr_faults value ++ expr_faults slice
-  delete_faults p (tree.List at elts) = deletes_faults p elts
-  delete_faults p (tree.Tuple at elts) = deletes_faults p elts
-  delete_faults p other = fault_at (error.Delete (deletion_name other)) p ∷ []
+  pub delete_faults : (in_function : Bool) → SourceLocation → tree.Expr → List Fault
+  delete_faults b p (tree.Name at id) = debug_faults no_deletion p id
+  delete_faults b p (tree.Attribute at value attr) = debug_faults no_deletion p attr ++ expr_faults b value
+  delete_faults b p (tree.Subscript at value slice) = expr_faults b value ++ expr_faults b slice
+  delete_faults b p (tree.List at elts) = deletes_faults b p elts
+  delete_faults b p (tree.Tuple at elts) = deletes_faults b p elts
+  delete_faults b p other = fault_at (error.Delete (deletion_name other)) p ∷ []
 
-  pub deletes_faults : SourceLocation → tree.Exprs → List Fault
-  deletes_faults p tree.no_exprs = []
-  deletes_faults p (tree.more_exprs e es) = delete_faults p e ++ deletes_faults (delete_end p e) es
+  -- each where the one before leaves off
+  pub deletes_faults : (in_function : Bool) → SourceLocation → tree.Exprs → List Fault
+  deletes_faults b p tree.no_exprs = []
+  deletes_faults b p (tree.more_exprs e es) = delete_faults b p e ++ deletes_faults b (delete_end p e) es
 
 -- stores one after the other, the first of which begins there
-abbrev pub assign_faults : SourceLocation → tree.Exprs → List Fault
-assign_faults p tree.no_exprs = []
-assign_faults p (tree.more_exprs e es) = (faults_to p e).alone ++ assign_faults (store_end p e) es
+abbrev pub assign_faults : (in_function : Bool) → SourceLocation → tree.Exprs → List Fault
+assign_faults b p tree.no_exprs = []
+assign_faults b p (tree.more_exprs e es) = (faults_to b p e).alone ++ assign_faults b (store_end p e) es
 
 -- an augmented assignment that stands there
-abbrev pub augment_faults : SourceLocation → tree.Expr → (value : tree.Expr) → List Fault
-augment_faults at (tree.Name place id) value = expr_faults value ++ debug_faults no_assignment (expr_end value) id
-augment_faults at (tree.Attribute place object attr) value = debug_faults no_assignment at attr ++ expr_faults object ++ expr_faults value
-augment_faults at (tree.Subscript place object slice) value = expr_faults object ++ expr_faults slice ++ expr_faults value
-augment_faults at other value = fault_at (error.Assign (python_name other)) at ∷ []
+abbrev pub augment_faults : (in_function : Bool) → SourceLocation → tree.Expr → (value : tree.Expr) → List Fault
+augment_faults b at (tree.Name place id) value = expr_faults b value ++ debug_faults no_assignment (expr_end value) id
+augment_faults b at (tree.Attribute place object attr) value = debug_faults no_assignment at attr ++ expr_faults b object ++ expr_faults b value
+augment_faults b at (tree.Subscript place object slice) value = expr_faults b object ++ expr_faults b slice ++ expr_faults b value
+augment_faults b at other value = fault_at (error.Assign (python_name other)) at ∷ []
 
-abbrev pub declared_faults : tree.Expr → tree.OptExpr → List Fault
-declared_faults target tree.no_expr = []
-declared_faults target (tree.some_expr e) = expr_faults e ++ (faults_to (expr_end e) target).alone
+-- a value and its store, where there is a value
+abbrev pub declared_faults : (in_function : Bool) → tree.Expr → tree.OptExpr → List Fault
+declared_faults b target tree.no_expr = []
+declared_faults b target (tree.some_expr e) = expr_faults b e ++ (faults_to b (expr_end e) target).alone

@@ -1,7 +1,14 @@
 pub mod Ends
+pub mod StmtCounts
+pub mod TableScopes
 pub mod Table
+pub mod TableNotes
+pub mod StmtParts
+pub mod TableStmts
+pub mod StmtEnds
 pub mod Meaning
 pub mod ControlEmissions
+pub mod EmissionDefs
 pub mod EmissionStmts
 pub mod ExprFaults
 pub mod Scanned

@@ -8,12 +8,13 @@ use Rattle.py_scope.specs.declared.flat.ScopeEntry.{ScopeEntry}
 use Rattle.py_forms.specs.Form.{VConst, SForm, SReturn, Scope, MkScope}
 use Rattle.py_forms.specs.Agree.{plainly, meaning_by}
 use Rattle.py_steps.specs.Context.{Context, head_of, outermost}
-use Rattle.py_meaning.specs.Table.{expr_form, program_form}
+use Rattle.py_meaning.specs.Table.{expr_form}
+use Rattle.py_meaning.specs.TableStmts.{program_form}
 
--- a file, and an expression whose value is returned, are compiled alike in every mode; a return of None stands for what is not compiled yet
+-- a file, and an expression whose value is returned, are compiled alike in every mode; a return of None stands for what is not compiled yet. Scope 1 is the first within
 abbrev pub mod_form : Context → tree.Mod → SForm
 mod_form c (tree.Module stmts) = program_form c stmts
-mod_form c (tree.Expression value) = SReturn (expr_form c value)
+mod_form c (tree.Expression value) = SReturn (expr_form c 1 value)
 mod_form c other = SReturn (VConst const.none)
 
 -- the outermost scope, where these are the scopes of the tree; what is meant does not see the path of the source

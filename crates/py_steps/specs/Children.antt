@@ -1,12 +1,15 @@
 -- What is emitted of a scope within: it begins where its parent stands, its code object is a constant of the parent, and the parent goes on where it leaves off.
-use Rattle.std.specs.Prelude.{ℕ, suc, ◌+◌, List, [], ◌∷◌}
+use Rattle.std.specs.Prelude.{ℕ, suc, ◌+◌, List, [], ◌∷◌, ◌++◌, Option, Some, None, codes, if◌then◌else◌}
+use Rattle.std.specs.List.{list_any}
 use Rattle.py_base.specs.declared.location.SourceLocation.{SourceLocation}
 use Rattle.py_bytecode.specs.declared.instruction.Instruction.TheVariants as op
+use Rattle.py_bytecode.specs.Equality.{text_eq}
 use Rattle.py_bytecode.specs.Objects as const
 use Rattle.py_bytecode.specs.Objects.{Object}
-use Rattle.py_steps.specs.Context.{Context, cell_place}
-use Rattle.py_steps.specs.Emitting.{Emission, Outcome, State, ◌▸◌, Done, TooWide, Refused, begun, emit, emit_constant, keep}
-use Rattle.py_steps.specs.EmissionParts.{built, map_of}
+use Rattle.py_scope.specs.declared.table_type.SymbolTableType.TheVariants as kind
+use Rattle.py_steps.specs.Context.{Context, cell_place, function_path, inside, mangled, qualified, with_path}
+use Rattle.py_steps.specs.Emitting.{Emission, Outcome, State, ◌▸◌, Done, TooWide, Refused, add_constant, add_varname, begun, by_context, emit, emit_constant, emit_count, emit_name, keep}
+use Rattle.py_steps.specs.EmissionParts.{built, in_turn, map_of, no_assignment, unless_debug}
 use Rattle.py_steps.specs.Sealed.{Head, sealed}
 
 -- what a node says of its scope's code object
@@ -47,9 +50,11 @@ child within h body k s =
     let c = within s.around.context s.next in
     on_sealed c.level (code_head c h s.location) s (body (begun c s.location (suc s.next))) k
 
--- a cell that a function is made of
+-- a cell that a function is made of, which is one of the present scope's or comes to it from outside
 unfoldable pub load_cell : List ℕ → Emission
-load_cell x s = emit op.LoadClosure (cell_place s.around.context x) s
+load_cell x s =
+    if list_any (text_eq x) (s.around.context.cells ++ s.around.context.frees) then emit op.LoadClosure (cell_place s.around.context x) s
+    else TooWide
 
 abbrev pub cell_loads : List (List ℕ) → List Emission
 cell_loads [] = []
@@ -91,3 +96,42 @@ emission_of_defaults d = some_emitted (built op.BuildTuple) d.positional ▸ som
 -- the flags of the defaults that there are
 abbrev pub flags_of_defaults : DefaultEmissions → ℕ
 flags_of_defaults d = some_flag 0x08 d.positional + some_flag 0x04 d.keyword
+
+-- within a lambda, around which the qualified name stays as it is
+abbrev pub lambda_inside : Context → (number : ℕ) → Context
+lambda_inside c n = inside kind.Function n c
+
+-- within a function of this name
+abbrev pub function_inside : (name : List ℕ) → Context → (number : ℕ) → Context
+function_inside name c n = with_path (function_path c name) (inside kind.Function n c)
+
+-- the parameters are the first names of the code object's own, and none is `__debug__`
+abbrev pub enter_parameters : List (List ℕ) → Emission
+enter_parameters [] = keep
+enter_parameters (x ∷ xs) = unless_debug no_assignment x (add_varname x) ▸ enter_parameters xs
+
+-- a function's scope: its parameters, None as its first constant, and what follows
+abbrev pub function_scope : (parameters : List (List ℕ)) → (body : Emission) → Emission
+function_scope xs body = enter_parameters xs ▸ add_constant const.none ▸ body
+
+-- an annotation, after the name that it has in the map of them, which is mangled
+abbrev pub noted : (name : List ℕ) → Emission → Emission
+noted name v = by_context (λ c. emit_constant op.LoadConst (const.str (mangled c name))) ▸ v
+
+-- a function of a code object and its annotations, by its qualified name
+abbrev pub function_made : (flags : ℕ) → (notes : List Emission) → (name : List ℕ) → Object → Emission
+function_made flags notes name o = some_emitted (built op.BuildMap) notes ▸ by_context (λ c. made (flags + some_flag 0x02 notes) (qualified c name) o)
+
+-- a docstring is stored to the function
+abbrev pub documented : Option (List ℕ) → Emission
+documented None = keep
+documented (Some text) = emit op.Duplicate 0 ▸ emit_constant op.LoadConst (const.str text) ▸ emit op.Rotate2 0 ▸ emit_name op.StoreAttr (codes "__doc__")
+
+-- one call for each decorator
+abbrev pub decorations : List Emission → Emission
+decorations [] = keep
+decorations (d ∷ ds) = emit_count op.CallFunctionPositional 1 ▸ decorations ds
+
+-- decorators come first, and are called last
+abbrev pub decorated : List Emission → (value : Emission) → Emission
+decorated ds v = in_turn ds ▸ v ▸ decorations ds

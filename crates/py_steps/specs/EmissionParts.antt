@@ -12,10 +12,12 @@ use Rattle.py_bytecode.specs.declared.instruction.Instruction.TheVariants as op
 use Rattle.py_bytecode.specs.Objects as const
 use Rattle.py_bytecode.specs.Objects.{Const, Consts, no_consts, more_consts}
 use Rattle.py_bytecode.specs.Values.{flip}
+use Rattle.py_forms.specs.declared.errors.CodegenErrorType.{CodegenErrorType}
 use Rattle.py_forms.specs.declared.errors.CodegenErrorType.TheVariants as error
-use Rattle.py_steps.specs.Elements.{Element, Single, Spread, Callee, Function, Method, starred, bare, stars, before_star, after_star, groups, front, behind, sides}
+use Rattle.py_steps.specs.Context.{is_function}
+use Rattle.py_steps.specs.Elements.{Element, Single, Spread, Callee, Function, Method, starred, bare, stars, before_star, after_star, groups, front, behind, pairs, sides}
 use Rattle.py_steps.specs.TableParts.{unary_case, deciding, is_debug, any}
-use Rattle.py_steps.specs.Emitting.{Emission, ◌▸◌, begin, emit, emit_constant, emit_count, emit_mangled, jump, keep, move, new_block, refuse}
+use Rattle.py_steps.specs.Emitting.{Emission, ◌▸◌, begin, by_context, emit, emit_constant, emit_count, emit_mangled, jump, keep, move, new_block, pass_over, refuse}
 
 -- the jump that keeps a value where its truth is this
 abbrev pub keeping_jump : Bool → Instruction
@@ -43,16 +45,17 @@ abbrev pub emission_of_link : CmpOp → (out : ℕ) → Emission
 emission_of_link o out = emit op.Duplicate 0 ▸ emit op.Rotate3 0 ▸ emission_of_comparison o ▸ jump op.JumpIfFalseOrPop out
 
 -- an expression as a value, as a test that jumps to a block where its truth is the one that is given, as an element of a display or
--- of arguments, and as what is called
+-- of arguments, as what is called, and as what is returned
 pub record Emissions : Type 0 where
   pub value : Emission
   pub test : (truth : Bool) → (block : ℕ) → Emission
   pub element : Element Emission Emission
   pub callee : Callee Emission
+  pub returned : Emission
 
 -- an expression that stands for itself among elements, and is called as a function
 abbrev pub ordinary : Emission → ((truth : Bool) → (block : ℕ) → Emission) → Emissions
-ordinary v t = record { value = v; test = t; element = Single v; callee = Function v }
+ordinary v t = record { value = v; test = t; element = Single v; callee = Function v; returned = v ▸ emit op.ReturnValue 0 }
 
 -- a test of its truth
 abbrev pub truth_of : Emission → (truth : Bool) → (block : ℕ) → Emission
@@ -60,6 +63,10 @@ truth_of v c to = v ▸ jump (testing_jump c) to
 
 abbrev pub tested : Emission → Emissions
 tested v = ordinary v (truth_of v)
+
+-- a constant is loaded or returned by one instruction
+abbrev pub constant_emissions : SourceLocation → Const → Emissions
+constant_emissions at c = record (tested (move at ▸ emit_constant op.LoadConst c)) { returned = move at ▸ emit_constant op.ReturnConst c }
 
 abbrev pub values : List Emissions → List Emission
 values [] = []
@@ -166,6 +173,10 @@ map_of_pairs ps = in_turn (sides ps) ▸ emit_count op.BuildMap (length ps)
 abbrev pub dict_value : List (Element (Emission × Emission) Emission) → Emission
 dict_value es = map_of_pairs (front es) ▸ updates (groups map_of_pairs [] (behind es))
 
+-- the entries of a dict display, which has as many keys, or stars in their places, as values
+abbrev pub emission_of_dict : List (Option Emission) → List Emission → Emission
+emission_of_dict ks vs = if nat_eq (length ks) (length vs) then dict_value (pairs ks vs) else refuse (error.MalformedTree shape.UnevenLists)
+
 -- the value, or a constant where there is none
 abbrev pub value_or : Const → Option Emission → Emission
 value_or c None = emit_constant op.LoadConst c
@@ -182,6 +193,14 @@ slice_value lower upper step = value_or const.none lower ▸ value_or const.none
 abbrev pub joined_value : Option (List ℕ) → List Emission → Emission
 joined_value (Some text) vs = emit_constant op.LoadConst (const.str text)
 joined_value None vs = built op.BuildString vs
+
+-- an expression or a statement that only a function may hold
+abbrev pub only_in_function : CodegenErrorType → Emission → Emission
+only_in_function e v = by_context (λ c. if is_function c.typ then v else refuse e)
+
+-- the scopes of parts that are scanned and not compiled, which annotations that are postponed have none of
+abbrev pub pass_scopes : ((postponed : Bool) → ℕ) → Emission
+pass_scopes count = by_context (λ c. pass_over (λ n. n + count c.postponed))
 
 -- values, where all but the last are followed by a jump to the end
 abbrev pub shorts : BoolOp → (end : ℕ) → List Emissions → Emission

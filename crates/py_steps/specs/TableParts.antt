@@ -218,6 +218,11 @@ abbrev pub updated : VForm → List VForm → VForm
 updated map [] = map
 updated map (f ∷ fs) = updated (VOp (operation op.DictUpdate Bare) (VMore map (VMore f VNone))) fs
 
+-- one part where there are any values, and none where there is none
+abbrev pub some_built : {A : Type 0} → (List A → VForm) → List A → VForms → VForms
+some_built build [] rest = rest
+some_built build (x ∷ xs) rest = VMore (build (x ∷ xs)) rest
+
 -- a map of a run of keys and values
 abbrev pub map_of_pairs : List (VForm × VForm) → VForm
 map_of_pairs ps = VOp (counted op.BuildMap (length ps)) (parts_of (sides ps))

@@ -1,0 +1,97 @@
+-- Where the code of a statement leaves off in the source.
+use Rattle.std.specs.Prelude.{ℕ, List, [], ◌++◌, Bool, true, nat_eq, if◌then◌else◌}
+use Rattle.py_tree.specs.Tree as tree
+use Rattle.py_base.specs.declared.location.SourceLocation.{SourceLocation}
+use Rattle.py_steps.specs.Context.{Context, is_function}
+use Rattle.py_emission.specs.Texts.{stmt_text}
+use Rattle.py_meaning.specs.Ends.{deletes_end, ends_of, expr_end, last_of, opt_end, some_of, store_end, stores_end}
+use Rattle.py_meaning.specs.StmtParts.{but_doc}
+
+-- what a statement is read with: the level, and whether it stands in a function
+pub record Setting : Type 0 where
+  pub level : ℕ
+  pub in_function : Bool
+
+-- of what is emitted
+abbrev pub setting_of : Context → Setting
+setting_of c = record { level = c.level; in_function = is_function c.typ }
+
+-- within a scope of its own
+abbrev pub scope_setting : (in_function : Bool) → Setting → Setting
+scope_setting b c = record { level = c.level; in_function = b }
+
+-- the defaults of some parameters
+abbrev pub arg_default_ends : tree.Args → List SourceLocation
+arg_default_ends tree.no_args = []
+arg_default_ends (tree.more_args a default rest) = some_of (opt_end default) ++ arg_default_ends rest
+
+-- the defaults of a function, positional ones first
+abbrev pub default_ends : tree.Arguments → List SourceLocation
+default_ends (tree.arguments posonly args vararg kwonly kwarg) = arg_default_ends posonly ++ (arg_default_ends args ++ arg_default_ends kwonly)
+
+-- the annotation of a parameter
+abbrev pub arg_end : tree.Arg → List SourceLocation
+arg_end (tree.arg at name annotation) = some_of (opt_end annotation)
+
+-- that of a parameter that may be missing
+abbrev pub opt_arg_end : tree.OptArg → List SourceLocation
+opt_arg_end tree.no_arg = []
+opt_arg_end (tree.some_arg a) = arg_end a
+
+-- those of some parameters
+abbrev pub arg_ends : tree.Args → List SourceLocation
+arg_ends tree.no_args = []
+arg_ends (tree.more_args a default rest) = arg_end a ++ arg_ends rest
+
+-- the annotations of a function, that of what it returns first
+abbrev pub note_ends : tree.Arguments → (returns : tree.OptExpr) → List SourceLocation
+note_ends (tree.arguments posonly args vararg kwonly kwarg) returns =
+    some_of (opt_end returns) ++ (arg_ends posonly ++ (arg_ends args ++ (arg_ends kwonly ++ (opt_arg_end vararg ++ opt_arg_end kwarg))))
+
+-- a value and its store, where there is a value
+abbrev pub declared_end : SourceLocation → (target : tree.Expr) → tree.OptExpr → SourceLocation
+declared_end at target tree.no_expr = at
+declared_end at target (tree.some_expr e) = store_end (expr_end e) target
+
+-- an annotation, which a function does not enter
+abbrev pub annotation_end : (in_function : Bool) → SourceLocation → tree.Expr → SourceLocation
+annotation_end b p e = if b then p else expr_end e
+
+-- above level 0 nothing is entered
+abbrev pub assert_end : (level : ℕ) → SourceLocation → (test : tree.Expr) → (msg : tree.OptExpr) → SourceLocation
+assert_end l at t msg = if nat_eq l 0 then last_of (expr_end t) (some_of (opt_end msg)) else at
+
+abbrev mutual
+  pub stmt_end : Setting → tree.Stmt → SourceLocation
+  stmt_end c (tree.FunctionDef at name params body decorators returns tree.no_type_params) =
+      last_of (rest_end (scope_setting true c) (last_of (last_of at (ends_of decorators)) (default_ends params)) body) (note_ends params returns)
+  stmt_end c (tree.Return at value) = last_of at (some_of (opt_end value))
+  stmt_end c (tree.Delete at targets) = deletes_end at targets
+  stmt_end c (tree.Assign at targets value) = stores_end (expr_end value) targets
+  stmt_end c (tree.AugAssign at target o value) = expr_end value
+  stmt_end c (tree.AnnAssign at target annotation value simple) = annotation_end c.in_function (declared_end at target value) annotation
+  stmt_end c (tree.For at target iter body orelse) = stmts_end c (stmts_end c (store_end (expr_end iter) target) body) orelse
+  stmt_end c (tree.While at t body orelse) = stmts_end c (stmts_end c (expr_end t) body) orelse
+  stmt_end c (tree.If at t body orelse) = stmts_end c (stmts_end c (expr_end t) body) orelse
+  stmt_end c (tree.With at items body) = at
+  stmt_end c (tree.Raise at exc cause) = last_of at (some_of (opt_end exc) ++ some_of (opt_end cause))
+  stmt_end c (tree.Try at body excepts orelse finalbody) =
+      stmts_end c (stmts_end c (handlers_end c (stmts_end c at body) excepts) orelse) finalbody
+  stmt_end c (tree.Assert at t msg) = assert_end c.level at t msg
+  stmt_end c (tree.StmtExpr at value) = expr_end value
+  stmt_end c other = tree.stmt_location other
+
+  -- after statements that begin there
+  pub stmts_end : Setting → SourceLocation → tree.Stmts → SourceLocation
+  stmts_end c p tree.no_stmts = p
+  stmts_end c p (tree.more_stmts s ss) = stmts_end c (stmt_end c s) ss
+
+  -- a docstring is not entered
+  pub rest_end : Setting → SourceLocation → tree.Stmts → SourceLocation
+  rest_end c p tree.no_stmts = p
+  rest_end c p (tree.more_stmts s ss) = but_doc (stmt_text s) (stmts_end c p ss) (stmts_end c (stmt_end c s) ss)
+
+  -- each after the one before
+  pub handlers_end : Setting → SourceLocation → tree.Handlers → SourceLocation
+  handlers_end c p tree.no_handlers = p
+  handlers_end c p (tree.more_handlers type name body rest) = handlers_end c (stmts_end c (last_of p (some_of (opt_end type))) body) rest

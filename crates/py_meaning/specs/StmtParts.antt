@@ -1,0 +1,168 @@
+-- The forms of statements by the forms of the statements in them.
+use Rattle.std.specs.Prelude.{ℕ, suc, ◌+◌, ◌||◌, List, Bool, true, false, Option, Some, None, codes, nat_eq, if◌then◌else◌}
+use Rattle.py_tree.specs.Tree as tree
+use Rattle.py_base.specs.declared.operators.Operator.{Operator}
+use Rattle.py_bytecode.specs.declared.instruction.Instruction.TheVariants as op
+use Rattle.py_bytecode.specs.Objects as const
+use Rattle.py_bytecode.specs.Values.{operation, Bare, Number}
+use Rattle.py_steps.specs.Children.{function_inside}
+use Rattle.py_steps.specs.Context.{Context, head_of, is_function, mangled, qualified}
+use Rattle.py_emission.specs.Texts.{doc_of}
+use Rattle.py_forms.specs.Form.{VForm, VConst, VLoad, VOp, VKeep, VForms, VNone, VMore, TNot, Resolved, FixedByName, FixedGlobal, Target, GDrop, GStore, GPut, SForm, SSkip, SThen, SDo, SInto, SRemove, SIf, SReturn, SReraise, SAugment, SAugmentTwo, SFinally, SWith, MkScope}
+use Rattle.py_steps.specs.TableParts.{counted, inplace, name_form, named}
+use Rattle.py_meaning.specs.StmtCounts.{scopes_in_stmt, scopes_in_stmts}
+use Rattle.py_meaning.specs.Table.{after, after_defaults, after_opt, default_forms, expr_form, target_form, test_form}
+use Rattle.py_meaning.specs.TableNotes.{note_forms}
+use Rattle.py_meaning.specs.TableScopes.{default_flags, default_parts, function_form}
+
+-- what is deleted, a list or a tuple element by element
+abbrev mutual
+  pub removal : Context → (next : ℕ) → tree.Expr → SForm
+  removal c n (tree.Name at id) = SRemove Resolved (mangled c id)
+  removal c n (tree.Attribute at value attr) = SDo (named op.DeleteAttr (mangled c attr)) false (VMore (expr_form c n value) VNone)
+  removal c n (tree.Subscript at value slice) = SDo (operation op.DeleteSubscript Bare) false (VMore (expr_form c n value) (VMore (expr_form c (after c n value) slice) VNone))
+  removal c n (tree.List at elts) = removals c n elts
+  removal c n (tree.Tuple at elts) = removals c n elts
+  removal c n other = SSkip
+
+  -- one after another
+  pub removals : Context → (next : ℕ) → tree.Exprs → SForm
+  removals c n tree.no_exprs = SSkip
+  removals c n (tree.more_exprs e es) = SThen (removal c n e) (removals c (after c n e) es)
+
+-- a value that is kept for each target but the last
+abbrev pub assigned : VForm → (first : Target) → Context → (next : ℕ) → tree.Exprs → SForm
+assigned f t c n tree.no_exprs = SInto f t
+assigned f t c n (tree.more_exprs e es) = assigned (VKeep f None t) (target_form c n e) c (after c n e) es
+
+-- the first target gets the value too
+abbrev pub assign_form : Context → (next : ℕ) → VForm → tree.Exprs → SForm
+assign_form c n f tree.no_exprs = SInto f GDrop
+assign_form c n f (tree.more_exprs e es) = assigned f (target_form c n e) c (after c n e) es
+
+-- the present value, the operand, and the result back to where the first came from, which is come to once
+abbrev pub augment_form : Context → (next : ℕ) → tree.Expr → Operator → (value : tree.Expr) → SForm
+augment_form c n (tree.Name at id) o e = SInto (VOp (inplace o) (VMore (name_form c.level id (mangled c id)) (VMore (expr_form c n e) VNone))) (GStore Resolved (mangled c id))
+augment_form c n (tree.Attribute at value attr) o e =
+    SAugment (expr_form c n value) (named op.LoadAttr (mangled c attr)) (expr_form c (after c n value) e) (inplace o) (named op.StoreAttr (mangled c attr))
+augment_form c n (tree.Subscript at value slice) o e =
+    SAugmentTwo (expr_form c n value) (expr_form c (after c n value) slice) (operation op.Subscript Bare) (expr_form c (after c (after c n value) slice) e) (inplace o) (operation op.StoreSubscript Bare)
+augment_form c n other o e = SSkip
+
+-- the value, where there is one, is assigned
+abbrev pub declared_form : Context → (next : ℕ) → (target : tree.Expr) → tree.OptExpr → SForm
+declared_form c n target tree.no_expr = SSkip
+declared_form c n target (tree.some_expr e) = SInto (expr_form c n e) (target_form c (after c n e) target)
+
+-- the annotation of a name is kept in `__annotations__`, that of another target is dropped
+abbrev pub annotation_target : Context → tree.Expr → Target
+annotation_target c (tree.Name at id) = GPut (operation op.StoreSubscript Bare) (VMore (VLoad FixedByName (codes "__annotations__")) (VMore (VConst (const.str (mangled c id))) VNone))
+annotation_target c other = GDrop
+
+-- a function does nothing with the annotations of its names
+abbrev pub annotated_form : Context → (next : ℕ) → (target annotation : tree.Expr) → SForm
+annotated_form c n target annotation = if is_function c.typ then SSkip else SInto (expr_form c n annotation) (annotation_target c target)
+
+-- whether an annotated assignment stands among the statements, or in those within them; handlers are left out
+abbrev mutual
+  pub annotates : tree.Stmt → Bool
+  annotates (tree.AnnAssign at target annotation value simple) = true
+  annotates (tree.For at target iter body orelse) = annotated body || annotated orelse
+  annotates (tree.While at t body orelse) = annotated body || annotated orelse
+  annotates (tree.If at t body orelse) = annotated body || annotated orelse
+  annotates (tree.With at items body) = annotated body
+  annotates (tree.Try at body excepts orelse finalbody) = annotated body || (annotated orelse || annotated finalbody)
+  annotates other = false
+
+  -- one of the statements does
+  pub annotated : tree.Stmts → Bool
+  annotated tree.no_stmts = false
+  annotated (tree.more_stmts s ss) = annotates s || annotated ss
+
+-- what a `with` enters is dropped, or stored
+abbrev pub item_target : Context → (next : ℕ) → tree.OptExpr → Target
+item_target c n tree.no_expr = GDrop
+item_target c n (tree.some_expr t) = target_form c n t
+
+-- further items stand within the first
+abbrev pub with_form : Context → (next : ℕ) → tree.WithItems → SForm → SForm
+with_form c n tree.no_items f = f
+with_form c n (tree.more_items e target items) f = SWith (expr_form c n e) (item_target c (after c n e) target) (with_form c (after_opt c (after c n e) target) items f)
+
+-- an exception, one with its cause, or the one in hand
+abbrev pub raise_form : Context → (next : ℕ) → (exc cause : tree.OptExpr) → SForm
+raise_form c n tree.no_expr cause = SReraise
+raise_form c n (tree.some_expr e) tree.no_expr = SDo (operation op.Raise (Number 0)) true (VMore (expr_form c n e) VNone)
+raise_form c n (tree.some_expr e) (tree.some_expr f) = SDo (operation op.Raise (Number 1)) true (VMore (expr_form c n e) (VMore (expr_form c (after c n e) f) VNone))
+
+-- what is returned, or None
+abbrev pub return_form : Context → (next : ℕ) → tree.OptExpr → SForm
+return_form c n tree.no_expr = SReturn (VConst const.none)
+return_form c n (tree.some_expr e) = SReturn (expr_form c n e)
+
+-- the message of an assertion
+abbrev pub message_parts : Context → (next : ℕ) → tree.OptExpr → VForms
+message_parts c n tree.no_expr = VNone
+message_parts c n (tree.some_expr e) = VMore (expr_form c n e) VNone
+
+-- how many messages there are
+abbrev pub message_count : tree.OptExpr → ℕ
+message_count tree.no_expr = 0
+message_count (tree.some_expr e) = 1
+
+-- an assertion with its message
+abbrev pub assertion : Context → (next : ℕ) → tree.OptExpr → VForm
+assertion c n msg = VOp (counted op.CallFunctionPositional (message_count msg)) (VMore (VLoad FixedGlobal (codes "AssertionError")) (message_parts c n msg))
+
+-- it is raised unless the test holds; above level 0 nothing is asserted
+abbrev pub assert_form : Context → (next : ℕ) → (test : tree.Expr) → (msg : tree.OptExpr) → SForm
+assert_form c n t msg = if nat_eq c.level 0 then SIf (TNot (test_form c n t)) (SDo (operation op.Raise (Number 0)) true (VMore (assertion c (after c n t) msg) VNone)) else SSkip
+
+-- a function whose decorators leave off at this number, and what its statements are; defaults come before its own scope, and annotations after it
+abbrev pub defined : Context → (next : ℕ) → (name : List ℕ) → tree.Arguments → tree.Stmts → (returns : tree.OptExpr) → SForm → VForm
+defined c n name params body returns f =
+    let d = default_forms c n params in let m = after_defaults c n params in
+    function_form (default_flags d) (default_parts d VNone) (MkScope (head_of (function_inside name c m)) f) (qualified c name) (note_forms c (suc m + scopes_in_stmts c.postponed body) params returns) (doc_of c.level body)
+
+-- on every way out of its body the name of a handler is set to None and deleted
+abbrev pub named_form : Context → Option (List ℕ) → (body : SForm) → SForm
+named_form c None f = f
+named_form c (Some name) f = SFinally f (SThen (SInto (VConst const.none) (GStore Resolved (mangled c name))) (SRemove Resolved (mangled c name)))
+
+-- the name of a handler gets the exception
+abbrev pub handler_target : Context → Option (List ℕ) → Target
+handler_target c None = GDrop
+handler_target c (Some name) = GStore Resolved (mangled c name)
+
+-- all but a docstring
+abbrev pub but_doc : {A : Type 0} → (text : Option (List ℕ)) → (rest all : A) → A
+but_doc None rest all = all
+but_doc (Some text) rest all = rest
+
+-- a return ends a function
+abbrev pub is_return : tree.Stmt → Bool
+is_return (tree.Return at value) = true
+is_return other = false
+
+-- a return that no statement follows
+abbrev pub is_last_return : tree.Stmt → tree.Stmts → Bool
+is_last_return s tree.no_stmts = is_return s
+is_last_return s (tree.more_stmts t ts) = false
+
+-- what follows, or nothing after a return
+abbrev pub unless_last : Bool → SForm → SForm → SForm
+unless_last true f rest = f
+unless_last false f rest = SThen f rest
+
+-- the number after a statement's scopes
+abbrev pub after_stmt : Context → ℕ → tree.Stmt → ℕ
+after_stmt c n s = n + scopes_in_stmt c.postponed s
+
+-- the number after the scopes of statements
+abbrev pub after_stmts : Context → ℕ → tree.Stmts → ℕ
+after_stmts c n ss = n + scopes_in_stmts c.postponed ss
+
+-- there are no statements
+abbrev pub none : tree.Stmts → Bool
+none tree.no_stmts = true
+none (tree.more_stmts s ss) = false

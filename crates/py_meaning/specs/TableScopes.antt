@@ -1,0 +1,39 @@
+-- The forms of functions, by the forms of their parts.
+use Rattle.std.specs.Prelude.{ℕ, ◌+◌, List, [], ◌∷◌, Option, Some, None, codes}
+use Rattle.py_bytecode.specs.declared.instruction.Instruction.TheVariants as op
+use Rattle.py_bytecode.specs.Objects as const
+use Rattle.py_bytecode.specs.Values.{operation, Bare}
+use Rattle.py_forms.specs.Form.{VForm, VConst, VOp, VMake, VKeep, VForms, VNone, VMore, GUnder, Scope}
+use Rattle.py_steps.specs.Children.{some_flag}
+use Rattle.py_steps.specs.TableParts.{built, counted, map_of, named, some_built}
+
+-- the defaults of a function: of the positional parameters, and of those that are keywords only, by their names
+pub record Defaults : Type 0 where
+  pub positional : List VForm
+  pub keyword : List (List ℕ × VForm)
+
+-- the flags of the defaults that there are
+abbrev pub default_flags : Defaults → ℕ
+default_flags d = some_flag 0x08 d.positional + some_flag 0x04 d.keyword
+
+-- a tuple and a map, where there are any
+abbrev pub default_parts : Defaults → VForms → VForms
+default_parts d rest = some_built (built op.BuildTuple) d.positional (some_built map_of d.keyword rest)
+
+-- a docstring is stored to the function
+abbrev pub documented : Option (List ℕ) → VForm → VForm
+documented None f = f
+documented (Some text) f = VKeep f None (GUnder (named op.StoreAttr (codes "__doc__")) (VConst (const.str text)))
+
+-- a function of these flags and parts, with its annotations by name
+abbrev pub function_form : (flags : ℕ) → VForms → Scope → (name : List ℕ) → (notes : List (List ℕ × VForm)) → (doc : Option (List ℕ)) → VForm
+function_form flags parts s name notes doc = documented doc (VMake (flags + some_flag 0x02 notes) parts s name (some_built map_of notes VNone))
+
+-- each decorator is called with what those after it give
+abbrev pub decorated : List VForm → VForm → VForm
+decorated [] f = f
+decorated (d ∷ ds) f = VOp (counted op.CallFunctionPositional 1) (VMore d (VMore (decorated ds f) VNone))
+
+-- the iterator of a value
+abbrev pub iterator : VForm → VForm
+iterator f = VOp (operation op.GetIter Bare) (VMore f VNone)
