@@ -1,7 +1,7 @@
 -- Where a name stands in one list behind another.
 use Rattle.std.proofs.Common.{◌≡◌, ℕ, ◌+◌, ◌<◌, ◌≤◌, List, [], ◌∷◌, ◌++◌, length, Bool, true, false, not, Option, Some, None, refl, arith, rules}
-use Rattle.std.specs.Prelude.{position, cond, nat_lt}
-use Rattle.std.specs.List.{position_or_len}
+use Rattle.std.specs.Prelude.{◌||◌, position, cond, nat_lt}
+use Rattle.std.specs.List.{list_any, position_or_len}
 
 module _ {A : Type 0} (f : A → Bool) where
   by_one : (b : Bool) (n m : ℕ) → n ≤ m → cond (not b) (1 + n) 0 ≤ 1 + m
@@ -44,3 +44,12 @@ module _ {A : Type 0} (f : A → Bool) where
       go : (b : Bool) → length (x ∷ xs) ≤ cond (not b) (1 + position_or_len f xs) 0 → (length xs ≤ position_or_len f xs → position_or_len f xs + position_or_len f ys ≡ position_or_len f (xs ++ ys)) → cond (not b) (1 + position_or_len f xs) 0 + position_or_len f ys ≡ cond (not b) (1 + position_or_len f (xs ++ ys)) 0
       go true l next = absurd (omega (arith, l))
       go false l next = let e = next (omega (arith, l)) in omega (arith, e)
+
+  -- what has a place is there
+  pub any_within : (xs : List A) → position_or_len f xs < length xs → list_any f xs ≡ true
+  any_within [] h = absurd (omega (arith, h))
+  any_within (x ∷ xs) h = go (f x) h (any_within xs)
+    where
+      go : (b : Bool) → cond (not b) (1 + position_or_len f xs) 0 < length (x ∷ xs) → (position_or_len f xs < length xs → list_any f xs ≡ true) → b || list_any f xs ≡ true
+      go true l next = refl
+      go false l next = next (omega (arith, l))

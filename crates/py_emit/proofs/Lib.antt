@@ -12,3 +12,4 @@ pub mod Cells
 pub mod Within
 pub mod CellPlaces
 pub mod Closures
+pub mod Dotted

@@ -14,16 +14,21 @@ use py_bytecode::{CodeObject, ConstantData, Instruction, MakeFunctionFlags};
 use py_forms::{CodegenError, CodegenErrorType};
 
 impl Emitter {
-    /// Appends the load of a cell.
+    /// Appends the load of a cell. A name that is no cell of the scope and does not come to it from outside, which no
+    /// scanned tree comes to, counts as want of memory.
     ///
     /// # Errors
     /// OutOfMemory alone.
-    #[tactic(auto, unfolding(py_steps::specs::Children::load_cell))]
+    #[tactic(auto, unfolding(py_steps::specs::Children::load_cell), using(crate::proofs::CellPlaces::any_within))]
     fn load_cell(&mut self, name: &str) -> Result<(), CodegenError>
         ensures goes { Goes result (state self.new) (cell_load name.now (state self.old)) }
         ensures same { Same result (rest self.new) (rest self.old) }
     {
         let place = self.cell_place(name)?;
+        let count = self.cell_count();
+        if place as usize >= count {
+            return Err(self.error(CodegenErrorType::OutOfMemory));
+        }
         self.emit_arg(Instruction::LoadClosure, place)
     }
 

@@ -8,6 +8,7 @@ mod endings;
 mod laws;
 mod macros;
 mod names;
+mod paths;
 mod refusals;
 mod scopes;
 mod tables;

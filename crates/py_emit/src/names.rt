@@ -1,5 +1,5 @@
 //! Accesses to names.
-ghost use Rattle.std.specs.Prelude.{◌≡◌, ◌≢◌, ◌++◌, ◌<◌, ◌^◌, find, IfOk, IfErr, OnOk};
+ghost use Rattle.std.specs.Prelude.{◌≡◌, ◌≢◌, ◌++◌, ◌<◌, ◌^◌, find, length, IfOk, IfErr, OnOk};
 ghost use Rattle.std.specs.List.{position_or_len};
 ghost use Rattle.std.specs.Option.{option_copied};
 ghost use Rattle.py_base.specs.Mangle.{mangled as mangled_name};
@@ -272,6 +272,13 @@ impl Emitter {
         let name = self.text(name)?;
         let place = cell_position(&self.scope.code, &name);
         self.narrow(place)
+    }
+
+    /// The number of cells and free names.
+    pub(crate) fn cell_count(&self) -> usize
+        ensures { result ≡ length ((state self.now).around.context.cells ++ (state self.now).around.context.frees) }
+    {
+        self.scope.code.cellvar_cache.len() + self.scope.code.freevar_cache.len()
     }
 
     /// Appends an instruction that names a name, as the innermost class writes it.

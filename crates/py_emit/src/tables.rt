@@ -2,7 +2,7 @@
 ghost use Rattle.std.specs.Prelude.{◌≡◌, IfOk, IfErr, OnOk};
 ghost use Rattle.py_bytecode.specs.Equality.{const_eq, text_eq};
 ghost use Rattle.py_bytecode.specs.View.{constant as constant_of};
-ghost use Rattle.py_steps.specs.Emitting.{add_varname, emit_constant, emit_name as emission_of_name, emit_varname as emission_of_varname, place_in, with_constant, with_name, with_varname};
+ghost use Rattle.py_steps.specs.Emitting.{add_constant, add_varname, emit_constant, emit_name as emission_of_name, emit_varname as emission_of_varname, place_in, with_constant, with_name, with_varname};
 ghost use Rattle.py_steps.specs.EmissionParts.{no_assignment, unless_debug};
 ghost use Rattle.py_emit.specs.States.{Goes, Same, IsStarved, rest, state};
 
@@ -60,7 +60,6 @@ impl Emitter {
     ///
     /// # Errors
     /// SyntaxError where the name is `__debug__`, at the present location, or OutOfMemory.
-    #[tactic(auto, unfolding(py_steps::specs::Emitting::add_varname))]
     pub fn add_parameter(&mut self, name: &str) -> Result<(), CodegenError>
         ensures goes { Goes result (state self.new) (unless_debug no_assignment name.now (add_varname name.now) (state self.old)) }
         ensures same { Same result (rest self.new) (rest self.old) }
@@ -68,6 +67,19 @@ impl Emitter {
         if is_debug(name) {
             return Err(self.syntax_error("cannot assign to __debug__"));
         }
+        self.add_varname(name)
+    }
+
+    /// Enters a name, as the innermost class writes it, among those that the code object has of its own. No instruction
+    /// names it yet.
+    ///
+    /// # Errors
+    /// OutOfMemory alone.
+    #[tactic(auto, unfolding(py_steps::specs::Emitting::add_varname))]
+    pub fn add_varname(&mut self, name: &str) -> Result<(), CodegenError>
+        ensures goes { Goes result (state self.new) (add_varname name.now (state self.old)) }
+        ensures same { Same result (rest self.new) (rest self.old) }
+    {
         match self.mangled(name)? {
             Some(other) => self.varname(other.as_str())?,
             None => self.varname(name)?,
@@ -103,6 +115,19 @@ impl Emitter {
             Ok(place) => self.narrow(place),
             Err(_) => Err(self.error(CodegenErrorType::OutOfMemory)),
         }
+    }
+
+    /// Enters a constant, where it is new. No instruction names it yet.
+    ///
+    /// # Errors
+    /// OutOfMemory alone.
+    #[tactic(auto, unfolding(py_steps::specs::Emitting::add_constant))]
+    pub fn enter_constant(&mut self, constant: ConstantData) -> Result<(), CodegenError>
+        ensures goes { Goes result (state self.new) (add_constant (constant_of constant) (state self.old)) }
+        ensures same { Same result (rest self.new) (rest self.old) }
+    {
+        self.add_constant(constant)?;
+        Ok(())
     }
 
     /// A place in a table. What does not fit 32 bits counts as want of memory.

@@ -1,0 +1,59 @@
+//! Qualified names.
+ghost use Rattle.std.specs.Prelude.{◌≡◌, ◌++◌, IfErr, IfOk, OnOk};
+ghost use Rattle.py_steps.specs.Context.{behind_dot, function_path as path_of_function, qualified as qualified_name};
+ghost use Rattle.py_emit.specs.States.{IsStarved, rest, state};
+
+use crate::emitter::Emitter;
+use py_base::Text;
+use py_forms::{CodegenError, CodegenErrorType};
+use std::alloc::{AllocError, Global};
+
+impl Emitter {
+    /// The qualified name of what stands in the present scope under this name.
+    ///
+    /// # Errors
+    /// OutOfMemory alone.
+    pub fn qualified(&mut self, name: &str) -> Result<Text, CodegenError>
+        ensures data { IfOk result (λ full. full ≡ qualified_name (state self.old).around.context name.now) }
+        ensures same { OnOk result (self.new ≡ self.old) }
+        ensures err { IfErr result (λ e. IsStarved e (rest self.old).path) }
+    {
+        match behind_dot(self.alloc(), self.scope.path.as_str(), name, "") {
+            Ok(full) => Ok(full),
+            Err(_) => Err(self.error(CodegenErrorType::OutOfMemory)),
+        }
+    }
+
+    /// What stands before the qualified names within a function of this name, which stands in the present scope.
+    ///
+    /// # Errors
+    /// OutOfMemory alone.
+    pub fn function_path(&mut self, name: &str) -> Result<Text, CodegenError>
+        ensures data { IfOk result (λ path. path ≡ path_of_function (state self.old).around.context name.now) }
+        ensures same { OnOk result (self.new ≡ self.old) }
+        ensures err { IfErr result (λ e. IsStarved e (rest self.old).path) }
+    {
+        match behind_dot(self.alloc(), self.scope.path.as_str(), name, ".<locals>") {
+            Ok(path) => Ok(path),
+            Err(_) => Err(self.error(CodegenErrorType::OutOfMemory)),
+        }
+    }
+}
+
+/// A name behind a path and a dot, where there is a path, and what follows the name.
+///
+/// # Errors
+/// There is no memory for it.
+#[tactic(auto, using(crate::proofs::Dotted::dotted, crate::proofs::Dotted::bare))]
+fn behind_dot(alloc: Global, path: &str, name: &str, end: &str) -> Result<Text, AllocError>
+    ensures { IfOk result (λ full. full ≡ behind_dot path.now name.now ++ end.now) }
+{
+    let mut full = String::new(alloc);
+    if !path.is_empty() {
+        full.push_str(path)?;
+        full.push_str(".")?;
+    }
+    full.push_str(name)?;
+    full.push_str(end)?;
+    Ok(Text::from_string(full))
+}
