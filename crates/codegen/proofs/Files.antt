@@ -4,7 +4,7 @@ use Rattle.py_tree.specs.Tree as tree
 use Rattle.py_bytecode.specs.declared.instruction.Instruction.TheVariants as op
 use Rattle.py_bytecode.specs.Objects.{none}
 use Rattle.py_emission.specs.Texts.{after_doc, doc_of}
-use Rattle.py_meaning.specs.Table.{annotated}
+use Rattle.py_meaning.specs.StmtParts.{annotated}
 use Rattle.py_steps.specs.Emitting.{Done, Emission, State, ◌▸◌, by_level, emit_constant}
 use Rattle.py_meaning.specs.EmissionStmts.{emission_of_doc, emission_of_program, emission_of_setup, emission_of_stmts}
 use Rattle.py_emit.proofs.Joined.{went}

@@ -18,7 +18,7 @@ use Rattle.py_forms.specs.declared.errors.CodegenErrorType.TheVariants as error
 use Rattle.py_meaning.specs.Scanned.{scan_faults, scopes_of}
 use Rattle.codegen.specs.Compiled.{IsFirst, IsScanned, around_tree}
 use Rattle.py_emit.specs.Emitted.{IsEmitted}
-use Rattle.py_agree.proofs.Ending.{refusal_heads, done_faultless}
+use Rattle.py_refusing.proofs.Ending.{refusal_heads, done_faultless}
 
 abbrev fault_of : LocatedError CodegenErrorType → Fault
 fault_of e = record { error = e.error; location = e.location }

@@ -1,12 +1,13 @@
 -- What a compile call answers.
-use Rattle.std.specs.Prelude.{◌≡◌, ◌≢◌, ◌⊎◌, ℕ, ◌≤◌, List, [], ◌∷◌, length, None, Result, Ok, Err}
+use Rattle.std.specs.Prelude.{◌≡◌, ◌≢◌, ◌⊎◌, ℕ, ◌<◌, ◌≤◌, ◌^◌, List, [], ◌∷◌, length, None, Result, Ok, Err}
 use Rattle.py_tree.specs.Tree as tree
 use Rattle.py_scope.specs.Flat.{flat_table}
 use Rattle.py_scope.specs.declared.error.ScanFault.TheVariants as fault
 use Rattle.py_scope.specs.declared.error.SymbolTableError.{SymbolTableError}
 use Rattle.py_scope.specs.declared.table.SymbolTable.{SymbolTable}
 use Rattle.symboltable.specs.Errors.{codegen_error}
-use Rattle.py_steps.specs.Context.{Context, outermost}
+use Rattle.py_scope.specs.declared.flat.ScopeEntry.{ScopeEntry}
+use Rattle.py_steps.specs.Context.{Context, outermost, room}
 use Rattle.py_meaning.specs.EmissionStmts.{emitted}
 use Rattle.py_meaning.specs.Scanned.{scan_faults, scopes_of}
 use Rattle.py_bytecode.specs.Objects.{Object, head}
@@ -34,6 +35,10 @@ NoHigher o =
 -- every run returns, raises or stops for want of an answer
 abbrev pub AlwaysEnds : Object → Type 0
 AlwaysEnds o = (answers : List Answer) → IsEnd (machine o answers).outcome
+
+-- the scopes have few symbols together
+abbrev pub HasFewSymbols : List ScopeEntry → Type 0
+HasFewSymbols scopes = room scopes (length scopes) < 2 ^ 26
 
 -- the error is the first fault, with its location, or says that there was no memory
 abbrev pub IsFirst : LocatedError CodegenErrorType → List Fault → Type 0

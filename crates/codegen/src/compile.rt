@@ -10,11 +10,12 @@ ghost use Rattle.py_meaning.specs.EmissionStmts.{emission_of_mod, emitted, unbui
 ghost use Rattle.py_meaning.specs.Faults.{faults};
 ghost use Rattle.py_meaning.specs.Meaning.{body};
 ghost use Rattle.py_meaning.specs.Scanned.{scan_faults, scopes_of};
-ghost use Rattle.codegen.specs.Compiled.{AlwaysEnds, IsFirst, IsRefused, IsScan, IsScanned, NoHigher, around_tree};
+ghost use Rattle.codegen.specs.Compiled.{AlwaysEnds, HasFewSymbols, IsFirst, IsRefused, IsScan, IsScanned, NoHigher, around_tree};
 ghost use Rattle.py_emit.specs.Emitted.{IsEmitted};
 ghost use Rattle.py_emit.specs.States.{AreMade, Goes, Same, rest, state};
 
 use crate::program::emit_program;
+use crate::scopes::has_few_symbols;
 use py_bytecode::CodeObject;
 pub use py_emit::CompileOpts;
 use py_emit::Emitter;
@@ -90,6 +91,7 @@ fn compile_valid(
 ) -> Result<CodeObject, CodegenError>
     requires { size_of (mod_tree ast.now) < 2 ^ 22 }
     ensures emission { IfOk result (λ code. IsEmitted code (around_tree (mod_tree ast.now) source_path opts.optimize) (emitted (mod_tree ast.now) (around_tree (mod_tree ast.now) source_path opts.optimize))) }
+    ensures few { OnOk result (HasFewSymbols (scopes_of (mod_tree ast.now))) }
     ensures clean { OnOk result (scan_faults (mod_tree ast.now) ≡ []) }
     ensures first { IfErr result (λ e. IsScanned e (mod_tree ast.now) (around_tree (mod_tree ast.now) source_path opts.optimize)) }
     ensures path { IfErr result (λ e. e.source_path ≡ source_path) }
@@ -120,6 +122,7 @@ fn compile_scanned(
     requires size { size_of (mod_tree ast.now) < 2 ^ 22 }
     requires scanned { IsScan (mod_tree ast.now) table }
     ensures emission { IfOk result (λ code. IsEmitted code (around_tree (mod_tree ast.now) source_path opts.optimize) (emitted (mod_tree ast.now) (around_tree (mod_tree ast.now) source_path opts.optimize))) }
+    ensures few { OnOk result (HasFewSymbols (scopes_of (mod_tree ast.now))) }
     ensures clean { OnOk result (scan_faults (mod_tree ast.now) ≡ []) }
     ensures first { IfErr result (λ e. IsScanned e (mod_tree ast.now) (around_tree (mod_tree ast.now) source_path opts.optimize)) }
     ensures path { IfErr result (λ e. e.source_path ≡ source_path) }
@@ -134,7 +137,7 @@ fn compile_scanned(
     }
 }
 
-/// The code of a tree with these scopes.
+/// The code of a tree with these scopes. Scopes with 2^26 symbols or more count as want of memory.
 fn compile_mod(
     alloc: Global,
     ast: &Mod,
@@ -144,9 +147,13 @@ fn compile_mod(
 ) -> Result<CodeObject, CodegenError>
     requires { size_of (mod_tree ast.now) < 2 ^ 22 }
     ensures emission { IfOk result (λ code. IsEmitted code (outermost opts.optimize source_path scopes) (emitted (mod_tree ast.now) (outermost opts.optimize source_path scopes))) }
+    ensures few { OnOk result (HasFewSymbols scopes) }
     ensures refused { IfErr result (λ e. IsRefused e (emitted (mod_tree ast.now) (outermost opts.optimize source_path scopes))) }
     ensures path { IfErr result (λ e. e.source_path ≡ source_path) }
 {
+    if !has_few_symbols(&scopes) {
+        return Err(refused(CodegenErrorType::OutOfMemory, source_path));
+    }
     let mut em = Emitter::new(alloc, opts, source_path, scopes)?;
     emit_mod(&mut em, ast)?;
     em.finish()

@@ -4,6 +4,7 @@
 pub mod compile;
 pub mod error;
 mod program;
+mod scopes;
 
 pub use compile::CompileOpts;
 pub use py_stmt::{find_ann, split_doc};

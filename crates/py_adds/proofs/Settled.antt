@@ -33,7 +33,7 @@ or_true true = refl
 or_true false = refl
 
 module _ (x : List ℕ) where
-  abbrev Has : List (List ℕ) → Type 0
+  abbrev pub Has : List (List ℕ) → Type 0
   Has ys = list_any (text_eq x) ys ≡ true
 
   -- at the front, or further back
@@ -52,7 +52,7 @@ module _ (x : List ℕ) where
   back ys zs h = list_any-append (text_eq x) ys zs ∙ ap (λ z. list_any (text_eq x) ys || z) h ∙ or_true (list_any (text_eq x) ys)
 
   -- a name that is there stands at its place
-  stands : (ys : List (List ℕ)) → Has ys → slice_get ys (position_or_len (text_eq x) ys) ≡ Some x
+  pub stands : (ys : List (List ℕ)) → Has ys → slice_get ys (position_or_len (text_eq x) ys) ≡ Some x
   stands ys h = ap (λ b. slice_get (if b then ys else ys ++ x ∷ []) (position_or_len (text_eq x) ys)) (sym h) ∙ entered_stands text_eq text_eq_sound ys x
 
   abbrev scope_in : Option Symbol → SymbolScope

@@ -1,41 +1,55 @@
 -- Assignments and deletions leave no loop.
-use Rattle.std.proofs.Common.{Bool, None}
+use Rattle.std.proofs.Common.{ℕ, Bool, true, false, None}
+use Rattle.std.specs.Prelude.{if◌then◌else◌}
 use Rattle.py_tree.specs.Tree as tree
 use Rattle.py_base.specs.declared.operators.Operator.{Operator}
-use Rattle.py_forms.specs.Form.{VForm, VKeep, Target, SForm}
+use Rattle.py_forms.specs.Form.{VForm, VKeep, Target, SForm, SInto, SSkip}
 use Rattle.py_forms.specs.Looped.{Looped}
-use Rattle.py_steps.specs.Context.{Context}
-use Rattle.py_meaning.specs.Table.{target_form, removal, removals, assigned, assign_form, augment_form, declared_form}
+use Rattle.py_steps.specs.Context.{Context, is_function}
+use Rattle.py_meaning.specs.Table.{after, expr_form, target_form}
+use Rattle.py_meaning.specs.StmtParts.{removal, removals, assigned, assign_form, augment_form, annotated_form, annotation_target, declared_form, return_form}
 
 -- it stands in a loop or in none
 abbrev pub Unlooped : SForm → Type 0
 Unlooped f = (b : Bool) → Looped b f
 
+-- one of two
+pub either_unlooped : (a : Bool) (f g : SForm) → Unlooped f → Unlooped g → Unlooped (if a then f else g)
+either_unlooped true f g h j = h
+either_unlooped false f g h j = j
+
 module _ (c : Context) where
   mutual
-    removal_unlooped : (t : tree.Expr) → Unlooped (removal c t)
-    removal_unlooped (tree.List at elts) b = removals_unlooped elts b
-    removal_unlooped (tree.Tuple at elts) b = removals_unlooped elts b
-    removal_unlooped other b = tt
+    removal_unlooped : (k : ℕ) (t : tree.Expr) → Unlooped (removal c k t)
+    removal_unlooped k (tree.List at elts) b = removals_unlooped k elts b
+    removal_unlooped k (tree.Tuple at elts) b = removals_unlooped k elts b
+    removal_unlooped k other b = tt
 
-    pub removals_unlooped : (ts : tree.Exprs) → Unlooped (removals c ts)
-    removals_unlooped tree.no_exprs b = tt
-    removals_unlooped (tree.more_exprs t ts) b = (removal_unlooped t b, removals_unlooped ts b)
+    pub removals_unlooped : (k : ℕ) (ts : tree.Exprs) → Unlooped (removals c k ts)
+    removals_unlooped k tree.no_exprs b = tt
+    removals_unlooped k (tree.more_exprs t ts) b = (removal_unlooped k t b, removals_unlooped (after c k t) ts b)
 
-  assigned_unlooped : (f : VForm) (t : Target) (ts : tree.Exprs) → Unlooped (assigned f t c ts)
-  assigned_unlooped f t tree.no_exprs b = tt
-  assigned_unlooped f t (tree.more_exprs u us) b = assigned_unlooped (VKeep f None t) (target_form c u) us b
+  assigned_unlooped : (k : ℕ) (f : VForm) (t : Target) (ts : tree.Exprs) → Unlooped (assigned f t c k ts)
+  assigned_unlooped k f t tree.no_exprs b = tt
+  assigned_unlooped k f t (tree.more_exprs u us) b = assigned_unlooped (after c k u) (VKeep f None t) (target_form c k u) us b
 
-  pub assign_unlooped : (f : VForm) (ts : tree.Exprs) → Unlooped (assign_form c f ts)
-  assign_unlooped f tree.no_exprs b = tt
-  assign_unlooped f (tree.more_exprs t ts) b = assigned_unlooped f (target_form c t) ts b
+  pub assign_unlooped : (k : ℕ) (f : VForm) (ts : tree.Exprs) → Unlooped (assign_form c k f ts)
+  assign_unlooped k f tree.no_exprs b = tt
+  assign_unlooped k f (tree.more_exprs t ts) b = assigned_unlooped (after c k t) f (target_form c k t) ts b
 
-  pub augment_unlooped : (t : tree.Expr) (x : Operator) (f : VForm) → Unlooped (augment_form c t x f)
-  augment_unlooped (tree.Name at id) x f b = tt
-  augment_unlooped (tree.Attribute at value attr) x f b = tt
-  augment_unlooped (tree.Subscript at value slice) x f b = tt
-  augment_unlooped other x f b = tt
+  pub augment_unlooped : (k : ℕ) (t : tree.Expr) (x : Operator) (e : tree.Expr) → Unlooped (augment_form c k t x e)
+  augment_unlooped k (tree.Name at id) x e b = tt
+  augment_unlooped k (tree.Attribute at value attr) x e b = tt
+  augment_unlooped k (tree.Subscript at value slice) x e b = tt
+  augment_unlooped k other x e b = tt
 
-  pub declared_unlooped : (t : Target) (value : tree.OptExpr) → Unlooped (declared_form c t value)
-  declared_unlooped t tree.no_expr b = tt
-  declared_unlooped t (tree.some_expr e) b = tt
+  pub declared_unlooped : (k : ℕ) (t : tree.Expr) (value : tree.OptExpr) → Unlooped (declared_form c k t value)
+  declared_unlooped k t tree.no_expr b = tt
+  declared_unlooped k t (tree.some_expr e) b = tt
+
+  pub annotated_unlooped : (k : ℕ) (t annotation : tree.Expr) → Unlooped (annotated_form c k t annotation)
+  annotated_unlooped k t annotation = either_unlooped (is_function c.typ) SSkip (SInto (expr_form c k annotation) (annotation_target c t)) (λ b. tt) (λ b. tt)
+
+  pub return_unlooped : (k : ℕ) (value : tree.OptExpr) → Unlooped (return_form c k value)
+  return_unlooped k tree.no_expr b = tt
+  return_unlooped k (tree.some_expr e) b = tt

@@ -1,2 +1,2 @@
-//! That what is emitted for a tree is the code of what it means, what that code weighs, and that the emission ends as the tree's faults say: lemmas alone.
+//! That what is emitted for a tree is the code of what it means, and what that code weighs: lemmas alone.
 #![tactic(auto)]

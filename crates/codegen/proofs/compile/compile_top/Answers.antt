@@ -1,4 +1,4 @@
-use Rattle.std.proofs.Common.{◌≡◌, ℕ, ◌≤◌, ◌<◌, List, [], length, true, false, Option, None, Some, Result, Ok, Err, IfOk, IfErr, OnOk, sym, ◌∙◌}
+use Rattle.std.proofs.Common.{◌≡◌, ℕ, ◌≤◌, ◌<◌, ◌^◌, List, [], length, true, false, Option, None, Some, Result, Ok, Err, IfOk, IfErr, OnOk, sym, ◌∙◌}
 use Rattle.std.specs.Option.{is_some}
 use Rattle.py_limits.specs.Limits.{IsBelow}
 use Rattle.py_limits.specs.Size.{size_of}
@@ -11,12 +11,14 @@ use Rattle.py_meaning.specs.Faults.{faults}
 use Rattle.py_meaning.specs.Meaning.{body}
 use Rattle.py_bytecode.specs.declared.code.CodeObject.{CodeObject}
 use Rattle.py_scope.specs.declared.flat.ScopeEntry.{ScopeEntry}
-use Rattle.py_steps.specs.Context.{inside, outermost}
+use Rattle.py_tree.specs.Tree as tree
+use Rattle.py_steps.specs.Context.{inside, outermost, room}
 use Rattle.py_steps.specs.Emitting.{Outcome}
 use Rattle.py_meaning.specs.Scanned.{scan_faults, scopes_of}
-use Rattle.codegen.specs.Compiled.{AlwaysEnds, IsFirst, IsScanned, NoHigher, around_tree}
+use Rattle.codegen.specs.Compiled.{AlwaysEnds, HasFewSymbols, IsFirst, IsScanned, NoHigher, around_tree}
 use Rattle.py_emit.specs.Emitted.{IsEmitted}
 use Rattle.codegen.proofs.Agreeing.{agrees}
+use Rattle.codegen.proofs.Made.{few_everywhere}
 use Rattle.py_agree.proofs.Described.{locations_are, path_is}
 use Rattle.codegen.proofs.Firsts.{deep_first, large_first, malformed_first, refused_first, emitted_clean}
 use Rattle.codegen.proofs.compile.compile_top.Goals as goal
@@ -32,6 +34,11 @@ on_err (Err e) P Q f p = f e p
 ok_both : {T E : Type 0} (r : Result T E) (P : T → Type 0) (R Q : Type 0) → ((x : T) → P x → R → Q) → IfOk r P → OnOk r R → OnOk r Q
 ok_both (Ok x) P R Q f p q = f x p q
 ok_both (Err e) P R Q f p q = p
+
+-- what holds of a code object that is what is emitted for a tree whose scopes have few symbols
+emitted_so : {E : Type 0} (r : Result CodeObject E) (t : tree.Mod) (path : List ℕ) (l : ℕ) (Q : CodeObject → Type 0) → ((code : CodeObject) → IsEmitted code (around_tree t path l) (emitted t (around_tree t path l)) → ((n : ℕ) → room (scopes_of t) n < 2 ^ 26) → Q code) → IfOk r (λ code. IsEmitted code (around_tree t path l) (emitted t (around_tree t path l))) → OnOk r (HasFewSymbols (scopes_of t)) → IfOk r Q
+emitted_so (Ok code) t path l Q f p q = f code p (few_everywhere (scopes_of t) q)
+emitted_so (Err e) t path l Q f p q = p
 
 -- the path of what stands around
 source_is : (code : CodeObject) (path : List ℕ) (l : ℕ) (scopes : List ScopeEntry) (o : Outcome) → IsEmitted code (outermost l path scopes) o → code.source_path ≡ path
@@ -68,25 +75,25 @@ pub returns-in-None-clause-agrees : goal.returns-in-None-clause-agrees
 returns-in-None-clause-agrees c =
     let t = mod_tree c.args.ast.now in
     let l = c.args.opts.optimize in
-    on_ok c.compile_valid.result (λ code. IsEmitted code (around_tree t c.args.source_path l) (emitted t (around_tree t c.args.source_path l))) (λ code. Agree (object code) (body (scopes_of t) t c.args.mode l)) (λ code e. (agrees code c.args.source_path c.args.mode l (scopes_of t) t e).0) c.compile_valid.ensures.emission
+    emitted_so c.compile_valid.result t c.args.source_path l (λ code. Agree (object code) (body (scopes_of t) t c.args.mode l)) (λ code e few. (agrees code c.args.source_path c.args.mode l (scopes_of t) t (below c.size_of_tree.result 4194304 (size_of t) c.if-is_none-2.ensures c.size_of_tree.ensures) few e).0) c.compile_valid.ensures.emission c.compile_valid.ensures.few
 
 pub returns-in-None-clause-agrees_full : goal.returns-in-None-clause-agrees_full
 returns-in-None-clause-agrees_full c =
     let t = mod_tree c.args.ast.now in
     let l = c.args.opts.optimize in
-    on_ok c.compile_valid.result (λ code. IsEmitted code (around_tree t c.args.source_path l) (emitted t (around_tree t c.args.source_path l))) (λ code. AgreeFull (object code) (body (scopes_of t) t c.args.mode l)) (λ code e. (agrees code c.args.source_path c.args.mode l (scopes_of t) t e).1) c.compile_valid.ensures.emission
+    emitted_so c.compile_valid.result t c.args.source_path l (λ code. AgreeFull (object code) (body (scopes_of t) t c.args.mode l)) (λ code e few. (agrees code c.args.source_path c.args.mode l (scopes_of t) t (below c.size_of_tree.result 4194304 (size_of t) c.if-is_none-2.ensures c.size_of_tree.ensures) few e).1) c.compile_valid.ensures.emission c.compile_valid.ensures.few
 
 pub returns-in-None-clause-ends : goal.returns-in-None-clause-ends
 returns-in-None-clause-ends c =
     let t = mod_tree c.args.ast.now in
     let l = c.args.opts.optimize in
-    on_ok c.compile_valid.result (λ code. IsEmitted code (around_tree t c.args.source_path l) (emitted t (around_tree t c.args.source_path l))) (λ code. AlwaysEnds (object code)) (λ code e. (agrees code c.args.source_path c.args.mode l (scopes_of t) t e).2) c.compile_valid.ensures.emission
+    emitted_so c.compile_valid.result t c.args.source_path l (λ code. AlwaysEnds (object code)) (λ code e few. (agrees code c.args.source_path c.args.mode l (scopes_of t) t (below c.size_of_tree.result 4194304 (size_of t) c.if-is_none-2.ensures c.size_of_tree.ensures) few e).2) c.compile_valid.ensures.emission c.compile_valid.ensures.few
 
 pub returns-in-None-clause-depth : goal.returns-in-None-clause-depth
 returns-in-None-clause-depth c =
     let t = mod_tree c.args.ast.now in
     let l = c.args.opts.optimize in
-    on_ok c.compile_valid.result (λ code. IsEmitted code (around_tree t c.args.source_path l) (emitted t (around_tree t c.args.source_path l))) (λ code. NoHigher (object code)) (λ code e. (agrees code c.args.source_path c.args.mode l (scopes_of t) t e).3) c.compile_valid.ensures.emission
+    emitted_so c.compile_valid.result t c.args.source_path l (λ code. NoHigher (object code)) (λ code e few. (agrees code c.args.source_path c.args.mode l (scopes_of t) t (below c.size_of_tree.result 4194304 (size_of t) c.if-is_none-2.ensures c.size_of_tree.ensures) few e).3) c.compile_valid.ensures.emission c.compile_valid.ensures.few
 
 pub returns-in-None-clause-named : goal.returns-in-None-clause-named
 returns-in-None-clause-named c =

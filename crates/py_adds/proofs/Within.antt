@@ -1,0 +1,242 @@
+-- The code object of a scope within, sealed of what is emitted for it, is made from that scope.
+use Rattle.std.proofs.Common.{◌≡◌, ℕ, zero, suc, ◌+◌, ◌*◌, ◌<◌, ◌≤◌, ◌^◌, List, [], ◌∷◌, ◌++◌, length, map, true, false, refl, sym, ap, ◌∙◌, subst, arith, append-nil}
+use Rattle.std.proofs.Math.Nat.{mul-le-mul_left}
+use Rattle.std.proofs.lemmas.List.{length-map}
+use Rattle.py_base.specs.declared.location.SourceLocation.{SourceLocation}
+use Rattle.py_bytecode.specs.Objects as const
+use Rattle.py_bytecode.specs.Objects.{Const, Object, consts_of, listed, constants, codes_in}
+use Rattle.py_bytecode.specs.Values.{Answer}
+use Rattle.py_bytecode.specs.Machine.{fuel}
+use Rattle.py_bytecode.specs.Decode.{Tables}
+use Rattle.py_bytecode.specs.Units.{machine}
+use Rattle.py_bytecode.specs.Blocks.{Of}
+use Rattle.py_ir.specs.Chain.{Blk, IsChain, coded_block, coded_blocks, flat}
+use Rattle.py_ir.specs.Refusals as refusals
+use Rattle.py_forms.specs.Form.{Scope}
+use Rattle.py_forms.specs.Code.{Item, labels, body_code, size}
+use Rattle.py_forms.specs.Live.{live}
+use Rattle.py_forms.specs.Looped.{Looped}
+use Rattle.py_forms.specs.Places.{items_over}
+use Rattle.py_forms.specs.Agree.{AllOf, OneOf, children, exactly, form_of, runs_code}
+use Rattle.py_forms.specs.Agreement.{IsMade, SameMembers, objects}
+use Rattle.py_forms.proofs.Agreement.{each_to}
+use Rattle.py_forms.proofs.CodeOver.{code_over}
+use Rattle.py_forms.proofs.LabelCount.{labels_counted}
+use Rattle.py_forms.proofs.Labels.{never_placed, once}
+use Rattle.py_forms.proofs.LaidOut.{laid_runs}
+use Rattle.py_forms.proofs.OtherChildren.{children_over}
+use Rattle.py_steps.specs.Context.{Context, frees_among, room, symbols_in}
+use Rattle.py_steps.specs.Children.{Shape, code_head}
+use Rattle.py_steps.specs.Emitting.{Around, Emission, State, begun}
+use Rattle.py_steps.specs.Sealed.{Head, sealed, tables_in}
+use Rattle.py_emit.specs.Placed.{IsFit, IsPlaced, IsSealedOf, begun_in, blocks_in}
+use Rattle.py_emit.specs.Steps.{steps_in}
+use Rattle.py_emit.proofs.Chains.{chain_leads, chain_short}
+use Rattle.py_emit.proofs.Placed.{chain_in, long, steps_back}
+use Rattle.py_emit.proofs.SealedLaid.{sealed_runs}
+use Rattle.py_adds.proofs.Adding.{Adds, AllInside, AllRead, Begins, cells_of, read_as}
+use Rattle.py_adds.proofs.Burden.{burden, burden_is, cells_in, cells_over, labels_few}
+use Rattle.py_adds.proofs.Codes.{MadeFrom, Numbered, all_stand, by_number, number_of, scopes, stand_at}
+use Rattle.py_adds.proofs.Emitting.{Gives, outside}
+use Rattle.py_adds.proofs.Functions.{Makes}
+use Rattle.py_adds.proofs.Settled.{Settled}
+use Rattle.py_adds.proofs.Counting.{few, units_enough}
+use Rattle.py_adds.proofs.Laying.{Lays}
+use Rattle.py_adds.proofs.Placing.{few_left, in_range, placing}
+use Rattle.py_adds.proofs.Readings.{Read, only_sizes}
+use Rattle.py_adds.proofs.Refuted.{laid_along}
+
+-- pairs by their scopes
+abbrev pub paired : (ℕ → Object) → List Scope → List (Object × Scope)
+paired d [] = []
+paired d (s ∷ ss) = (by_number d s, s) ∷ paired d ss
+
+pub each_paired : (d : ℕ → Object) (ss : List Scope) → each_to (λ s. (by_number d s, s)) ss ≡ paired d ss
+each_paired d [] = refl
+each_paired d (s ∷ ss) = ap (λ l. (by_number d s, s) ∷ l) (each_paired d ss)
+
+pub paired_are : (d : ℕ → Object) (ps : List (Object × Scope)) → Numbered d ps → paired d (scopes ps) ≡ ps
+paired_are d [] h = refl
+paired_are d (p ∷ ps) h = ap (λ o. (o, p.1) ∷ paired d (scopes ps)) h.0 ∙ ap (λ l. p ∷ l) (paired_are d ps h.1)
+
+pub listed_of : (cs : List Const) → listed (consts_of cs) ≡ cs
+listed_of [] = refl
+listed_of (c ∷ cs) = ap (λ l. c ∷ l) (listed_of cs)
+
+pub fuel_more : (a b : ℕ) (answers : List Answer) → a ≤ b → fuel a answers ≤ fuel b answers
+fuel_more a b answers h = let le : 2 * a + 2 ≤ 2 * b + 2 = omega (arith, h) in mul-le-mul_left (length answers + 1) le
+
+-- what is emitted of a whole scope
+pub record Emitted (c : Context) (at : SourceLocation) (k : ℕ) (s : Scope) (t : State) : Type 0 where
+  pub count : ℕ
+  pub adds : Adds (begun c at k) t (body_code (exactly (λ x. x) s) (form_of s)) (labels (form_of s)) count
+  pub looped : Looped false (form_of s)
+  pub small : (d : Scope → Object) → burden (body_code (exactly d s) (form_of s)) < 2 ^ 27
+  pub roomy : (n : ℕ) → room c.scopes n < 2 ^ 26
+
+module _ (c : Context) (at : SourceLocation) (k : ℕ) (s : Scope) (t : State) (e : Emitted c at k s t) where
+  abbrev pub objects_at : ℕ → Object
+  objects_at = stand_at e.adds.made
+
+  abbrev pub child_at : Scope → Object
+  child_at = by_number objects_at
+
+  abbrev items : List (Item Scope)
+  items = body_code (exactly (λ x. x) s) (form_of s)
+
+  abbrev pub object_items : List (Item Object)
+  object_items = body_code (exactly child_at s) (form_of s)
+
+  stood : Numbered objects_at e.adds.made
+  stood = all_stand e.adds.made e.adds.counted.apart
+
+  over : read_as objects_at items ≡ object_items
+  over = code_over child_at (exactly (λ x. x) s) (form_of s)
+
+  pub steps_read : (tables : Tables) → Begins t tables → AllRead tables t.steps object_items
+  steps_read tables b = subst (λ xs. AllRead tables xs object_items) (sym e.adds.added.steps_are) (subst (λ is. AllRead tables e.adds.added.steps is) over (e.adds.added.reads objects_at stood tables b))
+
+  pub steps_inside : AllInside t.blocks t.steps
+  steps_inside = subst (AllInside t.blocks) (sym e.adds.added.steps_are) e.adds.added.inside
+
+  cells_few : cells_in object_items < 2 ^ 26
+  cells_few =
+      let a : cells_in (read_as objects_at items) ≡ cells_in items = cells_over child_at items in
+      let b : cells_in object_items ≡ cells_in items = ap cells_in (sym over) ∙ a in
+      let h = e.adds.cells in
+      let r = e.roomy t.next in
+      omega (arith, b, h, r)
+
+  pub reading : (tables : Tables) (bs : List Blk) → Begins t tables → steps_in bs ≡ t.steps → length bs ≡ t.blocks → Read child_at tables bs s
+  reading tables bs b same many = record {
+    reads = subst (λ xs. AllRead tables xs object_items) (sym same) (steps_read tables b);
+    inside = subst (λ n. AllInside n (steps_in bs)) (sym many) (subst (AllInside t.blocks) (sym same) steps_inside);
+    blocks = many ∙ e.adds.added.blocks_are;
+    looped = e.looped;
+    small = e.small child_at;
+    cells = cells_few;
+  }
+
+  -- each pair of items is a code object that is made from the scope beside it
+  abbrev pairs : List (Item (Object × Scope))
+  pairs = body_code (exactly (λ x. (child_at x, x)) s) (form_of s)
+
+  pairs_are : children pairs ≡ e.adds.made
+  pairs_are =
+      ap children (sym (code_over (λ x. (child_at x, x)) (exactly (λ x. x) s) (form_of s)))
+      ∙ children_over (λ x. (child_at x, x)) items ∙ ap (each_to (λ x. (child_at x, x))) e.adds.added.codes.loads ∙ each_paired objects_at (scopes e.adds.made) ∙ paired_are objects_at e.adds.made stood
+
+  pub made_of : (o : Object) → ((answers : List Answer) → machine o answers ≡ runs_code object_items answers) → codes_in (constants o) ≡ codes_in t.constants → MadeFrom (o, s)
+  made_of o runs codes zero = tt
+  made_of o runs codes (suc n) = (
+    e.looped,
+    pairs,
+    λ answers. runs answers ∙ ap (λ is. runs_code is answers) (sym (code_over (λ p. p.0) (exactly (λ x. (child_at x, x)) s) (form_of s))),
+    code_over (λ p. p.1) (exactly (λ x. (child_at x, x)) s) (form_of s),
+    subst (λ ks. SameMembers ks (objects (children pairs))) (sym codes) (subst (λ ps. SameMembers (codes_in t.constants) (objects ps)) (sym pairs_are) (known, e.adds.added.codes.kept)),
+    subst (AllOf (λ p. IsMade n p.0 p.1)) (sym pairs_are) (each_made e.adds.made e.adds.added.codes.from_scopes),
+  )
+    where
+      known : AllOf (λ x. OneOf (λ a b. a ≡ b) x (objects e.adds.made)) (codes_in t.constants)
+      known = subst (λ cs. AllOf (λ x. OneOf (λ a b. a ≡ b) x (objects e.adds.made)) (codes_in cs)) (sym e.adds.added.constants_are) e.adds.added.codes.known
+
+      each_made : (ps : List (Object × Scope)) → AllOf MadeFrom ps → AllOf (λ p. IsMade n p.0 p.1) ps
+      each_made [] h = tt
+      each_made (p ∷ ps) h = (h.0 n, each_made ps h.1)
+
+  module _ (level : ℕ) (h : Head) (cellvars : h.cellvars ≡ c.cells) (freevars : h.freevars ≡ c.frees) where
+    abbrev tables : Tables
+    tables = tables_in h t
+
+    begins : Begins t tables
+    begins = record {
+      names = [];
+      names_are = sym (append-nil t.names);
+      varnames = [];
+      varnames_are = sym (append-nil t.varnames);
+      cells_are = (λ j. cellvars j ++ freevars j) ∙ ap cells_of (sym e.adds.added.around_are);
+      constants = [];
+      constants_are = sym (append-nil t.constants);
+    }
+
+    abbrev bs : List Blk
+    bs = blocks_in t.blocks t.steps
+
+    abbrev cs : List ℕ
+    cs = 0 ∷ begun_in t.steps
+
+    few_blocks : t.blocks ≤ 0xffff_ffff
+    few_blocks =
+        let a = e.adds.added.blocks_are in
+        let b = labels_few object_items in
+        let d = labels_counted (exactly child_at s) (form_of s) in
+        let small = e.small child_at in
+        omega (arith, a, b, d, small)
+
+    placed : IsPlaced t.blocks t.steps
+    placed = placing tables t.blocks t.steps object_items (let a = e.adds.added.blocks_are in omega (arith, a)) few_blocks (steps_read tables begins) steps_inside (once (exactly child_at s) (form_of s)) (never_placed (exactly child_at s) (form_of s))
+
+    chain : IsChain bs cs
+    chain = chain_in t.blocks t.steps placed
+
+    read : Read child_at tables bs s
+    read = reading tables bs begins (steps_back t.blocks t.steps placed) (long t.blocks t.steps placed)
+
+    few_instructions : 4 * size object_items < 2 ^ 32
+    few_instructions = let small = e.small child_at in let cells = cells_few in let both = burden_is object_items in omega (arith, small, cells, both)
+
+    fit : IsFit level h t
+    fit = record {
+      placed = placed;
+      clear = only_sizes child_at tables level bs s read cs chain;
+      range = in_range tables level t.steps object_items (steps_read tables begins);
+      few = let a = few_left tables level t.steps object_items (steps_read tables begins) in let b = few_instructions in omega (arith, a, b);
+    }
+
+    of : IsSealedOf level h t bs (sealed level h t)
+    of = sealed_runs level h t fit
+
+    lays : Lays tables (coded_blocks bs) object_items (Of 0 0)
+    lays = laid_along tables level bs object_items read.reads read.inside cs chain
+
+    -- what can be come to pays for no more steps than the units do
+    enough : live true object_items ≤ length (const.head (sealed level h t)).instructions
+    enough =
+        let g = chain_leads bs of.laid.chain of.laid.is_chain in
+        let short : length (0 ∷ g.0) ≤ length bs = let x = chain_short bs of.laid.chain of.laid.is_chain.path in let y = ap length g.1 in omega (arith, x, y) in
+        let f = few tables level bs (length bs) 0 g.0 object_items g.2 short read.reads in
+        let z = ap (λ l. length (flat level bs l)) g.1 in
+        let u = units_enough of.laid.starts (flat level bs of.laid.chain) (const.head (sealed level h t)).instructions (const.head (sealed level h t)).locations of.laid.assembled in
+        omega (arith, f, z, u)
+
+    runs : (answers : List Answer) → machine (sealed level h t) answers ≡ runs_code object_items answers
+    runs answers =
+        of.runs answers
+        ∙ laid_runs child_at s tables (coded_blocks bs) lays.place lays.laid lays.ends (let a = read.blocks in let b = length-map bs coded_block in omega (arith, a, b)) e.looped answers (fuel (length (const.head (sealed level h t)).instructions) answers)
+        (fuel_more (live true object_items) (length (const.head (sealed level h t)).instructions) answers enough)
+
+    sealed_codes : codes_in (constants (sealed level h t)) ≡ codes_in t.constants
+    unfolding sealed
+    sealed_codes = ap codes_in (listed_of t.constants)
+
+    pub sealed_made : MadeFrom (sealed level h t, s)
+    sealed_made = made_of (sealed level h t) runs sealed_codes
+
+-- what is emitted in a scope within adds its whole code, in which breaks and continues stand in loops
+abbrev pub Whole : (inner : Context) → (body : Emission) → (next count : ℕ) → Scope → Type 0
+Whole inner body k l x = Gives (outside inner) 1 k body (body_code (exactly (λ y. y) x) (form_of x)) (labels (form_of x)) l (Looped false (form_of x))
+
+-- so the code object of the scope is made from it
+pub scope_makes : (c inner : Context) (h : Shape) (body : Emission) (k l : ℕ) (x : Scope) → number_of x ≡ k → inner.frees ≡ frees_among (symbols_in c.scopes k) → inner.scopes ≡ c.scopes → Settled inner → ((n : ℕ) → room c.scopes n < 2 ^ 26) → ((d : Scope → Object) → burden (body_code (exactly d x) (form_of x)) < 2 ^ 27) → Whole inner body (suc k) l x → Makes c inner h body k l x
+scope_makes c inner h body k l x number frees same settled roomy small whole = record {
+  number = number;
+  frees = frees;
+  run = λ at t e.
+      let own : (n : ℕ) → room inner.scopes n < 2 ^ 26 = λ n. subst (λ es. room es n < 2 ^ 26) (sym same) (roomy n) in
+      let a = whole.run (begun inner at (suc k)) t refl refl (record { around = refl; settled = settled; roomy = own }) e in
+      let m : Emitted inner at (suc k) x t = record { count = l; adds = a.0; looped = a.1; small = small; roomy = own } in (
+        sealed_made inner at (suc k) x t m inner.level (code_head inner h at) refl refl,
+        a.0.next_is,
+        subst (λ es. room es (suc k) ≤ room es t.next) same (let g = a.0.cells in omega (arith, g)),
+      );
+}

@@ -1,0 +1,13 @@
+pub mod Refusing
+pub mod RefusingTests
+pub mod RefusingPacks
+pub mod RefusingDisplays
+pub mod RefusingCalls
+pub mod RefusingTargets
+pub mod RefusingDefaults
+pub mod RefusingExprs
+pub mod RefusingChanges
+pub mod ControlEnds
+pub mod DefEnds
+pub mod RefusingStmts
+pub mod Ending

@@ -1,0 +1,13 @@
+pub mod Together
+pub mod Small
+pub mod SmallDisplays
+pub mod SmallOperators
+pub mod SmallCalls
+pub mod SmallTargets
+pub mod SmallFunctions
+pub mod ParamSizes
+pub mod Sizes
+pub mod SmallAssigns
+pub mod SmallNotes
+pub mod SmallStmts
+pub mod ProgramSizes

@@ -1,0 +1,2 @@
+//! What the code of a tree weighs, and that of each scope within it: lemmas alone.
+#![tactic(auto)]
