@@ -57,6 +57,11 @@ last_count : (run : List Emission) → length (grouped (built op.BuildTuple) run
 last_count [] = refl
 last_count (x ∷ run) = refl
 
+module _ {B A : Type 0} where
+  pub plain_behind : (n : ℕ) (e : Element B A) → is_spread e ≡ false → n + 1 ≡ run_behind n e
+  plain_behind n (Single x) h = refl
+  plain_behind n (Spread x) h = absurd cc
+
 pub none_more : (n : ℕ) → n ≡ 0 + n
 none_more n = omega arith
 

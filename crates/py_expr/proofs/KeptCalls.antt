@@ -21,7 +21,7 @@ abbrev pub KeywordsKeep : Keywords → Type 0
 KeywordsKeep [] = Unit {0}
 KeywordsKeep (e ∷ ks) = KeywordKeeps e × KeywordsKeep ks
 
-abbrev NamedKeep : List (List ℕ × Emission) → Type 0
+abbrev pub NamedKeep : List (List ℕ × Emission) → Type 0
 NamedKeep [] = Unit {0}
 NamedKeep (p ∷ ps) = Keeps p.1 × NamedKeep ps
 
@@ -39,7 +39,7 @@ names_keep : (ps : List (List ℕ × Emission)) → NamedKeep ps → TurnsKeep (
 names_keep [] a = tt
 names_keep (p ∷ ps) a = (then_keeps (emit_constant op.LoadConst (const.str p.0)) p.1 (constant_keeps op.LoadConst (const.str p.0)) a.0, names_keep ps a.1)
 
-map_keeps : (ps : List (List ℕ × Emission)) → NamedKeep ps → Keeps (map_of ps)
+pub map_keeps : (ps : List (List ℕ × Emission)) → NamedKeep ps → Keeps (map_of ps)
 map_keeps ps a = then_keeps (in_turn (name_values ps)) (emit_count op.BuildMap (length ps)) (turn_keeps (name_values ps) (names_keep ps a)) (count_keeps op.BuildMap (length ps))
 
 more_named : (run : List (List ℕ × Emission)) (p : List ℕ × Emission) → NamedKeep run → Keeps p.1 → NamedKeep (run ++ p ∷ [])

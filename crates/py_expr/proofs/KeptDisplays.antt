@@ -1,13 +1,17 @@
 -- What is emitted of elements, calls, pairs, slices and f-strings keeps a block from beginning.
 use Rattle.std.proofs.Common.{ℕ, List, [], ◌∷◌, ◌++◌, length, Option, Some, None}
+use Rattle.std.specs.Prelude.{nat_eq}
+use Rattle.py_base.specs.declared.shapes.Malformed.TheVariants as shape
 use Rattle.py_bytecode.specs.declared.instruction.Instruction.{Instruction}
 use Rattle.py_bytecode.specs.declared.instruction.Instruction.TheVariants as op
 use Rattle.py_bytecode.specs.Objects as const
 use Rattle.py_bytecode.specs.Objects.{Const}
+use Rattle.py_forms.specs.declared.errors.CodegenErrorType.TheVariants as error
 use Rattle.py_steps.specs.Elements.{Element, Single, Spread, starred, bare, grouped, groups, front, behind, pairs, sides}
-use Rattle.py_steps.specs.Emitting.{Emission, emit, emit_count}
-use Rattle.py_steps.specs.EmissionParts.{Emissions, built, dict_value, display, elements, in_turn, joined_value, map_of_pairs, slice_step, slice_value, unpacked, updates, value_or, values}
-use Rattle.py_expr.proofs.Keeping.{Keeps, constant_keeps, count_keeps, either_keeps, emit_keeps, idle_keeps, then_keeps}
+use Rattle.py_steps.specs.Emitting.{Emission, emit, emit_count, refuse}
+use Rattle.py_steps.specs.EmissionParts.{Emissions, built, dict_value, display, elements, emission_of_dict, in_turn, joined_value, map_of_pairs, slice_step, slice_value, unpacked, updates, value_or, values}
+use Rattle.py_emission.specs.Emission.{joined_return}
+use Rattle.py_expr.proofs.Keeping.{Keeps, constant_keeps, count_keeps, either_keeps, emit_keeps, idle_keeps, refuse_keeps, then_keeps}
 use Rattle.py_expr.proofs.KeptParts.{ElementKeeps, AllKeep, TurnsKeep, turn_keeps}
 
 abbrev pub ElementsKeep : List (Element Emission Emission) → Type 0
@@ -103,11 +107,14 @@ behind_keep [] a = tt
 behind_keep (Single p ∷ es) a = behind_keep es a.2
 behind_keep (Spread v ∷ es) a = a
 
-pub dict_keeps : (ks : List (Option Emission)) (vs : List Emission) → MaybesKeep ks → TurnsKeep vs → Keeps (dict_value (pairs ks vs))
-dict_keeps ks vs a b =
+entries_keep_all : (ks : List (Option Emission)) (vs : List Emission) → MaybesKeep ks → TurnsKeep vs → Keeps (dict_value (pairs ks vs))
+entries_keep_all ks vs a b =
     let es = pairs ks vs in
     let all = entries_keep ks vs a b in
     then_keeps (map_of_pairs (front es)) (updates (groups map_of_pairs [] (behind es))) (pairs_keep (front es) (front_keep es all)) (updates_keep (groups map_of_pairs [] (behind es)) (maps_keep [] (behind es) tt (behind_keep es all)))
+
+pub dict_keeps : (ks : List (Option Emission)) (vs : List Emission) → MaybesKeep ks → TurnsKeep vs → Keeps (emission_of_dict ks vs)
+dict_keeps ks vs a b = either_keeps (nat_eq (length ks) (length vs)) (dict_value (pairs ks vs)) (refuse (error.MalformedTree shape.UnevenLists)) (entries_keep_all ks vs a b) (refuse_keeps (error.MalformedTree shape.UnevenLists))
 
 pub value_or_keeps : (c : Const) (v : Option Emission) → MaybeKeeps v → Keeps (value_or c v)
 value_or_keeps c None a = constant_keeps op.LoadConst c
@@ -124,3 +131,7 @@ slice_keeps lower upper step a b c =
 pub joined_keeps : (text : Option (List ℕ)) (vs : List Emission) → TurnsKeep vs → Keeps (joined_value text vs)
 joined_keeps (Some text) vs a = constant_keeps op.LoadConst (const.str text)
 joined_keeps None vs a = built_keeps op.BuildString vs a
+
+pub joined_return_keeps : (text : Option (List ℕ)) (vs : List Emission) → TurnsKeep vs → Keeps (joined_return text vs)
+joined_return_keeps (Some text) vs a = constant_keeps op.ReturnConst (const.str text)
+joined_return_keeps None vs a = then_keeps (built op.BuildString vs) (emit op.ReturnValue 0) (built_keeps op.BuildString vs a) (emit_keeps op.ReturnValue 0)

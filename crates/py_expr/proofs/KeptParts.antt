@@ -25,12 +25,13 @@ abbrev pub CalleeKeeps : Callee Emission → Type 0
 CalleeKeeps (Function v) = Keeps v
 CalleeKeeps (Method name v) = Keeps v
 
--- an expression, as a value, as a test, as an element and as what is called
+-- an expression, as a value, as a test, as an element, as what is called and as what is returned
 pub record EachKeeps (e : Emissions) : Type 0 where
   pub value : Keeps e.value
   pub test : (c : Bool) (to : ℕ) → Keeps (e.test c to)
   pub element : ElementKeeps e.element
   pub callee : CalleeKeeps e.callee
+  pub returned : Keeps e.returned
 
 abbrev pub AllKeep : List Emissions → Type 0
 AllKeep [] = Unit {0}
@@ -77,7 +78,7 @@ pub bool_value_keeps : (d : BoolOp) (es : List Emissions) → AllKeep es → Kee
 bool_value_keeps d es a = either_keeps (nat_eq (length es) 0) (refuse (error.MalformedTree shape.NoOperand)) (some_values d es) (refuse_keeps (error.MalformedTree shape.NoOperand)) (some_values_keep d es a)
 
 pub ordinary_keeps : (v : Emission) (t : (truth : Bool) → (block : ℕ) → Emission) → Keeps v → ((c : Bool) (to : ℕ) → Keeps (t c to)) → EachKeeps (emitting.ordinary v t)
-ordinary_keeps v t h g = record { value = h; test = g; element = h; callee = h }
+ordinary_keeps v t h g = record { value = h; test = g; element = h; callee = h; returned = then_keeps v (emit op.ReturnValue 0) h (emit_keeps op.ReturnValue 0) }
 
 pub truth_keeps : (v : Emission) → Keeps v → (c : Bool) (to : ℕ) → Keeps (emitting.truth_of v c to)
 truth_keeps v h c to = then_keeps v (jump (testing_jump c) to) h (jump_keeps (testing_jump c) to)

@@ -5,6 +5,7 @@ pub mod KeptParts
 pub mod KeptDisplays
 pub mod KeptTargets
 pub mod KeptCalls
+pub mod KeptScopes
 pub mod Opening
 pub mod Groups
 pub mod Pairs
@@ -14,3 +15,5 @@ pub mod Appending
 pub mod Stores
 pub mod Mapping
 pub mod Calling
+pub mod Signatures
+pub mod Scopes

@@ -1,5 +1,6 @@
 -- A block that has not begun stays so through the emission of an expression, a target or a deletion.
 use Rattle.std.proofs.Common.{◌≡◌, ◌≢◌, ℕ, List, [], ◌∷◌, Bool, Option, Some, None, sym, subst, arith}
+use Rattle.std.specs.Prelude.{codes, if◌then◌else◌}
 use Rattle.py_tree.specs.Tree as tree
 use Rattle.py_base.specs.declared.location.SourceLocation.{SourceLocation}
 use Rattle.py_base.specs.declared.operators.BoolOp.{BoolOp}
@@ -11,24 +12,41 @@ use Rattle.py_bytecode.specs.Objects as const
 use Rattle.py_emission.specs.Texts.{texts_of}
 use Rattle.py_steps.specs.TableParts.{binary_case, constant_of, conversion_case, debug_constant, is_debug}
 use Rattle.py_forms.specs.declared.errors.CodegenErrorType.TheVariants as error
-use Rattle.py_steps.specs.Emitting.{State, Begin, Done, Emission, with_step, with_block, located, refuse, by_level, emit, emit_mangled, emit_constant, jump}
-use Rattle.py_steps.specs.EmissionParts.{values, elements, value_or, shorts, tests, bool_value, links, lone_star, no_assignment, no_deletion}
+use Rattle.py_counts.specs.Counts.{scopes_in_annotations}
+use Rattle.py_steps.specs.Children.{DefaultEmissions, emission_of_defaults, flags_of_defaults, lambda_inside}
+use Rattle.py_steps.specs.Emitting.{State, Begin, Done, Emission, ◌▸◌, generating, with_step, with_block, located, refuse, by_level, emit, emit_mangled, emit_constant, jump}
+use Rattle.py_steps.specs.EmissionParts.{Emissions, pass_scopes, values, elements, value_or, shorts, tests, bool_value, links, lone_star, no_assignment, no_deletion}
 use Rattle.py_bytecode.specs.Values.{Load, Store, Delete}
 use Rattle.py_steps.specs.Accesses.{accessed, emission_of_name}
-use Rattle.py_emission.specs.Emission.{opt_emission, opt_emissions, emission, emission_of_test, emissions, all_emissions, all_stores, stores, keyword_emissions, deletion_name, emission_of_delete, emission_of_deletes, unbuilt}
+use Rattle.py_emission.specs.Emission.{default_emissions, lambda_value, emission_of_return, keyword_only_emissions, name_return, positional_emissions, opt_emission, opt_emissions, emission, emission_of_test, emissions, all_emissions, all_stores, stores, keyword_emissions, deletion_name, emission_of_delete, emission_of_deletes, unbuilt}
 use Rattle.py_emit.specs.Steps.{IsOpen}
 use Rattle.py_expr.proofs.Keeping.{Keeps, grows_same, grows_block, grows_located, begun_other, still_open, opens, emit_keeps, jump_keeps, idle_keeps, accessed_keeps, mangled_keeps, constant_keeps, level_keeps, either_keeps, then_keeps, moved_keeps, refuse_keeps}
-use Rattle.py_expr.proofs.KeptParts.{EachKeeps, AllKeep, ordinary_keeps, truth_keeps, shorts_keep, tests_keep, bool_test_keeps, bool_value_keeps, tested_keeps, unary_keeps, links_keep, choice_keeps, compare_keeps, values_keep}
-use Rattle.py_expr.proofs.KeptDisplays.{ElementsKeep, MaybeKeeps, MaybesKeep, dict_keeps, display_keeps, elements_keep, joined_keeps, slice_keeps, value_or_keeps}
+use Rattle.py_expr.proofs.KeptParts.{EachKeeps, AllKeep, TurnsKeep, ordinary_keeps, truth_keeps, shorts_keep, tests_keep, bool_test_keeps, bool_value_keeps, tested_keeps, unary_keeps, links_keep, choice_keeps, compare_keeps, values_keep}
+use Rattle.py_expr.proofs.KeptDisplays.{ElementsKeep, MaybeKeeps, MaybesKeep, append_keep, dict_keeps, display_keeps, elements_keep, joined_keeps, joined_return_keeps, slice_keeps, value_or_keeps}
 use Rattle.py_expr.proofs.KeptTargets.{StoreKeeps, debug_keeps, plain_keeps, unpack_keeps}
-use Rattle.py_expr.proofs.KeptCalls.{KeywordsKeep, call_keeps}
+use Rattle.py_expr.proofs.KeptCalls.{KeywordsKeep, NamedKeep, call_keeps}
+use Rattle.py_expr.proofs.KeptScopes.{DefaultsKeep, child_keeps, defaults_keep, function_keeps, generating_keeps, made_keeps, pass_keeps}
 
 pub named_keeps : (x : List ℕ) → Keeps (emission_of_name x)
 named_keeps x = either_keeps (is_debug x) (by_level (λ l. emit_constant op.LoadConst (debug_constant l))) (accessed Load x) (level_keeps (λ l. emit_constant op.LoadConst (debug_constant l)) (λ l. constant_keeps op.LoadConst (debug_constant l))) (accessed_keeps Load x)
 
+returned_keeps : (x : List ℕ) → Keeps (name_return x)
+returned_keeps x =
+    either_keeps (is_debug x) (by_level (λ l. emit_constant op.ReturnConst (debug_constant l))) (accessed Load x ▸ emit op.ReturnValue 0) (level_keeps (λ l. emit_constant op.ReturnConst (debug_constant l)) (λ l. constant_keeps op.ReturnConst (debug_constant l)))
+    (then_keeps (accessed Load x) (emit op.ReturnValue 0) (accessed_keeps Load x) (emit_keeps op.ReturnValue 0))
+
 -- nothing follows what is not compiled yet
 pub unbuilt_keeps : (at : SourceLocation) → Keeps (unbuilt at)
 unbuilt_keeps at = moved_keeps at (refuse error.NotImplementedYet) (refuse_keeps error.NotImplementedYet)
+
+lambda_keeps : (params : tree.Arguments) (d : DefaultEmissions) (v : Emission) → DefaultsKeep d → Keeps (lambda_value params d v)
+unfolding lambda_value
+lambda_keeps params d v a =
+    then_keeps (emission_of_defaults d) _ (defaults_keep d a)
+    (child_keeps lambda_inside _ _ _ (λ o. then_keeps (pass_scopes (λ postponed. scopes_in_annotations postponed params)) _ (pass_keeps (λ postponed. scopes_in_annotations postponed params)) (made_keeps (flags_of_defaults d) (codes "<lambda>") o)))
+
+returned_as : (e : Emissions) (v : Emission) → EachKeeps e → Keeps v → EachKeeps (record e { returned = v })
+returned_as e v a h = record { value = a.value; test = a.test; element = a.element; callee = a.callee; returned = h }
 
 mutual
   pub expr_keeps : (t : tree.Expr) → EachKeeps (emissions t)
@@ -38,24 +56,33 @@ mutual
   expr_keeps (tree.BinOp at left d right) =
       tested_keeps _ (moved_keeps at _ (then_keeps (emissions left).value _ (expr_keeps left).value (then_keeps (emissions right).value (emit op.BinaryOperation (binary_case d)) (expr_keeps right).value (emit_keeps op.BinaryOperation (binary_case d)))))
   expr_keeps (tree.UnaryOp at u operand) = unary_keeps at u (emissions operand) (expr_keeps operand)
+  expr_keeps (tree.Lambda at params body) = tested_keeps _ (moved_keeps at _ (lambda_keeps params (default_emissions params) (emissions body).returned (defaults_each params)))
   expr_keeps (tree.IfExp at t body orelse) = tested_keeps _ (moved_keeps at _ (choice_keeps (emissions t).test (emissions body).value (expr_keeps t).test (expr_keeps body).value (emissions orelse).value (expr_keeps orelse).value))
+  expr_keeps (tree.Await at value) = tested_keeps _ (moved_keeps at (refuse error.InvalidAwait) (refuse_keeps error.InvalidAwait))
+  expr_keeps (tree.Yield at value) =
+      tested_keeps _ (moved_keeps at _ (function_keeps error.InvalidYield _ (then_keeps generating _ generating_keeps (then_keeps (value_or const.none (opt_emission value)) (emit op.YieldValue 0) (value_or_keeps const.none (opt_emission value) (opt_keeps value)) (emit_keeps op.YieldValue 0)))))
+  expr_keeps (tree.YieldFrom at value) =
+      tested_keeps _ (moved_keeps at _ (function_keeps error.InvalidYieldFrom _ (then_keeps generating _ generating_keeps (then_keeps (emissions value).value _ (expr_keeps value).value
+      (then_keeps (emit op.GetIter 0) _ (emit_keeps op.GetIter 0) (then_keeps (emit_constant op.LoadConst const.none) (emit op.YieldFrom 0) (constant_keeps op.LoadConst const.none) (emit_keeps op.YieldFrom 0)))))))
   expr_keeps (tree.Compare at left ops others) = tested_keeps _ (moved_keeps at _ (compare_keeps (emissions left).value ops (all_emissions others) (expr_keeps left).value (exprs_keep others)))
   expr_keeps (tree.Dict at keys others) = tested_keeps _ (moved_keeps at _ (dict_keeps (opt_emissions keys) (values (all_emissions others)) (opts_keep keys) (values_keep (all_emissions others) (exprs_keep others))))
   expr_keeps (tree.Set at elts) = tested_keeps _ (moved_keeps at _ (display_keeps op.BuildSet op.BuildSetUnpack (elements (all_emissions elts)) (elements_keep (all_emissions elts) (exprs_keep elts))))
   expr_keeps (tree.Call at func args keywords) = tested_keeps _ (moved_keeps at _ (call_keeps (emissions func).callee (elements (all_emissions args)) (keyword_emissions keywords) (expr_keeps func).callee (elements_keep (all_emissions args) (exprs_keep args)) (keywords_keep keywords)))
   expr_keeps (tree.FormattedValue at value c spec) =
       tested_keeps _ (moved_keeps at _ (then_keeps (emissions value).value _ (expr_keeps value).value (then_keeps (value_or (const.str []) (opt_emission spec)) (emit op.FormatValue (conversion_case c)) (value_or_keeps (const.str []) (opt_emission spec) (opt_keeps spec)) (emit_keeps op.FormatValue (conversion_case c)))))
-  expr_keeps (tree.JoinedStr at parts) = tested_keeps _ (moved_keeps at _ (joined_keeps (texts_of parts) (values (all_emissions parts)) (values_keep (all_emissions parts) (exprs_keep parts))))
-  expr_keeps (tree.Constant at v) = tested_keeps _ (moved_keeps at _ (constant_keeps op.LoadConst (constant_of v)))
+  expr_keeps (tree.JoinedStr at parts) =
+      let h = values_keep (all_emissions parts) (exprs_keep parts) in
+      returned_as _ _ (tested_keeps _ (moved_keeps at _ (joined_keeps (texts_of parts) (values (all_emissions parts)) h))) (moved_keeps at _ (joined_return_keeps (texts_of parts) (values (all_emissions parts)) h))
+  expr_keeps (tree.Constant at v) = returned_as _ _ (tested_keeps _ (moved_keeps at _ (constant_keeps op.LoadConst (constant_of v)))) (moved_keeps at _ (constant_keeps op.ReturnConst (constant_of v)))
   expr_keeps (tree.Attribute at value attr) =
       let h = moved_keeps at _ (then_keeps (emissions value).value (emit_mangled op.LoadAttr attr) (expr_keeps value).value (mangled_keeps op.LoadAttr attr)) in
-      record { value = h; test = truth_keeps _ h; element = h; callee = (expr_keeps value).value }
+      record { value = h; test = truth_keeps _ h; element = h; callee = (expr_keeps value).value; returned = then_keeps _ (emit op.ReturnValue 0) h (emit_keeps op.ReturnValue 0) }
   expr_keeps (tree.Subscript at value slice) =
       tested_keeps _ (moved_keeps at _ (then_keeps (emissions value).value _ (expr_keeps value).value (then_keeps (emissions slice).value (emit op.Subscript 0) (expr_keeps slice).value (emit_keeps op.Subscript 0))))
   expr_keeps (tree.Starred at value) =
       let h = moved_keeps at (refuse error.InvalidStarExpr) (refuse_keeps error.InvalidStarExpr) in
-      record { value = h; test = truth_keeps _ h; element = (expr_keeps value).value; callee = h }
-  expr_keeps (tree.Name at x) = tested_keeps _ (moved_keeps at _ (named_keeps x))
+      record { value = h; test = truth_keeps _ h; element = (expr_keeps value).value; callee = h; returned = then_keeps _ (emit op.ReturnValue 0) h (emit_keeps op.ReturnValue 0) }
+  expr_keeps (tree.Name at x) = returned_as _ _ (tested_keeps _ (moved_keeps at _ (named_keeps x))) (moved_keeps at _ (returned_keeps x))
   expr_keeps (tree.List at elts) = tested_keeps _ (moved_keeps at _ (display_keeps op.BuildList op.BuildListUnpack (elements (all_emissions elts)) (elements_keep (all_emissions elts) (exprs_keep elts))))
   expr_keeps (tree.Tuple at elts) = tested_keeps _ (moved_keeps at _ (display_keeps op.BuildTuple op.BuildTupleUnpack (elements (all_emissions elts)) (elements_keep (all_emissions elts) (exprs_keep elts))))
   expr_keeps (tree.Slice at lower upper step) = tested_keeps _ (moved_keeps at _ (slice_keeps (opt_emission lower) (opt_emission upper) (opt_emission step) (opt_keeps lower) (opt_keeps upper) (opt_keeps step)))
@@ -77,6 +104,19 @@ mutual
   keywords_keep tree.no_keywords = tt
   keywords_keep (tree.more_keywords None t ks) = ((expr_keeps t).value, keywords_keep ks)
   keywords_keep (tree.more_keywords (Some name) t ks) = ((expr_keeps t).value, keywords_keep ks)
+
+  pub defaults_each : (ps : tree.Arguments) → DefaultsKeep (default_emissions ps)
+  defaults_each (tree.arguments posonly args vararg kwonly kwarg) = record { positional = append_keep (positional_emissions posonly) (positional_emissions args) (positional_keep posonly) (positional_keep args); keyword = keyword_only_keep kwonly }
+
+  positional_keep : (xs : tree.Args) → TurnsKeep (positional_emissions xs)
+  positional_keep tree.no_args = tt
+  positional_keep (tree.more_args a tree.no_expr others) = positional_keep others
+  positional_keep (tree.more_args a (tree.some_expr t) others) = ((expr_keeps t).value, positional_keep others)
+
+  keyword_only_keep : (xs : tree.Args) → NamedKeep (keyword_only_emissions xs)
+  keyword_only_keep tree.no_args = tt
+  keyword_only_keep (tree.more_args a tree.no_expr others) = keyword_only_keep others
+  keyword_only_keep (tree.more_args (tree.arg at name annotation) (tree.some_expr t) others) = ((expr_keeps t).value, keyword_only_keep others)
 
   pub store_keeps : (t : tree.Expr) → StoreKeeps (stores t)
   store_keeps (tree.Name at x) = plain_keeps _ (debug_keeps no_assignment x (accessed Store x) (accessed_keeps Store x))
@@ -107,6 +147,9 @@ mutual
 
 pub expr_opens : (t : tree.Expr) (s r : State) (b : ℕ) → emission t s ≡ Done r → IsOpen b s → IsOpen b r
 expr_opens t = opens (emissions t).value (expr_keeps t).value
+
+pub return_opens : (t : tree.Expr) (s r : State) (b : ℕ) → emission_of_return t s ≡ Done r → IsOpen b s → IsOpen b r
+return_opens t = opens (emissions t).returned (expr_keeps t).returned
 
 pub test_opens : (t : tree.Expr) (c : Bool) (to : ℕ) (s r : State) (b : ℕ) → emission_of_test t c to s ≡ Done r → IsOpen b s → IsOpen b r
 test_opens t c to = opens ((emissions t).test c to) ((expr_keeps t).test c to)

@@ -1,5 +1,5 @@
 -- One of several values at a time.
-use Rattle.std.proofs.Common.{◌≡◌, ◌≢◌, ◌<◌, ℕ, suc, ◌+◌, ◌-◌, List, [], ◌∷◌, length, drop, get_or, Bool, true, false, Some, refl, sym, ap, ◌∙◌, arith, rules}
+use Rattle.std.proofs.Common.{◌≡◌, ◌≢◌, ◌<◌, ℕ, suc, ◌+◌, ◌-◌, List, [], ◌∷◌, length, drop, get_or, Bool, true, false, Option, Some, refl, sym, ap, ◌∙◌, arith, rules}
 use Rattle.std.specs.Bool.{beq}
 use Rattle.std.specs.Prelude.{nat_eq, nat_lt, if◌then◌else◌}
 use Rattle.std.proofs.Math.Seq.{drop-cons}
@@ -8,15 +8,16 @@ use Rattle.py_tree.specs.declared.expressions.Expr.{Expr}
 use Rattle.py_base.specs.declared.operators.BoolOp.{BoolOp}
 use Rattle.py_base.specs.declared.operators.CmpOp.{CmpOp}
 use Rattle.py_tree.specs.Tree as tree
-use Rattle.py_tree.specs.View.{expr_tree, exprs}
+use Rattle.py_tree.specs.View.{expr_tree, exprs, opt_exprs}
 use Rattle.py_base.specs.declared.shapes.Malformed.{Malformed}
 use Rattle.py_base.specs.declared.shapes.Malformed.TheVariants as shape
 use Rattle.py_forms.specs.declared.errors.CodegenErrorType.{CodegenErrorType}
 use Rattle.py_forms.specs.declared.errors.CodegenErrorType.TheVariants as error
+use Rattle.py_steps.specs.Elements.{pairs}
 use Rattle.py_steps.specs.TableParts.{deciding}
 use Rattle.py_steps.specs.Emitting.{Emission, State, Refused, ◌▸◌, jump, refuse}
-use Rattle.py_steps.specs.EmissionParts.{Emissions, chain, comparisons, emission_of_compare, emission_of_link, first_comparison, in_turn, keeping_jump, links, shorts, some_test, past_tests, tests, values}
-use Rattle.py_emission.specs.Emission.{all_emissions, emission, emission_of_test}
+use Rattle.py_steps.specs.EmissionParts.{Emissions, chain, comparisons, dict_value, emission_of_compare, emission_of_dict, emission_of_link, first_comparison, in_turn, keeping_jump, links, shorts, some_test, past_tests, tests, values}
+use Rattle.py_emission.specs.Emission.{all_emissions, emission, emission_of_test, opt_emissions}
 use Rattle.py_emit.specs.States.{placed_error}
 use Rattle.py_emit.proofs.Joined.{joined, keep_last}
 use Rattle.py_expr.specs.Turns.{linked, short}
@@ -146,6 +147,17 @@ module _ (left : Emission) (ops : List CmpOp) (es : List Emissions) where
 
   pub one_comparison : length ops ≢ 0 → length ops ≡ length es → ¬ (1 < length ops) → emission_of_compare left ops es ≡ left ▸ in_turn (values es) ▸ first_comparison ops
   one_comparison h g f = even_lists h g ∙ if_not _ _ _ (less_not 1 (length ops) f)
+
+-- whether a dict display has as many keys as values
+pub uneven_dict : (ks : List (Option Emission)) (vs : List Emission) → length ks ≢ length vs → emission_of_dict ks vs ≡ refuse (error.MalformedTree shape.UnevenLists)
+uneven_dict ks vs h = if_not _ _ _ (eq_not (length ks) (length vs) h)
+
+pub even_dict : (ks : List (Option Emission)) (vs : List Emission) → length ks ≡ length vs → emission_of_dict ks vs ≡ dict_value (pairs ks vs)
+even_dict ks vs h = if_so _ _ _ (eq_so (length ks) (length vs) h)
+
+pub many_keys : (ks : List (Option Expr)) → length (opt_emissions (opt_exprs expr_tree ks)) ≡ length ks
+many_keys [] = refl
+many_keys (k ∷ ks) = ap suc (many_keys ks)
 
 -- a test by one of two jumps
 pub either_jump : (t : tree.Expr) (b : Bool) (jump stop last : JumpIf) → jump ≡ (if b then stop else last) → emission_of_test t (if b then stop.truth else last.truth) (if b then stop.block.0 else last.block.0) ≡ emission_of_test t jump.truth jump.block.0

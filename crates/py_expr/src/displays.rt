@@ -3,7 +3,7 @@ ghost use Rattle.std.specs.Prelude.{◌≡◌, ◌≤◌, ◌<◌, ◌⊎◌, le
 ghost use Rattle.py_tree.specs.View.{dict_tree, expr_tree, exprs, list_tree, opt_box, opt_expr, opt_exprs, set_tree, slice_tree, tuple_tree};
 ghost use Rattle.py_bytecode.specs.Objects as object;
 ghost use Rattle.py_steps.specs.Elements.{pairs};
-ghost use Rattle.py_steps.specs.EmissionParts.{dict_value, display, elements, slice_step, value_or, values};
+ghost use Rattle.py_steps.specs.EmissionParts.{dict_value, display, elements, emission_of_dict, slice_step, value_or, values};
 ghost use Rattle.py_emission.specs.Emission.{all_emissions, emission, opt_emission, opt_emissions};
 ghost use Rattle.py_emit.specs.States.{Goes, Same, rest, state};
 ghost use Rattle.py_expr.specs.Dicts.{begun_by, closed_pairs, entry_begun, entry_ended, pairs_by};
@@ -11,9 +11,9 @@ ghost use Rattle.py_expr.specs.Dicts.{begun_by, closed_pairs, entry_begun, entry
 use crate::elements::{compile_unpacked, has_star};
 use crate::expressions::{compile_expression, compile_expressions};
 use py_bytecode::{ConstantData, Instruction};
-use py_emit::{Emitter, emit};
-use py_forms::CodegenError;
-use py_tree::{Expr, ExprDict, ExprList, ExprSet, ExprSlice, ExprTuple};
+use py_emit::{Emitter, emit, refuse};
+use py_forms::{CodegenError, CodegenErrorType};
+use py_tree::{Expr, ExprDict, ExprList, ExprSet, ExprSlice, ExprTuple, Malformed};
 
 #[cycle(code)]
 #[tactic(auto, using(crate::proofs::Steps::steps))]
@@ -86,6 +86,19 @@ pub(crate) fn compile_dict(em: &mut Emitter, e: &ExprDict) -> Result<(), Codegen
     ensures same { Same result (rest em.new) (rest em.old) }
 {
     em.set_location(e.location);
+    compile_dict_display(em, e)
+}
+
+/// Emits a dict display, which has as many keys as values.
+#[cycle(code)]
+fn compile_dict_display(em: &mut Emitter, e: &ExprDict) -> Result<(), CodegenError>
+    ensures goes { Goes result (state em.new) (emission_of_dict (opt_emissions (opt_exprs expr_tree e.now.keys)) (values (all_emissions (exprs expr_tree e.now.values))) (state em.old)) }
+    ensures same { Same result (rest em.new) (rest em.old) }
+{
+    let count = e.keys.len();
+    if count != e.values.len() {
+        refuse!(em, CodegenErrorType::MalformedTree(Malformed::UnevenLists));
+    }
     compile_entries(em, e)
 }
 
@@ -191,15 +204,18 @@ pub(crate) fn compile_slice(em: &mut Emitter, e: &ExprSlice) -> Result<(), Codeg
     ensures same { Same result (rest em.new) (rest em.old) }
 {
     em.set_location(e.location);
-    compile_bound(em, &e.lower)?;
-    compile_bound(em, &e.upper)?;
+    compile_or_none(em, &e.lower)?;
+    compile_or_none(em, &e.upper)?;
     compile_step(em, &e.step)
 }
 
-/// Emits a bound of a slice, which is None where it is missing.
+/// Emits a value, which is None where it is missing.
 #[cycle(code)]
 #[tactic(auto, using(py_bytecode::proofs::View::views))]
-fn compile_bound(em: &mut Emitter, bound: &Option<Box<Expr>>) -> Result<(), CodegenError>
+pub(crate) fn compile_or_none(
+    em: &mut Emitter,
+    bound: &Option<Box<Expr>>,
+) -> Result<(), CodegenError>
     ensures goes { Goes result (state em.new) (value_or object.none (opt_emission (opt_box expr_tree bound.now)) (state em.old)) }
     ensures same { Same result (rest em.new) (rest em.old) }
 {

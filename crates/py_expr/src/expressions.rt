@@ -1,4 +1,4 @@
-//! Expressions: those that open no scope are compiled, the others are refused.
+//! Expressions: all are compiled but comprehensions, which are refused.
 ghost use Rattle.std.specs.Prelude.{◌≡◌};
 ghost use Rattle.py_tree.specs.View.{attribute_tree, bin_op_tree, expr_tree, exprs, if_exp_tree, name_tree, starred_tree, subscript_tree, unary_op_tree};
 ghost use Rattle.py_steps.specs.TableParts.{binary_case, unary_case};
@@ -9,8 +9,10 @@ use crate::calls::compile_call;
 use crate::comparisons::compile_compare;
 use crate::conditions::{JumpIf, compile_bool_op, compile_test};
 use crate::displays::{compile_dict, compile_list, compile_set, compile_slice, compile_tuple};
+use crate::functions::compile_lambda;
 use crate::targets::compile_named_expr;
 use crate::texts::{compile_constant, compile_formatted_value, compile_joined_str};
+use crate::yields::{compile_await, compile_yield, compile_yield_from};
 use py_bytecode::Instruction;
 use py_emit::{Emitter, NameUsage, emit, refuse};
 use py_forms::{CodegenError, CodegenErrorType};
@@ -34,7 +36,7 @@ pub fn compile_expression(em: &mut Emitter, expr: &Expr) -> Result<(), CodegenEr
         Expr::NamedExpr(e) => compile_named_expr(em, e),
         Expr::BinOp(e) => compile_bin_op(em, e),
         Expr::UnaryOp(e) => compile_unary_op(em, e),
-        Expr::Lambda(e) => refuse_unbuilt(em, e.location),
+        Expr::Lambda(e) => compile_lambda(em, e),
         Expr::IfExp(e) => compile_if_exp(em, e),
         Expr::Dict(e) => compile_dict(em, e),
         Expr::Set(e) => compile_set(em, e),
@@ -42,9 +44,9 @@ pub fn compile_expression(em: &mut Emitter, expr: &Expr) -> Result<(), CodegenEr
         Expr::SetComp(e) => refuse_unbuilt(em, e.location),
         Expr::DictComp(e) => refuse_unbuilt(em, e.location),
         Expr::GeneratorExp(e) => refuse_unbuilt(em, e.location),
-        Expr::Await(e) => refuse_unbuilt(em, e.location),
-        Expr::Yield(e) => refuse_unbuilt(em, e.location),
-        Expr::YieldFrom(e) => refuse_unbuilt(em, e.location),
+        Expr::Await(e) => compile_await(em, e),
+        Expr::Yield(e) => compile_yield(em, e),
+        Expr::YieldFrom(e) => compile_yield_from(em, e),
         Expr::Compare(e) => compile_compare(em, e),
         Expr::Call(e) => compile_call(em, e),
         Expr::FormattedValue(e) => compile_formatted_value(em, e),
@@ -194,8 +196,11 @@ pub(crate) fn compile_name(em: &mut Emitter, e: &ExprName) -> Result<(), Codegen
 }
 
 /// Emits expressions one after the other.
+///
+/// # Errors
+/// The first compile fault of an expression, or OutOfMemory.
 #[cycle(code)]
-pub(crate) fn compile_expressions(em: &mut Emitter, items: &[Expr]) -> Result<(), CodegenError>
+pub fn compile_expressions(em: &mut Emitter, items: &[Expr]) -> Result<(), CodegenError>
     ensures goes { Goes result (state em.new) (emission_of_exprs (exprs expr_tree items.now) (state em.old)) }
     ensures same { Same result (rest em.new) (rest em.old) }
 {

@@ -204,7 +204,7 @@ fn close_map(em: &mut Emitter, run: usize) -> Result<usize, CodegenError>
 
 /// Emits the name of a keyword.
 #[tactic(auto, using(py_bytecode::proofs::View::views))]
-fn load_name(em: &mut Emitter, name: &Text) -> Result<(), CodegenError>
+pub(crate) fn load_name(em: &mut Emitter, name: &Text) -> Result<(), CodegenError>
     ensures goes { Goes result (state em.new) (emit_constant Instruction.LoadConst (str name.now) (state em.old)) }
     ensures same { Same result (rest em.new) (rest em.old) }
 {

@@ -8,15 +8,22 @@ mod conditions;
 mod displays;
 mod elements;
 mod expressions;
+mod functions;
 mod keywords;
+mod parameters;
 mod returns;
 mod targets;
 mod texts;
+mod yields;
 
 pub use awaits::contains_await;
 pub use calls::{CallType, compile_call_inner, emit_call};
 pub use conditions::compile_jump_if;
-pub use expressions::{case_of, compile_expression, refuse_unbuilt};
+pub use expressions::{case_of, compile_expression, compile_expressions, refuse_unbuilt};
+pub use functions::{
+    Defaults, begin_function, compile_defaults, enter_function, function_flags, pass_annotations,
+};
 pub use returns::compile_return;
 pub use targets::{compile_delete, compile_deletes, compile_store, refuse_store};
 pub use texts::text_of;
+pub use yields::is_function;

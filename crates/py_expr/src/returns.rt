@@ -15,6 +15,10 @@ use py_forms::CodegenError;
 use py_tree::{Expr, ExprConstant, ExprJoinedStr, ExprName};
 
 /// Emits the code that returns an expression's value: a constant by one instruction.
+///
+/// # Errors
+/// The first compile fault of the expression, or OutOfMemory.
+#[cycle(code)]
 #[tactic(auto, using(py_tree::proofs::View::trees, crate::proofs::Steps::steps))]
 pub fn compile_return(em: &mut Emitter, expr: &Expr) -> Result<(), CodegenError>
     ensures goes { Goes result (state em.new) (emission_of_return (expr_tree expr.now) (state em.old)) }
@@ -29,6 +33,7 @@ pub fn compile_return(em: &mut Emitter, expr: &Expr) -> Result<(), CodegenError>
 }
 
 /// Emits a value and its return.
+#[cycle(code)]
 #[tactic(auto, using(crate::proofs::Steps::steps))]
 fn return_value(em: &mut Emitter, expr: &Expr) -> Result<(), CodegenError>
     ensures goes { Goes result (state em.new) ((emission (expr_tree expr.now) ▸ emitting Instruction.ReturnValue 0) (state em.old)) }
@@ -49,6 +54,7 @@ fn return_constant(em: &mut Emitter, e: &ExprConstant) -> Result<(), CodegenErro
     em.return_const(value)
 }
 
+#[cycle(code)]
 #[tactic(auto, using(crate::proofs::Steps::steps))]
 fn return_joined_str(em: &mut Emitter, e: &ExprJoinedStr) -> Result<(), CodegenError>
     ensures goes { Goes result (state em.new) (emission_of_return (joined_str_tree e.now) (state em.old)) }
@@ -59,6 +65,7 @@ fn return_joined_str(em: &mut Emitter, e: &ExprJoinedStr) -> Result<(), CodegenE
 }
 
 /// Emits the code that returns the parts of an f-string joined: one text by one instruction.
+#[cycle(code)]
 #[tactic(auto, using(py_bytecode::proofs::View::views))]
 fn return_joined(em: &mut Emitter, parts: &[Expr]) -> Result<(), CodegenError>
     ensures goes { Goes result (state em.new) (joined_return (texts_of (exprs expr_tree parts.now)) (values (all_emissions (exprs expr_tree parts.now))) (state em.old)) }

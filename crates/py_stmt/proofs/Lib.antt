@@ -4,3 +4,6 @@ pub mod Opening
 pub mod Assigning
 pub mod Parts
 pub mod Managing
+pub mod LastReturn
+pub mod Annotating
+pub mod KeptFunctions

@@ -1,6 +1,6 @@
 -- A block that has not begun stays so through the emission of a statement.
-use Rattle.std.proofs.Common.{◌≡◌, ℕ, List, Bool, false, Option, Some, None}
-use Rattle.std.specs.Prelude.{codes, nat_eq, not}
+use Rattle.std.proofs.Common.{◌≡◌, ℕ, ◌+◌, List, Bool, false, Option, Some, None}
+use Rattle.std.specs.Prelude.{codes, nat_eq, not, if◌then◌else◌}
 use Rattle.py_tree.specs.Tree as tree
 use Rattle.py_base.specs.declared.location.SourceLocation.{SourceLocation}
 use Rattle.py_base.specs.declared.operators.Operator.{Operator}
@@ -12,22 +12,27 @@ use Rattle.py_bytecode.specs.Objects as const
 use Rattle.py_steps.specs.TableParts.{binary_case}
 use Rattle.py_forms.specs.declared.errors.CodegenErrorType.{CodegenErrorType}
 use Rattle.py_forms.specs.declared.errors.CodegenErrorType.TheVariants as error
-use Rattle.py_steps.specs.Emitting.{State, Done, Emission, LoopBlocks, begin, by_context, emit, emit_count, emit_mangled, emit_name, emit_constant, in_loop, jump, keep, refuse}
+use Rattle.py_steps.specs.Emitting.{State, Done, Emission, LoopBlocks, ◌▸◌, begin, by_context, emit, emit_count, emit_mangled, emit_name, emit_constant, in_loop, jump, refuse}
 use Rattle.py_bytecode.specs.Values.{Store}
-use Rattle.py_steps.specs.Accesses.{accessed, emission_of_name}
-use Rattle.py_steps.specs.Context.{Context, mangled}
-use Rattle.py_steps.specs.EmissionParts.{choice, no_assignment, only}
-use Rattle.py_emission.specs.Emission.{emission, emission_of_test, emissions, stores}
+use Rattle.py_steps.specs.Accesses.{accessed, emission_of_name, emission_of_stored}
+use Rattle.py_steps.specs.Context.{Context, is_function, mangled}
+use Rattle.py_steps.specs.EmissionParts.{choice, no_assignment, only, pass_scopes, values}
+use Rattle.py_emission.specs.Emission.{all_emissions, emission, emission_of_test, emissions, stores}
+use Rattle.py_emission.specs.Texts.{after_doc}
+use Rattle.py_counts.specs.Counts.{scopes_in, scopes_in_opt}
+use Rattle.py_meaning.specs.EmissionDefs.{emission_of_end}
 use Rattle.py_meaning.specs.ControlEmissions.{any_match, asserted, before_last, caught, named_body, to_last, typed_match}
-use Rattle.py_meaning.specs.EmissionStmts.{emission_of_annotation, emission_of_assert, emission_of_assign, emission_of_augment, emission_of_declared, emission_of_handlers, emission_of_item, emission_of_items, emission_of_last, emission_of_message, emission_of_operand, emission_of_raise, emission_of_stmt, emission_of_stmts, itemless, leave_loop, none}
-use Rattle.py_meaning.specs.Table.{message_count}
+use Rattle.py_meaning.specs.EmissionStmts.{emission_of_annotated, emission_of_annotation, emission_of_rest, emission_of_returned, emission_of_assert, emission_of_assign, emission_of_augment, emission_of_declared, emission_of_handlers, emission_of_item, emission_of_items, emission_of_last, emission_of_message, emission_of_operand, emission_of_raise, emission_of_stmt, emission_of_stmts, itemless, leave_loop}
+use Rattle.py_meaning.specs.StmtParts.{message_count, none}
 use Rattle.py_emit.specs.Steps.{IsOpen}
 use Rattle.py_expr.proofs.Keeping.{Keeps, begin_keeps, block_from, constant_keeps, count_keeps, either_keeps, emit_keeps, idle_keeps, jump_keeps, level_keeps, loop_keeps, loops_keep, move_keeps, moved_keeps, name_keeps, accessed_keeps, context_keeps, mangled_keeps, opens, refuse_keeps, then_from, then_keeps}
-use Rattle.py_expr.proofs.KeptParts.{choice_keeps, only_keeps}
+use Rattle.py_expr.proofs.KeptParts.{choice_keeps, only_keeps, values_keep}
+use Rattle.py_expr.proofs.KeptScopes.{function_keeps, pass_keeps}
 use Rattle.py_expr.proofs.KeptTargets.{debug_keeps}
-use Rattle.py_expr.proofs.Opening.{deletes_keep, expr_keeps, named_keeps, store_keeps, unbuilt_keeps}
+use Rattle.py_expr.proofs.Opening.{deletes_keep, expr_keeps, exprs_keep, named_keeps, store_keeps, unbuilt_keeps}
 use Rattle.py_stmt.specs.Managing.{entered, full_body}
 use Rattle.py_stmt.specs.Parts.{each_begun, each_ended, each_turn, emission_of_caught, emission_of_match, guarded, handled, unguarded}
+use Rattle.py_stmt.proofs.KeptFunctions.{decorated_keeps, def_keeps}
 use Rattle.py_stmt.proofs.KeptControl.{asserted_keeps, before_keeps, each_keeps, entered_keeps, handler_keeps, managed_keeps, match_keeps, named_body_keeps, to_last_keeps, try_keeps}
 
 assign_keeps : (ts : tree.Exprs) → Keeps (emission_of_assign ts)
@@ -50,13 +55,23 @@ augment_keeps (tree.Subscript at value slice) d v h =
 augment_keeps t d v h = refuse_keeps (error.Assign (python_name t))
 
 declared_keeps : (t : tree.Expr) (v : tree.OptExpr) → Keeps (emission_of_declared t v)
-declared_keeps t tree.no_expr = idle_keeps
+declared_keeps t tree.no_expr = pass_keeps (λ postponed. scopes_in postponed t)
 declared_keeps t (tree.some_expr v) = then_keeps (emissions v).value (stores t).alone (expr_keeps v).value (store_keeps t).alone
 
 annotation_keeps : (t : tree.Expr) → Keeps (emission_of_annotation t)
 annotation_keeps (tree.Name at x) =
     then_keeps (emit_name op.LoadNameAny (codes "__annotations__")) _ (name_keeps op.LoadNameAny (codes "__annotations__")) (then_keeps (by_context (λ c. emit_constant op.LoadConst (const.str (mangled c x)))) (emit op.StoreSubscript 0) (context_keeps (λ c. emit_constant op.LoadConst (const.str (mangled c x))) (λ c. constant_keeps op.LoadConst (const.str (mangled c x)))) (emit_keeps op.StoreSubscript 0))
 annotation_keeps t = emit_keeps op.Pop 0
+
+annotated_keeps : (t note : tree.Expr) → Keeps (emission_of_annotated t note)
+annotated_keeps t note =
+    context_keeps (λ c. if is_function c.typ then pass_scopes (λ postponed. scopes_in postponed note) else emission note ▸ emission_of_annotation t)
+    (λ c. either_keeps (is_function c.typ) (pass_scopes (λ postponed. scopes_in postponed note)) (emission note ▸ emission_of_annotation t) (pass_keeps (λ postponed. scopes_in postponed note))
+    (then_keeps (emissions note).value (emission_of_annotation t) (expr_keeps note).value (annotation_keeps t)))
+
+returned_keeps : (t : tree.OptExpr) → Keeps (emission_of_returned t)
+returned_keeps tree.no_expr = constant_keeps op.ReturnConst const.none
+returned_keeps (tree.some_expr e) = (expr_keeps e).returned
 
 leave_keeps : (i : Instruction) (to : LoopBlocks → ℕ) (e : CodegenErrorType) (x : Option LoopBlocks) → Keeps (leave_loop i to e x)
 leave_keeps i to e None = refuse_keeps e
@@ -91,7 +106,9 @@ message_keeps tree.no_expr = idle_keeps
 message_keeps (tree.some_expr t) = (expr_keeps t).value
 
 assert_keeps : (t : tree.Expr) (msg : tree.OptExpr) (level : ℕ) → Keeps (emission_of_assert t msg level)
-assert_keeps t msg level = either_keeps (nat_eq level 0) (asserted (emission_of_test t) (emission_of_message msg) (message_count msg)) keep (asserted_keeps (emission_of_test t) (emission_of_message msg) (message_count msg) (expr_keeps t).test (message_keeps msg)) idle_keeps
+assert_keeps t msg level =
+    either_keeps (nat_eq level 0) (asserted (emission_of_test t) (emission_of_message msg) (message_count msg)) (pass_scopes (λ postponed. scopes_in postponed t + scopes_in_opt postponed msg))
+    (asserted_keeps (emission_of_test t) (emission_of_message msg) (message_count msg) (expr_keeps t).test (message_keeps msg)) (pass_keeps (λ postponed. scopes_in postponed t + scopes_in_opt postponed msg))
 
 last_keeps : (ts : tree.Stmts) (last : Emission) → Keeps last → Keeps (emission_of_last ts last)
 last_keeps tree.no_stmts last h = idle_keeps
@@ -102,11 +119,15 @@ full_keeps ts h = either_keeps (none ts) (refuse error.EmptyWithBody) (emission_
 
 mutual
   pub stmt_keeps : (t : tree.Stmt) → Keeps (emission_of_stmt t)
+  stmt_keeps (tree.FunctionDef at name params body decorators returns tree.no_type_params) =
+      moved_keeps at _ (then_keeps _ (emission_of_stored name) (decorated_keeps (values (all_emissions decorators)) _ (values_keep (all_emissions decorators) (exprs_keep decorators)) (def_keeps name params body returns (emission_of_rest body ▸ emission_of_end (after_doc body))))
+      (debug_keeps no_assignment name (accessed Store name) (accessed_keeps Store name)))
+  stmt_keeps (tree.Return at value) = moved_keeps at _ (function_keeps error.InvalidReturn (emission_of_returned value) (returned_keeps value))
   stmt_keeps (tree.Delete at targets) = moved_keeps at _ (deletes_keep targets)
   stmt_keeps (tree.Assign at targets v) = moved_keeps at _ (then_keeps (emissions v).value (emission_of_assign targets) (expr_keeps v).value (assign_keeps targets))
   stmt_keeps (tree.AugAssign at target d v) = moved_keeps at _ (augment_keeps target d (emission v) (expr_keeps v).value)
   stmt_keeps (tree.AnnAssign at target note v simple) =
-      moved_keeps at _ (then_keeps (emission_of_declared target v) _ (declared_keeps target v) (then_keeps (emissions note).value (emission_of_annotation target) (expr_keeps note).value (annotation_keeps target)))
+      moved_keeps at _ (then_keeps (emission_of_declared target v) (emission_of_annotated target note) (declared_keeps target v) (annotated_keeps target note))
   stmt_keeps (tree.If at t body orelse) =
       moved_keeps at _ (either_keeps (none orelse) (only (emission_of_test t) (emission_of_stmts body)) (choice (emission_of_test t) (emission_of_stmts body) (emission_of_stmts orelse))
       (only_keeps (emission_of_test t) (emission_of_stmts body) (expr_keeps t).test (stmts_keep body)) (choice_keeps (emission_of_test t) (emission_of_stmts body) (expr_keeps t).test (stmts_keep body) (emission_of_stmts orelse) (stmts_keep orelse)))
@@ -121,6 +142,8 @@ mutual
       moved_keeps at _ (try_keeps (not (none finalbody)) (emission_of_stmts body) (emission_of_handlers excepts (not (none finalbody))) (emission_of_stmts orelse) (emission_of_last finalbody (emission_of_stmts finalbody))
       (stmts_keep body) (handlers_keep excepts (not (none finalbody))) (stmts_keep orelse) (last_keeps finalbody (emission_of_stmts finalbody) (stmts_keep finalbody)))
   stmt_keeps (tree.Assert at t msg) = moved_keeps at _ (level_keeps (emission_of_assert t msg) (assert_keeps t msg))
+  stmt_keeps (tree.Global at names) = move_keeps at
+  stmt_keeps (tree.Nonlocal at names) = move_keeps at
   stmt_keeps (tree.StmtExpr at v) = moved_keeps at _ (then_keeps (emissions v).value (emit op.Pop 0) (expr_keeps v).value (emit_keeps op.Pop 0))
   stmt_keeps (tree.Break at) = moved_keeps at _ (loops_keep _ (leave_keeps op.Break (λ y. y.on_break) error.InvalidBreak))
   stmt_keeps (tree.Continue at) = moved_keeps at _ (loops_keep _ (leave_keeps op.Continue (λ y. y.on_continue) error.InvalidContinue))

@@ -6,13 +6,19 @@ use Rattle.py_tree.specs.declared.statements.Stmt.{Stmt}
 use Rattle.py_tree.specs.declared.statements.WithItemOf.{WithItemOf}
 use Rattle.py_tree.specs.declared.expressions.Expr.{Expr}
 use Rattle.py_tree.specs.View.{stmt_tree, stmts, with_items}
-use Rattle.py_steps.specs.Emitting.{Emission, LoopBlocks, State, by_loops}
-use Rattle.py_meaning.specs.EmissionStmts.{itemless, none}
+use Rattle.py_steps.specs.Emitting.{Emission, LoopBlocks, State, by_context, by_loops}
+use Rattle.py_steps.specs.Context.{Context}
+use Rattle.py_meaning.specs.EmissionStmts.{itemless}
+use Rattle.py_meaning.specs.StmtParts.{none}
 use Rattle.py_expr.proofs.Steps.{begin_goes, block_goes, level_goes, located_at, many_emissions, move_goes, refuse_goes}
 
 pub loops_go : (a : Option LoopBlocks → Emission) (s : State) → by_loops a s ≡ a s.around.loops s
 unfolding by_loops
 loops_go a s = refl
+
+pub context_goes : (a : Context → Emission) (s : State) → by_context a s ≡ a s.around.context s
+unfolding by_context
+context_goes a s = refl
 
 pub none_stmts : (xs : List Stmt) → none (stmts stmt_tree xs) ≡ nat_eq (length xs) 0
 none_stmts [] = refl
@@ -35,4 +41,4 @@ itemless_is [] false f g = let h = g refl in absurd cc
 itemless_is (x ∷ xs) true f g = let h = f refl in absurd cc
 itemless_is (x ∷ xs) false f g = refl
 
-pub ruleset steps = (begin_goes, block_goes, level_goes, located_at, loops_go, many_emissions, move_goes, none_stmts, refuse_goes)
+pub ruleset steps = (begin_goes, block_goes, context_goes, level_goes, located_at, loops_go, many_emissions, move_goes, none_stmts, refuse_goes)

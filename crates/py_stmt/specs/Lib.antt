@@ -1,3 +1,4 @@
 pub mod Assigning
 pub mod Managing
 pub mod Parts
+pub mod Functions

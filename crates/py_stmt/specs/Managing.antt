@@ -9,7 +9,8 @@ use Rattle.py_forms.specs.declared.errors.CodegenErrorType.{CodegenErrorType}
 use Rattle.py_forms.specs.declared.errors.CodegenErrorType.TheVariants as error
 use Rattle.py_steps.specs.Emitting.{Emission, Refused, State, ◌▸◌, begin, emit, jump, keep, move, new_block, refuse}
 use Rattle.py_emission.specs.Emission.{emission_of_store}
-use Rattle.py_meaning.specs.EmissionStmts.{emission_of_items, emission_of_stmts, itemless, none}
+use Rattle.py_meaning.specs.EmissionStmts.{emission_of_items, emission_of_stmts, itemless}
+use Rattle.py_meaning.specs.StmtParts.{none}
 use Rattle.py_emit.specs.Steps.{IsOpen}
 
 -- a body that may not be empty

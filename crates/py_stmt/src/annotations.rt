@@ -1,7 +1,7 @@
 //! Annotated assignments.
 ghost use Rattle.std.specs.Prelude.{◌≡◌, ◌≤◌, drop, length};
 ghost use Rattle.py_tree.specs.View.{stmt_tree, stmts};
-ghost use Rattle.py_meaning.specs.Table.{annotated, annotates};
+ghost use Rattle.py_meaning.specs.StmtParts.{annotated, annotates};
 
 use crate::docs::statements_from;
 use py_tree::{Stmt, Stmts};

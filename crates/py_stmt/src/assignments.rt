@@ -6,13 +6,16 @@ ghost use Rattle.py_steps.specs.TableParts.{binary_case};
 ghost use Rattle.py_steps.specs.Emitting.{◌▸◌, by_context, emit as emitting, emit_constant, emit_name};
 ghost use Rattle.py_steps.specs.Context.{mangled};
 ghost use Rattle.py_emission.specs.Emission.{emission, emission_of_deletes};
-ghost use Rattle.py_meaning.specs.EmissionStmts.{emission_of_annotation, emission_of_assign, emission_of_augment, emission_of_declared, emission_of_operand, emission_of_stmt};
+ghost use Rattle.py_meaning.specs.EmissionStmts.{emission_of_annotated, emission_of_annotation, emission_of_assign, emission_of_augment, emission_of_declared, emission_of_operand, emission_of_stmt};
 ghost use Rattle.py_emit.specs.States.{Goes, Same, rest, state};
 ghost use Rattle.py_stmt.specs.Assigning.{assigned_to};
 
+use crate::passed::pass_expression;
 use py_bytecode::{ConstantData, Instruction};
 use py_emit::{Emitter, NameUsage, emit, is_debug, refuse};
-use py_expr::{case_of, compile_deletes, compile_expression, compile_store, refuse_store};
+use py_expr::{
+    case_of, compile_deletes, compile_expression, compile_store, is_function, refuse_store,
+};
 use py_forms::{CodegenError, CodegenErrorType};
 use py_tree::{
     Expr, ExprAttribute, ExprName, ExprSubscript, Malformed, StmtAnnAssign, StmtAssign,
@@ -149,20 +152,34 @@ pub(crate) fn compile_ann_assign(em: &mut Emitter, s: &StmtAnnAssign) -> Result<
 {
     em.set_location(s.location);
     compile_declared(em, s)?;
+    compile_annotated(em, s)
+}
+
+/// Emits an annotation and what keeps it, but in a function, which only has it scanned.
+#[tactic(auto, unfolding(py_steps::specs::Emitting::by_context))]
+fn compile_annotated(em: &mut Emitter, s: &StmtAnnAssign) -> Result<(), CodegenError>
+    ensures goes { Goes result (state em.new) (emission_of_annotated (expr_tree s.now.target.value) (expr_tree s.now.annotation.value) (state em.old)) }
+    ensures same { Same result (rest em.new) (rest em.old) }
+{
+    if is_function(em.scope_type()) {
+        return pass_expression(em, &s.annotation);
+    }
     compile_expression(em, &s.annotation)?;
     compile_annotation(em, &s.target)
 }
 
-/// Emits the value of an annotated target and its store, where there is one.
+/// Emits the value of an annotated target and its store, where there is one. Else the target is only scanned.
 fn compile_declared(em: &mut Emitter, s: &StmtAnnAssign) -> Result<(), CodegenError>
     ensures goes { Goes result (state em.new) (emission_of_declared (expr_tree s.now.target.value) (opt_box expr_tree s.now.value) (state em.old)) }
     ensures same { Same result (rest em.new) (rest em.old) }
 {
-    if let Some(value) = &s.value {
-        compile_expression(em, value)?;
-        compile_store(em, &s.target)?;
+    match &s.value {
+        Some(value) => {
+            compile_expression(em, value)?;
+            compile_store(em, &s.target)
+        }
+        None => pass_expression(em, &s.target),
     }
-    Ok(())
 }
 
 /// Emits what keeps the annotation of a name in `__annotations__`, and drops that of another target.
@@ -201,7 +218,7 @@ fn store_key(em: &mut Emitter, map: &str, key: &str) -> Result<(), CodegenError>
 
 /// Emits the load of a name as a text, as the innermost class writes it.
 #[tactic(auto, unfolding(py_steps::specs::Emitting::by_context))]
-fn load_mangled(em: &mut Emitter, name: &str) -> Result<(), CodegenError>
+pub(crate) fn load_mangled(em: &mut Emitter, name: &str) -> Result<(), CodegenError>
     ensures goes { Goes result (state em.new) (by_context (λ c. emit_constant Instruction.LoadConst (str (mangled c name.now))) (state em.old)) }
     ensures same { Same result (rest em.new) (rest em.old) }
 {

@@ -4,8 +4,12 @@
 mod annotations;
 mod assignments;
 mod docs;
+mod functions;
 mod loops;
+mod notes;
+mod passed;
 mod raises;
+mod returns;
 mod statements;
 mod tries;
 mod withs;

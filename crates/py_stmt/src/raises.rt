@@ -4,10 +4,11 @@ ghost use Rattle.py_tree.specs.Tree.{some_expr};
 ghost use Rattle.py_tree.specs.View.{assert_tree, expr_tree, opt_box, raise_tree};
 ghost use Rattle.py_emission.specs.Emission.{emission_of_test};
 ghost use Rattle.py_meaning.specs.ControlEmissions.{asserted};
-ghost use Rattle.py_meaning.specs.EmissionStmts.{emission_of_message, emission_of_raise, emission_of_stmt};
-ghost use Rattle.py_meaning.specs.Table.{message_count};
+ghost use Rattle.py_meaning.specs.EmissionStmts.{emission_of_assert, emission_of_message, emission_of_raise, emission_of_stmt};
+ghost use Rattle.py_meaning.specs.StmtParts.{message_count};
 ghost use Rattle.py_emit.specs.States.{Goes, Same, rest, state};
 
+use crate::passed::pass_assertion;
 use py_bytecode::Instruction;
 use py_emit::{Emitter, emit};
 use py_expr::{compile_expression, compile_jump_if};
@@ -45,17 +46,25 @@ fn raise_value(em: &mut Emitter, exc: &Expr, cause: &Option<Box<Expr>>) -> Resul
     Ok(())
 }
 
-/// Emits an assertion, at level 0.
-#[tactic(auto, using(crate::proofs::Steps::steps), unfolding(py_emit::specs::States::rest))]
+/// Emits an assertion, at level 0. Above it is only scanned.
+#[tactic(auto, using(crate::proofs::Steps::steps))]
 pub(crate) fn compile_assert(em: &mut Emitter, s: &StmtAssert) -> Result<(), CodegenError>
     ensures goes { Goes result (state em.new) (emission_of_stmt (assert_tree s.now) (state em.old)) }
     ensures same { Same result (rest em.new) (rest em.old) }
 {
     em.set_location(s.location);
+    compile_assertion(em, s)
+}
+
+#[tactic(auto, unfolding(py_emit::specs::States::rest))]
+fn compile_assertion(em: &mut Emitter, s: &StmtAssert) -> Result<(), CodegenError>
+    ensures goes { Goes result (state em.new) (emission_of_assert (expr_tree s.now.test.value) (opt_box expr_tree s.now.msg) (state em.old).around.context.level (state em.old)) }
+    ensures same { Same result (rest em.new) (rest em.old) }
+{
     if em.opts().optimize == 0 {
         return compile_asserted(em, s);
     }
-    Ok(())
+    pass_assertion(em, s)
 }
 
 #[tactic(auto, using(crate::proofs::Steps::steps))]

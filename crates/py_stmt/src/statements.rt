@@ -1,7 +1,6 @@
 //! Statements.
-ghost use Rattle.std.specs.Prelude.{◌≡◌};
-ghost use Rattle.py_tree.specs.View.{expr_tree, if_tree, pass_tree, stmt_expr_tree, stmt_tree, stmts};
-ghost use Rattle.py_steps.specs.Emitting.{Done};
+ghost use Rattle.py_tree.specs.View.{expr_tree, if_tree, stmt_expr_tree, stmt_tree, stmts};
+ghost use Rattle.py_steps.specs.Emitting.{move as moving};
 ghost use Rattle.py_steps.specs.EmissionParts.{choice, only};
 ghost use Rattle.py_emission.specs.Emission.{emission_of_test};
 ghost use Rattle.py_meaning.specs.EmissionStmts.{emission_of_stmt, emission_of_stmts};
@@ -10,15 +9,17 @@ ghost use Rattle.py_emit.specs.States.{AreMade, Goes, Same, rest, state};
 use crate::assignments::{
     compile_ann_assign, compile_assign, compile_aug_assign, compile_delete_statement,
 };
+use crate::functions::compile_function_def;
 use crate::loops::{compile_break, compile_continue, compile_for, compile_while};
 use crate::raises::{compile_assert, compile_raise};
+use crate::returns::compile_return_statement;
 use crate::tries::compile_try;
 use crate::withs::compile_with;
 use py_bytecode::Instruction;
 use py_emit::{Emitter, emit};
 use py_expr::{compile_expression, compile_jump_if, refuse_unbuilt};
 use py_forms::CodegenError;
-use py_tree::{Stmt, StmtExpr, StmtIf, StmtPass};
+use py_tree::{SourceLocation, Stmt, StmtExpr, StmtIf};
 
 /// Emits statements one after the other. The context has the blocks to which the innermost loop of this scope goes.
 #[cycle(code)]
@@ -35,16 +36,16 @@ pub fn compile_statements(em: &mut Emitter, body: &[Stmt]) -> Result<(), Codegen
 
 #[cycle(code)]
 #[tactic(auto, using(py_tree::proofs::View::trees))]
-fn compile_statement(em: &mut Emitter, statement: &Stmt) -> Result<(), CodegenError>
+pub(crate) fn compile_statement(em: &mut Emitter, statement: &Stmt) -> Result<(), CodegenError>
     requires loops { AreMade (rest em.old).context.loop_blocks }
     ensures goes { Goes result (state em.new) (emission_of_stmt (stmt_tree statement.now) (state em.old)) }
     ensures same { Same result (rest em.new) (rest em.old) }
 {
     match statement {
-        Stmt::FunctionDef(s) => refuse_unbuilt(em, s.location),
+        Stmt::FunctionDef(s) => compile_function_def(em, s),
         Stmt::AsyncFunctionDef(s) => refuse_unbuilt(em, s.location),
         Stmt::ClassDef(s) => refuse_unbuilt(em, s.location),
-        Stmt::Return(s) => refuse_unbuilt(em, s.location),
+        Stmt::Return(s) => compile_return_statement(em, s),
         Stmt::Delete(s) => compile_delete_statement(em, s),
         Stmt::Assign(s) => compile_assign(em, s),
         Stmt::TypeAlias(s) => refuse_unbuilt(em, s.location),
@@ -63,15 +64,12 @@ fn compile_statement(em: &mut Emitter, statement: &Stmt) -> Result<(), CodegenEr
         Stmt::Assert(s) => compile_assert(em, s),
         Stmt::Import(s) => refuse_unbuilt(em, s.location),
         Stmt::ImportFrom(s) => refuse_unbuilt(em, s.location),
-        Stmt::Global(s) => refuse_unbuilt(em, s.location),
-        Stmt::Nonlocal(s) => refuse_unbuilt(em, s.location),
+        Stmt::Global(s) => stand_at(em, s.location),
+        Stmt::Nonlocal(s) => stand_at(em, s.location),
         Stmt::Expr(s) => compile_expr_statement(em, s),
         Stmt::Break(s) => compile_break(em, s),
         Stmt::Continue(s) => compile_continue(em, s),
-        Stmt::Pass(s) => {
-            compile_pass(em, s);
-            Ok(())
-        }
+        Stmt::Pass(s) => stand_at(em, s.location),
     }
 }
 
@@ -134,10 +132,12 @@ fn compile_choice(em: &mut Emitter, s: &StmtIf) -> Result<(), CodegenError>
     Ok(())
 }
 
+/// Moves to a location: the statement that stands there does nothing more.
 #[tactic(auto, using(crate::proofs::Steps::steps))]
-fn compile_pass(em: &mut Emitter, s: &StmtPass)
-    ensures goes { emission_of_stmt (pass_tree s.now) (state em.old) ≡ Done (state em.new) }
-    ensures same { rest em.new ≡ rest em.old }
+fn stand_at(em: &mut Emitter, location: SourceLocation) -> Result<(), CodegenError>
+    ensures goes { Goes result (state em.new) (moving location (state em.old)) }
+    ensures same { Same result (rest em.new) (rest em.old) }
 {
-    em.set_location(s.location);
+    em.set_location(location);
+    Ok(())
 }

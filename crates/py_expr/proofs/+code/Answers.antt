@@ -1,4 +1,5 @@
 mod CallSteps
+mod LambdaSteps
 mod MapLoops
 mod PairLoops
 mod StoreLoops
@@ -6,26 +7,29 @@ use Rattle.std.proofs.Common.{arith, rules, Bool, false, ◌<◌, Err, List, [],
 use Rattle.std.specs.Prelude.{nat_eq}
 use Rattle.py_bytecode.specs.declared.instruction.Instruction.TheVariants as op
 use Rattle.py_base.specs.declared.operators.CmpOp.TheVariants as comparison
+use Rattle.py_forms.specs.declared.errors.CodegenErrorType.TheVariants as error
 use Rattle.py_steps.specs.TableParts.{deciding}
-use Rattle.py_tree.specs.View.{expr_tree, exprs}
+use Rattle.py_tree.specs.View.{expr_tree, exprs, opt_exprs}
 use Rattle.py_steps.specs.Elements.{Callee, Element}
 use Rattle.py_steps.specs.Emitting.{Emission, emit_count}
 use Rattle.py_steps.specs.EmissionParts.{Emissions, elements, in_turn, some_test, some_values, values}
-use Rattle.py_emission.specs.Emission.{all_emissions, emissions}
+use Rattle.py_emission.specs.Emission.{all_emissions, emissions, opt_emissions}
 use Rattle.py_emit.specs.States.{state}
 use Rattle.py_emit.proofs.Joined.{first_refuses, goes_as, refuses_as, same_error, went}
 use Rattle.py_expr.specs.Calling.{callee_value, is_method}
 use Rattle.py_expr.specs.Turns.{element_behind, group_count, group_rest, groups_by, run_behind}
 use Rattle.py_expr.proofs.+code.Answers.CallSteps.{call_goes, named_goes, plain_goes, positional_plain, tuple_plain, type_taken}
+use Rattle.py_expr.proofs.+code.Answers.LambdaSteps.{defaults_refused, lambda_goes, lambda_inner, lambda_left, lambda_not_begun, lambda_refused, scope_refused}
 use Rattle.py_expr.proofs.+code.Answers.MapLoops.{keyword_refused, map_alone, map_refused, maps_begin, maps_go_on, maps_joined}
 use Rattle.py_expr.proofs.+code.Answers.StoreLoops.{attribute_stored, element_stored, store_refused, stores_go_on}
 use Rattle.py_expr.proofs.+code.Answers.PairLoops.{begin_refused, end_refused, entries_begin, entries_done, entries_go_on, value_refused}
 use Rattle.py_expr.proofs.Mapping.{values_at}
 use Rattle.py_expr.proofs.Groups.{display_plain, elements_at, few_groups, groups_count, groups_rest, many_values, none_more}
-use Rattle.py_expr.proofs.Otherwise.{function_callee, plain_element, truth_test}
+use Rattle.py_expr.proofs.Otherwise.{function_callee, plain_element, truth_test, value_return}
 use Rattle.py_expr.proofs.Opening.{apart, begin_opens, block_opens, emit_opens, expr_opens, jump_opens, links_open, shorts_open, test_opens, tests_open}
+use Rattle.py_expr.proofs.Signatures.{inside_function}
 use Rattle.py_expr.proofs.Steps.{many_emissions}
-use Rattle.py_expr.proofs.Turns.{a_chain, either_jump, if_not, if_so, links_at, no_operand, one_comparison, other_test, path_of, refused_shape, shorts_at, tests_at, uneven_lists}
+use Rattle.py_expr.proofs.Turns.{a_chain, either_jump, even_dict, if_not, if_so, links_at, many_keys, no_operand, one_comparison, other_test, path_of, refused_shape, shorts_at, tests_at, uneven_dict, uneven_lists}
 use Rattle.py_expr.proofs.+code.Goals as goal
 
 pub conditions::compile_bool_value-returns-then-is_empty : goal.conditions::compile_bool_value-returns-then-is_empty
@@ -268,6 +272,22 @@ elements::compile_groups-returns-in_err-groups-clause-goes t c =
     (c.loop-elt.invariant.1 ∙ ap (λ (es : List (Element Emission Emission)). group_rest c.loop-elt.run es (state c.loop-elt.em)) (elements_at c.args.elts.now c.loop-elt.elt-index _ c.elt-item.result c.elt-item.is c.loop-elt-test.true))
     c.in_err-groups.ensures.goes
 
+pub displays::compile_dict_display-returns-then-count-len : goal.displays::compile_dict_display-returns-then-count-len
+displays::compile_dict_display-returns-then-count-len t c =
+    let ks = opt_emissions (opt_exprs expr_tree c.args.e.now.keys) in
+    let vs = values (all_emissions (exprs expr_tree c.args.e.now.values)) in
+    let long = c.len-count.ensures ∙ sym (many_keys c.args.e.now.keys) in
+    let wide = c.len.ensures ∙ sym (many_values c.args.e.now.values) in
+    record { goes = λ n. ap (λ (f : Emission). f (state c.args.em.now)) (uneven_dict ks vs (λ e. c.if-count-len.true (long ∙ e ∙ sym wide))) ∙ refused_shape _ (state c.args.em.now) _ c.refuse-error.result c.refuse-error.ensures; same = path_of _ (state c.args.em.now) _ c.refuse-error.result c.refuse-error.ensures }
+
+pub displays::compile_dict_display-returns : goal.displays::compile_dict_display-returns
+displays::compile_dict_display-returns t c =
+    let ks = opt_emissions (opt_exprs expr_tree c.args.e.now.keys) in
+    let vs = values (all_emissions (exprs expr_tree c.args.e.now.values)) in
+    let long = c.len-count.ensures ∙ sym (many_keys c.args.e.now.keys) in
+    let wide = c.len.ensures ∙ sym (many_values c.args.e.now.values) in
+    record { goes = goes_as _ _ _ _ (ap (λ (f : Emission). f (state c.args.em.now)) (even_dict ks vs (sym long ∙ c.if-count-len.false ∙ wide))) c.compile_entries.ensures.goes; same = c.compile_entries.ensures.same }
+
 pub displays::compile_entries-loop-i-init : goal.displays::compile_entries-loop-i-init
 displays::compile_entries-loop-i-init = entries_begin
 
@@ -338,3 +358,46 @@ pub keywords::compile_values-returns-in_err-compile_expression-clause-goes : goa
 keywords::compile_values-returns-in_err-compile_expression-clause-goes t c =
     let r : c.from_residual.result ≡ Err c.in_err-compile_expression.field-0.0 = grind arith in
     first_refuses _ _ _ _ _ _ r (c.loop-keyword.invariant.1 ∙ ap (λ (f : Emission). f (state c.loop-keyword.em)) (values_at c.args.keywords.now c.loop-keyword.keyword-index _ c.keyword-item.result c.keyword-item.is c.loop-keyword-test.true)) c.in_err-compile_expression.ensures.goes
+
+pub returns::compile_return-returns-in_default : goal.returns::compile_return-returns-in_default
+returns::compile_return-returns-in_default t c = record {
+  goes = goes_as _ _ _ _ (ap (λ (f : Emission). f (state c.args.em.now)) (value_return c.args.expr.now c.in_default.not-JoinedStr c.in_default.not-Constant c.in_default.not-Name)) c.return_value.ensures.goes;
+  same = c.return_value.ensures.same;
+}
+
+pub functions::compile_lambda_scope-returns : goal.functions::compile_lambda_scope-returns
+functions::compile_lambda_scope-returns = lambda_left
+
+pub functions::compile_lambda_scope-leave_scope-requires : goal.functions::compile_lambda_scope-leave_scope-requires
+functions::compile_lambda_scope-leave_scope-requires = lambda_inner
+
+pub functions::compile_lambda_scope-returns-in_err-begin_function : goal.functions::compile_lambda_scope-returns-in_err-begin_function
+functions::compile_lambda_scope-returns-in_err-begin_function = lambda_not_begun
+
+pub functions::compile_lambda_scope-returns-in_err-compile_return : goal.functions::compile_lambda_scope-returns-in_err-compile_return
+functions::compile_lambda_scope-returns-in_err-compile_return = lambda_refused
+
+pub functions::compile_lambda_value-returns-clause-goes : goal.functions::compile_lambda_value-returns-clause-goes
+functions::compile_lambda_value-returns-clause-goes = lambda_goes
+
+pub functions::compile_lambda_value-returns-in_err-defaults-clause-goes : goal.functions::compile_lambda_value-returns-in_err-defaults-clause-goes
+functions::compile_lambda_value-returns-in_err-defaults-clause-goes = defaults_refused
+
+pub functions::compile_lambda_value-returns-in_err-code-clause-goes : goal.functions::compile_lambda_value-returns-in_err-code-clause-goes
+functions::compile_lambda_value-returns-in_err-code-clause-goes = scope_refused
+
+pub yields::yield_within-returns-clause-goes : goal.yields::yield_within-returns-clause-goes
+yields::yield_within-returns-clause-goes t c = goes_as _ _ _ _ (inside_function error.InvalidYield _ (state c.args.em.now) ∙ went _ _ _ c.in_ok-check_yield.ensures.goes) c.yield_value.ensures.goes
+
+pub yields::yield_within-returns-in_err-check_yield-clause-goes : goal.yields::yield_within-returns-in_err-check_yield-clause-goes
+yields::yield_within-returns-in_err-check_yield-clause-goes t c =
+    let r : c.from_residual.result ≡ Err c.in_err-check_yield.field-0.0 = grind arith in
+    first_refuses _ _ _ _ _ _ r (inside_function error.InvalidYield _ (state c.args.em.now)) c.in_err-check_yield.ensures.goes
+
+pub yields::yield_all_within-returns-clause-goes : goal.yields::yield_all_within-returns-clause-goes
+yields::yield_all_within-returns-clause-goes t c = goes_as _ _ _ _ (inside_function error.InvalidYieldFrom _ (state c.args.em.now) ∙ went _ _ _ c.in_ok-check_yield_from.ensures.goes) c.yield_all.ensures.goes
+
+pub yields::yield_all_within-returns-in_err-check_yield_from-clause-goes : goal.yields::yield_all_within-returns-in_err-check_yield_from-clause-goes
+yields::yield_all_within-returns-in_err-check_yield_from-clause-goes t c =
+    let r : c.from_residual.result ≡ Err c.in_err-check_yield_from.field-0.0 = grind arith in
+    first_refuses _ _ _ _ _ _ r (inside_function error.InvalidYieldFrom _ (state c.args.em.now)) c.in_err-check_yield_from.ensures.goes

@@ -1,12 +1,13 @@
 use Rattle.std.proofs.Common.{◌≡◌, ◌≤◌, ◌+◌, ◌*◌, [], drop, length}
 use Rattle.py_bytecode.specs.declared.instruction.Instruction.TheVariants as op
-use Rattle.py_tree.specs.View.{expr_tree, exprs, keywords}
+use Rattle.py_tree.specs.View.{args, expr_tree, exprs, keywords}
 use Rattle.py_steps.specs.Elements.{bare, groups}
 use Rattle.py_steps.specs.EmissionParts.{map_of, values_in, built, elements, dict_value, in_turn, links, shorts, tests}
 use Rattle.py_emission.specs.Emission.{all_emissions, all_stores, keyword_emissions, emission_of_exprs}
 use Rattle.py_emit.specs.States.{rest, state}
 use Rattle.py_expr.specs.Calling.{map_rest}
 use Rattle.py_expr.specs.Dicts.{dict_rest}
+use Rattle.py_expr.specs.Functions.{default_values}
 use Rattle.py_expr.specs.Turns.{group_count, group_rest, pairs_of}
 use Rattle.py_expr.proofs.+code.Given as goal
 
@@ -130,8 +131,11 @@ decreases-displays::compile_display l = 8 * goal.size-displays::compile_display 
 abbrev pub decreases-displays::compile_dict : goal.decreases-displays::compile_dict
 decreases-displays::compile_dict l = 8 * goal.size-displays::compile_dict l + 7
 
+abbrev pub decreases-displays::compile_dict_display : goal.decreases-displays::compile_dict_display
+decreases-displays::compile_dict_display l = 8 * goal.size-displays::compile_dict_display l + 6
+
 abbrev pub decreases-displays::compile_entries : goal.decreases-displays::compile_entries
-decreases-displays::compile_entries l = 8 * goal.size-displays::compile_entries l + 6
+decreases-displays::compile_entries l = 8 * goal.size-displays::compile_entries l + 5
 
 abbrev pub decreases-displays::begin_entry : goal.decreases-displays::begin_entry
 decreases-displays::begin_entry l = 8 * goal.size-displays::begin_entry l + 1
@@ -139,8 +143,8 @@ decreases-displays::begin_entry l = 8 * goal.size-displays::begin_entry l + 1
 abbrev pub decreases-displays::compile_slice : goal.decreases-displays::compile_slice
 decreases-displays::compile_slice l = 8 * goal.size-displays::compile_slice l + 7
 
-abbrev pub decreases-displays::compile_bound : goal.decreases-displays::compile_bound
-decreases-displays::compile_bound l = 8 * goal.size-displays::compile_bound l + 1
+abbrev pub decreases-displays::compile_or_none : goal.decreases-displays::compile_or_none
+decreases-displays::compile_or_none l = 8 * goal.size-displays::compile_or_none l + 1
 
 abbrev pub decreases-displays::compile_step : goal.decreases-displays::compile_step
 decreases-displays::compile_step l = 8 * goal.size-displays::compile_step l + 1
@@ -246,3 +250,66 @@ decreases-calls::compile_plain l = 8 * goal.size-calls::compile_plain l + 2
 
 abbrev pub decreases-calls::compile_keywords : goal.decreases-calls::compile_keywords
 decreases-calls::compile_keywords l = 8 * goal.size-calls::compile_keywords l + 4
+
+abbrev pub invariant-functions::compile_each_default-loop-item : goal.invariant-functions::compile_each_default-loop-item
+invariant-functions::compile_each_default-loop-item l =
+    let all = default_values l.named (args expr_tree l.items) in
+    let left = default_values l.named (args expr_tree (drop l.item-index l.items)) in
+    (rest l.em ≡ rest l.initial.em)
+    × (in_turn all (state l.initial.em) ≡ in_turn left (state l.em))
+    × (length all ≡ l.count + length left)
+    × (l.count ≤ l.item-index)
+
+abbrev pub decreases-returns::compile_return : goal.decreases-returns::compile_return
+decreases-returns::compile_return l = 8 * goal.size-returns::compile_return l + 2
+
+abbrev pub decreases-returns::return_value : goal.decreases-returns::return_value
+decreases-returns::return_value l = 8 * goal.size-returns::return_value l + 1
+
+abbrev pub decreases-returns::return_joined_str : goal.decreases-returns::return_joined_str
+decreases-returns::return_joined_str l = 8 * goal.size-returns::return_joined_str l + 6
+
+abbrev pub decreases-returns::return_joined : goal.decreases-returns::return_joined
+decreases-returns::return_joined l = 8 * goal.size-returns::return_joined l + 5
+
+abbrev pub decreases-functions::compile_lambda : goal.decreases-functions::compile_lambda
+decreases-functions::compile_lambda l = 8 * goal.size-functions::compile_lambda l + 7
+
+abbrev pub decreases-functions::compile_lambda_value : goal.decreases-functions::compile_lambda_value
+decreases-functions::compile_lambda_value l = 8 * goal.size-functions::compile_lambda_value l + 6
+
+abbrev pub decreases-functions::compile_lambda_scope : goal.decreases-functions::compile_lambda_scope
+decreases-functions::compile_lambda_scope l = 8 * goal.size-functions::compile_lambda_scope l + 3
+
+abbrev pub decreases-functions::compile_defaults : goal.decreases-functions::compile_defaults
+decreases-functions::compile_defaults l = 8 * goal.size-functions::compile_defaults l + 5
+
+abbrev pub decreases-functions::compile_positional_defaults : goal.decreases-functions::compile_positional_defaults
+decreases-functions::compile_positional_defaults l = 8 * goal.size-functions::compile_positional_defaults l + 4
+
+abbrev pub decreases-functions::compile_keyword_defaults : goal.decreases-functions::compile_keyword_defaults
+decreases-functions::compile_keyword_defaults l = 8 * goal.size-functions::compile_keyword_defaults l + 4
+
+abbrev pub decreases-functions::compile_each_default : goal.decreases-functions::compile_each_default
+decreases-functions::compile_each_default l = 8 * goal.size-functions::compile_each_default l + 3
+
+abbrev pub decreases-functions::compile_default : goal.decreases-functions::compile_default
+decreases-functions::compile_default l = 8 * goal.size-functions::compile_default l + 2
+
+abbrev pub decreases-yields::compile_yield : goal.decreases-yields::compile_yield
+decreases-yields::compile_yield l = 8 * goal.size-yields::compile_yield l + 7
+
+abbrev pub decreases-yields::yield_value : goal.decreases-yields::yield_value
+decreases-yields::yield_value l = 8 * goal.size-yields::yield_value l + 2
+
+abbrev pub decreases-yields::compile_yield_from : goal.decreases-yields::compile_yield_from
+decreases-yields::compile_yield_from l = 8 * goal.size-yields::compile_yield_from l + 7
+
+abbrev pub decreases-yields::yield_all : goal.decreases-yields::yield_all
+decreases-yields::yield_all l = 8 * goal.size-yields::yield_all l + 1
+
+abbrev pub decreases-yields::yield_within : goal.decreases-yields::yield_within
+decreases-yields::yield_within l = 8 * goal.size-yields::yield_within l + 3
+
+abbrev pub decreases-yields::yield_all_within : goal.decreases-yields::yield_all_within
+decreases-yields::yield_all_within l = 8 * goal.size-yields::yield_all_within l + 2

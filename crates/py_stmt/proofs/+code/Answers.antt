@@ -1,4 +1,5 @@
 mod Around
+mod Defining
 mod Iterating
 mod Managing
 mod Trying
@@ -9,7 +10,8 @@ use Rattle.py_tree.specs.View.{expr_tree, stmt_tree, stmts}
 use Rattle.py_steps.specs.Emitting.{Done, Emission, State, go_on, in_loop, located, with_loops}
 use Rattle.py_steps.specs.EmissionParts.{choice, only}
 use Rattle.py_emission.specs.Emission.{emission_of_test}
-use Rattle.py_meaning.specs.EmissionStmts.{emission_of_stmts, none}
+use Rattle.py_meaning.specs.EmissionStmts.{emission_of_stmts}
+use Rattle.py_meaning.specs.StmtParts.{none}
 use Rattle.py_emit.specs.States.{loop_blocks, rest, state}
 use Rattle.py_walks.specs.declared.info.BlockIdx.{BlockIdx}
 use Rattle.py_emit.proofs.Joined.{goes_as, went}
@@ -19,6 +21,7 @@ use Rattle.py_expr.proofs.Steps.{move_goes}
 use Rattle.py_expr.proofs.Opening.{apart, begin_opens, block_opens, emit_opens, jump_opens, test_opens}
 use Rattle.py_stmt.proofs.Opening.{loop_opens, stmts_open}
 use Rattle.py_stmt.proofs.+code.Answers.Around.{each_around, last_around, unguarded_around, while_around}
+use Rattle.py_stmt.proofs.+code.Answers.Defining.{defaults_refused, function_refused, generic_refused, inner_goes, inner_refused, made_goes, made_refused, plain_refused, rest_done, rest_goes_on, rest_refused, scope_inner, scope_left, scope_refused, scope_unlooped}
 use Rattle.py_stmt.proofs.+code.Answers.Iterating.{end_begins, end_refused, for_goes, other_begins, turn_begins, turn_refused}
 use Rattle.py_stmt.proofs.+code.Answers.Managing.{left_open, no_body, no_items, some_body, some_items}
 use Rattle.py_stmt.proofs.+code.Answers.Trying.{catch_begins, else_begins, forgetting_begins, handler_refused, handlers_go_on, last_begins, last_goes, last_refused, next_begins, try_goes}
@@ -175,3 +178,48 @@ tries::compile_parts-compile_unguarded-requires = unguarded_around
 
 pub tries::compile_parts-compile_last-requires : goal.tries::compile_parts-compile_last-requires
 tries::compile_parts-compile_last-requires = last_around
+
+pub functions::compile_function_scope-returns : goal.functions::compile_function_scope-returns
+functions::compile_function_scope-returns = scope_left
+
+pub functions::compile_function_scope-leave_scope-requires : goal.functions::compile_function_scope-leave_scope-requires
+functions::compile_function_scope-leave_scope-requires = scope_inner
+
+pub functions::compile_function_scope-returns-in_err-compile_inner : goal.functions::compile_function_scope-returns-in_err-compile_inner
+functions::compile_function_scope-returns-in_err-compile_inner = scope_refused
+
+pub functions::compile_function_scope-compile_inner-requires : goal.functions::compile_function_scope-compile_inner-requires
+functions::compile_function_scope-compile_inner-requires = scope_unlooped
+
+pub functions::compile_inner-returns-clause-goes : goal.functions::compile_inner-returns-clause-goes
+functions::compile_inner-returns-clause-goes = inner_goes
+
+pub functions::compile_inner-returns-in_err-begin_function-clause-goes : goal.functions::compile_inner-returns-in_err-begin_function-clause-goes
+functions::compile_inner-returns-in_err-begin_function-clause-goes = inner_refused
+
+pub functions::compile_made-returns-clause-goes : goal.functions::compile_made-returns-clause-goes
+functions::compile_made-returns-clause-goes = made_goes
+
+pub functions::compile_made-returns-in_err-code-clause-goes : goal.functions::compile_made-returns-in_err-code-clause-goes
+functions::compile_made-returns-in_err-code-clause-goes = made_refused
+
+pub functions::compile_function-returns-in_err-defaults-clause-goes : goal.functions::compile_function-returns-in_err-defaults-clause-goes
+functions::compile_function-returns-in_err-defaults-clause-goes = defaults_refused
+
+pub functions::compile_function-returns-in_err-compile_made-clause-goes : goal.functions::compile_function-returns-in_err-compile_made-clause-goes
+functions::compile_function-returns-in_err-compile_made-clause-goes = function_refused
+
+pub functions::compile_function_def-returns-in-len1-up-clause-goes : goal.functions::compile_function_def-returns-in-len1-up-clause-goes
+functions::compile_function_def-returns-in-len1-up-clause-goes = generic_refused
+
+pub functions::compile_plain_def-returns-in_err-compile_decorated-clause-goes : goal.functions::compile_plain_def-returns-in_err-compile_decorated-clause-goes
+functions::compile_plain_def-returns-in_err-compile_decorated-clause-goes = plain_refused
+
+pub functions::compile_rest-loop-i-preserved : goal.functions::compile_rest-loop-i-preserved
+functions::compile_rest-loop-i-preserved = rest_goes_on
+
+pub functions::compile_rest-returns-in_err-compile_statement-clause-goes : goal.functions::compile_rest-returns-in_err-compile_statement-clause-goes
+functions::compile_rest-returns-in_err-compile_statement-clause-goes = rest_refused
+
+pub functions::compile_rest-returns-clause-goes : goal.functions::compile_rest-returns-clause-goes
+functions::compile_rest-returns-clause-goes = rest_done

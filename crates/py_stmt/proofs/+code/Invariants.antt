@@ -84,3 +84,33 @@ decreases-tries::compile_parts l = 16 * goal.size-tries::compile_parts l + 7
 
 abbrev pub decreases-tries::compile_try : goal.decreases-tries::compile_try
 decreases-tries::compile_try l = 16 * goal.size-tries::compile_try l + 8
+
+abbrev pub invariant-functions::compile_rest-loop-i : goal.invariant-functions::compile_rest-loop-i
+invariant-functions::compile_rest-loop-i l = (rest l.em ≡ rest l.initial.em) × (emission_of_stmts (stmts stmt_tree (drop l.from l.body)) (state l.initial.em) ≡ emission_of_stmts (stmts stmt_tree (drop l.i l.body)) (state l.em))
+
+abbrev pub decreases-functions::compile_rest : goal.decreases-functions::compile_rest
+decreases-functions::compile_rest l = 16 * goal.size-functions::compile_rest l + 1
+
+abbrev pub decreases-functions::compile_body : goal.decreases-functions::compile_body
+decreases-functions::compile_body l = 16 * goal.size-functions::compile_body l + 2
+
+abbrev pub decreases-functions::compile_inner : goal.decreases-functions::compile_inner
+decreases-functions::compile_inner l = 16 * goal.size-functions::compile_inner l + 3
+
+abbrev pub decreases-functions::compile_function_scope : goal.decreases-functions::compile_function_scope
+decreases-functions::compile_function_scope l = 16 * goal.size-functions::compile_function_scope l + 4
+
+abbrev pub decreases-functions::compile_made : goal.decreases-functions::compile_made
+decreases-functions::compile_made l = 16 * goal.size-functions::compile_made l + 5
+
+abbrev pub decreases-functions::compile_function : goal.decreases-functions::compile_function
+decreases-functions::compile_function l = 16 * goal.size-functions::compile_function l + 6
+
+abbrev pub decreases-functions::compile_decorated : goal.decreases-functions::compile_decorated
+decreases-functions::compile_decorated l = 16 * goal.size-functions::compile_decorated l + 7
+
+abbrev pub decreases-functions::compile_plain_def : goal.decreases-functions::compile_plain_def
+decreases-functions::compile_plain_def l = 16 * goal.size-functions::compile_plain_def l + 8
+
+abbrev pub decreases-functions::compile_function_def : goal.decreases-functions::compile_function_def
+decreases-functions::compile_function_def l = 16 * goal.size-functions::compile_function_def l + 9

@@ -5,7 +5,8 @@ use Rattle.py_tree.specs.View.{expr_tree, handlers, opt_box, stmt_tree, stmts}
 use Rattle.py_bytecode.specs.declared.instruction.Instruction.TheVariants as op
 use Rattle.py_steps.specs.Emitting.{Emission, emit, located}
 use Rattle.py_meaning.specs.ControlEmissions.{try_body}
-use Rattle.py_meaning.specs.EmissionStmts.{emission_of_handlers, emission_of_last, emission_of_stmts, none}
+use Rattle.py_meaning.specs.EmissionStmts.{emission_of_handlers, emission_of_last, emission_of_stmts}
+use Rattle.py_meaning.specs.StmtParts.{none}
 use Rattle.py_emit.specs.States.{state}
 use Rattle.py_emit.proofs.Joined.{first_refuses, goes_as, went}
 use Rattle.py_expr.proofs.Opening.{apart, begin_opens, block_opens, jump_opens}

@@ -1,6 +1,6 @@
 use Rattle.std.proofs.Common.{◌≡◌, ◌+◌, ◌*◌, drop}
 use Rattle.py_tree.specs.View.{stmt_tree, stmts}
-use Rattle.py_meaning.specs.Table.{annotated}
+use Rattle.py_meaning.specs.StmtParts.{annotated}
 use Rattle.py_stmt.proofs.annotations.+annotations.Given as goal
 
 abbrev pub invariant-has_annotation-loop-statement : goal.invariant-has_annotation-loop-statement

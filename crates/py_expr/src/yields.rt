@@ -1,0 +1,124 @@
+//! What a generator hands on.
+ghost use Rattle.std.specs.Prelude.{◌≡◌};
+ghost use Rattle.py_tree.specs.View.{await_tree, expr_tree, opt_box, yield_from_tree, yield_tree};
+ghost use Rattle.py_bytecode.specs.Objects as object;
+ghost use Rattle.py_steps.specs.Context.{is_function};
+ghost use Rattle.py_steps.specs.Emitting.{◌▸◌, emit as emitting, emit_constant, generating, keep};
+ghost use Rattle.py_steps.specs.EmissionParts.{only_in_function, value_or};
+ghost use Rattle.py_emission.specs.Emission.{emission, opt_emission};
+ghost use Rattle.py_emit.specs.States.{Goes, Same, rest, state};
+
+use crate::displays::compile_or_none;
+use crate::expressions::compile_expression;
+use py_bytecode::{ConstantData, Instruction};
+use py_emit::{Emitter, emit, refuse};
+use py_forms::{CodegenError, CodegenErrorType};
+use py_scope::SymbolTableType;
+use py_tree::{Expr, ExprAwait, ExprYield, ExprYieldFrom};
+
+/// Whether a scope of this kind is a function: lambdas, comprehensions and scopes of type parameters are functions too.
+pub fn is_function(typ: SymbolTableType) -> bool
+    ensures { result ≡ is_function typ }
+{
+    !matches!(typ, SymbolTableType::Module | SymbolTableType::Class)
+}
+
+#[cycle(code)]
+#[tactic(auto, using(crate::proofs::Steps::steps))]
+pub(crate) fn compile_yield(em: &mut Emitter, e: &ExprYield) -> Result<(), CodegenError>
+    ensures goes { Goes result (state em.new) (emission (yield_tree e.now) (state em.old)) }
+    ensures same { Same result (rest em.new) (rest em.old) }
+{
+    em.set_location(e.location);
+    yield_within(em, &e.value)
+}
+
+/// Emits what hands a value on, which only a function may do.
+#[cycle(code)]
+fn yield_within(em: &mut Emitter, value: &Option<Box<Expr>>) -> Result<(), CodegenError>
+    ensures goes { Goes result (state em.new) (only_in_function CodegenErrorType.InvalidYield (generating ▸ value_or object.none (opt_emission (opt_box expr_tree value.now)) ▸ emitting Instruction.YieldValue 0) (state em.old)) }
+    ensures same { Same result (rest em.new) (rest em.old) }
+{
+    check_yield(em)?;
+    yield_value(em, value)
+}
+
+/// Leaves where the present scope is no function.
+fn check_yield(em: &mut Emitter) -> Result<(), CodegenError>
+    ensures goes { Goes result (state em.new) (only_in_function CodegenErrorType.InvalidYield keep (state em.old)) }
+    ensures same { Same result (rest em.new) (rest em.old) }
+{
+    if is_function(em.scope_type()) {
+        return Ok(());
+    }
+    Err(em.error(CodegenErrorType::InvalidYield))
+}
+
+/// Emits a value, or None where it is missing, and what hands it on.
+#[cycle(code)]
+#[tactic(auto, using(crate::proofs::Steps::steps))]
+fn yield_value(em: &mut Emitter, value: &Option<Box<Expr>>) -> Result<(), CodegenError>
+    ensures goes { Goes result (state em.new) ((generating ▸ value_or object.none (opt_emission (opt_box expr_tree value.now)) ▸ emitting Instruction.YieldValue 0) (state em.old)) }
+    ensures same { Same result (rest em.new) (rest em.old) }
+{
+    em.mark_generator();
+    compile_or_none(em, value)?;
+    emit!(em, Instruction::YieldValue);
+    Ok(())
+}
+
+#[cycle(code)]
+#[tactic(auto, using(crate::proofs::Steps::steps))]
+pub(crate) fn compile_yield_from(em: &mut Emitter, e: &ExprYieldFrom) -> Result<(), CodegenError>
+    ensures goes { Goes result (state em.new) (emission (yield_from_tree e.now) (state em.old)) }
+    ensures same { Same result (rest em.new) (rest em.old) }
+{
+    em.set_location(e.location);
+    yield_all_within(em, &e.value)
+}
+
+/// Emits what hands on all that a value gives, which only a function may do.
+#[cycle(code)]
+fn yield_all_within(em: &mut Emitter, value: &Expr) -> Result<(), CodegenError>
+    ensures goes { Goes result (state em.new) (only_in_function CodegenErrorType.InvalidYieldFrom (generating ▸ emission (expr_tree value.now) ▸ emitting Instruction.GetIter 0 ▸ emit_constant Instruction.LoadConst object.none ▸ emitting Instruction.YieldFrom 0) (state em.old)) }
+    ensures same { Same result (rest em.new) (rest em.old) }
+{
+    check_yield_from(em)?;
+    yield_all(em, value)
+}
+
+/// Leaves where the present scope is no function.
+fn check_yield_from(em: &mut Emitter) -> Result<(), CodegenError>
+    ensures goes { Goes result (state em.new) (only_in_function CodegenErrorType.InvalidYieldFrom keep (state em.old)) }
+    ensures same { Same result (rest em.new) (rest em.old) }
+{
+    if is_function(em.scope_type()) {
+        return Ok(());
+    }
+    Err(em.error(CodegenErrorType::InvalidYieldFrom))
+}
+
+/// Emits a value, and what hands on all that it gives.
+#[cycle(code)]
+#[tactic(auto, using(py_bytecode::proofs::View::views))]
+fn yield_all(em: &mut Emitter, value: &Expr) -> Result<(), CodegenError>
+    ensures goes { Goes result (state em.new) ((generating ▸ emission (expr_tree value.now) ▸ emitting Instruction.GetIter 0 ▸ emit_constant Instruction.LoadConst object.none ▸ emitting Instruction.YieldFrom 0) (state em.old)) }
+    ensures same { Same result (rest em.new) (rest em.old) }
+{
+    em.mark_generator();
+    compile_expression(em, value)?;
+    emit!(em, Instruction::GetIter);
+    em.load_const(ConstantData::None)?;
+    emit!(em, Instruction::YieldFrom);
+    Ok(())
+}
+
+/// Refuses an `await`, since no function that is compiled is an `async def`.
+#[tactic(auto, using(crate::proofs::Steps::steps))]
+pub(crate) fn compile_await(em: &mut Emitter, e: &ExprAwait) -> Result<(), CodegenError>
+    ensures goes { Goes result (state em.new) (emission (await_tree e.now) (state em.old)) }
+    ensures same { Same result (rest em.new) (rest em.old) }
+{
+    em.set_location(e.location);
+    refuse!(em, CodegenErrorType::InvalidAwait);
+}

@@ -1,0 +1,185 @@
+-- The scope of a function.
+use Rattle.std.proofs.Common.{ℕ, ◌<◌, ◌≤◌, List, [], ◌∷◌, length, Err, refl, sym, ap, subst, ◌≡◌, ◌∙◌, arith, rules}
+use Rattle.py_base.specs.declared.location.SourceLocation.{SourceLocation}
+use Rattle.py_tree.specs.Tree as tree
+use Rattle.py_tree.specs.View.{arguments, expr_tree, exprs, function_def_tree, opt_box, stmt_tree, stmts, type_params}
+use Rattle.py_tree.specs.declared.expressions.ArgumentsOf.{ArgumentsOf}
+use Rattle.py_tree.specs.declared.expressions.Expr.{Expr}
+use Rattle.py_tree.specs.declared.statements.Stmt.{Stmt}
+use Rattle.py_tree.specs.declared.statements.StmtFunctionDefOf.{StmtFunctionDefOf}
+use Rattle.py_tree.specs.declared.statements.TypeParam.{TypeParam}
+use Rattle.py_scope.specs.declared.table_type.SymbolTableType.TheVariants as kind
+use Rattle.py_emission.specs.Parameters.{function_shape, parameters}
+use Rattle.py_bytecode.specs.Objects as const
+use Rattle.py_steps.specs.Accesses.{emission_of_stored}
+use Rattle.py_steps.specs.Children.{code_head, decorated, documented, emission_of_defaults, enter_parameters, function_inside}
+use Rattle.py_steps.specs.Context.{function_path}
+use Rattle.py_steps.specs.Emitting.{Emission, Outcome, State, ◌▸◌, add_constant, by_level, go_on}
+use Rattle.py_steps.specs.EmissionParts.{values}
+use Rattle.py_emission.specs.Emission.{all_emissions, default_emissions, unbuilt}
+use Rattle.py_emission.specs.Texts.{doc_of}
+use Rattle.py_meaning.specs.EmissionDefs.{emission_of_def}
+use Rattle.py_meaning.specs.EmissionStmts.{emission_of_stmt}
+use Rattle.py_emit.specs.States.{AreMade, Rest, entered, entered_rest, rest, state}
+use Rattle.py_emit.specs.declared.emitter.Emitter.{Emitter}
+use Rattle.py_emit.proofs.Joined.{first_refuses, goes_as, joined, refuses_as, went}
+use Rattle.py_emit.specs.declared.context.Naming.{Naming}
+use Rattle.py_emit.specs.declared.context.Naming.TheVariants as naming
+use Rattle.py_emit.proofs.Within.{inner}
+use Rattle.py_expr.proofs.Steps.{move_goes}
+use Rattle.py_expr.proofs.Scopes.{left_gives, left_keeps, refused_gives, same_path}
+use Rattle.py_stmt.specs.Functions.{body_emission, body_of, def_emission, inner_emission, made_emission, params_of, scope_emission}
+use Rattle.py_stmt.proofs.LastReturn.{none_left, scope_as, statement_at}
+use Rattle.py_stmt.proofs.+code.Goals as goal
+
+-- what is kept on entering, by the parameters as the tree has them
+shaped : (n : Naming) (first : Emitter) (name : List ℕ) (p q : ArgumentsOf Expr) (r : Rest) → r ≡ entered_rest first.scope (code_head (entered kind.Function n (state first)) (function_shape (arguments expr_tree p) name) (state first).location) (rest first) → p ≡ q → r ≡ entered_rest first.scope (code_head (entered kind.Function n (state first)) (function_shape (arguments expr_tree q) name) (state first).location) (rest first)
+shaped n first name p q r is same = is ∙ ap (λ (x : ArgumentsOf Expr). entered_rest first.scope (code_head (entered kind.Function n (state first)) (function_shape (arguments expr_tree x) name) (state first).location) (rest first)) same
+
+pub scope_left : goal.functions::compile_function_scope-returns
+scope_left t c =
+    let h = function_shape (params_of c.args.s.now) c.args.name in
+    let n = naming.Function c.args.path in
+    let entry = c.enter_function.new.em in
+    let last = c.compile_inner.new.em in
+    let begins = c.in_ok-enter_function.ensures.state in
+    let into = shaped n c.args.em.now c.args.name c.deref.result.now c.args.s.now.args.value (rest entry) c.in_ok-enter_function.ensures.rest c.deref.ensures in
+    let same = c.in_ok-compile_inner.ensures.same in
+    record {
+      goes = left_gives kind.Function n h c.args.em.now entry begins last c.leave_scope.new.self into same (inner_emission c.args.s.now) c.leave_scope.result c.in_ok-compile_inner.ensures.goes c.leave_scope.ensures.code c.leave_scope.ensures.state c.leave_scope.ensures.err;
+      same = left_keeps kind.Function n h c.args.em.now entry begins last c.leave_scope.new.self into same c.leave_scope.result c.leave_scope.ensures.rest c.leave_scope.ensures.err;
+    }
+
+pub scope_inner : goal.functions::compile_function_scope-leave_scope-requires
+scope_inner t c =
+    let h = function_shape (params_of c.args.s.now) c.args.name in
+    let n = naming.Function c.args.path in
+    let into = shaped n c.args.em.now c.args.name c.deref.result.now c.args.s.now.args.value (rest c.enter_function.new.em) c.in_ok-enter_function.ensures.rest c.deref.ensures in
+    record { inner = inner kind.Function n h c.args.em.now c.enter_function.new.em c.compile_inner.new.em into c.in_ok-compile_inner.ensures.same }
+
+pub scope_refused : goal.functions::compile_function_scope-returns-in_err-compile_inner
+scope_refused t c =
+    let h = function_shape (params_of c.args.s.now) c.args.name in
+    let n = naming.Function c.args.path in
+    let entry = c.enter_function.new.em in
+    let begins = c.in_ok-enter_function.ensures.state in
+    let x = c.in_err-compile_inner.field-0.0 in
+    let into = shaped n c.args.em.now c.args.name c.deref.result.now c.args.s.now.args.value (rest entry) c.in_ok-enter_function.ensures.rest c.deref.ensures in
+    let out = c.from_residual-in_err-compile_inner.result in
+    let r : out ≡ Err x = grind arith in
+    record {
+      goes = refused_gives kind.Function n h c.args.em.now entry begins (inner_emission c.args.s.now) out x _ r c.in_err-compile_inner.ensures.goes;
+      same = same_path kind.Function n h c.args.em.now entry begins entry entry into refl out x _ r c.in_err-compile_inner.ensures.same;
+    }
+
+-- no loop stands around in it
+pub scope_unlooped : goal.functions::compile_function_scope-compile_inner-requires
+scope_unlooped t c =
+    let made : AreMade (rest c.enter_function.new.em).context.loop_blocks = subst (λ (r : Rest). AreMade r.context.loop_blocks) (sym c.in_ok-enter_function.ensures.rest) tt in search (rules, made)
+
+-- parameters and the first constant come before the statements
+inner_as : (s : StmtFunctionDefOf Stmt) (p : ArgumentsOf Expr) (r : State) → p ≡ s.args.value → inner_emission s r ≡ go_on ((enter_parameters (parameters (arguments expr_tree p)) ▸ add_constant const.none) r) (body_emission (body_of s))
+inner_as s p r is =
+    ap (λ (f : Emission). f r) (sym (joined (enter_parameters (parameters (params_of s))) (add_constant const.none) (body_emission (body_of s))))
+    ∙ ap (λ (x : ArgumentsOf Expr). go_on ((enter_parameters (parameters (arguments expr_tree x)) ▸ add_constant const.none) r) (body_emission (body_of s))) (sym is)
+
+pub inner_goes : goal.functions::compile_inner-returns-clause-goes
+inner_goes t c =
+    let v = body_emission (body_of c.args.s.now) in
+    goes_as _ _ _ _ (inner_as c.args.s.now c.deref.result.now (state c.args.em.now) c.deref.ensures ∙ went _ v _ c.in_ok-begin_function.ensures.goes) c.compile_body.ensures.goes
+
+pub inner_refused : goal.functions::compile_inner-returns-in_err-begin_function-clause-goes
+inner_refused t c =
+    let r : c.from_residual.result ≡ Err c.in_err-begin_function.field-0.0 = grind arith in
+    first_refuses _ _ _ _ _ (body_emission (body_of c.args.s.now)) r (inner_as c.args.s.now c.deref.result.now (state c.args.em.now) c.deref.ensures) c.in_err-begin_function.ensures.goes
+
+-- the scope stands where the function's qualified name says
+pub made_goes : goal.functions::compile_made-returns-clause-goes
+made_goes t c =
+    let s = c.args.s.now in
+    let k = made_emission s in
+    let same = c.in_ok-path.ensures.same ∙ c.in_ok-name.ensures.same in
+    let path = c.in_ok-path.ensures.data ∙ ap (function_path (state c.text.new.self).around.context) c.as_str-2.ensures ∙ ap (λ (e : Emitter). function_path (state e).around.context s.name) (sym c.in_ok-path.ensures.same) in
+    goes_as _ _ _ _
+    (ap (λ (e : Emitter). scope_emission (function_inside s.name) s.name s k (state e)) (sym same)
+    ∙ scope_as s _ _ k _ (c.in_ok-name.ensures.data ∙ c.as_str.ensures) path
+    ∙ c.in_ok-code.ensures.goes k)
+    c.make_noted.ensures.goes
+
+pub made_refused : goal.functions::compile_made-returns-in_err-code-clause-goes
+made_refused t c =
+    let s = c.args.s.now in
+    let k = made_emission s in
+    let same = c.in_ok-path.ensures.same ∙ c.in_ok-name.ensures.same in
+    let path = c.in_ok-path.ensures.data ∙ ap (function_path (state c.text.new.self).around.context) c.as_str-2.ensures ∙ ap (λ (e : Emitter). function_path (state e).around.context s.name) (sym c.in_ok-path.ensures.same) in
+    let r : c.from_residual-in_err-code.result ≡ Err c.in_err-code.field-0.0 = grind arith in
+    refuses_as _ _ _ _ _ r
+    (ap (λ (e : Emitter). scope_emission (function_inside s.name) s.name s k (state e)) (sym same)
+    ∙ scope_as s _ _ k _ (c.in_ok-name.ensures.data ∙ c.as_str.ensures) path)
+    (c.in_err-code.ensures.goes k)
+
+-- what follows the defaults of a function
+abbrev after_defaults : StmtFunctionDefOf Stmt → Emission
+after_defaults s = scope_emission (function_inside s.name) s.name s (made_emission s) ▸ by_level (λ l. documented (doc_of l (body_of s)))
+
+def_is : (s : StmtFunctionDefOf Stmt) → def_emission s ≡ emission_of_defaults (default_emissions (params_of s)) ▸ after_defaults s
+unfolding emission_of_def
+def_is s = refl
+
+def_as : (s : StmtFunctionDefOf Stmt) (p : ArgumentsOf Expr) (r : State) → p ≡ s.args.value → def_emission s r ≡ go_on (emission_of_defaults (default_emissions (arguments expr_tree p)) r) (after_defaults s)
+def_as s p r is =
+    ap (λ (f : Emission). f r) (def_is s)
+    ∙ ap (λ (x : ArgumentsOf Expr). go_on (emission_of_defaults (default_emissions (arguments expr_tree x)) r) (after_defaults s)) (sym is)
+
+pub defaults_refused : goal.functions::compile_function-returns-in_err-defaults-clause-goes
+defaults_refused t c =
+    let r : c.from_residual.result ≡ Err c.in_err-defaults.field-0.0 = grind arith in
+    first_refuses _ _ _ _ _ (after_defaults c.args.s.now) r (def_as c.args.s.now c.deref.result.now (state c.args.em.now) c.deref.ensures) c.in_err-defaults.ensures.goes
+
+pub function_refused : goal.functions::compile_function-returns-in_err-compile_made-clause-goes
+function_refused t c =
+    let s = c.args.s.now in
+    let r : c.from_residual-in_err-compile_made.result ≡ Err c.in_err-compile_made.field-0.0 = grind arith in
+    first_refuses _ _ _ _ _ (by_level (λ l. documented (doc_of l (body_of s)))) r (def_as s c.deref.result.now (state c.args.em.now) c.deref.ensures ∙ went _ (after_defaults s) _ c.in_ok-defaults.ensures.goes) c.in_err-compile_made.ensures.goes
+
+-- a function with type parameters
+generic_is : (at : SourceLocation) (name : List ℕ) (params : tree.Arguments) (body : tree.Stmts) (decorators : tree.Exprs) (returns : tree.OptExpr) (ps : List TypeParam) → 1 ≤ length ps → emission_of_stmt (tree.FunctionDef at name params body decorators returns (type_params ps)) ≡ unbuilt at
+generic_is at name params body decorators returns [] h = absurd (omega (arith, h))
+generic_is at name params body decorators returns (p ∷ ps) h = refl
+
+pub generic_refused : goal.functions::compile_function_def-returns-in-len1-up-clause-goes
+generic_refused t c =
+    let s = c.args.s.now in
+    let def : List TypeParam → tree.Stmt = λ ps. tree.FunctionDef s.location s.name (params_of s) (body_of s) (exprs expr_tree s.decorator_list) (opt_box expr_tree s.returns) (type_params ps) in
+    goes_as _ _ _ _
+    (ap (λ ps. emission_of_stmt (def ps) (state c.args.em.now)) (sym c.as_slice.ensures)
+    ∙ ap (λ (f : Emission). f (state c.args.em.now)) (generic_is s.location s.name (params_of s) (body_of s) (exprs expr_tree s.decorator_list) (opt_box expr_tree s.returns) c.as_slice.result.now c.in-len1-up.len_at_least))
+    c.refuse_unbuilt.ensures.goes
+
+-- a refusal of a function or of its decorators
+pub plain_refused : goal.functions::compile_plain_def-returns-in_err-compile_decorated-clause-goes
+plain_refused t c =
+    let s = c.args.s.now in
+    let d = decorated (values (all_emissions (exprs expr_tree s.decorator_list))) (def_emission s) in
+    let w = d ▸ emission_of_stored s.name in
+    let r : c.from_residual.result ≡ Err c.in_err-compile_decorated.field-0.0 = grind arith in
+    first_refuses _ _ _ _ _ (emission_of_stored s.name) r (ap (λ o. go_on o w) (move_goes s.location (state c.args.em.now)) ∙ ap w (sym c.set_location.ensures.state)) c.in_err-compile_decorated.ensures.goes
+
+-- the statements behind a docstring
+pub rest_goes_on : goal.functions::compile_rest-loop-i-preserved
+rest_goes_on t c =
+    let lt : c.loop-i.i < length c.args.body.now = omega (arith, c.loop-i-test.true) in (
+      c.in_ok-compile_statement.ensures.same ∙ c.loop-i.invariant.0,
+      c.loop-i.invariant.1 ∙ ap (λ (f : Emission). f (state c.loop-i.em)) (statement_at c.args.body.now c.loop-i.i _ c.index-body-i.result c.index-body-i.is lt) ∙ went _ _ _ c.in_ok-compile_statement.ensures.goes,
+    )
+
+pub rest_refused : goal.functions::compile_rest-returns-in_err-compile_statement-clause-goes
+rest_refused t c =
+    let lt : c.loop-i.i < length c.args.body.now = omega (arith, c.loop-i-test.true) in
+    let r : c.from_residual.result ≡ Err c.in_err-compile_statement.field-0.0 = grind arith in
+    first_refuses _ _ _ _ _ _ r (c.loop-i.invariant.1 ∙ ap (λ (f : Emission). f (state c.loop-i.em)) (statement_at c.args.body.now c.loop-i.i _ c.index-body-i.result c.index-body-i.is lt)) c.in_err-compile_statement.ensures.goes
+
+pub rest_done : goal.functions::compile_rest-returns-clause-goes
+rest_done t c =
+    let last : c.loop-i.i ≡ length c.args.body.now = omega (arith, c.loop-i-test.false, c.loop-i.auto.i-end) in
+    c.loop-i.invariant.1 ∙ ap (λ (f : Emission). f (state c.loop-i.em)) (none_left c.args.body.now c.loop-i.i last)

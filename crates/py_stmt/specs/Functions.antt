@@ -1,0 +1,52 @@
+-- What is emitted of a function.
+use Rattle.std.specs.Prelude.{ℕ, List}
+use Rattle.py_tree.specs.View.{arguments, expr_tree, opt_box, stmt_tree, stmts}
+use Rattle.py_tree.specs.declared.statements.Stmt.{Stmt}
+use Rattle.py_tree.specs.declared.statements.StmtFunctionDefOf.{StmtFunctionDefOf}
+use Rattle.py_tree.specs.Tree as tree
+use Rattle.py_bytecode.specs.Objects.{Object}
+use Rattle.py_steps.specs.Children.{child, flags_of_defaults, function_made, function_scope}
+use Rattle.py_steps.specs.Context.{Context, inside}
+use Rattle.py_scope.specs.declared.table_type.SymbolTableType.TheVariants as kind
+use Rattle.py_emit.specs.declared.context.Naming.TheVariants as naming
+use Rattle.py_emit.specs.States.{named_in}
+use Rattle.py_steps.specs.Emitting.{Emission, ◌▸◌}
+use Rattle.py_emission.specs.Emission.{default_emissions}
+use Rattle.py_emission.specs.Parameters.{function_shape, parameters}
+use Rattle.py_emission.specs.Texts.{after_doc}
+use Rattle.py_meaning.specs.EmissionDefs.{emission_of_def, emission_of_end, notes}
+use Rattle.py_meaning.specs.EmissionStmts.{emission_of_rest}
+
+-- the statements of a function but its docstring, and a return of None where no return ends them
+abbrev pub body_emission : tree.Stmts → Emission
+body_emission body = emission_of_rest body ▸ emission_of_end (after_doc body)
+
+abbrev pub params_of : StmtFunctionDefOf Stmt → tree.Arguments
+params_of s = arguments expr_tree s.args.value
+
+abbrev pub body_of : StmtFunctionDefOf Stmt → tree.Stmts
+body_of s = stmts stmt_tree s.body
+
+-- a function without its decorators
+abbrev pub def_emission : StmtFunctionDefOf Stmt → Emission
+def_emission s = emission_of_def s.name (params_of s) (body_of s) (opt_box expr_tree s.returns) (body_emission (body_of s))
+
+-- what is emitted in the function's own scope
+abbrev pub inner_emission : StmtFunctionDefOf Stmt → Emission
+inner_emission s = function_scope (parameters (params_of s)) (body_emission (body_of s))
+
+-- its own scope, which its code object names so, and what follows with its code object
+abbrev pub scope_emission : (within : Context → (number : ℕ) → Context) → (name : List ℕ) → StmtFunctionDefOf Stmt → (Object → Emission) → Emission
+scope_emission within name s k = child within (function_shape (params_of s) name) (inner_emission s) k
+
+-- the scope of a function around whose names this path stands
+abbrev pub within_path : (path : List ℕ) → Context → (number : ℕ) → Context
+within_path path c n = inside kind.Function n (named_in (naming.Function path) c)
+
+-- the annotations of a function
+abbrev pub notes_of : StmtFunctionDefOf Stmt → List Emission
+notes_of s = notes (params_of s) (opt_box expr_tree s.returns)
+
+-- the function that is made of a code object
+abbrev pub made_emission : StmtFunctionDefOf Stmt → Object → Emission
+made_emission s o = function_made (flags_of_defaults (default_emissions (params_of s))) (notes_of s) s.name o

@@ -1,0 +1,257 @@
+//! Definitions of functions.
+ghost use Rattle.std.specs.Prelude.{◌≡◌, ◌≤◌, ◌+◌, drop, length};
+ghost use Rattle.py_tree.specs.View.{expr_tree, exprs, function_def_tree, stmt_tree, stmts};
+ghost use Rattle.py_bytecode.specs.View.{object};
+ghost use Rattle.py_steps.specs.Context.{qualified};
+ghost use Rattle.py_steps.specs.Accesses.{emission_of_stored};
+ghost use Rattle.py_steps.specs.Children.{decorated, decorations, documented, flags_of_defaults, function_inside, made};
+ghost use Rattle.py_steps.specs.Emitting.{◌▸◌, by_context, by_level, move as moving};
+ghost use Rattle.py_steps.specs.EmissionParts.{values};
+ghost use Rattle.py_emission.specs.Emission.{all_emissions, default_emissions};
+ghost use Rattle.py_emission.specs.Texts.{doc_of};
+ghost use Rattle.py_meaning.specs.EmissionDefs.{emission_of_end, ends_in_return};
+ghost use Rattle.py_meaning.specs.StmtParts.{is_return};
+ghost use Rattle.py_meaning.specs.EmissionStmts.{emission_of_stmt, emission_of_stmts};
+ghost use Rattle.py_emit.specs.States.{AreMade, Goes, Same, rest, state};
+ghost use Rattle.py_expr.specs.Functions.{Gives, flag_if};
+ghost use Rattle.py_stmt.specs.Functions.{body_emission, def_emission, inner_emission, made_emission, params_of, scope_emission, within_path};
+
+use crate::docs::{split_doc, statements_from};
+use crate::notes::compile_notes;
+use crate::statements::compile_statement;
+use py_bytecode::{CodeObject, ConstantData, Instruction, MakeFunctionFlags};
+use py_emit::{Emitter, NameUsage, Naming, emit, refuse};
+use py_expr::{
+    Defaults, begin_function, compile_defaults, compile_expressions, enter_function,
+    function_flags, refuse_unbuilt,
+};
+use py_forms::{CodegenError, CodegenErrorType};
+use py_tree::{Expr, Stmt, StmtFunctionDef, Stmts, Text};
+
+/// Emits the definition of a function. One with type parameters is refused.
+#[cycle(code)]
+pub(crate) fn compile_function_def(
+    em: &mut Emitter,
+    s: &StmtFunctionDef,
+) -> Result<(), CodegenError>
+    ensures goes { Goes result (state em.new) (emission_of_stmt (function_def_tree s.now) (state em.old)) }
+    ensures same { Same result (rest em.new) (rest em.old) }
+{
+    match s.type_params.as_slice() {
+        [] => compile_plain_def(em, s),
+        [_, ..] => refuse_unbuilt(em, s.location),
+    }
+}
+
+/// Emits the definition of a function, and what stores it under its name.
+#[cycle(code)]
+#[tactic(auto, using(crate::proofs::Steps::steps))]
+fn compile_plain_def(em: &mut Emitter, s: &StmtFunctionDef) -> Result<(), CodegenError>
+    ensures goes { Goes result (state em.new) ((moving s.now.location ▸ decorated (values (all_emissions (exprs expr_tree s.now.decorator_list))) (def_emission s.now) ▸ emission_of_stored s.now.name) (state em.old)) }
+    ensures same { Same result (rest em.new) (rest em.old) }
+{
+    em.set_location(s.location);
+    compile_decorated(em, s)?;
+    em.compile_name(NameUsage::Store, s.name.as_str())
+}
+
+/// Emits decorators, the function and their calls.
+#[cycle(code)]
+fn compile_decorated(em: &mut Emitter, s: &StmtFunctionDef) -> Result<(), CodegenError>
+    ensures goes { Goes result (state em.new) (decorated (values (all_emissions (exprs expr_tree s.now.decorator_list))) (def_emission s.now) (state em.old)) }
+    ensures same { Same result (rest em.new) (rest em.old) }
+{
+    compile_expressions(em, s.decorator_list.as_slice())?;
+    compile_function(em, s)?;
+    call_decorators(em, s.decorator_list.as_slice())
+}
+
+/// Emits the call of each decorator.
+fn call_decorators(em: &mut Emitter, items: &[Expr]) -> Result<(), CodegenError>
+    ensures goes { Goes result (state em.new) (decorations (values (all_emissions (exprs expr_tree items.now))) (state em.old)) }
+    ensures same { Same result (rest em.new) (rest em.old) }
+{
+    for _decorator in items {
+        em.emit_count(Instruction::CallFunctionPositional, 1)?;
+    }
+    Ok(())
+}
+
+/// Emits a function: its defaults, its own scope, what makes it, and what stores its docstring.
+#[cycle(code)]
+#[tactic(auto, unfolding(py_meaning::specs::EmissionDefs::emission_of_def))]
+fn compile_function(em: &mut Emitter, s: &StmtFunctionDef) -> Result<(), CodegenError>
+    ensures goes { Goes result (state em.new) (def_emission s.now (state em.old)) }
+    ensures same { Same result (rest em.new) (rest em.old) }
+{
+    let defaults = compile_defaults(em, &s.args)?;
+    compile_made(em, s, defaults)?;
+    store_doc(em, &s.body)
+}
+
+/// Emits a function's own scope, and what makes the function.
+#[cycle(code)]
+fn compile_made(
+    em: &mut Emitter,
+    s: &StmtFunctionDef,
+    defaults: Defaults,
+) -> Result<(), CodegenError>
+    requires flags { flags_of_defaults (default_emissions (params_of s.now)) ≡ flag_if 0x08 defaults.positional + flag_if 0x04 defaults.keyword }
+    ensures goes { Goes result (state em.new) (scope_emission (function_inside s.now.name) s.now.name s.now (made_emission s.now) (state em.old)) }
+    ensures same { Same result (rest em.new) (rest em.old) }
+{
+    let name = em.text(s.name.as_str())?;
+    let path = em.function_path(s.name.as_str())?;
+    let code = compile_function_scope(em, s, name, path)?;
+    make_noted(em, s, defaults, code)
+}
+
+/// Emits a function's own scope, and lays its code out under this name.
+#[cycle(code)]
+fn compile_function_scope(
+    em: &mut Emitter,
+    s: &StmtFunctionDef,
+    name: Text,
+    path: Text,
+) -> Result<CodeObject, CodegenError>
+    ensures goes { Gives result (state em.new) (λ k. scope_emission (within_path path) name s.now k (state em.old)) }
+    ensures same { Same result (rest em.new) (rest em.old) }
+{
+    enter_function(em, &s.args, name, Naming::Function { path })?;
+    compile_inner(em, s)?;
+    em.leave_scope()
+}
+
+/// Emits what a function's own scope holds: its parameters, its first constant and its statements.
+#[cycle(code)]
+fn compile_inner(em: &mut Emitter, s: &StmtFunctionDef) -> Result<(), CodegenError>
+    requires loops { AreMade (rest em.old).context.loop_blocks }
+    ensures goes { Goes result (state em.new) (inner_emission s.now (state em.old)) }
+    ensures same { Same result (rest em.new) (rest em.old) }
+{
+    begin_function(em, &s.args)?;
+    compile_body(em, &s.body)
+}
+
+/// Emits the statements of a function but its docstring, and a return of None where no return ends them.
+#[cycle(code)]
+#[tactic(auto, using(crate::proofs::LastReturn::rest_is))]
+fn compile_body(em: &mut Emitter, body: &Stmts) -> Result<(), CodegenError>
+    requires loops { AreMade (rest em.old).context.loop_blocks }
+    ensures goes { Goes result (state em.new) (body_emission (stmts stmt_tree body.now) (state em.old)) }
+    ensures same { Same result (rest em.new) (rest em.old) }
+{
+    let Ok((_, from)) = split_doc(em.alloc(), body, em.opts()) else {
+        refuse!(em, CodegenErrorType::OutOfMemory);
+    };
+    compile_rest(em, body.as_slice(), from)?;
+    end_function(em, statements_from(body, from))
+}
+
+/// Emits the statements from a place on, one after the other.
+#[cycle(code)]
+fn compile_rest(em: &mut Emitter, body: &[Stmt], from: usize) -> Result<(), CodegenError>
+    requires loops { AreMade (rest em.old).context.loop_blocks }
+    requires from { from ≤ length body.now }
+    ensures goes { Goes result (state em.new) (emission_of_stmts (stmts stmt_tree (drop from body.now)) (state em.old)) }
+    ensures same { Same result (rest em.new) (rest em.old) }
+{
+    for i in from..body.len() {
+        compile_statement(em, &body[i])?;
+    }
+    Ok(())
+}
+
+/// Emits a return of None, unless the last of the statements is a return.
+#[tactic(auto, using(py_bytecode::proofs::View::views))]
+fn end_function(em: &mut Emitter, body: &[Stmt]) -> Result<(), CodegenError>
+    ensures goes { Goes result (state em.new) (emission_of_end (stmts stmt_tree body.now) (state em.old)) }
+    ensures same { Same result (rest em.new) (rest em.old) }
+{
+    if ends_in_return(body) {
+        return Ok(());
+    }
+    em.return_const(ConstantData::None)
+}
+
+/// Whether the last of the statements is a return.
+#[tactic(auto, using(crate::proofs::LastReturn::ends_some, crate::proofs::LastReturn::ends_none))]
+fn ends_in_return(body: &[Stmt]) -> bool
+    ensures { result ≡ ends_in_return (stmts stmt_tree body.now) }
+{
+    match body.last() {
+        Some(statement) => is_return(statement),
+        None => false,
+    }
+}
+
+#[tactic(auto, using(py_tree::proofs::View::trees))]
+fn is_return(statement: &Stmt) -> bool
+    ensures { result ≡ is_return (stmt_tree statement.now) }
+{
+    matches!(statement, Stmt::Return(_))
+}
+
+/// Emits the annotations of a function and what makes it of its code.
+fn make_noted(
+    em: &mut Emitter,
+    s: &StmtFunctionDef,
+    defaults: Defaults,
+    code: CodeObject,
+) -> Result<(), CodegenError>
+    requires flags { flags_of_defaults (default_emissions (params_of s.now)) ≡ flag_if 0x08 defaults.positional + flag_if 0x04 defaults.keyword }
+    ensures goes { Goes result (state em.new) (made_emission s.now (object code) (state em.old)) }
+    ensures same { Same result (rest em.new) (rest em.old) }
+{
+    let annotated = compile_notes(em, &s.args, &s.returns)?;
+    make_named(
+        em,
+        s.name.as_str(),
+        function_flags(defaults, annotated),
+        code,
+    )
+}
+
+/// Emits what makes a function of its code, under its qualified name.
+#[tactic(auto, unfolding(py_steps::specs::Emitting::by_context))]
+fn make_named(
+    em: &mut Emitter,
+    name: &str,
+    flags: MakeFunctionFlags,
+    code: CodeObject,
+) -> Result<(), CodegenError>
+    ensures goes { Goes result (state em.new) (by_context (λ c. made flags.0 (qualified c name.now) (object code)) (state em.old)) }
+    ensures same { Same result (rest em.new) (rest em.old) }
+{
+    let full = em.qualified(name)?;
+    em.make_function(flags, full, code)
+}
+
+/// Emits what stores the docstring of a body to the function that lies there, where it has one and it is kept.
+#[tactic(auto, unfolding(py_steps::specs::Emitting::by_level, py_emit::specs::States::rest))]
+fn store_doc(em: &mut Emitter, body: &Stmts) -> Result<(), CodegenError>
+    ensures goes { Goes result (state em.new) (by_level (λ l. documented (doc_of l (stmts stmt_tree body.now))) (state em.old)) }
+    ensures same { Same result (rest em.new) (rest em.old) }
+{
+    match split_doc(em.alloc(), body, em.opts()) {
+        Ok((doc, _)) => store_text(em, doc),
+        Err(_) => refuse!(em, CodegenErrorType::OutOfMemory),
+    }
+}
+
+/// Emits what stores a docstring to the function that lies there, where there is one.
+#[tactic(auto, using(py_bytecode::proofs::View::views))]
+fn store_text(em: &mut Emitter, doc: Option<Text>) -> Result<(), CodegenError>
+    ensures goes { Goes result (state em.new) (documented doc (state em.old)) }
+    ensures same { Same result (rest em.new) (rest em.old) }
+{
+    match doc {
+        Some(value) => {
+            emit!(em, Instruction::Duplicate);
+            em.load_const(ConstantData::Str { value })?;
+            emit!(em, Instruction::Rotate2);
+            em.emit_name(Instruction::StoreAttr, "__doc__")
+        }
+        None => Ok(()),
+    }
+}

@@ -1,0 +1,53 @@
+//! Parts of statements that are scanned and not compiled, whose scopes are passed over.
+ghost use Rattle.std.specs.Prelude.{◌+◌};
+ghost use Rattle.py_counts.specs.Counts.{IsSum, scopes_in, scopes_in_opt};
+ghost use Rattle.py_tree.specs.View.{expr_tree, opt_box};
+ghost use Rattle.py_steps.specs.EmissionParts.{pass_scopes};
+ghost use Rattle.py_emit.specs.States.{Goes, Same, rest, state};
+
+use py_counts::{scopes_in_expr, scopes_in_opt};
+use py_emit::{Emitter, refuse};
+use py_forms::{CodegenError, CodegenErrorType};
+use py_tree::{Expr, StmtAssert};
+
+/// Passes over the scopes in an expression.
+///
+/// # Errors
+/// OutOfMemory alone.
+#[tactic(auto, unfolding(py_steps::specs::Emitting::by_context, py_steps::specs::Emitting::pass_over, py_emit::specs::States::rest))]
+pub(crate) fn pass_expression(em: &mut Emitter, e: &Expr) -> Result<(), CodegenError>
+    ensures goes { Goes result (state em.new) (pass_scopes (λ postponed. scopes_in postponed (expr_tree e.now)) (state em.old)) }
+    ensures same { Same result (rest em.new) (rest em.old) }
+{
+    let postponed = em.context().future_annotations;
+    let Some(number) = scopes_in_expr(e, postponed, em.next_scope()) else {
+        refuse!(em, CodegenErrorType::OutOfMemory);
+    };
+    em.pass_scopes(number);
+    Ok(())
+}
+
+/// Passes over the scopes in an assertion.
+///
+/// # Errors
+/// OutOfMemory alone.
+#[tactic(auto, unfolding(py_steps::specs::Emitting::by_context, py_steps::specs::Emitting::pass_over, py_emit::specs::States::rest))]
+pub(crate) fn pass_assertion(em: &mut Emitter, s: &StmtAssert) -> Result<(), CodegenError>
+    ensures goes { Goes result (state em.new) (pass_scopes (λ postponed. scopes_in postponed (expr_tree s.now.test.value) + scopes_in_opt postponed (opt_box expr_tree s.now.msg)) (state em.old)) }
+    ensures same { Same result (rest em.new) (rest em.old) }
+{
+    let postponed = em.context().future_annotations;
+    let Some(number) = scopes_in_assertion(s, postponed, em.next_scope()) else {
+        refuse!(em, CodegenErrorType::OutOfMemory);
+    };
+    em.pass_scopes(number);
+    Ok(())
+}
+
+/// `count` and the scopes in an assertion. None exactly where the sum has no usize.
+fn scopes_in_assertion(s: &StmtAssert, postponed: bool, count: usize) -> Option<usize>
+    ensures { IsSum result (count + (scopes_in postponed (expr_tree s.now.test.value) + scopes_in_opt postponed (opt_box expr_tree s.now.msg))) }
+{
+    let count = scopes_in_expr(&s.test, postponed, count)?;
+    scopes_in_opt(&s.msg, postponed, count)
+}
