@@ -4,7 +4,8 @@ usage: source_tables.py MODEL_FOLDER
 
 MODEL_FOLDER holds a Python model of the compiler (`pyc.py`) and a reader of Python sources (`py2rows.py`).
 Each source below gives one case: a line with its mode, its level and its source, and a line with its rows; in stdout
-what the model writes over the rows stands in their place.
+what the model writes over the rows stands in their place. Kinds that the model compiles and this compiler does not yet
+are refused where they stand, as this compiler refuses them.
 The levels 0, 1 and 2 follow one another in each table, unless an entry names its own.
 A source that Python's parser does not read as the tree that is wanted is a pair: what it is called, and its rows.
 The places of what stands in an f-string are those of Python before 3.12.
@@ -15,12 +16,39 @@ import sys
 if len(sys.argv) != 2:
     sys.exit("usage: %s MODEL_FOLDER" % pathlib.Path(sys.argv[0]).name)
 sys.path.insert(0, sys.argv[1])
+import emit
 import pyc
 from py2rows import rows_text, tree_of
+from scopes import Fault
 from tree import Node
 from tree import rows_of as rows_of_tree
 
 CRATES = pathlib.Path(__file__).resolve().parent.parent / "crates"
+# What the model compiles, and this compiler refuses where it stands
+NOT_YET = "s_ClassDef s_Import s_ImportFrom s_TypeAlias e_ListComp e_SetComp e_DictComp e_GeneratorExp".split()
+
+
+class Emitter(emit.Emitter):
+    """The emitter of the model, for the kinds that this compiler compiles."""
+
+    def futures(self, names):
+        """Looks at no future: its import is refused."""
+
+    def s_FunctionDef(self, node):
+        if node.type_params:
+            self.not_yet(node)
+        super().s_FunctionDef(node)
+
+    def entered(self, body):
+        """Refuses what is entered at a prompt, as a whole."""
+        raise Fault("NotImplementedYet", "RustPython does not implement this feature yet", None)
+
+    single = block = entered
+
+
+for refused in NOT_YET:
+    setattr(Emitter, refused, emit.Emitter.not_yet)
+emit.Emitter = Emitter
 
 
 class At:
@@ -701,7 +729,475 @@ SCOPES = {
     },
 }
 
-GROUPS = [CHOICES, DISPLAYS, TARGETS, CONTROL, ORDER, SCOPES, LARGE]
+def noted(source, name, note):
+    """A source, a parameter of whose lambdas has an annotation, for which Python has no words."""
+    def walk(it):
+        if isinstance(it, list):
+            for within in it:
+                walk(within)
+        elif isinstance(it, Node):
+            if it.kind == "Arg" and it.arg == name:
+                it.f["annotation"] = expression(note, 0)
+            walk(list(it.f.values()))
+
+    tree = tree_of(source)
+    walk(tree)
+    return rows_of(f"{source}, with {name}: {note}", rows_of_tree(tree))
+
+
+def entered(source):
+    """A source that is entered at a prompt."""
+    return f"entered: {source}", rows_text(source + "\n", "single")
+
+
+def nested_defs(depth, last):
+    """Functions within one another, each with a parameter of its own, and what stands in the innermost."""
+    lines = [f"{' ' * i}def f{i}(a{i}):" for i in range(depth)]
+    back = [f"{' ' * i}return f{i}" for i in range(depth - 1, 0, -1)]
+    return "\n".join([*lines, " " * depth + last, *back])
+
+
+def within_function(source):
+    """A function with a body."""
+    return f"def f(a):\n{indented(source)}"
+
+
+FUNCTIONS = {
+    "exec": {
+        "RETURNS": [
+            *at_each("def f(): pass"),
+            *at_each("def f(): return"),
+            *at_each("def f():\n return a\n b"),
+            *at_each("def f(): return __debug__"),
+            "def f():\n a\n return 1",
+            "def f(x):\n if x: return 1\n return x",
+            "def f(x):\n if x: return\n else: return x",
+            "def f(): return f'a' 'b', f'{a}'",
+            "def f(): return f'a' 'b'",
+            "def f(): return a if b else None",
+            "def f(): return a and b < c < d",
+            "def f(): return (x := f)",
+            "def f(): return *a, b",
+            "def f(): return None\nf = f\ndel f",
+            "def f():\n 1\n ...\ndef g(): return f",
+            "def f():\n def g(): return super().x\n return __class__",
+        ],
+        "PARAMETERS": [
+            "def f(a, b): return b, a",
+            "def f(a, /, b, *, c): return a, b, c",
+            "def f(*a, **b): return a, b",
+            "def f(a, /, b, *c, d, **e): return a, b, c, d, e",
+            "def f(*, a): del a",
+            "def f(a, b):\n a += b\n (a, *b) = c = a",
+            "def f(a):\n for a in a: pass\n with a as a: pass\n try: a\n except a as a: a",
+            "def f(self, x):\n self.x = x\n self.y(x)[x] = self\n self.z += 1",
+        ],
+        "DEFAULTS": [
+            "def f(a=b): return a",
+            "def f(a, b=c, d=1): pass",
+            "def f(a, /, b=1): pass",
+            "def f(a=1, /, *b, c=2, **d): pass",
+            "def f(*, a=1): pass",
+            "def f(*, a=1, b, c=2, d): return a, b, c, d",
+            "def f(*, a, b=x, c): return c, b, a",
+            "def f(x, y=g(), *z, a, b=h(), c, d=i(), **e): return a, b, c, d, e",
+            "def f(a=(b := c), *, d=(e := b)): return a",
+            "def f(a=f, b=a): return a + b",
+            "def f(a=g(b=1), *, c={d: e, **g}): pass",
+            *at_each("def f(a=__debug__, *, b=not __debug__): return a"),
+            "def f(a=x if y else z, *, b=x and y): pass",
+            "def f(a=lambda b=c: b, *, d=lambda: e): return a, d",
+            "def f(x):\n def g(x=x, *, y=x): return x\n return g",
+        ],
+        "CLOSURES": [
+            "def f(x):\n def g(): return x\n return g",
+            "def f():\n x = 1\n def g(): return x\n return g",
+            *[nested_defs(depth, "return " + ", ".join(f"a{i}" for i in range(depth))) for depth in (2, 3, 4, 5)],
+            nested_defs(5, "return a4, a2, a0"),
+            nested_defs(4, "return a0"),
+            nested_defs(3, "nonlocal a0, a1\n   a0 = a1 = a2\n   a0 += 1\n   del a1"),
+            "def f(z, y, x):\n def g(): return x, y, z\n def h(): return y, z, x\n return g, h",
+            "def f(b, a):\n def g():\n  c = b\n  def h(): return a, c, b\n  return h\n return g",
+            "def f(x, y):\n def g():\n  def h(): return y\n  return x\n return g",
+            "def f(x, y):\n def g():\n  x\n  def h(): return y, x\n  def i(): return h, y\n  y\n return g",
+            "def f(a, /, b, *c, d, e=1, **g):\n def h(): return g, e, d, c, b, a\n return h",
+            "def f(a, b, c):\n def g(): return c, a\n return b",
+            "def f(*a, **b):\n def g(): return b\n return a",
+            "def f(*, a=1, b, c=2):\n def g(): return b, a\n return c",
+            "def f(x):\n def g(x):\n  def h(): return x\n  return h\n return g, x",
+            "def f():\n def g(): return g()\n return g",
+            "def f():\n def g(): return h()\n def h(): return g()\n return g",
+            "def f(x):\n def g(): return x\n def h(): return x\n def i(): return g, h\n return i",
+            "def f(x):\n def g():\n  def h():\n   nonlocal x\n   x = 1\n  h()\n g()\n return x",
+        ],
+        "CELLS": [
+            "def f(x):\n def g(): return x\n x += 1\n del x",
+            "def f():\n for x in a:\n  def g(): return x\n return g",
+            "def f():\n with a as x, b as y:\n  def g(): return y, x\n return g",
+            "def f():\n try: a\n except E as e:\n  def g(): return e\n return g",
+            "def f():\n (x := a)\n def g(): return x\n x: int = g",
+            "def f():\n x: int\n def g(): return x\n return g",
+            "def f(a):\n if a:\n  def g(): return a\n else:\n  def g(): return 1\n return g",
+            "def f():\n def g(): pass\n def g(): return g\n return g",
+            "def f(x):\n def g():\n  nonlocal x\n  x += 1\n  return x\n return g",
+            *at_each("def f():\n x = 1\n def g():\n  nonlocal x\n  del x\n return g"),
+            "def f():\n def g():\n  nonlocal x\n  def h():\n   nonlocal x\n   x = 2\n  return h\n x = 1\n return g",
+            "def f():\n x = y = 1\n def g():\n  nonlocal y, x\n  x, *y = y\n return g",
+            "def f(x):\n def g():\n  nonlocal x\n  def h(): return x\n  x = h\n return g",
+            "def f(x):\n def g(y):\n  nonlocal x\n  for x in y: x\n  with y as x: x\n  try: x\n  except y as x: (x := y)\n return g",
+        ],
+        "GLOBALS": [
+            *at_each("global x\nx"),
+            *at_each("def f():\n global x\n x = 1"),
+            "def f():\n global x, y\n x = y\n del x",
+            "def f():\n global f\n f = 1",
+            "x = 1\ndef f():\n global x\n x += 1\nx",
+            "def f(x):\n def g():\n  global x\n  x = 1\n  return x\n return g, x",
+            "def f():\n global x\n def g(): return x\n def h():\n  x = 1\n  return x\n return g",
+            "def f():\n def g():\n  global g\n  def g(): return g\n g()",
+            "global x\nx = 1\ndef f(): return x",
+            "def f():\n global x\n for x in a: x\n with b as x: x\n try: x\n except E as x: x\n (x := x)",
+            "def f(a):\n def g():\n  global a\n  def h(): return a\n  return h\n return g",
+            "def f(a):\n def g():\n  global a\n  def h(b=a):\n   a = b\n   return lambda: a\n  return h\n return a",
+        ],
+        "LAMBDAS": [
+            *at_each("lambda: 1"),
+            *at_each("lambda: __debug__"),
+            "f = lambda x: x",
+            "lambda a, /, b, *c, d, e=1, **f: (a, b, c, d, e, f)",
+            "lambda *, a=1, b, c=2, d: a",
+            "lambda a=b, *, c=d: e",
+            "lambda x: lambda y: lambda z: (x, y, z)",
+            "lambda a=lambda b=lambda: c: b: a",
+            "lambda: f'a'\nlambda: f'{a}'",
+            "lambda: (x := x)\nlambda: (x, [*y])",
+            "lambda x: x.y if x < y < z else -x or x[y]",
+            "def f(x, y): return lambda: lambda: (y, x)",
+            "def f(x): return lambda y=x, *, z=x: (x, y, z)",
+            "def f(a):\n g = lambda: h\n h = lambda: g\n return a",
+            "lambda *a, **b: lambda *, c, d=a: (b, c)",
+            "def f():\n y = lambda: (x := 1)\n x = 2\n return lambda: x",
+        ],
+        "LAMBDAS_WITHIN": [
+            "f(lambda: a, *b, c=lambda d: d, **{e: lambda: g})",
+            "a.b(lambda: c, d=lambda: e)",
+            "{a: lambda: b, **c, (lambda: d): lambda: e}",
+            "{**(lambda: a)(), (lambda: b)(): (lambda: c)()}",
+            "{lambda: a, *b, lambda: c}",
+            "[lambda: a, *(lambda: b)(), (lambda: c,)]",
+            "(lambda: a) < (lambda: b) <= (lambda: c) != (lambda: d)",
+            "a in (lambda x: x) is not b",
+            "if lambda: a: b\nelif not (lambda: c) and (lambda: d): e",
+            "while lambda: a: break",
+            "x[lambda: a] = y[(lambda: b):(lambda: c)]",
+            "x[lambda: a] += lambda: b",
+            "(lambda: x).y = (lambda: z).y = lambda: a",
+            "(lambda: x).y += lambda: z",
+            "del x[lambda: a], (lambda: b).c",
+            "f'{(lambda: a)():{(lambda: b)()}}'",
+            "x = (lambda: a) if (lambda: b) else (lambda: c)",
+            "raise (lambda: a) from (lambda: b)",
+            *at_each("assert lambda: a, lambda: b"),
+            "for x in lambda: a: lambda: x\nelse: lambda: b",
+            "with (lambda: a) as x, (lambda: b)() as y[lambda: c]: lambda: d",
+            "try: a\nexcept (lambda: E)() as e: lambda: e\nfinally: lambda: b",
+            "x: lambda: a = lambda: b",
+            "a[lambda: b]: lambda: c\nlambda: d",
+            "-(lambda: a) + (lambda: b) or (lambda: c)",
+        ],
+        "GENERATORS": [
+            *at_each("def f(): yield"),
+            "def f(): yield a",
+            "def f(): x = yield a\ndef g(): x = yield",
+            "def f(): return (yield a)",
+            "def f(): yield (yield (yield))",
+            *at_each("def f(): yield from a"),
+            "def f(): x = yield from (yield from a)",
+            "def f(): return (yield from a)",
+            *at_each("def f():\n return 1\n yield"),
+            "def f():\n for x in a: yield x",
+            "def f():\n while (yield): yield 1\n else: yield from a",
+            "def f():\n with (yield a) as x: yield from x",
+            "def f():\n try: yield a\n except (yield b) as e: yield e\n else: return c\n finally: yield d",
+            "def f(a=1, *b, **c):\n yield a\n def g(): yield b\n yield from g()",
+            "def f(x):\n def g(): yield x\n return g",
+            "def f(x):\n yield\n def g(): return x\n return g",
+            "def f(): g((yield a), *(yield b), c=(yield d))",
+            "def f(): [(yield a), *(yield from b)], {(yield c): (yield d)}",
+            "def f(): (yield a) < (yield b) < (yield c)",
+            "def f(): f'{(yield a):{(yield b)}}'",
+            "def f():\n (yield).x = yield\n x[(yield)] += yield y\n del (yield)[a]",
+            "def f(): raise (yield a) from (yield b)",
+            *at_each("def f(): assert (yield a), (yield b)"),
+            "lambda: (yield)\nlambda x: (yield from x)",
+            "def f(): lambda: (yield)",
+            "def f(): yield lambda: (yield x)",
+            "def f():\n def g(a=(yield)): pass\n return g",
+            "def f():\n @(yield)\n def g() -> (yield): pass",
+            "def f():\n x = 1\n def g():\n  nonlocal x\n  x = yield x\n return g",
+            "def f(): x: (yield a) = (y := b)",
+            "def f(): yield *a, b\ndef g(): yield __debug__",
+        ],
+        "DECORATORS": [
+            "@a\ndef f(): pass",
+            "@a\n@b.c\n@d(e)\ndef f(): return f",
+            "@a(lambda: b)\ndef f(x): return x",
+            "@(lambda g: lambda: g)\n@h\ndef f(a=1, *, b=2): pass",
+            "@a[b]\n@c or d\ndef f(): pass",
+            "def f(x):\n @x\n def g(): return x\n return g",
+            "@(x := a)\ndef f(): return x",
+            "@a\n\n@lambda f: f\n@b\ndef f():\n @c\n def g(): yield",
+            "@a\ndef f(b=c): pass\n@f\ndef g(): return f",
+            "while a:\n @b\n def f(c): return c\n break",
+        ],
+        "NOTES": [
+            "def f(a: b) -> c: pass",
+            "def f(a: b, /, c: d, *e: g, h: i, **j: k) -> l: pass",
+            "def f(a: b = c, *, d: e = g) -> h: return a",
+            "def f(a, b: c, *d, e, **g: h): pass",
+            "def f(a: lambda: b) -> lambda: c: pass",
+            "def f(a: (lambda x=y: x) = lambda: z, *b: lambda: c) -> (lambda: d): return a",
+            "def f(a: 'b') -> 'c': 'd'",
+            "def f(a: (x := y)) -> (z := x): pass",
+            "def f(x):\n def g(y: lambda: x) -> x: return lambda: x\n return g",
+            *at_each("@a(lambda: b)\ndef f(c: lambda: d = lambda: e) -> lambda: g:\n 'doc'\n return lambda: h"),
+            "def f(*a: b, **c: d): return lambda: (a, c)",
+            "def f(a: f, b: a = a) -> f(a): pass",
+            noted("lambda x, *y: x", "x", "z"),
+            noted("def f(): return lambda x: lambda: x\nlambda: a", "x", "lambda: z"),
+            noted("lambda *x, a=lambda: b: (lambda: x)\nlambda: c", "x", "lambda: lambda: z"),
+        ],
+        "ANNOTATED": [
+            "def f():\n x: int\n y: int = 1\n return y",
+            "def f():\n x: y = z\n a.b: c = d\n e[g]: h",
+            "def f():\n x: lambda: y = lambda: z\n return lambda: x",
+            "def f():\n a[lambda: b]: lambda: c\n def g(): return a\n return lambda: g",
+            "def f():\n a[lambda: b].c: lambda: d = lambda: e\n lambda: g",
+            "def f():\n (x): lambda: y\n return lambda: z",
+            "x: lambda: y = lambda: z\ndef f(): return x\nwhile a: b: f",
+            "def f(x):\n x: int\n def g(): return x\n x: str = g",
+            "def f():\n x: (y := z)\n return y",
+            "def f():\n a: (lambda b=lambda: c: lambda: d)\n return lambda: e",
+            "def f():\n x: [lambda: a, (lambda: b, lambda: c)] = [lambda: d]\n return lambda: e",
+            "def f():\n x: [y for y in (lambda: z)]\n return lambda: a",
+            noted("def f():\n b: lambda x: lambda: y\n return lambda: c", "x", "lambda: z"),
+        ],
+        "DOCSTRINGS": [
+            *at_each("def f(): 'doc'"),
+            *at_each("def f():\n 'doc'\n return 1"),
+            *at_each("def f():\n 'doc'\n 'again'"),
+            *at_each("'module'\ndef f(x):\n 'doc'\n def g():\n  'inner'\n  return x\n return g"),
+            *at_each("@a\ndef f(b: c = d):\n f'a' 'b'\n yield b"),
+            "def f():\n f'{a}'",
+            "def f():\n b'doc'",
+            At("0", "def f():\n a\n 'doc'"),
+            At("1", "def f(): f''"),
+            At("2", "def f():\n 'doc'\n lambda: 'doc'"),
+        ],
+        "PASSED": [
+            *at_each("assert lambda: a\ndef f(): return b"),
+            *at_each("assert (lambda: a)(), lambda: b\nlambda: c\ndef f(): return lambda: d"),
+            *at_each("def f(x):\n assert lambda: x, lambda: y\n def g(): return y\n return g"),
+            *at_each("def f(x):\n assert (lambda y=lambda: x: y)(lambda: z), (lambda: (lambda: a))\n return lambda: b"),
+            *at_each("assert [a for a in (lambda: b)], {c: d for c in e for d in (lambda: c)}\nlambda: f"),
+            At("1", "assert lambda a: b, lambda: c\nassert lambda: d\n@(lambda: e)\ndef f(g=lambda: h, *, i=lambda: j) -> lambda: k: return lambda: l"),
+            At("2", "def f():\n if a: assert lambda: b\n else:\n  assert lambda: c\n  def g(): assert lambda: d\n return lambda: e"),
+            At("1", "def f(x):\n def g():\n  nonlocal x\n  assert (x := lambda: x)\n assert g\n return lambda: x"),
+            At("2", noted("assert lambda x: (lambda: y), lambda: a\nlambda: b", "x", "lambda: z")),
+            At("1", "def f():\n assert (yield lambda: a)\n return lambda: b"),
+        ],
+        "RETURNS_WITHIN": [
+            *at_each("def f():\n for x in a: return x"),
+            "def f():\n for x in a:\n  if x: return\n  continue\n else: return b",
+            "def f():\n while a:\n  while b: return c\n  break\n return 1",
+            *at_each("def f():\n with a as b: return b"),
+            "def f():\n with a, b as c:\n  for x in c: return x",
+            *at_each("def f():\n try: return a\n finally: b"),
+            "def f():\n try: a\n finally: return b",
+            "def f():\n try: return a\n except E as e: return e\n else: return b\n finally: c",
+            "def f():\n for x in a:\n  try: return x\n  finally: break",
+            "def f():\n for x in a:\n  try:\n   with x as y: return y\n  finally: continue\n return",
+            "def f():\n try:\n  try: return a\n  finally: b\n finally: return c",
+            "def f():\n while True:\n  try: a\n  except E as e:\n   if e: return e\n   break\n  else: continue",
+            "def f(x):\n for x in x:\n  try: return lambda: x\n  except E as e: return lambda: e",
+            *[within_function(nested(outer, inner, ["return", "return k", "return 1"][(i + j) % 3])) for i, outer in enumerate(WRAPS) for j, inner in enumerate(WRAPS) if (i * 7 + j * 4) % 11 == 3],
+        ],
+        "BORDERS": [
+            "while a:\n def f(): pass\n break",
+            "for a in b:\n c = lambda: a\n continue",
+            "while a:\n def f():\n  for b in c: break\n  while b: continue\n if f: break",
+            "def f():\n while a:\n  def g():\n   while b: continue\n  break",
+            "while a:\n def f(): break",
+            "for a in b:\n def f(): continue",
+            "def f():\n while a:\n  def g(): return a\n  break\n continue",
+            "while a:\n def f():\n  for b in c: break\n  break",
+            "def f(): break",
+            "try: a\nfinally:\n def f():\n  with a: continue",
+        ],
+        "PLACE_FAULTS": [
+            *at_each("return"),
+            "return a",
+            "if a: b\nelse: return *c, d",
+            "for a in b: return a",
+            "def f(): pass\nreturn f",
+            *at_each("yield"),
+            "x = yield a",
+            "lambda: 1\n(yield from a)",
+            "f(lambda: (yield), (yield a))",
+            "def f(a=(yield)): return (yield)",
+            "def f(a: (yield b)): return (yield)",
+            "@(yield from a)\ndef f(): return",
+            At("0", "assert (yield a)"),
+            At("1", "assert (yield a), await b\nyield"),
+            *at_each("await a"),
+            "def f(): await a",
+            "lambda: await a",
+            "def f():\n def g(): return (yield await b)\n return await a",
+            "def f(a=await b): await c",
+        ],
+        "DEBUG_FAULTS": [
+            "def f(__debug__): pass",
+            "def f(a, *, b, __debug__=1): pass",
+            "def f(*__debug__): pass",
+            "def f(a, **__debug__): pass",
+            "lambda __debug__: a",
+            "lambda a, /, *, __debug__: b",
+            "lambda a=lambda __debug__: b: c",
+            "def __debug__(): pass",
+            "@a\ndef __debug__(b=1):\n 'doc'\n return c",
+            "def f(): __debug__ = 1",
+            "def f():\n global __debug__\n del __debug__",
+            "def f(x):\n def g(): (__debug__ := x)\n return g",
+            "def f():\n __debug__: a = 1",
+            "def f(__debug__: a.b) -> c: break",
+        ],
+        "ORDER_FAULTS": [
+            "def f(): return *a",
+            "def f(): yield *a",
+            with_part("lambda: *a", "*a"),
+            with_part("lambda x=*a: (yield)", "*a"),
+            with_part("def f(a=*b): break", "*b"),
+            with_part("@*a\ndef f(b=c.d): break", "*a"),
+            with_part("def f() -> *a: break", "*a"),
+            with_part("def f(a: *b) -> c: pass", "*b"),
+            "def f(*a: *b): pass",
+            "def f() -> (await a): return *b",
+            "def f(x: await y = await z): break",
+            "def f(__debug__, a: await b = c): break",
+            "lambda a=(yield), *, b=await c: (await d)",
+            "def f():\n def g(): continue\n break",
+            "def f() -> await a: pass",
+            with_part("def g(x):\n lambda: x\n f(x) = 1", "f(x)"),
+            with_part("def g(x):\n def h(): del -x\n return", "-x"),
+        ],
+        "SCOPE_FAULTS": [
+            "def f(x):\n def g(x): nonlocal x",
+            "def f():\n def g():\n  nonlocal y\n x = 1",
+            "def f():\n global x\n def g(): nonlocal x",
+            "def f():\n x = 1\n def g():\n  x\n  nonlocal x",
+            "def f():\n def g():\n  x = 1\n  global x",
+            "def f(a, *b, c=1, **d): global b",
+            "def f(a, *b, c=1, **d): nonlocal d",
+            "x = 1\ndef f(): nonlocal x",
+            "def f(x):\n def g():\n  global x\n  def h(): nonlocal x",
+            "def f(x: int): global x",
+            "lambda: a\nreturn\ndef f(): nonlocal x",
+            "def f():\n def g(): nonlocal g\n def h(): nonlocal f",
+            "def f(): nonlocal x, y\nclass A: pass",
+        ],
+        "REFUSED": [
+            *at_each("class A: pass"),
+            "def f():\n class A: return",
+            "def f(x): return [y for y in x]",
+            "def f(x):\n x = {y for y in x}\n return",
+            "def f(x): yield {y: z for y, z in x}",
+            "lambda x: f(y for y in x)",
+            "def f(): import a.b as c",
+            "def f():\n a\n from . import b as c",
+            "from __future__ import annotations\ndef f(a: b): break",
+            "async def f(): await a",
+            "def f():\n async def g(): pass",
+            "def f():\n async for x in y: await z",
+            "def f():\n async with a as b: c",
+            "def f():\n try: a\n except* E: b",
+            "def f(a=[b for b in c], *, d=(yield)): break",
+            "@a\n@(b for b in c)\ndef f(): break",
+            "def f(a: [b for b in c]) -> (yield): a",
+            "def f(a: [b for b in c]): break",
+            "lambda a, b={c for c in d}: (yield)",
+            "def f():\n return\n class A: pass",
+            "def f(x):\n def g():\n  def h(): return (x for y in x)\n  import a\n return g",
+            "f(lambda: a, b=[lambda: c for d in e])",
+            "def f(): yield [x async for x in y]",
+            "def f(): break\nclass A: pass",
+            "class A: break\ndef f(): break",
+            "def f(): a: [b for b in c]\nimport a",
+            "while a:\n from b import *\ndef f(): return",
+            "def f():\n match a:\n  case b: pass",
+            rows_of("def f[T](): return T", [["TypeVar", 1, 7, "T", None], ["Arguments", [], [], None, [], None], ["Name", 1, 19, "T"], ["Return", 1, 12, 2], ["FunctionDef", 1, 1, "f", 1, [3], [], None, [0]], ["Module", [4]]]),
+            rows_of("@a\ndef f[T: await b](): break", [["Name", 1, 2, "a"], ["Name", 2, 16, "b"], ["Await", 2, 10, 1], ["TypeVar", 2, 7, "T", 2], ["Arguments", [], [], None, [], None], ["Break", 2, 22], ["FunctionDef", 2, 1, "f", 4, [5], [0], None, [3]], ["Module", [6]]]),
+            rows_of("def f():\n type X = a", [["Arguments", [], [], None, [], None], ["Name", 2, 7, "X"], ["Name", 2, 11, "a"], ["TypeAlias", 2, 2, 1, [], 2], ["FunctionDef", 1, 1, "f", 0, [3], [], None, []], ["Module", [4]]]),
+            entered("lambda: a"),
+        ],
+        "WIDE": [
+            named("a function with 300 parameters", "def f(" + ", ".join(f"n{i}" for i in range(300)) + "): return n0, n255, n256, n299"),
+            named("a function that sees 258 cells", "def f(" + ", ".join(f"n{i}" for i in range(258)) + "):\n def g(): return " + ", ".join(f"n{i}" for i in range(257, -1, -1))),
+            named("a function that makes 20 functions", "def f():\n" + "".join(f" def g{i}(): return {i}\n" for i in range(20)) + " return " + "+".join(f"g{i}" for i in range(20))),
+            named("a function 20 deep", "\n".join(" " * i + f"def f{i}():" for i in range(20)) + "\n" + " " * 20 + "return f0, f18, f10"),
+        ],
+    },
+    "eval": {
+        "LAMBDAS": [
+            *at_each("lambda: a"),
+            "lambda x=1, *y, z=2, **w: (x, y, z, w)",
+            "lambda a: lambda b: lambda c: lambda d: lambda e: (e, d, c, b, a)",
+            "f(lambda: a, b=lambda: c)(lambda: d)",
+            "[lambda: a, lambda: b][lambda: c]",
+            "{lambda: a: lambda: b}",
+            "a < (lambda: b) < c",
+            "(lambda: a) if (lambda: b) else (lambda: c)",
+            "not (lambda: a) and (x := lambda: x)",
+            "f'{(lambda: a)()}{(lambda b: b)(c)!r}'",
+            "lambda: (yield (yield from a))",
+            ("a file with a generator", rows_text("def f(x=1):\n 'doc'\n yield lambda: x")),
+            ("a file with a wrong return", rows_text("def f(): return\nreturn f")),
+        ],
+        "LAMBDA_FAULTS": [
+            "(yield)",
+            "f(a, (yield from b))",
+            "await a",
+            "lambda: await a",
+            "[lambda: a for b in c]",
+            "lambda x=(y for y in z): await x",
+            "lambda __debug__=await a: b",
+            entered("def f(): pass"),
+        ],
+    },
+    "single": {
+        "FILES": [
+            "f = lambda x: x\nf",
+            "def f(a):\n 'doc'\n return a\nf",
+            "def f(x):\n def g():\n  nonlocal x\n  x = yield\n return g",
+            "lambda: a\nlambda: b",
+            "return a",
+            "def f(): import a",
+        ],
+        "PROMPTS": [entered("lambda: a"), entered("def f(): return 1"), entered("a = lambda: b")],
+    },
+    "block": {
+        "FILES": [
+            "def f(a, *, b=1): return lambda: a",
+            "f = lambda: (yield)\nf",
+            "@a\ndef f(b: c): yield b\n1",
+            "def f():\n global x\n x = 1\nx",
+            "def f(): await a",
+            "class A: pass",
+        ],
+        "PROMPTS": [entered("lambda: a"), entered("def f(): return 1")],
+    },
+}
+
+GROUPS = [CHOICES, DISPLAYS, TARGETS, CONTROL, ORDER, SCOPES, LARGE, FUNCTIONS]
 
 
 def escaped(source):
@@ -716,7 +1212,7 @@ def case(source, mode, level):
     if isinstance(source, tuple):
         source, rows = source
     else:
-        rows = rows_text(source, mode)
+        rows = rows_text(source, "eval" if mode == "eval" else "exec")
     status, out, err, _ = pyc.run([mode, level, "m.py"], rows.encode(), True)
     assert status in (0, 1), (source, err)
     return f"{mode} {level} {escaped(source)}", rows, out if status == 0 else err
@@ -725,7 +1221,7 @@ def case(source, mode, level):
 def cases(groups):
     """The cases of these groups, in order."""
     for group in groups:
-        for mode in ("exec", "eval"):
+        for mode in ("exec", "eval", "single", "block"):
             for sources in group.get(mode, {}).values():
                 for i, source in enumerate(sources):
                     yield case(source, mode, "012"[i % 3])

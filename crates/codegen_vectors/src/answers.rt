@@ -26,6 +26,8 @@ fn ways_of(head: &str) -> (Mode, CompileOpts) {
     let mut words = head.split(' ');
     let mode = match words.next() {
         Some("eval") => Mode::Eval,
+        Some("single") => Mode::Single,
+        Some("block") => Mode::BlockExpr,
         _ => Mode::Exec,
     };
     let optimize = match words.next() {
