@@ -37,13 +37,10 @@ impl Emitter {
         ensures goes { Goes result (state self.new) (in_turn (cell_loads names.now) (state self.old)) }
         ensures same { Same result (rest self.new) (rest self.old) }
     {
-        match names {
-            [] => Ok(()),
-            [name, rest @ ..] => {
-                self.load_cell(name.as_str())?;
-                self.load_cells(rest)
-            }
+        for name in names {
+            self.load_cell(name.as_str())?;
         }
+        Ok(())
     }
 
     /// Appends what builds the tuple of the cells that a code object has from outside: one `LoadClosure` for each, in
