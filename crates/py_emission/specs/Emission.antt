@@ -1,5 +1,5 @@
 -- What is emitted for each expression, in which order, and where it stands.
-use Rattle.std.specs.Prelude.{ℕ, List, [], ◌∷◌, ◌++◌, Bool, Option, Some, None, codes, if◌then◌else◌}
+use Rattle.std.specs.Prelude.{ℕ, List, [], ◌∷◌, ◌++◌, ◌||◌, Bool, Option, Some, None, codes, if◌then◌else◌}
 use Rattle.py_tree.specs.PythonName.{python_name}
 use Rattle.py_tree.specs.Tree as tree
 use Rattle.py_base.specs.declared.location.SourceLocation.{SourceLocation}
@@ -8,12 +8,14 @@ use Rattle.py_bytecode.specs.Objects as const
 use Rattle.py_forms.specs.declared.errors.CodegenErrorType.TheVariants as error
 use Rattle.py_steps.specs.Elements.{Element, Single, Spread, Method}
 use Rattle.py_counts.specs.Counts.{scopes_in_annotations}
+use Rattle.py_emission.specs.Awaits.{awaits, some_async}
 use Rattle.py_emission.specs.Parameters.{function_shape, parameters}
 use Rattle.py_emission.specs.Texts.{texts_of}
 use Rattle.py_steps.specs.TableParts.{binary_case, conversion_case, constant_of, is_debug, debug_constant}
 use Rattle.py_bytecode.specs.Values.{Load}
 use Rattle.py_steps.specs.Accesses.{accessed, emission_of_deleted, emission_of_name, emission_of_stored}
 use Rattle.py_steps.specs.Children.{DefaultEmissions, child, emission_of_defaults, flags_of_defaults, function_scope, lambda_inside, made}
+use Rattle.py_steps.specs.Comprehensions.{ClauseEmissions, as_element, comprehension, gathered, generated}
 use Rattle.py_steps.specs.Emitting.{Emission, ◌▸◌, by_level, emit, emit_constant, emit_mangled, generating, keep, move, refuse}
 use Rattle.py_steps.specs.EmissionParts.{Emissions, Keywords, Stores, bool_emissions, built, choice, constant_emissions, display, elements, emission_of_call, emission_of_compare, emission_of_dict, in_turn, joined_value, lone_star, no_assignment, no_deletion, only_in_function, pass_scopes, plain_store, slice_value, tested, unary_emissions, unless_debug, unpack, value_or, values}
 
@@ -46,6 +48,14 @@ abbrev mutual
   emissions (tree.IfExp at t body orelse) = tested (move at ▸ choice (emissions t).test (emissions body).value (emissions orelse).value)
   emissions (tree.Dict at keys others) = tested (move at ▸ emission_of_dict (opt_emissions keys) (values (all_emissions others)))
   emissions (tree.Set at elts) = tested (move at ▸ display op.BuildSet op.BuildSetUnpack (elements (all_emissions elts)))
+  emissions (tree.ListComp at elt gs) =
+      let cs = clause_emissions gs in tested (move at ▸ comprehension (some_async gs) (codes "<listcomp>") cs (gathered op.BuildList op.ListAppend cs (as_element (emissions elt).value)))
+  emissions (tree.SetComp at elt gs) =
+      let cs = clause_emissions gs in tested (move at ▸ comprehension (some_async gs) (codes "<setcomp>") cs (gathered op.BuildSet op.SetAdd cs (as_element (emissions elt).value)))
+  emissions (tree.DictComp at key value gs) =
+      let cs = clause_emissions gs in tested (move at ▸ comprehension (some_async gs) (codes "<dictcomp>") cs (gathered op.BuildMap op.MapAdd cs ((emissions key).value ▸ (emissions value).value)))
+  emissions (tree.GeneratorExp at elt gs) =
+      let cs = clause_emissions gs in tested (move at ▸ comprehension (some_async gs || awaits elt) (codes "<genexpr>") cs (generated cs (as_element (emissions elt).value)))
   emissions (tree.Await at value) = tested (move at ▸ refuse error.InvalidAwait)
   emissions (tree.Yield at value) = tested (move at ▸ only_in_function error.InvalidYield (generating ▸ value_or const.none (opt_emission value) ▸ emit op.YieldValue 0))
   emissions (tree.YieldFrom at value) =
@@ -67,7 +77,6 @@ abbrev mutual
   emissions (tree.List at elts) = tested (move at ▸ display op.BuildList op.BuildListUnpack (elements (all_emissions elts)))
   emissions (tree.Tuple at elts) = tested (move at ▸ display op.BuildTuple op.BuildTupleUnpack (elements (all_emissions elts)))
   emissions (tree.Slice at lower upper step) = tested (move at ▸ slice_value (opt_emission lower) (opt_emission upper) (opt_emission step))
-  emissions other = tested (unbuilt (tree.expr_location other))
 
   pub all_emissions : tree.Exprs → List Emissions
   all_emissions tree.no_exprs = []
@@ -85,6 +94,12 @@ abbrev mutual
   keyword_emissions tree.no_keywords = []
   keyword_emissions (tree.more_keywords None e ks) = Spread (emissions e).value ∷ keyword_emissions ks
   keyword_emissions (tree.more_keywords (Some name) e ks) = Single (name, (emissions e).value) ∷ keyword_emissions ks
+
+  -- the clauses of a comprehension
+  pub clause_emissions : tree.Generators → List ClauseEmissions
+  clause_emissions tree.no_generators = []
+  clause_emissions (tree.more_generators target iter ifs is_async gs) =
+      record { iterable = (emissions iter).value; target = (stores target).alone; conditions = all_emissions ifs } ∷ clause_emissions gs
 
   -- positional ones first
   pub default_emissions : tree.Arguments → DefaultEmissions

@@ -1,3 +1,4 @@
 pub mod Texts
 pub mod Parameters
+pub mod Awaits
 pub mod Emission

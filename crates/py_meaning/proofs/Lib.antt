@@ -10,3 +10,5 @@ mod RaiseSamples
 mod WithSamples
 mod OrderSamples
 mod FunctionSamples
+mod ComprehensionSamples
+mod ImportSamples

@@ -1,5 +1,5 @@
 -- What is not compiled yet: what is emitted of it, and its faults.
-use Rattle.std.proofs.Common.{◌≡◌, refl, ℕ, [], ◌∷◌, false, None, Some, codes, pos}
+use Rattle.std.proofs.Common.{◌≡◌, refl, ℕ, [], ◌∷◌, true, None, Some, codes, pos}
 use Rattle.py_base.specs.Literal as literal
 use Rattle.py_tree.specs.Tree as tree
 use Rattle.py_base.specs.declared.location.SourceLocation.{SourceLocation}
@@ -26,9 +26,9 @@ one s = tree.more_stmts s tree.no_stmts
 abbrev def_f : SourceLocation → tree.Stmt
 def_f place = tree.AsyncFunctionDef place (codes "f") no_arguments (one (tree.Break (at 16))) tree.no_exprs tree.no_expr tree.no_type_params
 
--- `[1 for x in y]`
+-- `[1 async for x in y]`
 abbrev ones : SourceLocation → tree.Expr
-ones place = tree.ListComp place (tree.Constant (at 2) (literal.Int (pos 1))) (tree.more_generators (tree.Name (at 8) (codes "x")) (tree.Name (at 13) (codes "y")) tree.no_exprs false tree.no_generators)
+ones place = tree.ListComp place (tree.Constant (at 2) (literal.Int (pos 1))) (tree.more_generators (tree.Name (at 14) (codes "x")) (tree.Name (at 19) (codes "y")) tree.no_exprs true tree.no_generators)
 
 abbrev not_yet : SourceLocation → Fault
 not_yet place = fault_at error.NotImplementedYet place
@@ -41,6 +41,17 @@ def_refused : emitted (tree.Module (one (def_f (at 1)))) (unscoped 0) ≡ Refuse
 unfolding move refuse located by_level by_loops inside
 def_refused = refl
 
+-- so is a future import, whatever it asks for
+abbrev future : SourceLocation → tree.Stmt
+future place = tree.ImportFrom place (Some (codes "__future__")) (record { name = codes "*"; asname = Some (codes "__debug__") } ∷ []) 1
+
+future_alone : faults (tree.Module (one (future (at 1)))) Exec 0 ≡ not_yet (at 1) ∷ []
+future_alone = refl
+
+future_refused : emitted (tree.Module (one (future (at 1)))) (unscoped 0) ≡ Refused error.NotImplementedYet (Some (at 1))
+unfolding move refuse located by_level by_loops inside
+future_refused = refl
+
 -- what is at fault before it comes first
 break_before : faults (tree.Module (tree.more_stmts (tree.Break (at 1)) (one (def_f (at 8))))) Exec 0 ≡ fault_at error.InvalidBreak (at 1) ∷ not_yet (at 8) ∷ []
 break_before = refl
@@ -49,12 +60,12 @@ break_decides : emitted (tree.Module (tree.more_stmts (tree.Break (at 1)) (one (
 unfolding move refuse located by_level by_loops inside
 break_decides = refl
 
--- an expression too
+-- a comprehension with an async clause too
 ones_called : faults (tree.Module (one (tree.StmtExpr (at 1) (tree.Call (at 1) (ones (at 2)) tree.no_exprs tree.no_keywords)))) Exec 0 ≡ not_yet (at 2) ∷ []
 ones_called = refl
 
 -- as a target it is none
-ones_stored : faults (tree.Module (one (tree.Assign (at 1) (tree.more_exprs (ones (at 1)) tree.no_exprs) (tree.Name (at 18) (codes "x"))))) Exec 0 ≡ fault_at (error.Assign (codes "list comprehension")) (at 18) ∷ []
+ones_stored : faults (tree.Module (one (tree.Assign (at 1) (tree.more_exprs (ones (at 1)) tree.no_exprs) (tree.Name (at 24) (codes "x"))))) Exec 0 ≡ fault_at (error.Assign (codes "list comprehension")) (at 24) ∷ []
 ones_stored = refl
 
 -- an interactive tree is at fault as a whole, where its mode is one of a prompt

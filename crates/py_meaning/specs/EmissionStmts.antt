@@ -2,6 +2,7 @@
 use Rattle.std.specs.Prelude.{ℕ, ◌+◌, List, Bool, true, false, not, Option, Some, None, codes, nat_eq, if◌then◌else◌}
 use Rattle.py_tree.specs.PythonName.{python_name}
 use Rattle.py_tree.specs.Tree as tree
+use Rattle.py_tree.specs.declared.statements.Alias.{Alias}
 use Rattle.py_base.specs.declared.location.SourceLocation.{SourceLocation}
 use Rattle.py_base.specs.declared.operators.Operator.{Operator}
 use Rattle.py_base.specs.declared.shapes.Malformed.TheVariants as shape
@@ -13,8 +14,10 @@ use Rattle.py_forms.specs.declared.errors.CodegenErrorType.TheVariants as error
 use Rattle.py_counts.specs.Counts.{scopes_in, scopes_in_opt}
 use Rattle.py_emission.specs.Texts.{after_doc, doc_of, stmt_text}
 use Rattle.py_steps.specs.TableParts.{binary_case}
+use Rattle.py_meaning.specs.Imports.{from_future}
 use Rattle.py_meaning.specs.ControlEmissions.{any_match, asserted, caught, for_each, handler, managed, named_body, raise_again, try_body, typed_match}
 use Rattle.py_meaning.specs.EmissionDefs.{emission_of_def, emission_of_end}
+use Rattle.py_meaning.specs.EmissionImports.{emission_of_from, emission_of_import}
 use Rattle.py_meaning.specs.StmtParts.{annotated, but_doc, message_count, none}
 use Rattle.py_steps.specs.Children.{decorated}
 use Rattle.py_steps.specs.Emitting.{Emission, LoopBlocks, Outcome, Refused, ◌▸◌, begin, by_context, by_level, by_loops, emit, emit_constant, emit_mangled, emit_name, in_loop, jump, keep, move, new_block, nothing, refuse}
@@ -96,6 +99,10 @@ emission_of_assert t msg level =
     if nat_eq level 0 then asserted (emission_of_test t) (emission_of_message msg) (message_count msg)
     else pass_scopes (λ postponed. scopes_in postponed t + scopes_in_opt postponed msg)
 
+-- a future import is not compiled yet
+abbrev pub emission_of_import_from : (path : Option (List ℕ)) → List Alias → (level : ℕ) → Emission
+emission_of_import_from path names level = if from_future path then refuse error.NotImplementedYet else emission_of_from path names level
+
 -- the last part of a `try`, where there is one
 abbrev pub emission_of_last : tree.Stmts → Emission → Emission
 emission_of_last tree.no_stmts last = keep
@@ -123,6 +130,8 @@ abbrev mutual
   emission_of_stmt (tree.Try at body excepts orelse finalbody) =
       move at ▸ try_body (not (none finalbody)) (emission_of_stmts body) (emission_of_handlers excepts (not (none finalbody))) (emission_of_stmts orelse) (emission_of_last finalbody (emission_of_stmts finalbody))
   emission_of_stmt (tree.Assert at t msg) = move at ▸ by_level (emission_of_assert t msg)
+  emission_of_stmt (tree.Import at names) = move at ▸ emission_of_import names
+  emission_of_stmt (tree.ImportFrom at path names level) = move at ▸ emission_of_import_from path names level
   emission_of_stmt (tree.Global at names) = move at
   emission_of_stmt (tree.Nonlocal at names) = move at
   emission_of_stmt (tree.StmtExpr at value) = move at ▸ emission value ▸ emit op.Pop 0

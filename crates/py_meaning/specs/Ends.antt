@@ -29,6 +29,10 @@ abbrev mutual
   expr_end (tree.IfExp at t body orelse) = expr_end orelse
   expr_end (tree.Dict at keys others) = last_of at (flat (pairs (opts_ends keys) (ends_of others)))
   expr_end (tree.Set at elts) = last_of at (ends_of elts)
+  expr_end (tree.ListComp at elt gs) = last_of at (first_iterable_end gs)
+  expr_end (tree.SetComp at elt gs) = last_of at (first_iterable_end gs)
+  expr_end (tree.DictComp at key value gs) = last_of at (first_iterable_end gs)
+  expr_end (tree.GeneratorExp at elt gs) = last_of at (first_iterable_end gs)
   expr_end (tree.Await at value) = expr_end value
   expr_end (tree.Yield at value) = last_of at (some_of (opt_end value))
   expr_end (tree.YieldFrom at value) = expr_end value
@@ -44,7 +48,6 @@ abbrev mutual
   expr_end (tree.List at elts) = last_of at (ends_of elts)
   expr_end (tree.Tuple at elts) = last_of at (ends_of elts)
   expr_end (tree.Slice at lower upper step) = last_of at (some_of (opt_end lower) ++ (some_of (opt_end upper) ++ some_of (opt_end step)))
-  expr_end other = tree.expr_location other
 
   pub ends_of : tree.Exprs → List SourceLocation
   ends_of tree.no_exprs = []
@@ -57,6 +60,11 @@ abbrev mutual
   pub opts_ends : tree.OptExprs → List (Option SourceLocation)
   opts_ends tree.no_opts = []
   opts_ends (tree.more_opts e es) = opt_end e ∷ opts_ends es
+
+  -- the iterable of the first clause of a comprehension, which is entered last
+  pub first_iterable_end : tree.Generators → List SourceLocation
+  first_iterable_end tree.no_generators = []
+  first_iterable_end (tree.more_generators target iter ifs is_async gs) = expr_end iter ∷ []
 
   pub keyword_ends : tree.Keywords → List SourceLocation
   keyword_ends tree.no_keywords = []

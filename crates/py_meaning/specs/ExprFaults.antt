@@ -1,9 +1,11 @@
 -- What is wrong in expressions, targets and the statements that assign and delete, in the order in which they are compiled.
-use Rattle.std.specs.Prelude.{ℕ, List, [], ◌∷◌, ◌++◌, Bool, true, not, Option, Some, None, nat_eq, if◌then◌else◌}
+use Rattle.std.specs.Prelude.{ℕ, List, [], ◌∷◌, ◌++◌, ◌||◌, Bool, true, not, Option, Some, None, nat_eq, if◌then◌else◌}
 use Rattle.py_tree.specs.Tree as tree
 use Rattle.py_tree.specs.PythonName.{python_name}
 use Rattle.py_steps.specs.Elements.{Element, Single, Spread, stars, pairs, flat}
+use Rattle.py_steps.specs.Comprehensions.{retold}
 use Rattle.py_steps.specs.EmissionParts.{few_aside, lone_star, no_assignment, no_deletion}
+use Rattle.py_emission.specs.Awaits.{awaits, some_async}
 use Rattle.py_emission.specs.Emission.{deletion_name}
 use Rattle.py_emission.specs.Parameters.{parameters}
 use Rattle.py_meaning.specs.Ends.{args_end, delete_end, expr_end, last_of, store_end}
@@ -90,6 +92,11 @@ abbrev pub parameter_faults : SourceLocation → List (List ℕ) → List Fault
 parameter_faults p [] = []
 parameter_faults p (x ∷ xs) = debug_faults no_assignment p x ++ parameter_faults p xs
 
+-- what is wrong in the element of a comprehension, where a star is told in other words
+abbrev pub retold_faults : List Fault → List Fault
+retold_faults [] = []
+retold_faults (f ∷ fs) = record { error = retold f.error; location = f.location } ∷ retold_faults fs
+
 -- one text has nothing wrong
 abbrev pub joined_faults : Option (List ℕ) → List (List Fault) → List Fault
 joined_faults (Some text) fs = []
@@ -106,6 +113,14 @@ abbrev mutual
   faults_in b (tree.IfExp at t body orelse) = either ((faults_in b t).value ++ (faults_in b body).value ++ (faults_in b orelse).value)
   faults_in b (tree.Dict at keys others) = either (in_order (flat (pairs (opts_faults b keys) (values (all_faults b others)))))
   faults_in b (tree.Set at elts) = either (in_order (elements (all_faults b elts)))
+  faults_in b (tree.ListComp at elt gs) =
+      either (when (some_async gs) (fault_at error.NotImplementedYet at) ++ (clause_faults at gs ++ (retold_faults (faults_in true elt).value ++ first_iterable_faults b gs)))
+  faults_in b (tree.SetComp at elt gs) =
+      either (when (some_async gs) (fault_at error.NotImplementedYet at) ++ (clause_faults at gs ++ (retold_faults (faults_in true elt).value ++ first_iterable_faults b gs)))
+  faults_in b (tree.DictComp at key value gs) =
+      either (when (some_async gs) (fault_at error.NotImplementedYet at) ++ (clause_faults at gs ++ ((faults_in true key).value ++ ((faults_in true value).value ++ first_iterable_faults b gs))))
+  faults_in b (tree.GeneratorExp at elt gs) =
+      either (when (some_async gs || awaits elt) (fault_at error.NotImplementedYet at) ++ (clause_faults at gs ++ (retold_faults (faults_in true elt).value ++ first_iterable_faults b gs)))
   faults_in b (tree.Await at value) = either (fault_at error.InvalidAwait at ∷ (faults_in b value).value)
   faults_in b (tree.Yield at value) = either (when (not b) (fault_at error.InvalidYield at) ++ if_any (opt_faults b value))
   faults_in b (tree.YieldFrom at value) = either (when (not b) (fault_at error.InvalidYieldFrom at) ++ (faults_in b value).value)
@@ -121,7 +136,6 @@ abbrev mutual
   faults_in b (tree.List at elts) = either (in_order (elements (all_faults b elts)))
   faults_in b (tree.Tuple at elts) = either (in_order (elements (all_faults b elts)))
   faults_in b (tree.Slice at lower upper step) = either (if_any (opt_faults b lower) ++ if_any (opt_faults b upper) ++ if_any (opt_faults b step))
-  faults_in b other = either (unbuilt (tree.expr_location other))
 
   -- each of them
   pub all_faults : (in_function : Bool) → tree.Exprs → List ExprFaults
@@ -142,6 +156,22 @@ abbrev mutual
   pub keyword_values : (in_function : Bool) → tree.Keywords → List (List Fault)
   keyword_values b tree.no_keywords = []
   keyword_values b (tree.more_keywords name e ks) = (faults_in b e).value ∷ keyword_values b ks
+
+  -- the clauses of a comprehension, whose first iterable stands outside; the first store begins where the comprehension stands
+  pub clause_faults : SourceLocation → tree.Generators → List Fault
+  clause_faults p tree.no_generators = []
+  clause_faults p (tree.more_generators target iter ifs is_async gs) = (faults_to true p target).alone ++ (in_order (values (all_faults true ifs)) ++ further_faults gs)
+
+  -- clauses that have iterables of their own
+  pub further_faults : tree.Generators → List Fault
+  further_faults tree.no_generators = []
+  further_faults (tree.more_generators target iter ifs is_async gs) =
+      (faults_in true iter).value ++ ((faults_to true (expr_end iter) target).alone ++ (in_order (values (all_faults true ifs)) ++ further_faults gs))
+
+  -- the iterable of the first clause
+  pub first_iterable_faults : (in_function : Bool) → tree.Generators → List Fault
+  first_iterable_faults b tree.no_generators = []
+  first_iterable_faults b (tree.more_generators target iter ifs is_async gs) = (faults_in b iter).value
 
   -- the defaults of some parameters
   pub arg_faults : (in_function : Bool) → tree.Args → List Fault

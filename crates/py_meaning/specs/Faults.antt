@@ -16,6 +16,8 @@ use Rattle.py_emission.specs.Texts.{after_doc, stmt_text}
 use Rattle.py_forms.specs.declared.errors.CodegenErrorType.TheVariants as error
 use Rattle.py_forms.specs.declared.errors.CodegenErrorType.{CodegenErrorType}
 use Rattle.py_base.specs.declared.location.SourceLocation.{SourceLocation}
+use Rattle.py_tree.specs.declared.statements.Alias.{Alias}
+use Rattle.py_meaning.specs.Imports.{from_future, import_name, taken_name, takes_all}
 use Rattle.py_meaning.specs.EmissionStmts.{itemless}
 use Rattle.py_meaning.specs.Scanned.{scan_faults}
 use Rattle.py_meaning.specs.ExprFaults.{Fault, assign_faults, augment_faults, debug_faults, declared_faults, default_faults, deletes_faults, expr_faults, exprs_faults, fault_at, faults_to, opt_expr_faults, parameter_faults, unbuilt, when}
@@ -67,6 +69,20 @@ abbrev pub match_faults : (in_function : Bool) → tree.OptExpr → Option (List
 match_faults b tree.no_expr name = []
 match_faults b (tree.some_expr e) name = expr_faults b e ++ name_faults (expr_end e) name
 
+-- the names that modules are stored to
+abbrev pub import_faults : SourceLocation → List Alias → List Fault
+import_faults p [] = []
+import_faults p (a ∷ rest) = debug_faults no_assignment p (import_name a) ++ import_faults p rest
+
+-- those that are taken from a module
+abbrev pub taken_faults : SourceLocation → List Alias → List Fault
+taken_faults p [] = []
+taken_faults p (a ∷ rest) = debug_faults no_assignment p (taken_name a) ++ taken_faults p rest
+
+-- no function takes all names of a module; a future import is not compiled yet
+abbrev pub from_faults : (in_function : Bool) → SourceLocation → (path : Option (List ℕ)) → List Alias → List Fault
+from_faults b p path names = if from_future path then unbuilt p else if takes_all names then when b (fault_at error.FunctionImportStar p) else taken_faults p names
+
 -- a function does nothing with annotations of its names
 abbrev pub annotated_faults : (in_function : Bool) → tree.Expr → List Fault
 annotated_faults b e = if b then [] else expr_faults b e
@@ -116,6 +132,8 @@ abbrev mutual
   stmt_faults c b (tree.Raise at exc cause) = raise_faults c.in_function exc cause
   stmt_faults c b (tree.Try at body excepts orelse finalbody) = stmts_faults c b body ++ handlers_faults c b excepts ++ stmts_faults c b orelse ++ stmts_faults c b finalbody
   stmt_faults c b (tree.Assert at t msg) = assert_faults c t msg
+  stmt_faults c b (tree.Import at names) = import_faults at names
+  stmt_faults c b (tree.ImportFrom at path names level) = from_faults c.in_function at path names
   stmt_faults c b (tree.Global at names) = []
   stmt_faults c b (tree.Nonlocal at names) = []
   stmt_faults c b (tree.StmtExpr at value) = expr_faults c.in_function value

@@ -4,11 +4,13 @@ pub mod TableScopes
 pub mod Table
 pub mod TableNotes
 pub mod StmtParts
+pub mod Imports
 pub mod TableStmts
 pub mod StmtEnds
 pub mod Meaning
 pub mod ControlEmissions
 pub mod EmissionDefs
+pub mod EmissionImports
 pub mod EmissionStmts
 pub mod ExprFaults
 pub mod Scanned

@@ -5,14 +5,15 @@ use Rattle.py_base.specs.declared.location.SourceLocation.{SourceLocation}
 use Rattle.py_bytecode.specs.declared.instruction.Instruction.TheVariants as op
 use Rattle.py_bytecode.specs.Objects as const
 use Rattle.py_bytecode.specs.Values.{operation, Bare}
-use Rattle.py_counts.specs.Counts.{scopes_in, scopes_in_all, scopes_in_opt, scopes_in_args, scopes_in_defaults}
+use Rattle.py_counts.specs.Counts.{scopes_in, scopes_in_all, scopes_in_opt, scopes_in_args, scopes_in_clauses, scopes_in_defaults}
 use Rattle.py_steps.specs.Children.{lambda_inside}
+use Rattle.py_steps.specs.Comprehensions.{comprehension_inside}
 use Rattle.py_steps.specs.Context.{Context, head_of, mangled}
 use Rattle.py_steps.specs.Elements.{Element, Single, Spread, Function, Method, pairs}
 use Rattle.py_emission.specs.Texts.{texts_of}
-use Rattle.py_forms.specs.Form.{VForm, VConst, VOp, VMake, VChoice, VKeep, VAt, VNone, VMore, TForm, TTruth, Resolved, Target, GDrop, GStore, GPut, SReturn, MkScope}
+use Rattle.py_forms.specs.Form.{VForm, VConst, VOp, VMake, VChoice, VKeep, VAt, VLoad, VNone, VMore, TForm, TTruth, FixedFast, Resolved, Target, GDrop, GStore, GPut, SReturn, Clauses, CLast, CEach, Filters, NoFilter, MoreFilter, MkScope}
 use Rattle.py_steps.specs.TableParts.{ExprForms, Keywords, TargetForms, binary, bool_forms, call_form, compare_form, constant_of, conversion_case, counted, dict_form, display, elements, joined_form, name_form, named, no_operand, plain_target, slice_form, tested, unary_forms, unpacked_to, value_or, values}
-use Rattle.py_meaning.specs.TableScopes.{Defaults, default_flags, default_parts, iterator}
+use Rattle.py_meaning.specs.TableScopes.{Defaults, called_at_once, default_flags, default_parts, gathered, generated, iterator}
 
 -- the number after the scopes of these
 abbrev pub after : Context → ℕ → tree.Expr → ℕ
@@ -33,6 +34,11 @@ after_args c n args = n + scopes_in_args c.postponed args
 -- after all defaults
 abbrev pub after_defaults : Context → ℕ → tree.Arguments → ℕ
 after_defaults c n params = n + scopes_in_defaults c.postponed params
+
+-- after the clauses of a comprehension but the first iterable, which is scanned behind them
+abbrev pub after_clauses : Context → ℕ → tree.Generators → ℕ
+after_clauses c n tree.no_generators = n
+after_clauses c n (tree.more_generators target iter ifs is_async gs) = after_all c (after c n target) ifs + scopes_in_clauses c.postponed gs
 
 -- after the first key, or the first value, where there is one
 abbrev pub after_key : Context → ℕ → tree.OptExprs → ℕ
@@ -71,6 +77,18 @@ abbrev mutual
       tested (VAt at (VChoice (expr_forms c n t).test (expr_forms c (after c n t) body).value (expr_forms c (after c (after c n t) body) orelse).value))
   expr_forms c n (tree.Dict at keys others) = tested (VAt at (dict_form (pairs (key_forms c n keys others) (value_forms c n keys others))))
   expr_forms c n (tree.Set at elts) = tested (VAt at (display op.BuildSet op.BuildSetUnpack (elements (all_forms c n elts))))
+  expr_forms c n (tree.ListComp at elt gs) =
+      let i = comprehension_inside c n in let m = after_clauses c (suc n) gs in
+      tested (VAt at (called_at_once (codes "<listcomp>") (MkScope (head_of i) (gathered op.BuildList op.ListAppend (clause_forms i (suc n) gs) (VMore (expr_forms i m elt).value VNone))) (first_iterable c (after c m elt) gs)))
+  expr_forms c n (tree.SetComp at elt gs) =
+      let i = comprehension_inside c n in let m = after_clauses c (suc n) gs in
+      tested (VAt at (called_at_once (codes "<setcomp>") (MkScope (head_of i) (gathered op.BuildSet op.SetAdd (clause_forms i (suc n) gs) (VMore (expr_forms i m elt).value VNone))) (first_iterable c (after c m elt) gs)))
+  expr_forms c n (tree.DictComp at key value gs) =
+      let i = comprehension_inside c n in let m = after_clauses c (suc n) gs in
+      tested (VAt at (called_at_once (codes "<dictcomp>") (MkScope (head_of i) (gathered op.BuildMap op.MapAdd (clause_forms i (suc n) gs) (VMore (expr_forms i m key).value (VMore (expr_forms i (after c m key) value).value VNone)))) (first_iterable c (after c (after c m key) value) gs)))
+  expr_forms c n (tree.GeneratorExp at elt gs) =
+      let i = comprehension_inside c n in let m = after_clauses c (suc n) gs in
+      tested (VAt at (called_at_once (codes "<genexpr>") (MkScope (head_of i) (generated (clause_forms i (suc n) gs) (expr_forms i m elt).value)) (first_iterable c (after c m elt) gs)))
   expr_forms c n (tree.Await at value) = unbuilt at
   expr_forms c n (tree.Yield at value) = tested (VAt at (VOp (operation op.YieldValue Bare) (VMore (value_or const.none (opt_form c n value)) VNone)))
   expr_forms c n (tree.YieldFrom at value) = tested (VAt at (VOp (operation op.YieldFrom Bare) (VMore (iterator (expr_forms c n value).value) (VMore (VConst const.none) VNone))))
@@ -93,7 +111,6 @@ abbrev mutual
   expr_forms c n (tree.Tuple at elts) = tested (VAt at (display op.BuildTuple op.BuildTupleUnpack (elements (all_forms c n elts))))
   expr_forms c n (tree.Slice at lower upper step) =
       tested (VAt at (slice_form (opt_form c n lower) (opt_form c (after_opt c n lower) upper) (opt_form c (after_opt c (after_opt c n lower) upper) step)))
-  expr_forms c n other = unbuilt (tree.expr_location other)
 
   -- each after the scopes of those before
   pub all_forms : Context → (next : ℕ) → tree.Exprs → List ExprForms
@@ -120,6 +137,29 @@ abbrev mutual
   keyword_forms c n tree.no_keywords = []
   keyword_forms c n (tree.more_keywords None e ks) = Spread (expr_forms c n e).value ∷ keyword_forms c (after c n e) ks
   keyword_forms c n (tree.more_keywords (Some name) e ks) = Single (name, (expr_forms c n e).value) ∷ keyword_forms c (after c n e) ks
+
+  -- the clauses of a comprehension, of which the first goes over what is handed in
+  pub clause_forms : Context → (next : ℕ) → tree.Generators → Clauses
+  clause_forms c n tree.no_generators = CLast
+  clause_forms c n (tree.more_generators target iter ifs is_async gs) =
+      CEach (VLoad FixedFast (codes ".0")) (target_forms c n target).alone (filter_forms c (after c n target) ifs) (further_forms c (after_all c (after c n target) ifs) gs)
+
+  -- clauses that have iterables of their own
+  pub further_forms : Context → (next : ℕ) → tree.Generators → Clauses
+  further_forms c n tree.no_generators = CLast
+  further_forms c n (tree.more_generators target iter ifs is_async gs) =
+      let m = after c n iter in
+      CEach (iterator (expr_forms c n iter).value) (target_forms c m target).alone (filter_forms c (after c m target) ifs) (further_forms c (after_all c (after c m target) ifs) gs)
+
+  -- the conditions of a clause
+  pub filter_forms : Context → (next : ℕ) → tree.Exprs → Filters
+  filter_forms c n tree.no_exprs = NoFilter
+  filter_forms c n (tree.more_exprs e es) = MoreFilter (expr_forms c n e).test (filter_forms c (after c n e) es)
+
+  -- the iterable of the first clause
+  pub first_iterable : Context → (next : ℕ) → tree.Generators → VForm
+  first_iterable c n tree.no_generators = no_operand
+  first_iterable c n (tree.more_generators target iter ifs is_async gs) = (expr_forms c n iter).value
 
   -- positional ones come first
   pub default_forms : Context → (next : ℕ) → tree.Arguments → Defaults

@@ -1,9 +1,10 @@
--- The forms of functions, by the forms of their parts.
+-- The forms of functions and comprehensions, by the forms of their parts.
 use Rattle.std.specs.Prelude.{ℕ, ◌+◌, List, [], ◌∷◌, Option, Some, None, codes}
+use Rattle.py_bytecode.specs.declared.instruction.Instruction.{Instruction}
 use Rattle.py_bytecode.specs.declared.instruction.Instruction.TheVariants as op
 use Rattle.py_bytecode.specs.Objects as const
 use Rattle.py_bytecode.specs.Values.{operation, Bare}
-use Rattle.py_forms.specs.Form.{VForm, VConst, VOp, VMake, VKeep, VForms, VNone, VMore, GUnder, Scope}
+use Rattle.py_forms.specs.Form.{VForm, VConst, VOp, VMake, VKeep, VForms, VNone, VMore, GUnder, SForm, SThen, SReturn, SGather, SGenerate, Clauses, Scope}
 use Rattle.py_steps.specs.Children.{some_flag}
 use Rattle.py_steps.specs.TableParts.{built, counted, map_of, named, some_built}
 
@@ -37,3 +38,15 @@ decorated (d ∷ ds) f = VOp (counted op.CallFunctionPositional 1) (VMore d (VMo
 -- the iterator of a value
 abbrev pub iterator : VForm → VForm
 iterator f = VOp (operation op.GetIter Bare) (VMore f VNone)
+
+-- the scope of a comprehension adds each element to a collection
+abbrev pub gathered : (build append : Instruction) → Clauses → VForms → SForm
+gathered build append cs fs = SGather (counted build 0) cs (operation append Bare) fs
+
+-- a generator gives each element, and returns None
+abbrev pub generated : Clauses → VForm → SForm
+generated cs f = SThen (SGenerate cs (VOp (operation op.YieldValue Bare) (VMore f VNone))) (SReturn (VConst const.none))
+
+-- a comprehension is a function that is called at once, with the iterator of a value
+abbrev pub called_at_once : (name : List ℕ) → Scope → (iterable : VForm) → VForm
+called_at_once name s iterable = VOp (counted op.CallFunctionPositional 1) (VMore (VMake 0 VNone s name VNone) (VMore (iterator iterable) VNone))

@@ -9,6 +9,7 @@ use Rattle.py_steps.specs.Context.{Context, mangled}
 use Rattle.py_emission.specs.Texts.{after_doc, doc_of, stmt_text}
 use Rattle.py_forms.specs.Form.{VConst, VNone, Resolved, FixedGlobal, GDrop, GStore, SForm, SSkip, SThen, SDo, SInto, SIf, SIfElse, SWhile, SFor, SBreak, SContinue, SReturn, STry, STryFinal, SAt, Handlers, HNone, HAny, HTyped}
 use Rattle.py_steps.specs.TableParts.{values}
+use Rattle.py_meaning.specs.Imports.{from_form, import_form}
 use Rattle.py_meaning.specs.StmtCounts.{scopes_in_handlers, scopes_in_items}
 use Rattle.py_meaning.specs.StmtParts.{after_stmt, after_stmts, annotated, annotated_form, assert_form, assign_form, augment_form, but_doc, declared_form, defined, handler_target, is_last_return, named_form, raise_form, removals, return_form, unless_last, with_form}
 use Rattle.py_meaning.specs.Table.{after, after_all, after_defaults, after_opt, all_forms, expr_form, target_form, test_form}
@@ -44,6 +45,8 @@ abbrev mutual
   stmt_form c n (tree.StmtExpr at value) = SAt at (SInto (expr_form c n value) GDrop)
   stmt_form c n (tree.Break at) = SAt at SBreak
   stmt_form c n (tree.Continue at) = SAt at SContinue
+  stmt_form c n (tree.Import at names) = SAt at (import_form c names)
+  stmt_form c n (tree.ImportFrom at path names level) = SAt at (from_form c path names level)
   stmt_form c n (tree.Global at names) = SAt at SSkip
   stmt_form c n (tree.Nonlocal at names) = SAt at SSkip
   stmt_form c n (tree.Pass at) = SAt at SSkip

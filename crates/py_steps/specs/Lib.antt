@@ -7,3 +7,5 @@ pub mod Sealed
 pub mod EmissionParts
 pub mod Accesses
 pub mod Children
+pub mod Comprehensions
+pub mod Everywhere

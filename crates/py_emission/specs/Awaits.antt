@@ -53,3 +53,8 @@ abbrev mutual
   pub iter_awaits : tree.Generators → Bool
   iter_awaits tree.no_generators = false
   iter_awaits (tree.more_generators target iter ifs is_async gs) = awaits iter || iter_awaits gs
+
+-- a clause is async
+abbrev pub some_async : tree.Generators → Bool
+some_async tree.no_generators = false
+some_async (tree.more_generators target iter ifs is_async gs) = is_async || some_async gs
