@@ -11,7 +11,9 @@ use Rattle.py_forms.specs.Form.{Scope}
 use Rattle.py_forms.specs.Code.{Item, Do, Label}
 use Rattle.py_forms.specs.Agree.{AllOf, OneOf, children, head_of, loaded}
 use Rattle.py_forms.specs.Agreement.{IsMade, objects}
+use Rattle.py_steps.specs.Everywhere.{Everywhere}
 use Rattle.py_steps.specs.Context.{room, symbols_in}
+use Rattle.py_adds.proofs.WellMade.{WellMade, all_so}
 
 abbrev pub number_of : Scope → ℕ
 number_of s = (head_of s).number
@@ -53,16 +55,17 @@ Known ks k = OneOf (λ a b. a ≡ b) k ks
 abbrev pub AllKnown : List Object → List Object → Type 0
 AllKnown xs ks = AllOf (Known ks) xs
 
--- made from its scope, to every depth
-abbrev pub MadeFrom : Object × Scope → Type 0
-MadeFrom p = (n : ℕ) → IsMade n p.0 p.1
+-- made from its scope in a source of this path, to every depth
+pub record MadeFrom (source : List ℕ) (p : Object × Scope) : Type 0 where
+  pub from : (n : ℕ) → IsMade n p.0 p.1
+  pub well : Everywhere (WellMade source) p.0
 
 -- Items load these objects of scopes. Of the constants that are entered the codes are among them, and they are among all constants.
-pub record Codes (made : List (Object × Scope)) (more all : List Const) (is : List (Item Scope)) : Type 0 where
+pub record Codes (source : List ℕ) (made : List (Object × Scope)) (more all : List Const) (is : List (Item Scope)) : Type 0 where
   pub loads : children is ≡ scopes made
   pub known : AllKnown (codes_in more) (objects made)
   pub kept : AllKnown (objects made) (codes_in all)
-  pub from_scopes : AllOf MadeFrom made
+  pub from_scopes : AllOf (MadeFrom source) made
 
 pub codes_join : (xs ys : List Const) → codes_in (xs ++ ys) ≡ codes_in xs ++ codes_in ys
 codes_join [] ys = refl
@@ -100,10 +103,6 @@ all_back : {A : Type 0} (P : A → Type 0) (xs ys : List A) → AllOf P (xs ++ y
 all_back P [] ys a = a
 all_back P (x ∷ xs) ys a = all_back P xs ys a.1
 
-all_so : {A : Type 0} (P Q : A → Type 0) (h : (x : A) → P x → Q x) (xs : List A) → AllOf P xs → AllOf Q xs
-all_so P Q h [] a = tt
-all_so P Q h (x ∷ xs) a = (h x a.0, all_so P Q h xs a.1)
-
 pub known_front : (ks js : List Object) (k : Object) → Known ks k → Known (ks ++ js) k
 known_front [] js k h = absurd h
 known_front (x ∷ ks) js k (inl e) = inl e
@@ -112,6 +111,15 @@ known_front (x ∷ ks) js k (inr h) = inr (known_front ks js k h)
 pub known_back : (ks js : List Object) (k : Object) → Known js k → Known (ks ++ js) k
 known_back [] js k h = h
 known_back (x ∷ ks) js k h = inr (known_back ks js k h)
+
+-- what holds of all objects of some pairs holds of those that are among them
+one_known : (P : Object → Type 0) (ps : List (Object × Scope)) → AllOf (λ p. P p.0) ps → (k : Object) → Known (objects ps) k → P k
+one_known P [] a k h = absurd h
+one_known P (p ∷ ps) a k (inl e) = subst P (sym e) a.0
+one_known P (p ∷ ps) a k (inr h) = one_known P ps a.1 k h
+
+pub all_known : (P : Object → Type 0) (ps : List (Object × Scope)) → AllOf (λ p. P p.0) ps → (xs : List Object) → AllKnown xs (objects ps) → AllOf P xs
+all_known P ps a xs h = all_so (Known (objects ps)) P (one_known P ps a) xs h
 
 -- what is among some constants is among more of them
 pub known_more : (all more : List Const) (xs : List Object) → AllKnown xs (codes_in all) → AllKnown xs (codes_in (all ++ more))
@@ -151,11 +159,11 @@ none_between a b [] e h = refl
 none_between a b (p ∷ ps) e h = let x = h.0.0 in let y = h.0.1 in absurd (omega (arith, e, x, y))
 
 -- nothing is loaded, and no code is entered
-pub no_codes : (more all : List Const) (is : List (Item Scope)) → codes_in more ≡ [] → children is ≡ [] → Codes [] more all is
+pub no_codes : {source : List ℕ} (more all : List Const) (is : List (Item Scope)) → codes_in more ≡ [] → children is ≡ [] → Codes source [] more all is
 no_codes more all is e f = record { loads = f; known = subst (λ ks. AllKnown ks []) (sym e) tt; kept = tt; from_scopes = tt }
 
-pub codes_then : (ps qs : List (Object × Scope)) (xs ys one all : List Const) (is js : List (Item Scope)) → all ≡ one ++ ys → Codes ps xs one is → Codes qs ys all js → Codes (ps ++ qs) (xs ++ ys) all (is ++ js)
-codes_then ps qs xs ys one all is js e p q = record {
+pub codes_then : (source : List ℕ) (ps qs : List (Object × Scope)) (xs ys one all : List Const) (is js : List (Item Scope)) → all ≡ one ++ ys → Codes source ps xs one is → Codes source qs ys all js → Codes source (ps ++ qs) (xs ++ ys) all (is ++ js)
+codes_then source ps qs xs ys one all is js e p q = record {
   loads = children_join is js ∙ ap (λ l. l ++ children js) p.loads ∙ ap (λ l. scopes ps ++ l) q.loads ∙ sym (scopes_join ps qs);
   known =
       let ks = objects ps in
@@ -165,7 +173,7 @@ codes_then ps qs xs ys one all is js e p q = record {
   kept =
       subst (λ l. AllKnown l (codes_in all)) (sym (objects_join ps qs))
       (all_join (Known (codes_in all)) (objects ps) (objects qs) (subst (λ l. AllKnown (objects ps) (codes_in l)) (sym e) (known_more one ys (objects ps) p.kept)) q.kept);
-  from_scopes = all_join MadeFrom ps qs p.from_scopes q.from_scopes;
+  from_scopes = all_join (MadeFrom source) ps qs p.from_scopes q.from_scopes;
 }
 
 -- what stands at each number, in two parts
@@ -176,7 +184,7 @@ pub numbered_back : (d : ℕ → Object) (ps qs : List (Object × Scope)) → Nu
 numbered_back d ps qs h = all_back (λ p. by_number d p.1 ≡ p.0) ps qs h
 
 -- another constant that is no code
-pub codes_after : (ps : List (Object × Scope)) (xs ys all : List Const) (is : List (Item Scope)) → codes_in xs ≡ [] → Codes ps ys all is → Codes ps (xs ++ ys) all is
+pub codes_after : {source : List ℕ} (ps : List (Object × Scope)) (xs ys all : List Const) (is : List (Item Scope)) → codes_in xs ≡ [] → Codes source ps ys all is → Codes source ps (xs ++ ys) all is
 codes_after ps xs ys all is e q = record {
   loads = q.loads;
   known = subst (λ l. AllKnown l (objects ps)) (sym (codes_join xs ys ∙ ap (λ l. l ++ codes_in ys) e)) q.known;

@@ -15,7 +15,7 @@ use Rattle.py_bytecode.specs.declared.instruction.OperandKind.TheVariants as kin
 use Rattle.py_bytecode.specs.Objects.{Const, Object}
 use Rattle.py_bytecode.specs.Equality.{const_eq, text_eq, entered}
 use Rattle.py_bytecode.specs.Values.{Value, Constant, It, ByName, Global, Load, Store, Delete, operation, Bare}
-use Rattle.py_bytecode.specs.Machine.{Instr, Push, Access, Operate, Unpack, Pop, Duplicate, Duplicate2, Rotate2, Rotate3, Jump, JumpIf, JumpIfOrPop, SetupLoop, PopBlock, Break, Continue, ReturnConst, ReturnValue}
+use Rattle.py_bytecode.specs.Machine.{Instr, Push, Access, Append, Operate, Unpack, Pop, Duplicate, Duplicate2, Rotate2, Rotate3, Jump, JumpIf, JumpIfOrPop, SetupLoop, PopBlock, Break, Continue, ReturnConst, ReturnValue}
 use Rattle.py_bytecode.specs.Decode.{Tables, instr_of, value_of, for_some, within}
 use Rattle.py_bytecode.proofs.Entered.{entered_stands, constant_stands}
 use Rattle.py_forms.specs.Form.{Scope}
@@ -164,6 +164,32 @@ unpack_star_adds x y n is below after =
     let small : n < 2 ^ 16 = omega (arith, is, below, after) in
     let many : n % 256 + n / 256 + 1 ≡ x + y + 1 = omega (arith, is, below, after) in
     emit_adds op.UnpackEx n (Unpack (counted op.UnpackEx n) (x + y + 1)) (refl, refl) (λ d t. chosen (nat_lt n (2 ^ 16)) (Unpack (counted op.UnpackEx n) (n % 256 + n / 256 + 1)) (search (rules, small)) ∙ ap (λ z. Some (Unpack (counted op.UnpackEx n) z)) many)
+
+-- what makes an empty collection
+abbrev pub MakesEmpty : Instruction → Type 0
+MakesEmpty i = StepAdds (emit i 0) (Operate (counted i 0) 0 (Some 1))
+
+pub empty_list : MakesEmpty op.BuildList
+empty_list = emit_adds op.BuildList 0 (Operate (counted op.BuildList 0) 0 (Some 1)) (refl, refl) (λ d t. refl)
+
+pub empty_set : MakesEmpty op.BuildSet
+empty_set = emit_adds op.BuildSet 0 (Operate (counted op.BuildSet 0) 0 (Some 1)) (refl, refl) (λ d t. refl)
+
+pub empty_map : MakesEmpty op.BuildMap
+empty_map = emit_adds op.BuildMap 0 (Operate (counted op.BuildMap 0) 0 (Some 1)) (refl, refl) (λ d t. refl)
+
+-- what adds so many values to a collection that lies under some iterators
+abbrev pub Appends : Instruction → (values : ℕ) → Type 0
+Appends i m = (n : ℕ) → n < 2 ^ 30 → StepAdds (emit i n) (Append (operation i Bare) m n)
+
+pub list_appends : Appends op.ListAppend 1
+list_appends n few = emit_adds op.ListAppend n (Append (operation op.ListAppend Bare) 1 n) (refl, refl) (λ d t. chosen (nat_lt n (2 ^ 30)) (Append (operation op.ListAppend Bare) 1 n) (search (rules, few)))
+
+pub set_appends : Appends op.SetAdd 1
+set_appends n few = emit_adds op.SetAdd n (Append (operation op.SetAdd Bare) 1 n) (refl, refl) (λ d t. chosen (nat_lt n (2 ^ 30)) (Append (operation op.SetAdd Bare) 1 n) (search (rules, few)))
+
+pub map_appends : Appends op.MapAdd 2
+map_appends n few = emit_adds op.MapAdd n (Append (operation op.MapAdd Bare) 2 n) (refl, refl) (λ d t. chosen (nat_lt n (2 ^ 30)) (Append (operation op.MapAdd Bare) 2 n) (search (rules, few)))
 
 -- a conversion
 reads_conversion : (c : ConversionFlag) (t : Tables) (to : Option ℕ) → instr_of t to op.FormatValue (conversion_case c) ≡ Some (Operate (counted op.FormatValue (conversion_case c)) 2 (Some 1))

@@ -1,5 +1,6 @@
 pub mod Texts
 pub mod Burden
+pub mod WellMade
 pub mod Codes
 pub mod Adding
 pub mod Settled
@@ -21,6 +22,7 @@ pub mod Counting
 pub mod Decoding
 pub mod Standing
 pub mod Widths
+pub mod Units
 pub mod Numbers
 pub mod Refuted
 pub mod Readings
@@ -30,3 +32,4 @@ pub mod Cells
 pub mod Functions
 pub mod Pushed
 pub mod Defaults
+pub mod ComprehensionAdds

@@ -22,7 +22,7 @@ units_if false true c = omega arith
 units_if false false true = omega arith
 units_if false false false = omega arith
 
-units_four : (n : ℕ) → units_for n ≤ 4
+pub units_four : (n : ℕ) → units_for n ≤ 4
 units_four n = units_if (nat_le n 0xff) (nat_le n 0xffff) (nat_le n 0xff_ffff)
 
 wide_four : (x : InstructionInfo) → wide x ≤ 4

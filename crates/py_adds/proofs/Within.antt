@@ -1,42 +1,48 @@
--- The code object of a scope within, sealed of what is emitted for it, is made from that scope.
-use Rattle.std.proofs.Common.{◌≡◌, ℕ, zero, suc, ◌+◌, ◌*◌, ◌<◌, ◌≤◌, ◌^◌, List, [], ◌∷◌, ◌++◌, length, map, true, false, refl, sym, ap, ◌∙◌, subst, arith, append-nil}
+-- The code object of a scope, sealed of what is emitted for it, is made from that scope, and is sound, as each code object within it.
+use Rattle.std.proofs.Common.{◌≡◌, ℕ, zero, suc, ◌+◌, ◌*◌, ◌<◌, ◌≤◌, ◌^◌, List, [], ◌∷◌, ◌++◌, length, true, false, refl, sym, ap, ◌∙◌, subst, arith, append-nil}
 use Rattle.std.proofs.Math.Nat.{mul-le-mul_left}
 use Rattle.std.proofs.lemmas.List.{length-map}
 use Rattle.py_base.specs.declared.location.SourceLocation.{SourceLocation}
 use Rattle.py_bytecode.specs.Objects as const
-use Rattle.py_bytecode.specs.Objects.{Const, Object, consts_of, listed, constants, codes_in}
+use Rattle.py_bytecode.specs.Objects.{Object, constants, codes_in}
 use Rattle.py_bytecode.specs.Values.{Answer}
 use Rattle.py_bytecode.specs.Machine.{fuel}
-use Rattle.py_bytecode.specs.Decode.{Tables}
-use Rattle.py_bytecode.specs.Units.{machine}
+use Rattle.py_bytecode.specs.Decode.{Tables, tables as tables_of}
+use Rattle.py_bytecode.specs.Units.{fetch_unit, machine}
 use Rattle.py_bytecode.specs.Blocks.{Of}
+use Rattle.py_bytecode.specs.declared.operand.CodeUnit.{CodeUnit}
+use Rattle.py_walks.specs.Walks.{IsDepth, seen}
 use Rattle.py_ir.specs.Chain.{Blk, IsChain, coded_block, coded_blocks, flat}
-use Rattle.py_ir.specs.Refusals as refusals
+use Rattle.py_ir.proofs.Ending.{listed_is}
 use Rattle.py_forms.specs.Form.{Scope}
 use Rattle.py_forms.specs.Code.{Item, labels, body_code, size}
 use Rattle.py_forms.specs.Live.{live}
 use Rattle.py_forms.specs.Looped.{Looped}
-use Rattle.py_forms.specs.Places.{items_over}
-use Rattle.py_forms.specs.Agree.{AllOf, OneOf, children, exactly, form_of, runs_code}
+use Rattle.py_forms.specs.Agree.{AllOf, children, exactly, form_of, runs_code}
 use Rattle.py_forms.specs.Agreement.{IsMade, SameMembers, objects}
+use Rattle.py_steps.specs.Everywhere.{Everywhere, UpTo}
+use Rattle.py_forms.specs.Laws.{IsEnd}
 use Rattle.py_forms.proofs.Agreement.{each_to}
 use Rattle.py_forms.proofs.CodeOver.{code_over}
 use Rattle.py_forms.proofs.LabelCount.{labels_counted}
 use Rattle.py_forms.proofs.Labels.{never_placed, once}
 use Rattle.py_forms.proofs.LaidOut.{laid_runs}
+use Rattle.py_forms.proofs.Laws.{scope_ends}
 use Rattle.py_forms.proofs.OtherChildren.{children_over}
 use Rattle.py_steps.specs.Context.{Context, frees_among, room, symbols_in}
 use Rattle.py_steps.specs.Children.{Shape, code_head}
-use Rattle.py_steps.specs.Emitting.{Around, Emission, State, begun}
+use Rattle.py_steps.specs.Emitting.{Emission, State, begun}
+use Rattle.py_steps.specs.Listed.{items_in, steps_at}
 use Rattle.py_steps.specs.Sealed.{Head, sealed, tables_in}
 use Rattle.py_emit.specs.Placed.{IsFit, IsPlaced, IsSealedOf, begun_in, blocks_in}
 use Rattle.py_emit.specs.Steps.{steps_in}
 use Rattle.py_emit.proofs.Chains.{chain_leads, chain_short}
 use Rattle.py_emit.proofs.Placed.{chain_in, long, steps_back}
+use Rattle.py_emit.proofs.Sealed.{items_are}
 use Rattle.py_emit.proofs.SealedLaid.{sealed_runs}
 use Rattle.py_adds.proofs.Adding.{Adds, AllInside, AllRead, Begins, cells_of, read_as}
 use Rattle.py_adds.proofs.Burden.{burden, burden_is, cells_in, cells_over, labels_few}
-use Rattle.py_adds.proofs.Codes.{MadeFrom, Numbered, all_stand, by_number, number_of, scopes, stand_at}
+use Rattle.py_adds.proofs.Codes.{AllKnown, MadeFrom, Numbered, all_known, all_stand, by_number, number_of, scopes, stand_at}
 use Rattle.py_adds.proofs.Emitting.{Gives, outside}
 use Rattle.py_adds.proofs.Functions.{Makes}
 use Rattle.py_adds.proofs.Settled.{Settled}
@@ -45,6 +51,8 @@ use Rattle.py_adds.proofs.Laying.{Lays}
 use Rattle.py_adds.proofs.Placing.{few_left, in_range, placing}
 use Rattle.py_adds.proofs.Readings.{Read, only_sizes}
 use Rattle.py_adds.proofs.Refuted.{laid_along}
+use Rattle.py_adds.proofs.Units.{as_located, units_few}
+use Rattle.py_adds.proofs.WellMade.{WellMade, all_so}
 
 -- pairs by their scopes
 abbrev pub paired : (ℕ → Object) → List Scope → List (Object × Scope)
@@ -59,11 +67,7 @@ pub paired_are : (d : ℕ → Object) (ps : List (Object × Scope)) → Numbered
 paired_are d [] h = refl
 paired_are d (p ∷ ps) h = ap (λ o. (o, p.1) ∷ paired d (scopes ps)) h.0 ∙ ap (λ l. p ∷ l) (paired_are d ps h.1)
 
-pub listed_of : (cs : List Const) → listed (consts_of cs) ≡ cs
-listed_of [] = refl
-listed_of (c ∷ cs) = ap (λ l. c ∷ l) (listed_of cs)
-
-pub fuel_more : (a b : ℕ) (answers : List Answer) → a ≤ b → fuel a answers ≤ fuel b answers
+fuel_more : (a b : ℕ) (answers : List Answer) → a ≤ b → fuel a answers ≤ fuel b answers
 fuel_more a b answers h = let le : 2 * a + 2 ≤ 2 * b + 2 = omega (arith, h) in mul-le-mul_left (length answers + 1) le
 
 -- what is emitted of a whole scope
@@ -84,7 +88,7 @@ module _ (c : Context) (at : SourceLocation) (k : ℕ) (s : Scope) (t : State) (
   abbrev items : List (Item Scope)
   items = body_code (exactly (λ x. x) s) (form_of s)
 
-  abbrev pub object_items : List (Item Object)
+  abbrev object_items : List (Item Object)
   object_items = body_code (exactly child_at s) (form_of s)
 
   stood : Numbered objects_at e.adds.made
@@ -121,12 +125,15 @@ module _ (c : Context) (at : SourceLocation) (k : ℕ) (s : Scope) (t : State) (
   abbrev pairs : List (Item (Object × Scope))
   pairs = body_code (exactly (λ x. (child_at x, x)) s) (form_of s)
 
+  known : AllKnown (codes_in t.constants) (objects e.adds.made)
+  known = subst (λ cs. AllKnown (codes_in cs) (objects e.adds.made)) (sym e.adds.added.constants_are) e.adds.added.codes.known
+
   pairs_are : children pairs ≡ e.adds.made
   pairs_are =
       ap children (sym (code_over (λ x. (child_at x, x)) (exactly (λ x. x) s) (form_of s)))
       ∙ children_over (λ x. (child_at x, x)) items ∙ ap (each_to (λ x. (child_at x, x))) e.adds.added.codes.loads ∙ each_paired objects_at (scopes e.adds.made) ∙ paired_are objects_at e.adds.made stood
 
-  pub made_of : (o : Object) → ((answers : List Answer) → machine o answers ≡ runs_code object_items answers) → codes_in (constants o) ≡ codes_in t.constants → MadeFrom (o, s)
+  made_of : (o : Object) → ((answers : List Answer) → machine o answers ≡ runs_code object_items answers) → codes_in (constants o) ≡ codes_in t.constants → (n : ℕ) → IsMade n o s
   made_of o runs codes zero = tt
   made_of o runs codes (suc n) = (
     e.looped,
@@ -134,17 +141,19 @@ module _ (c : Context) (at : SourceLocation) (k : ℕ) (s : Scope) (t : State) (
     λ answers. runs answers ∙ ap (λ is. runs_code is answers) (sym (code_over (λ p. p.0) (exactly (λ x. (child_at x, x)) s) (form_of s))),
     code_over (λ p. p.1) (exactly (λ x. (child_at x, x)) s) (form_of s),
     subst (λ ks. SameMembers ks (objects (children pairs))) (sym codes) (subst (λ ps. SameMembers (codes_in t.constants) (objects ps)) (sym pairs_are) (known, e.adds.added.codes.kept)),
-    subst (AllOf (λ p. IsMade n p.0 p.1)) (sym pairs_are) (each_made e.adds.made e.adds.added.codes.from_scopes),
+    subst (AllOf (λ p. IsMade n p.0 p.1)) (sym pairs_are) (all_so (MadeFrom c.source) (λ p. IsMade n p.0 p.1) (λ p h. h.from n) e.adds.made e.adds.added.codes.from_scopes),
   )
-    where
-      known : AllOf (λ x. OneOf (λ a b. a ≡ b) x (objects e.adds.made)) (codes_in t.constants)
-      known = subst (λ cs. AllOf (λ x. OneOf (λ a b. a ≡ b) x (objects e.adds.made)) (codes_in cs)) (sym e.adds.added.constants_are) e.adds.added.codes.known
 
-      each_made : (ps : List (Object × Scope)) → AllOf MadeFrom ps → AllOf (λ p. IsMade n p.0 p.1) ps
-      each_made [] h = tt
-      each_made (p ∷ ps) h = (h.0 n, each_made ps h.1)
+  -- what is well made has well made code objects among its constants
+  well_of : (o : Object) → WellMade c.source o → codes_in (constants o) ≡ codes_in t.constants → Everywhere (WellMade c.source) o
+  well_of o well codes zero = tt
+  well_of o well codes (suc n) = (
+    well,
+    subst (AllOf (UpTo (WellMade c.source) n)) (sym codes)
+        (all_known (UpTo (WellMade c.source) n) e.adds.made (all_so (MadeFrom c.source) (λ p. UpTo (WellMade c.source) n p.0) (λ p h. h.well n) e.adds.made e.adds.added.codes.from_scopes) (codes_in t.constants) known),
+  )
 
-  module _ (level : ℕ) (h : Head) (cellvars : h.cellvars ≡ c.cells) (freevars : h.freevars ≡ c.frees) where
+  module _ (level : ℕ) (h : Head) (named : h.source_path ≡ c.source) (cellvars : h.cellvars ≡ c.cells) (freevars : h.freevars ≡ c.frees) where
     abbrev tables : Tables
     tables = tables_in h t
 
@@ -217,25 +226,55 @@ module _ (c : Context) (at : SourceLocation) (k : ℕ) (s : Scope) (t : State) (
 
     sealed_codes : codes_in (constants (sealed level h t)) ≡ codes_in t.constants
     unfolding sealed
-    sealed_codes = ap codes_in (listed_of t.constants)
+    sealed_codes = ap codes_in (listed_is t.constants)
 
-    pub sealed_made : MadeFrom (sealed level h t, s)
-    sealed_made = made_of (sealed level h t) runs sealed_codes
+    sealed_tables : tables_of (sealed level h t) ≡ tables
+    unfolding sealed
+    sealed_tables = λ j. record { constants = listed_is t.constants j; names = t.names; varnames = t.varnames; cells = h.cellvars ++ h.freevars }
+
+    sealed_named : (const.head (sealed level h t)).source_path ≡ c.source
+    unfolding sealed
+    sealed_named = named
+
+    abbrev units : List CodeUnit
+    units = (const.head (sealed level h t)).instructions
+
+    few_units : length units < 2 ^ 32
+    few_units =
+        let u = units_few of.laid.starts (flat level bs of.laid.chain) units (const.head (sealed level h t)).locations of.laid.assembled in
+        let left : flat level bs of.laid.chain ≡ items_in (steps_at level t.steps) = items_are level bs of.laid.chain of.laid.is_chain ∙ ap (λ xs. items_in (steps_at level xs)) of.steps in
+        let l = ap length left in
+        let z = fit.few in
+        omega (arith, u, l, z)
+
+    well : WellMade c.source (sealed level h t)
+    well = record {
+      ends = λ answers. subst (λ r. IsEnd r.outcome) (sym (runs answers)) (scope_ends child_at s e.looped answers);
+      sound = of.sound;
+      depth = subst (λ (x : Tables). IsDepth (λ p. seen (fetch_unit x units p)) 0 (const.head (sealed level h t)).max_stackdepth) (sym sealed_tables) of.laid.unit_depth;
+      written = (of.laid.starts, flat level bs of.laid.chain, of.laid.assembled);
+      located = as_located of.laid.starts (flat level bs of.laid.chain) units (const.head (sealed level h t)).locations of.laid.assembled;
+      few = few_units;
+      named = sealed_named;
+    }
+
+    pub sealed_made : MadeFrom c.source (sealed level h t, s)
+    sealed_made = record { from = made_of (sealed level h t) runs sealed_codes; well = well_of (sealed level h t) well sealed_codes }
 
 -- what is emitted in a scope within adds its whole code, in which breaks and continues stand in loops
 abbrev pub Whole : (inner : Context) → (body : Emission) → (next count : ℕ) → Scope → Type 0
 Whole inner body k l x = Gives (outside inner) 1 k body (body_code (exactly (λ y. y) x) (form_of x)) (labels (form_of x)) l (Looped false (form_of x))
 
 -- so the code object of the scope is made from it
-pub scope_makes : (c inner : Context) (h : Shape) (body : Emission) (k l : ℕ) (x : Scope) → number_of x ≡ k → inner.frees ≡ frees_among (symbols_in c.scopes k) → inner.scopes ≡ c.scopes → Settled inner → ((n : ℕ) → room c.scopes n < 2 ^ 26) → ((d : Scope → Object) → burden (body_code (exactly d x) (form_of x)) < 2 ^ 27) → Whole inner body (suc k) l x → Makes c inner h body k l x
-scope_makes c inner h body k l x number frees same settled roomy small whole = record {
+pub scope_makes : (c inner : Context) (h : Shape) (body : Emission) (k l : ℕ) (x : Scope) → number_of x ≡ k → inner.frees ≡ frees_among (symbols_in c.scopes k) → inner.scopes ≡ c.scopes → inner.source ≡ c.source → Settled inner → ((n : ℕ) → room c.scopes n < 2 ^ 26) → ((d : Scope → Object) → burden (body_code (exactly d x) (form_of x)) < 2 ^ 27) → Whole inner body (suc k) l x → Makes c inner h body k l x
+scope_makes c inner h body k l x number frees same source settled roomy small whole = record {
   number = number;
   frees = frees;
   run = λ at t e.
       let own : (n : ℕ) → room inner.scopes n < 2 ^ 26 = λ n. subst (λ es. room es n < 2 ^ 26) (sym same) (roomy n) in
       let a = whole.run (begun inner at (suc k)) t refl refl (record { around = refl; settled = settled; roomy = own }) e in
       let m : Emitted inner at (suc k) x t = record { count = l; adds = a.0; looped = a.1; small = small; roomy = own } in (
-        sealed_made inner at (suc k) x t m inner.level (code_head inner h at) refl refl,
+        subst (λ path. MadeFrom path (sealed inner.level (code_head inner h at) t, x)) source (sealed_made inner at (suc k) x t m inner.level (code_head inner h at) refl refl refl),
         a.0.next_is,
         subst (λ es. room es (suc k) ≤ room es t.next) same (let g = a.0.cells in omega (arith, g)),
       );

@@ -32,7 +32,8 @@ use Rattle.py_adds.proofs.Instructions.{inplace_adds, name_adds, constant_adds, 
 use Rattle.py_adds.proofs.AccessAdds.{accessed_adds, mangled_adds}
 use Rattle.py_adds.proofs.FormAdds.{ValueAdds, PartsAdd, unless_debug_gives, one_part, two_parts, two_add}
 use Rattle.py_adds.proofs.TargetAdds.{TargetAdds, drop_adds, put_adds, keep_adds}
-use Rattle.py_agree.proofs.ExprAdds.{outer, told, expr_adds, name_value_adds, target_adds}
+use Rattle.py_agree.proofs.ExprAdds.{expr_adds, name_value_adds, target_adds}
+use Rattle.py_agree.proofs.Told.{outer, told}
 
 -- a statement that leaves no loop is added
 abbrev pub ActAdds : Interp Scope → Around → Relation Emission SForm

@@ -1,70 +1,56 @@
 -- The emission of an expression adds the code of its form, as a value, as a test and as what is returned.
-use Rattle.std.proofs.Common.{◌≡◌, ℕ, suc, ◌+◌, ◌<◌, ◌^◌, List, [], ◌∷◌, ◌++◌, length, Bool, true, false, Option, Some, None, refl, sym, ap, ◌∙◌, subst, arith, rules, append-nil}
-use Rattle.std.specs.Prelude.{codes, nat_eq, if◌then◌else◌}
+use Rattle.std.proofs.Common.{◌≡◌, ℕ, suc, ◌+◌, ◌<◌, ◌^◌, List, [], length, Bool, true, false, Option, Some, None, refl, sym, subst, arith, rules}
+use Rattle.std.specs.Prelude.{codes, nat_eq, ◌||◌, if◌then◌else◌}
 use Rattle.py_base.specs.Literal as literal
 use Rattle.py_base.specs.Literal.{Literal}
 use Rattle.py_base.specs.declared.location.SourceLocation.{SourceLocation}
 use Rattle.py_base.specs.declared.shapes.Malformed.TheVariants as shape
 use Rattle.py_tree.specs.PythonName.{python_name}
 use Rattle.py_tree.specs.Tree as tree
-use Rattle.py_counts.specs.Counts.{scopes_in, scopes_in_all, scopes_in_annotations, scopes_in_args, scopes_in_defaults, scopes_in_keywords, scopes_in_opt, scopes_in_opts}
-use Rattle.py_limits.specs.Size.{args_size, arguments_size, expr_size, exprs_size, keys_size, keywords_size, opt_expr_size}
+use Rattle.py_counts.specs.Counts.{scopes_in, scopes_in_all, scopes_in_args, scopes_in_clauses, scopes_in_defaults, scopes_in_keywords, scopes_in_opt, scopes_in_opts}
+use Rattle.py_limits.specs.Size.{args_size, arguments_size, expr_size, exprs_size, generators_size, keys_size, keywords_size, opt_expr_size}
 use Rattle.py_bytecode.specs.declared.instruction.Instruction.TheVariants as op
 use Rattle.py_bytecode.specs.Objects as const
-use Rattle.py_bytecode.specs.Objects.{Object}
-use Rattle.py_bytecode.specs.Values.{Child, Constant, Load, Store, operation, Bare}
-use Rattle.py_bytecode.specs.Machine.{Operate, ReturnValue}
+use Rattle.py_bytecode.specs.Values.{Constant, Load, Store, operation, Bare}
+use Rattle.py_bytecode.specs.Machine.{Operate}
 use Rattle.py_bytecode.specs.Decode.{value_of}
-use Rattle.py_scope.specs.declared.table_type.SymbolTableType.TheVariants as kind
-use Rattle.py_forms.specs.Form.{Interp, Scope, MkScope, VForm, VConst, VLoad, VOp, VMake, VAt, VMore, VNone, Resolved, SReturn, SSkip, GStore, GPut, GDrop}
-use Rattle.py_forms.specs.Code.{Item, body_code, count, labels_vs, make_code}
-use Rattle.py_forms.specs.Agree.{exactly, form_of}
+use Rattle.py_forms.specs.Form.{Interp, Scope, VForm, VConst, VLoad, VOp, VAt, VMore, VNone, Resolved, FixedFast, GStore, GPut, GDrop}
+use Rattle.py_forms.specs.Code.{Item}
 use Rattle.py_steps.specs.Elements.{pairs}
-use Rattle.py_emission.specs.Parameters.{function_shape, parameters}
-use Rattle.py_emission.specs.Texts.{joined, text_of, texts_of}
+use Rattle.py_emission.specs.Texts.{texts_of}
 use Rattle.py_steps.specs.TableParts as table
-use Rattle.py_steps.specs.TableParts.{binary, binary_case, conversion_case, counted, constant_of, debug_constant, is_debug, name_form, no_operand, some_built}
-use Rattle.py_meaning.specs.Table.{after, expr_forms, all_forms, opt_form, key_forms, value_forms, keyword_forms, default_forms, positional_defaults, keyword_defaults, target_forms, all_targets}
+use Rattle.py_steps.specs.TableParts.{binary, binary_case, conversion_case, counted, constant_of, debug_constant, is_debug, name_form, no_operand}
+use Rattle.py_meaning.specs.Table.{after, after_clauses, expr_forms, all_forms, opt_form, key_forms, value_forms, keyword_forms, clause_forms, further_forms, filter_forms, default_forms, positional_defaults, keyword_defaults, target_forms, all_targets}
 use Rattle.py_meaning.specs.Table.{unbuilt as empty}
-use Rattle.py_meaning.specs.TableScopes.{Defaults, default_flags, default_parts, iterator}
+use Rattle.py_meaning.specs.TableScopes.{default_parts, iterator}
 use Rattle.py_forms.specs.declared.errors.CodegenErrorType.{CodegenErrorType}
 use Rattle.py_forms.specs.declared.errors.CodegenErrorType.TheVariants as error
-use Rattle.py_steps.specs.Context.{Context, head_of, inside, is_function, mangled, room}
+use Rattle.py_steps.specs.Context.{is_function, mangled}
+use Rattle.py_steps.specs.Comprehensions.{comprehension_inside}
 use Rattle.py_steps.specs.Accesses.{accessed, emission_of_name}
-use Rattle.py_steps.specs.Children.{DefaultEmissions, child, emission_of_defaults, flags_of_defaults, function_scope, lambda_inside, made, some_emitted}
+use Rattle.py_steps.specs.Children.{emission_of_defaults, lambda_inside}
 use Rattle.py_steps.specs.EmissionParts as emitting
-use Rattle.py_steps.specs.EmissionParts.{constant_emissions, emission_of_dict, no_assignment, lone_star, only_in_function, pass_scopes}
-use Rattle.py_steps.specs.Emitting.{Around, Emission, ◌▸◌, by_level, refuse, emit, emit_mangled, emit_constant, generating, move, pass_over}
-use Rattle.py_emission.specs.Emission.{default_emissions, emissions, all_emissions, joined_return, keyword_emissions, lambda_value, keyword_only_emissions, name_return, opt_emission, opt_emissions, positional_emissions, stores, all_stores, unbuilt}
-use Rattle.py_adds.proofs.Emitting.{Gives, Yields, after_these, context_gives, elsewhere_yields, gives_as, level_gives, moved_gives, moved_refused, never_on, next_as, outside, pass_yields, refused_gives, regroup, scopes_as, so, then_yields}
-use Rattle.py_adds.proofs.Instructions.{binary_adds, conversion_adds, attribute_adds, attribute_put_adds, subscript_adds, subscript_put_adds, constant_adds, list_builds, list_unpacks, return_adds, return_value_adds, set_builds, set_unpacks, string_builds, tuple_builds, tuple_unpacks}
-use Rattle.py_adds.proofs.ControlInstructions.{iterator_adds, yield_adds, yield_from_adds}
+use Rattle.py_steps.specs.EmissionParts.{constant_emissions, emission_of_dict, no_assignment, lone_star, only_in_function}
+use Rattle.py_steps.specs.Emitting.{Around, Emission, ◌▸◌, by_level, refuse, emit, emit_mangled, emit_constant, generating, move}
+use Rattle.py_emission.specs.Awaits.{awaits, some_async}
+use Rattle.py_emission.specs.Emission.{clause_emissions, default_emissions, emissions, all_emissions, joined_return, keyword_emissions, keyword_only_emissions, opt_emission, opt_emissions, positional_emissions, stores, all_stores}
+use Rattle.py_adds.proofs.ComprehensionAdds.{ClausesAdd, ConditionsAdd, FurtherAdd, all_clauses, handed_adds, more_conditions, more_further, no_clauses, no_conditions, no_further}
+use Rattle.py_adds.proofs.Emitting.{Gives, after_these, context_gives, level_gives, moved_gives, moved_refused, never_on, outside, regroup, scopes_as}
+use Rattle.py_adds.proofs.Instructions.{binary_adds, conversion_adds, attribute_adds, attribute_put_adds, subscript_adds, subscript_put_adds, constant_adds, list_appends, list_builds, list_unpacks, empty_list, empty_set, return_adds, return_value_adds, set_appends, set_builds, set_unpacks, string_builds, tuple_builds, tuple_unpacks}
+use Rattle.py_adds.proofs.ControlInstructions.{generating_yields, iterator_adds, yield_adds, yield_from_adds}
 use Rattle.py_adds.proofs.AccessAdds.{accessed_adds, mangled_adds}
-use Rattle.py_adds.proofs.FormAdds.{ValueAdds, PartsAdd, ReturnAdds, OptionAdds, AddsForms, AllAddForms, AllValuesAdd, IsPushed, more_parts, no_parts, pushed_adds, truth_adds, tested_adds, moved_adds, value_or_adds, one_part, two_parts, one_adds, two_add, all_values_add, all_elements_add}
+use Rattle.py_adds.proofs.FormAdds.{ValueAdds, PartsAdd, ReturnAdds, OptionAdds, AddsForms, AllAddForms, AllValuesAdd, pushed_adds, truth_adds, moved_adds, value_or_adds, one_part, two_parts, one_adds, two_add, all_values_add, all_elements_add}
 use Rattle.py_adds.proofs.OperatorAdds.{bool_adds, if_gives, unary_forms_add, compare_adds, compared_return, choice_adds}
 use Rattle.py_adds.proofs.DisplayAdds.{built_adds, display_adds}
-use Rattle.py_adds.proofs.CallAdds.{KeywordsAdd, NamedAdds, call_form_adds, map_of_adds}
+use Rattle.py_adds.proofs.CallAdds.{KeywordsAdd, NamedAdds, call_form_adds}
 use Rattle.py_adds.proofs.TargetAdds.{TargetAdds, AddsTarget, StoresAdd, plain_adds, refused_adds, unless_debug_adds, put_adds, keep_adds, unpack_to_adds}
 use Rattle.py_adds.proofs.DictAdds.{EntriesAdd, PairAdds, dict_adds, slice_adds, joined_adds}
 use Rattle.py_adds.proofs.Threaded.{AlikeElement, Threaded, threaded_as, threaded_join}
-use Rattle.py_adds.proofs.Defaults.{flags_say_two, map_adds, parts_count, same_flag, tuple_adds}
-use Rattle.py_adds.proofs.Functions.{Flagged, Makes, function_adds, scope_gives}
 use Rattle.py_adds.proofs.Pushed.{call_pushed, dict_pushed, display_pushed, slice_pushed}
-use Rattle.py_adds.proofs.Settled.{inside_settled}
-use Rattle.py_adds.proofs.Within.{Whole, scope_makes}
-use Rattle.py_sizes.proofs.ProgramSizes.{lambda_small}
-
--- a context, but for the path of the source
-abbrev pub pathless : Context → Context
-pathless c = record c { source = [] }
-
--- what the table is told by what stands around
-abbrev pub told : Around → Context
-told c = pathless c.context
-
--- the present scope as its code sees it, over the scopes within it
-abbrev pub outer : Around → Interp Scope
-outer c = exactly (λ x. x) (MkScope (head_of (told c)) SSkip)
+use Rattle.py_agree.proofs.ComprehensionAdds.{IterableAdds, but_iterable, dict_forms_add, gathered_forms_add, generated_forms_add}
+use Rattle.py_agree.proofs.LambdaAdds.{Defaulted, defaulted_adds, lambda_forms_add}
+use Rattle.py_agree.proofs.Scopeless.{texts_scopeless}
+use Rattle.py_agree.proofs.Told.{outer, told, value_adds}
 
 pub literal_value : (v : Literal) → value_of (constant_of v) ≡ Constant (constant_of v)
 literal_value literal.None = refl
@@ -75,33 +61,9 @@ literal_value (literal.Int z) = refl
 literal_value (literal.Tuple values) = refl
 literal_value literal.Ellipsis = refl
 
--- no scope stands in a text, nor in texts
-some_rest : (x y : Option (List ℕ)) (t : List ℕ) → joined x y ≡ Some t → (u : List ℕ) × (v : List ℕ) × (x ≡ Some u) × (y ≡ Some v)
-some_rest None y t e = absurd cc
-some_rest (Some u) None t e = absurd cc
-some_rest (Some u) (Some v) t e = (u, v, refl, refl)
-
-mutual
-  pub text_scopeless : (p : Bool) (e : tree.Expr) (t : List ℕ) → text_of e ≡ Some t → scopes_in p e ≡ 0
-  text_scopeless p (tree.Constant at value) t e = refl
-  text_scopeless p (tree.JoinedStr at parts) t e = texts_scopeless p parts t e
-  text_scopeless p other t e = absurd cc
-
-  pub texts_scopeless : (p : Bool) (es : tree.Exprs) (t : List ℕ) → texts_of es ≡ Some t → scopes_in_all p es ≡ 0
-  texts_scopeless p tree.no_exprs t e = refl
-  texts_scopeless p (tree.more_exprs x xs) t e =
-      let h = some_rest (text_of x) (texts_of xs) t e in
-      let a = text_scopeless p x h.0 h.2 in
-      let b = texts_scopeless p xs h.1 h.3 in
-      omega (arith, a, b)
-
 module _ (c : Around) where
   abbrev within : Interp Scope
   within = outer c
-
-  -- a value, from where it stands
-  value_adds : (k l : ℕ) (at : SourceLocation) (v : Emission) (g : VForm) → IsPushed within c g → ValueAdds within c k l v g → AddsForms within c k l (emitting.tested (move at ▸ v)) (table.tested (VAt at g))
-  value_adds k l at v g p h = tested_adds within c k l (move at ▸ v) (VAt at g) p (moved_adds within c k l at v g h)
 
   -- a constant is returned by one instruction
   constant_forms_add : (k : ℕ) (at : SourceLocation) (x : const.Const) → value_of x ≡ Constant x → AddsForms within c k 0 (constant_emissions at x) (table.tested (VAt at (VConst x)))
@@ -179,10 +141,6 @@ module _ (c : Around) where
   function_only : {n k : ℕ} {v : Emission} {p : List (Item Scope)} {m l : ℕ} {P : Type 0} (e : CodegenErrorType) → Gives c n k v p m l P → Gives c n k (only_in_function e v) p m l P
   function_only {v = v} e h = context_gives (λ z. if is_function z.typ then v else refuse e) (if_gives (is_function c.context.typ) e (λ z. h))
 
-  generating_yields : {n k : ℕ} → Yields c n k generating [] 0 0
-  unfolding generating
-  generating_yields = elsewhere_yields (λ s. record s { generator = true }) (λ s. refl) (λ s. refl) (λ s. refl) (λ s. refl) (λ s. refl) (λ s. refl) (λ s. refl)
-
   yield_adds_value : (k l : ℕ) (v : Option Emission) (f : Option VForm) → OptionAdds within c k l v f → ValueAdds within c k l (only_in_function error.InvalidYield (generating ▸ emitting.value_or const.none v ▸ emit op.YieldValue 0)) (VOp (operation op.YieldValue Bare) (VMore (table.value_or const.none f) VNone))
   yield_adds_value k l v f h n =
       function_only error.InvalidYield (after_these generating_yields (one_adds within c k l (operation op.YieldValue Bare) (emitting.value_or const.none v) (emit op.YieldValue 0) (table.value_or const.none f) (value_or_adds within c k l const.none refl v f h) (yield_adds c) n))
@@ -193,74 +151,6 @@ module _ (c : Around) where
       let it = one_adds within c k l (operation op.GetIter Bare) v (emit op.GetIter 0) f h (iterator_adds c) in
       function_only error.InvalidYieldFrom (after_these generating_yields (regroup v (emit op.GetIter 0) (none ▸ emit op.YieldFrom 0) (scopes_as (omega arith)
       (two_add within c k l 0 (operation op.YieldFrom Bare) (v ▸ emit op.GetIter 0) none (emit op.YieldFrom 0) (iterator f) (VConst const.none) it (λ m. constant_adds const.none refl c m (k + l)) (yield_from_adds c) n))))
-
--- a lambda's scope is made from its body
-lambda_makes : (c : Around) (k l : ℕ) (params : tree.Arguments) (body : tree.Expr) → ((n : ℕ) → room c.context.scopes n < 2 ^ 26) → expr_size body < 2 ^ 22 → AddsForms (outer (outside (lambda_inside c.context k))) (outside (lambda_inside c.context k)) (suc k) l (emissions body) (expr_forms (told (outside (lambda_inside c.context k))) (suc k) body) → Makes c.context (lambda_inside c.context k) (function_shape params (codes "<lambda>")) (function_scope (parameters params) (emissions body).returned) k l (MkScope (head_of (lambda_inside (told c) k)) (SReturn (expr_forms (lambda_inside (told c) k) (suc k) body).value))
-unfolding inside
-lambda_makes c k l params body roomy small h =
-    let inner : Context = lambda_inside c.context k in
-    let f : VForm = (expr_forms (lambda_inside (told c) k) (suc k) body).value in
-    let x : Scope = MkScope (head_of (lambda_inside (told c) k)) (SReturn f) in
-    let whole : Whole inner (function_scope (parameters params) (emissions body).returned) (suc k) l x = scope_gives (parameters params) (emissions body).returned (so (λ z. tt) (gives_as (sym (append-nil _)) refl refl (h.returned 1))) in
-    scope_makes c.context inner (function_shape params (codes "<lambda>")) (function_scope (parameters params) (emissions body).returned) k l x refl refl refl (inside_settled kind.Function k c.context) roomy (λ d. lambda_small d (lambda_inside (told c) k) (suc k) body small) whole
-
--- a lambda is a function of its scope, whose annotations are left out
-lambda_adds : (c : Around) (k l : ℕ) (params : tree.Arguments) (body : tree.Expr) (flags others : ℕ) → ((n : ℕ) → room c.context.scopes n < 2 ^ 26) → expr_size body < 2 ^ 22 → AddsForms (outer (outside (lambda_inside c.context k))) (outside (lambda_inside c.context k)) (suc k) l (emissions body) (expr_forms (told (outside (lambda_inside c.context k))) (suc k) body) → Flagged flags others → (n : ℕ) → Yields c n k (child lambda_inside (function_shape params (codes "<lambda>")) (function_scope (parameters params) (emissions body).returned) (λ o. pass_scopes (λ postponed. scopes_in_annotations postponed params) ▸ made flags (codes "<lambda>") o)) (make_code flags ((outer c).closure (MkScope (head_of (lambda_inside (told c) k)) (SReturn (expr_forms (lambda_inside (told c) k) (suc k) body).value))) others (Child (MkScope (head_of (lambda_inside (told c) k)) (SReturn (expr_forms (lambda_inside (told c) k) (suc k) body).value))) (codes "<lambda>")) 0 (suc l + scopes_in_annotations c.context.postponed params)
-unfolding inside
-lambda_adds c k l params body flags others roomy small h flagged n =
-    let x : Scope = MkScope (head_of (lambda_inside (told c) k)) (SReturn (expr_forms (lambda_inside (told c) k) (suc k) body).value) in
-    let mid : Emission = pass_scopes (λ postponed. scopes_in_annotations postponed params) in
-    let pass : PartsAdd (outer c) c (k + suc l) (scopes_in_annotations c.context.postponed params) mid VNone = λ m. context_gives (λ z. pass_over (λ j. j + scopes_in_annotations z.postponed params)) (pass_yields (scopes_in_annotations c.context.postponed params)) in
-    function_adds (outer c) c lambda_inside (function_shape params (codes "<lambda>")) (function_scope (parameters params) (emissions body).returned) mid flags others (λ v o. v ▸ made flags (codes "<lambda>") o) (codes "<lambda>") VNone x k l (scopes_in_annotations c.context.postponed params)
-    (lambda_makes c k l params body roomy small h) pass flagged (λ o s r z e. e) n
-
--- what holds where this stands around, as it says that the scopes have few symbols
-pub roomily : {c : Around} {n k : ℕ} {v : Emission} {p : List (Item Scope)} {m l : ℕ} {P : Type 0} → (((j : ℕ) → room c.context.scopes j < 2 ^ 26) → Gives c n k v p m l P) → Gives c n k v p m l P
-roomily f = record { run = λ s r b g z e. (f z.roomy).run s r b g z e }
-
--- the defaults of parameters, emission by emission and form by form
-pub record Defaulted (c : Around) (k : ℕ) (params : tree.Arguments) : Type 0 where
-  pub first : ℕ
-  pub second : ℕ
-  pub total : first + second ≡ scopes_in_defaults c.context.postponed params
-  pub positional : AllValuesAdd (outer c) c k first (default_emissions params).positional (default_forms (told c) k params).positional
-  pub keyword : Threaded (NamedAdds (outer c) c) (k + first) second (default_emissions params).keyword (default_forms (told c) k params).keyword
-
--- they are a tuple and a map, where there are any
-defaulted_adds : (c : Around) (k : ℕ) (params : tree.Arguments) → Defaulted c k params → PartsAdd (outer c) c k (scopes_in_defaults c.context.postponed params) (emission_of_defaults (default_emissions params)) (default_parts (default_forms (told c) k params) VNone)
-defaulted_adds c k params d n =
-    let es = default_emissions params in
-    let fs = default_forms (told c) k params in
-    scopes_as d.total (tuple_adds (outer c) c k d.first d.second es.positional fs.positional (some_emitted emitting.map_of es.keyword) (some_built table.map_of fs.keyword VNone) d.positional (map_adds (outer c) c (k + d.first) d.second es.keyword fs.keyword d.keyword) n)
-
--- a lambda postpones annotations as what is around it
-same_postponed : (c : Context) (m : ℕ) → (lambda_inside c m).postponed ≡ c.postponed
-unfolding inside
-same_postponed c m = refl
-
--- a lambda, where its defaults and its body are so
-lambda_forms_add : (c : Around) (k : ℕ) (at : SourceLocation) (params : tree.Arguments) (body : tree.Expr) → Defaulted c k params → expr_size body < 2 ^ 22 → AddsForms (outer (outside (lambda_inside c.context (k + scopes_in_defaults c.context.postponed params)))) (outside (lambda_inside c.context (k + scopes_in_defaults c.context.postponed params))) (suc (k + scopes_in_defaults c.context.postponed params)) (scopes_in (lambda_inside c.context (k + scopes_in_defaults c.context.postponed params)).postponed body) (emissions body) (expr_forms (told (outside (lambda_inside c.context (k + scopes_in_defaults c.context.postponed params)))) (suc (k + scopes_in_defaults c.context.postponed params)) body) → AddsForms (outer c) c k (scopes_in c.context.postponed (tree.Lambda at params body)) (emissions (tree.Lambda at params body)) (expr_forms (told c) k (tree.Lambda at params body))
-unfolding lambda_value
-lambda_forms_add c k at params body d z first =
-    let p = c.context.postponed in
-    let m = k + scopes_in_defaults p params in
-    let within = outside (lambda_inside c.context m) in
-    let h = subst (λ b. AddsForms (outer within) within (suc m) (scopes_in b body) (emissions body) (expr_forms (told within) (suc m) body)) (same_postponed c.context m) first in
-    let l = scopes_in p body in
-    let es = default_emissions params in
-    let fs = default_forms (told c) k params in
-    let parts = default_parts fs VNone in
-    let x1 : Scope = MkScope (head_of (lambda_inside (told c) m)) (SReturn (expr_forms (lambda_inside (told c) m) (suc m) body).value) in
-    let rest : Emission = child lambda_inside (function_shape params (codes "<lambda>")) (function_scope (parameters params) (emissions body).returned) (λ o. pass_scopes (λ postponed. scopes_in_annotations postponed params) ▸ made (flags_of_defaults es) (codes "<lambda>") o) in
-    let form : VForm = VMake (default_flags fs) parts x1 (codes "<lambda>") VNone in
-    let same : flags_of_defaults es ≡ default_flags fs =
-    (let f = same_flag (ValueAdds (outer c) c) 0x08 k d.first es.positional fs.positional d.positional in let g = same_flag (NamedAdds (outer c) c) 0x04 (k + d.first) d.second es.keyword fs.keyword d.keyword in λ j. f j + g j) in
-    let said : Flagged (flags_of_defaults es) (count parts + 0) = subst (λ f. Flagged f (count parts + 0)) (sym same) (subst (λ j. Flagged (default_flags fs) j) (let e = parts_count (table.built op.BuildTuple) table.map_of fs.positional fs.keyword in omega (arith, e)) (flags_say_two fs.positional fs.keyword)) in
-    let value : ValueAdds (outer c) c k (scopes_in_defaults p params + suc (l + scopes_in_annotations p params)) (emission_of_defaults es ▸ rest) form =
-    λ n. roomily (λ roomy. scopes_as (omega arith) (then_yields (defaulted_adds c k params d n)
-    (subst (λ f. Yields c (n + labels_vs parts) m rest (make_code f ((outer c).closure x1) (count parts + 0) (Child x1) (codes "<lambda>")) 0 (suc l + scopes_in_annotations p params)) same
-    (lambda_adds c m l params body (flags_of_defaults es) (count parts + 0) roomy z h said (n + labels_vs parts))))) in
-    value_adds c k (scopes_in_defaults p params + suc (l + scopes_in_annotations p params)) at (emission_of_defaults es ▸ rest) form (λ n. refl) value
 
 -- the keys of a dict display, and its values, each where it stands among both
 abbrev KeyAdds : Around → ℕ → tree.OptExpr → Type 0
@@ -332,6 +222,23 @@ mutual
       let l = scopes_in_all c.context.postponed elts in
       value_adds c k l at _ _ (display_pushed (outer c) c op.BuildSet op.BuildSetUnpack (table.elements (all_forms (told c) k elts)))
       (display_adds (outer c) c op.BuildSet op.BuildSetUnpack set_builds set_unpacks k l _ _ (all_elements_add (outer c) c k l (all_emissions elts) (all_forms (told c) k elts) (exprs_add c k elts (omega (arith, z)))))
+  expr_adds c k (tree.ListComp at elt gs) z =
+      let d = outside (comprehension_inside c.context k) in
+      let m = after_clauses (told c) (suc k) gs in
+      gathered_forms_add c k at (some_async gs) (codes "<listcomp>") op.BuildList op.ListAppend elt gs empty_list list_appends (omega (arith, z)) (clauses_add d (suc k) gs (omega (arith, z))) (expr_adds d m elt (omega (arith, z))) (iterable_adds c (after (told c) m elt) gs (omega (arith, z)))
+  expr_adds c k (tree.SetComp at elt gs) z =
+      let d = outside (comprehension_inside c.context k) in
+      let m = after_clauses (told c) (suc k) gs in
+      gathered_forms_add c k at (some_async gs) (codes "<setcomp>") op.BuildSet op.SetAdd elt gs empty_set set_appends (omega (arith, z)) (clauses_add d (suc k) gs (omega (arith, z))) (expr_adds d m elt (omega (arith, z))) (iterable_adds c (after (told c) m elt) gs (omega (arith, z)))
+  expr_adds c k (tree.DictComp at key value gs) z =
+      let d = outside (comprehension_inside c.context k) in
+      let m = after_clauses (told c) (suc k) gs in
+      let j = after (told c) m key in
+      dict_forms_add c k at (some_async gs) (codes "<dictcomp>") key value gs (omega (arith, z)) (clauses_add d (suc k) gs (omega (arith, z))) (expr_adds d m key (omega (arith, z))) (expr_adds d j value (omega (arith, z))) (iterable_adds c (after (told c) j value) gs (omega (arith, z)))
+  expr_adds c k (tree.GeneratorExp at elt gs) z =
+      let d = outside (comprehension_inside c.context k) in
+      let m = after_clauses (told c) (suc k) gs in
+      generated_forms_add c k at (some_async gs || awaits elt) (codes "<genexpr>") elt gs (omega (arith, z)) (clauses_add d (suc k) gs (omega (arith, z))) (expr_adds d m elt (omega (arith, z))) (iterable_adds c (after (told c) m elt) gs (omega (arith, z)))
   expr_adds c k (tree.Await at value) z = refused_forms_add c k (scopes_in c.context.postponed value) at error.InvalidAwait
   expr_adds c k (tree.Yield at value) z =
       let l = scopes_in_opt c.context.postponed value in
@@ -387,7 +294,6 @@ mutual
       let w = scopes_in_opt c.context.postponed step in
       value_adds c k (x + (y + w)) at _ _ (slice_pushed (outer c) c (opt_form (told c) k lower) (opt_form (told c) (k + x) upper) (opt_form (told c) (k + x + y) step))
       (slice_adds (outer c) c k x y w (opt_emission lower) (opt_emission upper) (opt_emission step) (opt_form (told c) k lower) (opt_form (told c) (k + x) upper) (opt_form (told c) (k + x + y) step) (opt_adds c k lower (omega (arith, z))) (opt_adds c (k + x) upper (omega (arith, z))) (opt_adds c (k + x + y) step (omega (arith, z))))
-  expr_adds c k other z = refused_forms_add c k (scopes_in c.context.postponed other) (tree.expr_location other) error.NotImplementedYet
 
   -- positional defaults first, and then those by names
   defaults_match : (c : Around) (k : ℕ) (params : tree.Arguments) → arguments_size params < 2 ^ 22 → Defaulted c k params
@@ -413,6 +319,34 @@ mutual
   keywords_only_add c k tree.no_args x = refl
   keywords_only_add c k (tree.more_args a tree.no_expr rest) x = threaded_as (NamedAdds (outer c) c) k k (scopes_in_args c.context.postponed rest) (0 + scopes_in_args c.context.postponed rest) _ _ refl (omega arith) (keywords_only_add c k rest (omega (arith, x)))
   keywords_only_add c k (tree.more_args (tree.arg at name annotation) (tree.some_expr e) rest) x = (scopes_in c.context.postponed e, scopes_in_args c.context.postponed rest, refl, (refl, (expr_adds c k e (omega (arith, x))).value), keywords_only_add c (k + scopes_in c.context.postponed e) rest (omega (arith, x)))
+
+  -- the clauses of a comprehension, around what is within
+  clauses_add : (c : Around) (k : ℕ) (gs : tree.Generators) → generators_size gs < 2 ^ 22 → ClausesAdd (outer c) c k (but_iterable c.context.postponed gs) (clause_emissions gs) (clause_forms (told c) k gs)
+  clauses_add c k tree.no_generators z = no_clauses (outer c) c k
+  clauses_add c k (tree.more_generators target iter ifs is_async gs) z =
+      let y = scopes_in c.context.postponed target in
+      let w = scopes_in_all c.context.postponed ifs in
+      all_clauses (outer c) c k y w (scopes_in_clauses c.context.postponed gs) (record { iterable = (emissions iter).value; target = (stores target).alone; conditions = all_emissions ifs }) (clause_emissions gs) (VLoad FixedFast (codes ".0")) (target_forms (told c) k target).alone (filter_forms (told c) (k + y) ifs) (further_forms (told c) (k + y + w) gs)
+      (λ n. handed_adds c n k) (target_adds c k target (omega (arith, z))).alone (conditions_add c (k + y) ifs (omega (arith, z))) (further_add c (k + y + w) gs (omega (arith, z)))
+
+  further_add : (c : Around) (k : ℕ) (gs : tree.Generators) → generators_size gs < 2 ^ 22 → FurtherAdd (outer c) c k (scopes_in_clauses c.context.postponed gs) (clause_emissions gs) (further_forms (told c) k gs)
+  further_add c k tree.no_generators z = no_further (outer c) c k
+  further_add c k (tree.more_generators target iter ifs is_async gs) z =
+      let x = scopes_in c.context.postponed iter in
+      let y = scopes_in c.context.postponed target in
+      let w = scopes_in_all c.context.postponed ifs in
+      more_further (outer c) c k x y w (scopes_in_clauses c.context.postponed gs) (record { iterable = (emissions iter).value; target = (stores target).alone; conditions = all_emissions ifs }) (clause_emissions gs) (expr_forms (told c) k iter).value (target_forms (told c) (k + x) target).alone (filter_forms (told c) (k + x + y) ifs) (further_forms (told c) (k + x + y + w) gs)
+      (expr_adds c k iter (omega (arith, z))).value (target_adds c (k + x) target (omega (arith, z))).alone (conditions_add c (k + x + y) ifs (omega (arith, z))) (further_add c (k + x + y + w) gs (omega (arith, z)))
+
+  conditions_add : (c : Around) (k : ℕ) (ts : tree.Exprs) → exprs_size ts < 2 ^ 22 → ConditionsAdd (outer c) c k (scopes_in_all c.context.postponed ts) (all_emissions ts) (filter_forms (told c) k ts)
+  conditions_add c k tree.no_exprs z = no_conditions (outer c) c k
+  conditions_add c k (tree.more_exprs t ts) z =
+      let a = scopes_in c.context.postponed t in
+      more_conditions (outer c) c k a (scopes_in_all c.context.postponed ts) (emissions t) (all_emissions ts) (expr_forms (told c) k t).test (filter_forms (told c) (k + a) ts) (expr_adds c k t (omega (arith, z))).test (conditions_add c (k + a) ts (omega (arith, z)))
+
+  iterable_adds : (c : Around) (k : ℕ) (gs : tree.Generators) → generators_size gs < 2 ^ 22 → IterableAdds c k gs
+  iterable_adds c k tree.no_generators z = tt
+  iterable_adds c k (tree.more_generators target iter ifs is_async gs) z = (expr_adds c k iter (omega (arith, z))).value
 
   pub exprs_add : (c : Around) (k : ℕ) (ts : tree.Exprs) → exprs_size ts < 2 ^ 22 → AllAddForms (outer c) c k (scopes_in_all c.context.postponed ts) (all_emissions ts) (all_forms (told c) k ts)
   exprs_add c k tree.no_exprs z = refl

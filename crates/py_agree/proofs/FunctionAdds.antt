@@ -41,7 +41,8 @@ use Rattle.py_adds.proofs.Steps.{StepAdds}
 use Rattle.py_adds.proofs.Threaded.{Relation, Threaded, same_length, threaded_as, threaded_join}
 use Rattle.py_adds.proofs.Within.{Whole, scope_makes}
 use Rattle.py_sizes.proofs.ProgramSizes.{function_small}
-use Rattle.py_agree.proofs.ExprAdds.{defaults_add, expr_adds, outer, pathless, roomily, told}
+use Rattle.py_agree.proofs.ExprAdds.{defaults_add, expr_adds}
+use Rattle.py_agree.proofs.Told.{outer, pathless, roomily, told}
 
 -- what runs alike adds the same
 alike_gives : {c : Around} {n k : ℕ} {v w : Emission} {p : List (Item Scope)} {m l : ℕ} {P : Type 0} → ((s : State) → v s ≡ w s) → Gives c n k w p m l P → Gives c n k v p m l P
@@ -229,7 +230,7 @@ module _ (c : Around) (k : ℕ) (name : List ℕ) where
   function_makes : (h : Shape) (params : List (List ℕ)) (v : Emission) (body : tree.Stmts) → ((j : ℕ) → room c.context.scopes j < 2 ^ 26) → stmts_size body < 2 ^ 22 → Whole inner v (suc k) (scopes_in_stmts inner.postponed body) (function_of body) → Makes c.context inner h (function_scope params v) k (scopes_in_stmts c.context.postponed body) (function_of body)
   unfolding inside with_path
   function_makes h params v body roomy few whole =
-      scope_makes c.context inner h (function_scope params v) k (scopes_in_stmts c.context.postponed body) (function_of body) refl refl refl (record { cells = refl; frees = refl }) roomy (λ d. function_small d (pathless inner) (suc k) body few) (scope_gives params v whole)
+      scope_makes c.context inner h (function_scope params v) k (scopes_in_stmts c.context.postponed body) (function_of body) refl refl refl refl (record { cells = refl; frees = refl }) roomy (λ d. function_small d (pathless inner) (suc k) body few) (scope_gives params v whole)
 
 module _ (c : Around) (k : ℕ) (name : List ℕ) (params : tree.Arguments) (body : tree.Stmts) (returns : tree.OptExpr) where
   -- the number of the function's scope

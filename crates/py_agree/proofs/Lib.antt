@@ -1,9 +1,13 @@
 pub mod ControlAdds
+pub mod Scopeless
+pub mod Told
+pub mod LambdaAdds
+pub mod ComprehensionAdds
 pub mod ExprAdds
 pub mod AssignAdds
+pub mod ImportAdds
 pub mod Unlooped
 pub mod FunctionAdds
 pub mod StmtAdds
 pub mod Programs
-pub mod Described
 pub mod NeverRefused

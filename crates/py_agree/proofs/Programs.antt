@@ -32,7 +32,8 @@ use Rattle.py_adds.proofs.Instructions.{constant_adds, return_adds, store_adds}
 use Rattle.py_adds.proofs.Settled.{Settled, outermost_settled}
 use Rattle.py_adds.proofs.Steps.{emit_adds}
 use Rattle.py_adds.proofs.Within.{Emitted, Whole}
-use Rattle.py_agree.proofs.ExprAdds.{expr_adds, outer, pathless, told}
+use Rattle.py_agree.proofs.ExprAdds.{expr_adds}
+use Rattle.py_agree.proofs.Told.{outer, pathless, told}
 use Rattle.py_agree.proofs.StmtAdds.{stmts_add}
 use Rattle.py_sizes.proofs.ProgramSizes.{body_small}
 

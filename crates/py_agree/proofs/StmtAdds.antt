@@ -23,6 +23,7 @@ use Rattle.py_meaning.specs.StmtCounts.{scopes_in_all_notes, scopes_in_handlers,
 use Rattle.py_meaning.specs.Table.{all_forms, expr_form, target_form, test_form}
 use Rattle.py_meaning.specs.TableScopes.{iterator}
 use Rattle.py_meaning.specs.TableScopes as forms
+use Rattle.py_meaning.specs.Imports.{from_form, import_form}
 use Rattle.py_meaning.specs.EmissionDefs.{emission_of_def, emission_of_end}
 use Rattle.py_meaning.specs.TableStmts.{ended_form, function_body, handler_forms, stmt_form, stmts_form}
 use Rattle.py_meaning.specs.StmtParts.{after_stmt, assert_form, assertion, but_doc, defined, handler_target, is_return, item_target, message_count, message_parts, named_form, none, raise_form, return_form, unless_last, with_form}
@@ -41,11 +42,14 @@ use Rattle.py_adds.proofs.FormAdds.{PartsAdd, all_values_add, one_adds, one_part
 use Rattle.py_adds.proofs.Shapes.{choice_gives, only_gives, while_gives}
 use Rattle.py_adds.proofs.TargetAdds.{TargetAdds, drop_adds}
 use Rattle.py_adds.proofs.Within.{Whole}
-use Rattle.py_agree.proofs.ExprAdds.{outer, pathless, told, expr_adds, exprs_add, target_adds, text_scopeless}
+use Rattle.py_agree.proofs.ExprAdds.{expr_adds, exprs_add, target_adds}
+use Rattle.py_agree.proofs.Scopeless.{text_scopeless}
+use Rattle.py_agree.proofs.Told.{outer, pathless, told}
 use Rattle.py_agree.proofs.ControlAdds.{any_gives, asserted_gives, finally_gives, for_gives, managed_gives, try_gives, typed_gives}
 use Rattle.py_agree.proofs.AssignAdds.{ActAdds, into_adds, deletes_add, assign_adds, augmented_adds, annotated_adds, passed_adds}
 use Rattle.py_agree.proofs.FunctionAdds.{decorated_adds, def_adds}
-use Rattle.py_agree.proofs.Unlooped.{Unlooped, annotated_unlooped, removals_unlooped, assign_unlooped, augment_unlooped, declared_unlooped, either_unlooped, return_unlooped}
+use Rattle.py_agree.proofs.ImportAdds.{from_adds, import_adds}
+use Rattle.py_agree.proofs.Unlooped.{Unlooped, annotated_unlooped, removals_unlooped, assign_unlooped, augment_unlooped, declared_unlooped, either_unlooped, from_unlooped, import_unlooped, return_unlooped}
 
 abbrev pub held : Option LoopBlocks → Bool
 held None = false
@@ -369,6 +373,8 @@ mutual
   stmt_gives (tree.Try at body hs orelse (tree.more_stmts s ss)) few c k b n w =
       try_last_gives at body hs orelse s ss (stmts_give body (omega (arith, few))) (handlers_give hs (omega (arith, few))) (stmts_give orelse (omega (arith, few))) (stmts_give (tree.more_stmts s ss) (omega (arith, few))) c k b n w
   stmt_gives (tree.Assert at t msg) few c k b n w = act_gives c b n k _ at (by_level (emission_of_assert t msg)) (stmt_form (told c) k (tree.Assert at t msg)) (assert_adds c k t msg (omega (arith, few))) (assert_unlooped (told c) k t msg)
+  stmt_gives (tree.Import at names) few c k b n w = act_gives c b n k _ at _ (import_form (told c) names) (import_adds c k names) (import_unlooped (told c) names)
+  stmt_gives (tree.ImportFrom at path names level) few c k b n w = act_gives c b n k _ at _ (from_form (told c) path names level) (from_adds c k path names level) (from_unlooped (told c) path names level)
   stmt_gives (tree.Global at names) few c k b n w = move_yields at
   stmt_gives (tree.Nonlocal at names) few c k b n w = move_yields at
   stmt_gives (tree.StmtExpr at v) few c k b n w =

@@ -1,12 +1,14 @@
--- Assignments and deletions leave no loop.
-use Rattle.std.proofs.Common.{ℕ, Bool, true, false, None}
+-- Assignments, deletions and imports leave no loop.
+use Rattle.std.proofs.Common.{ℕ, List, [], ◌∷◌, Bool, true, false, Option, None}
 use Rattle.std.specs.Prelude.{if◌then◌else◌}
 use Rattle.py_tree.specs.Tree as tree
+use Rattle.py_tree.specs.declared.statements.Alias.{Alias}
 use Rattle.py_base.specs.declared.operators.Operator.{Operator}
 use Rattle.py_forms.specs.Form.{VForm, VKeep, Target, SForm, SInto, SSkip}
 use Rattle.py_forms.specs.Looped.{Looped}
 use Rattle.py_steps.specs.Context.{Context, is_function}
 use Rattle.py_meaning.specs.Table.{after, expr_form, target_form}
+use Rattle.py_meaning.specs.Imports.{from_form, import_form, takes_all}
 use Rattle.py_meaning.specs.StmtParts.{removal, removals, assigned, assign_form, augment_form, annotated_form, annotation_target, declared_form, return_form}
 
 -- it stands in a loop or in none
@@ -53,3 +55,10 @@ module _ (c : Context) where
   pub return_unlooped : (k : ℕ) (value : tree.OptExpr) → Unlooped (return_form c k value)
   return_unlooped k tree.no_expr b = tt
   return_unlooped k (tree.some_expr e) b = tt
+
+  pub import_unlooped : (names : List Alias) → Unlooped (import_form c names)
+  import_unlooped [] b = tt
+  import_unlooped (a ∷ rest) b = (tt, import_unlooped rest b)
+
+  pub from_unlooped : (path : Option (List ℕ)) (names : List Alias) (level : ℕ) → Unlooped (from_form c path names level)
+  from_unlooped path names level = either_unlooped (takes_all names) _ _ (λ b. tt) (λ b. tt)

@@ -5,9 +5,11 @@ pub mod RefusingDisplays
 pub mod RefusingCalls
 pub mod RefusingTargets
 pub mod RefusingDefaults
+pub mod RefusingComprehensions
 pub mod RefusingExprs
 pub mod RefusingChanges
 pub mod ControlEnds
 pub mod DefEnds
+pub mod RefusingImports
 pub mod RefusingStmts
 pub mod Ending

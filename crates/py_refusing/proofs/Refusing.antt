@@ -238,7 +238,7 @@ if_ends true x y = x
 if_ends false x y = y
 
 -- a refusal, where the test holds
-guarded_ends : {c : Around} {v : Emission} {p q : SourceLocation} {fs : List Fault} (b : Bool) (e : CodegenErrorType) → EndsAs c v p q fs → EndsAs c (if b then refuse e else v) p q (when b (fault_at e p) ++ fs)
+pub guarded_ends : {c : Around} {v : Emission} {p q : SourceLocation} {fs : List Fault} (b : Bool) (e : CodegenErrorType) → EndsAs c v p q fs → EndsAs c (if b then refuse e else v) p q (when b (fault_at e p) ++ fs)
 guarded_ends {fs = fs} true e x = refusal_ends e fs
 guarded_ends false e x = x
 

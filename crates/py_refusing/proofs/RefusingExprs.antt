@@ -1,9 +1,9 @@
 -- An expression of the right shapes ends as its faults say, as a value, as a test, as an element, as what is called, and as a target.
 use Rattle.std.proofs.Common.{◌≡◌, ℕ, List, [], ◌∷◌, ◌++◌, length, Bool, true, false, Option, Some, None, refl, ap, ◌∙◌, arith}
-use Rattle.std.specs.Prelude.{nat_eq, not}
+use Rattle.std.specs.Prelude.{nat_eq, not, codes, ◌||◌}
 use Rattle.py_tree.specs.PythonName.{python_name}
 use Rattle.py_tree.specs.Tree as tree
-use Rattle.py_shapes.specs.Valid.{when, count, opt_count, name_shapes, opt_name_shapes, expr_shapes, exprs_shapes, opt_expr_shapes, opt_exprs_shapes, keywords_shapes, arg_shapes, args_shapes, arguments_shapes, opt_arg_shapes, parameters_shapes}
+use Rattle.py_shapes.specs.Valid.{when, count, has_generator, opt_count, name_shapes, opt_name_shapes, expr_shapes, exprs_shapes, opt_expr_shapes, opt_exprs_shapes, keywords_shapes, generators_shapes, arg_shapes, args_shapes, arguments_shapes, opt_arg_shapes, parameters_shapes}
 use Rattle.py_base.specs.declared.location.SourceLocation.{SourceLocation}
 use Rattle.py_base.specs.declared.shapes.Malformed.{Malformed}
 use Rattle.py_base.specs.declared.shapes.Malformed.TheVariants as shape
@@ -14,13 +14,14 @@ use Rattle.py_steps.specs.Elements.{bare}
 use Rattle.py_meaning.specs.Ends.{last_of, expr_end, ends_of, parts_entered, store_end, stores_end}
 use Rattle.py_meaning.specs.ExprFaults.{Fault, ExprFaults, either, in_order, fault_at, faults_in, all_faults, faults_to, all_faults_to, joined_faults}
 use Rattle.py_meaning.specs.ExprFaults as fault
+use Rattle.py_emission.specs.Awaits.{awaits, some_async}
 use Rattle.py_emission.specs.Texts.{texts_of}
 use Rattle.py_steps.specs.TableParts.{binary_case, conversion_case, constant_of, debug_constant, is_debug}
 use Rattle.py_forms.specs.declared.errors.CodegenErrorType.TheVariants as error
 use Rattle.py_steps.specs.Emitting.{Around, Emission, ◌▸◌, refuse, emit_constant, emit_mangled, move}
 use Rattle.py_bytecode.specs.Values.{Load, Store}
 use Rattle.py_steps.specs.EmissionParts.{tested, elements, display, in_turn, values, no_assignment, lone_star}
-use Rattle.py_emission.specs.Emission.{emissions, all_emissions, joined_return, name_return, opt_emissions, stores, all_stores, unbuilt}
+use Rattle.py_emission.specs.Emission.{emissions, all_emissions, joined_return, name_return, opt_emissions, stores, all_stores}
 use Rattle.py_refusing.proofs.Refusing.{EndsAs, Passes, count_passes, generating_passes, in_function, function_ends, outside, then_ends, last_ends, nothing_passes, emit_passes, mangled_passes, accessed_passes, constant_passes, if_ends, level_ends, moved_ends, refusal_ends, unless_debug_ends, unless_debug_last}
 use Rattle.py_refusing.proofs.RefusingTests.{Ending, EndsWell, AllEnding, truth_ends, at_ends, by_return, turn_ends, value_returned, bool_ends, unary_ends, compare_ends, choice_ends}
 use Rattle.py_refusing.proofs.RefusingPacks.{bare_step}
@@ -28,6 +29,7 @@ use Rattle.py_refusing.proofs.RefusingDisplays.{OptEnding, OptsEnding, display_e
 use Rattle.py_refusing.proofs.RefusingCalls.{KeywordsEnding, call_ends}
 use Rattle.py_refusing.proofs.RefusingTargets.{Storing, plain_ends, list_ends}
 use Rattle.py_refusing.proofs.RefusingDefaults.{ArgsEnding, DefaultsEnding, lambda_ends}
+use Rattle.py_refusing.proofs.RefusingComprehensions.{ClausesEnding, FurtherEnding, gather_ends, gather_pairs_end, generate_ends, scope_around}
 use Rattle.py_steps.specs.Accesses.{emission_of_name}
 use Rattle.py_steps.specs.Children.{lambda_inside}
 
@@ -78,10 +80,6 @@ attribute_ends at name x = moved_ends at (last_ends x (mangled_passes op.LoadAtt
 lone_ends : {c : Around} {p q : SourceLocation} (at : SourceLocation) (fs : List Fault) → EndsAs c (move at ▸ refuse error.InvalidStarExpr) p q (fault_at error.InvalidStarExpr at ∷ fs)
 lone_ends at fs = moved_ends at (refusal_ends error.InvalidStarExpr fs)
 
--- what is not compiled yet is at fault itself, whatever stands within it
-unbuilt_ends : {c : Around} (at : SourceLocation) → Ending c (tested (unbuilt at)) at (either (fault.unbuilt at))
-unbuilt_ends at = at_ends at (refusal_ends error.NotImplementedYet [])
-
 -- what is no target
 pub no_target : {c : Around} {q : SourceLocation} (p : SourceLocation) (e : tree.Expr) → EndsAs c (refuse (error.Assign (python_name e))) p q (fault_at (error.Assign (python_name e)) p ∷ [])
 no_target p e = refusal_ends (error.Assign (python_name e)) []
@@ -96,6 +94,14 @@ groups_none class posonly args vararg kwonly kwarg h =
     let s = both_none (own ++ args_shapes class posonly) (args_shapes class args) r.0 in
     let t = both_none own (args_shapes class posonly) s.0 in
     (t.1, s.1, r.1, q.1, p.1)
+
+-- no wrong shape in the element of a comprehension and in its clauses, of which there is one
+one_valid : (class : Option (List ℕ)) (elt : tree.Expr) (gs : tree.Generators) → when (not (has_generator gs)) shape.NoGenerator ++ expr_shapes class elt ++ generators_shapes class gs ≡ [] → (not (has_generator gs) ≡ false) × (expr_shapes class elt ≡ []) × (generators_shapes class gs ≡ [])
+one_valid class elt gs h =
+    let none = when (not (has_generator gs)) shape.NoGenerator in
+    let p = both_none (none ++ expr_shapes class elt) (generators_shapes class gs) h in
+    let q = both_none none (expr_shapes class elt) p.0 in
+    (unless (not (has_generator gs)) shape.NoGenerator q.0, q.1, p.1)
 
 module _ (class : Option (List ℕ)) where
   mutual
@@ -124,6 +130,22 @@ module _ (class : Option (List ℕ)) where
         let even = not_false (nat_eq (opt_count keys) (count others)) (unless (not (nat_eq (opt_count keys) (count others))) shape.UnevenLists q.0) in
         at_ends at (even_dict_ends c at keys others ((λ i. nat_eq (as_many_keys keys i) (as_many_values others i)) ∙ even) (opts_end c keys q.1) (exprs_end c others p.1))
     expr_ends c (tree.Set at elts) h = displayed_ends c at op.BuildSet op.BuildSetUnpack elts (exprs_end c elts h)
+    expr_ends c (tree.ListComp at elt gs) h =
+        let s = one_valid class elt gs h in
+        at_ends at (gather_ends c at (some_async gs) (codes "<listcomp>") op.BuildList op.ListAppend elt gs s.0 (λ n. expr_ends (scope_around c.context n) elt s.1) (clauses_ending c gs s.2))
+    expr_ends c (tree.SetComp at elt gs) h =
+        let s = one_valid class elt gs h in
+        at_ends at (gather_ends c at (some_async gs) (codes "<setcomp>") op.BuildSet op.SetAdd elt gs s.0 (λ n. expr_ends (scope_around c.context n) elt s.1) (clauses_ending c gs s.2))
+    expr_ends c (tree.DictComp at key value gs) h =
+        let none = when (not (has_generator gs)) shape.NoGenerator in
+        let p = both_none (none ++ expr_shapes class key ++ expr_shapes class value) (generators_shapes class gs) h in
+        let q = both_none (none ++ expr_shapes class key) (expr_shapes class value) p.0 in
+        let r = both_none none (expr_shapes class key) q.0 in
+        let some = unless (not (has_generator gs)) shape.NoGenerator r.0 in
+        at_ends at (gather_pairs_end c at (some_async gs) (codes "<dictcomp>") key value gs some (λ n. expr_ends (scope_around c.context n) key r.1) (λ n. expr_ends (scope_around c.context n) value q.1) (clauses_ending c gs p.1))
+    expr_ends c (tree.GeneratorExp at elt gs) h =
+        let s = one_valid class elt gs h in
+        at_ends at (generate_ends c at (some_async gs || awaits elt) (codes "<genexpr>") elt gs s.0 (λ n. expr_ends (scope_around c.context n) elt s.1) (clauses_ending c gs s.2))
     expr_ends c (tree.Await at value) h = at_ends at (refusal_ends error.InvalidAwait (faults_in (in_function c) value).value)
     expr_ends c (tree.Yield at value) h =
         at_ends at (function_ends error.InvalidYield (then_ends generating_passes (last_ends (value_or_ends c at const.none value (opt_ends c value h)) (emit_passes op.YieldValue 0))))
@@ -165,11 +187,27 @@ module _ (class : Option (List ℕ)) where
         let p = both_none (opt_expr_shapes class lower ++ opt_expr_shapes class upper) (opt_expr_shapes class step) h in
         let q = both_none (opt_expr_shapes class lower) (opt_expr_shapes class upper) p.0 in
         at_ends at (slice_ends c at lower upper step (opt_ends c lower q.0) (opt_ends c upper q.1) (opt_ends c step p.1))
-    expr_ends c other h = unbuilt_ends (tree.expr_location other)
 
     pub exprs_end : (c : Around) (es : tree.Exprs) → exprs_shapes class es ≡ [] → AllEnding c es
     exprs_end c tree.no_exprs h = tt
     exprs_end c (tree.more_exprs e es) h = let p = both_none (expr_shapes class e) (exprs_shapes class es) h in (expr_ends c e p.0, exprs_end c es p.1)
+
+    -- the clauses of a comprehension, whose first iterable stands outside
+    clauses_ending : (c : Around) (gs : tree.Generators) → generators_shapes class gs ≡ [] → ClausesEnding c gs
+    clauses_ending c tree.no_generators h = tt
+    clauses_ending c (tree.more_generators target iter ifs is_async gs) h =
+        let p = both_none (expr_shapes class target ++ expr_shapes class iter ++ exprs_shapes class ifs) (generators_shapes class gs) h in
+        let q = both_none (expr_shapes class target ++ expr_shapes class iter) (exprs_shapes class ifs) p.0 in
+        let r = both_none (expr_shapes class target) (expr_shapes class iter) q.0 in
+        (expr_ends c iter r.1, (λ n. let d = scope_around c.context n in ((λ m. store_ends d m target r.0), exprs_end d ifs q.1, further_ending d gs p.1)))
+
+    further_ending : (c : Around) (gs : tree.Generators) → generators_shapes class gs ≡ [] → FurtherEnding c gs
+    further_ending c tree.no_generators h = tt
+    further_ending c (tree.more_generators target iter ifs is_async gs) h =
+        let p = both_none (expr_shapes class target ++ expr_shapes class iter ++ exprs_shapes class ifs) (generators_shapes class gs) h in
+        let q = both_none (expr_shapes class target ++ expr_shapes class iter) (exprs_shapes class ifs) p.0 in
+        let r = both_none (expr_shapes class target) (expr_shapes class iter) q.0 in
+        (expr_ends c iter r.1, (λ m. store_ends c m target r.0), exprs_end c ifs q.1, further_ending c gs p.1)
 
     opt_ends : (c : Around) (o : tree.OptExpr) → opt_expr_shapes class o ≡ [] → OptEnding c o
     opt_ends c tree.no_expr h = tt

@@ -31,6 +31,7 @@ use Rattle.py_refusing.proofs.RefusingTests.{TestEnds, choice_ends, turn_ends}
 use Rattle.py_refusing.proofs.RefusingExprs.{both_none, expr_ends, exprs_end, store_ends}
 use Rattle.py_refusing.proofs.RefusingChanges.{deletions_end, assign_ends, augment_ends, annotated_ends}
 use Rattle.py_refusing.proofs.ControlEnds.{assert_ends, for_ends, handler_ends, items_end_so, match_ends, named_body_ends, raise_ends, try_ends, while_ends}
+use Rattle.py_refusing.proofs.RefusingImports.{from_ends, import_ends}
 use Rattle.py_refusing.proofs.DefEnds.{decorated_ends, def_ends, function_setting, returning_passes}
 
 -- whether there is a loop
@@ -147,6 +148,8 @@ module _ (class : Option (List ℕ)) where
     stmt_ends c p (tree.Assert at t msg) h =
         let s = both_none (expr_shapes class t) (opt_expr_shapes class msg) h in
         moved_ends at (assert_ends class c at t msg s.0 s.1)
+    stmt_ends c p (tree.Import at names) h = moved_ends at (import_ends c at names)
+    stmt_ends c p (tree.ImportFrom at path names level) h = moved_ends at (from_ends c at path names level)
     stmt_ends c p (tree.Global at names) h = unkept_ends (move at) (moved_ends at nothing_passes)
     stmt_ends c p (tree.Nonlocal at names) h = unkept_ends (move at) (moved_ends at nothing_passes)
     stmt_ends c p (tree.StmtExpr at v) h = moved_ends at (last_ends ((expr_ends class c v h).value at) (emit_passes op.Pop 0))

@@ -5,9 +5,11 @@ pub mod SmallOperators
 pub mod SmallCalls
 pub mod SmallTargets
 pub mod SmallFunctions
+pub mod SmallComprehensions
 pub mod ParamSizes
 pub mod Sizes
 pub mod SmallAssigns
 pub mod SmallNotes
+pub mod SmallImports
 pub mod SmallStmts
 pub mod ProgramSizes

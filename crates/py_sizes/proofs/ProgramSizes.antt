@@ -1,24 +1,29 @@
 -- What the whole code of a scope weighs, of a program, of a lambda and of a function: at most sixteen for each unit of size, and two more for what ends a function.
 use Rattle.std.proofs.Common.{ℕ, ◌+◌, ◌*◌, ◌^◌, ◌<◌, ◌≤◌, ◌≡◌, List, [], Bool, true, false, Option, Some, None, refl, arith, append-nil}
-use Rattle.std.specs.Prelude.{nat_lt, if◌then◌else◌}
+use Rattle.std.specs.Prelude.{codes, nat_lt, if◌then◌else◌}
 use Rattle.py_tree.specs.Tree as tree
-use Rattle.py_limits.specs.Size.{expr_size, stmt_size, stmts_size, size_of}
+use Rattle.py_limits.specs.Size.{expr_size, exprs_size, generators_size, stmt_size, stmts_size, size_of}
 use Rattle.py_tree.specs.declared.modules.Mode.{Mode}
+use Rattle.py_bytecode.specs.declared.instruction.Instruction.{Instruction}
+use Rattle.py_bytecode.specs.declared.instruction.Instruction.TheVariants as op
 use Rattle.py_bytecode.specs.Objects.{Object}
-use Rattle.py_forms.specs.Form.{Interp, SForm, SReturn, Scope, MkScope}
+use Rattle.py_forms.specs.Form.{Interp, VLoad, VNone, VMore, FixedFast, SForm, SReturn, Scope, MkScope}
 use Rattle.py_forms.specs.Fit.{Loops}
 use Rattle.py_forms.specs.Agree.{exactly, form_of}
-use Rattle.py_forms.specs.Code.{closes, closing, labels, code, code_v, body_code}
+use Rattle.py_forms.specs.Code.{closes, closing, labels, labels_v, code, code_v, body_code}
 use Rattle.py_scope.specs.declared.flat.ScopeEntry.{ScopeEntry}
 use Rattle.py_steps.specs.Context.{Context, head_of, outermost}
 use Rattle.py_emission.specs.Texts.{after_doc, doc_of, first_text, stmt_text, unless_text}
 use Rattle.py_meaning.specs.Meaning.{body, mod_form}
 use Rattle.py_meaning.specs.StmtParts.{after_stmt, annotated, but_doc, is_last_return, unless_last}
-use Rattle.py_meaning.specs.Table.{expr_form, expr_forms}
+use Rattle.py_meaning.specs.Table.{after, after_all, clause_forms, expr_form, expr_forms, filter_forms, further_forms, target_forms}
+use Rattle.py_meaning.specs.TableScopes.{gathered, generated, iterator}
 use Rattle.py_meaning.specs.TableStmts.{doc_form, ended_form, function_body, setup_form, stmt_form}
 use Rattle.py_adds.proofs.Burden.{burden, burden-append}
-use Rattle.py_sizes.proofs.Sizes.{expr_small}
+use Rattle.py_sizes.proofs.Sizes.{expr_small, target_small}
 use Rattle.py_sizes.proofs.SmallAssigns.{CodeSmall}
+use Rattle.py_sizes.proofs.SmallComprehensions.{ClausesSmall, FiltersSmall, each_small, gathered_small, generated_small, handed_small, iterator_small, more_filter_small, no_clause_small, no_filter_small}
+use Rattle.py_sizes.proofs.SmallFunctions.{PartsWithin}
 use Rattle.py_sizes.proofs.SmallStmts.{return_small, stmt_small, stmts_small}
 
 -- no statement is without a size
@@ -120,4 +125,62 @@ lambda_small d c n e small =
 pub function_small : (d : Scope → Object) (c : Context) (n : ℕ) (stmts : tree.Stmts) → stmts_size stmts < 2 ^ 22 → burden (body_code (exactly d (MkScope (head_of c) (function_body c n stmts))) (function_body c n stmts)) < 2 ^ 27
 function_small d c n stmts small =
     let p = run_small (exactly d (MkScope (head_of c) (function_body c n stmts))) c n stmts in
+    omega (arith, p, small)
+
+module _ (i : Interp Object) (c : Context) where
+  conditions_small : (k : ℕ) (ifs : tree.Exprs) → FiltersSmall i (filter_forms c k ifs) (exprs_size ifs)
+  conditions_small k tree.no_exprs = no_filter_small i 0
+  conditions_small k (tree.more_exprs e es) = more_filter_small i (expr_forms c k e).test (filter_forms c (after c k e) es) (expr_size e) (exprs_size es) (expr_small i c k e).test (conditions_small (after c k e) es)
+
+  further_small : (k : ℕ) (gs : tree.Generators) → ClausesSmall i (further_forms c k gs) (generators_size gs)
+  further_small k tree.no_generators = no_clause_small i
+  further_small k (tree.more_generators target iter ifs is_async gs) =
+      let m = after c k iter in
+      let l = after c m target in
+      let f = (expr_forms c k iter).value in
+      let loop = iterator_small i f (expr_size iter) (expr_small i c k iter).value in
+      each_small i (iterator f) (target_forms c m target).alone (filter_forms c l ifs) (further_forms c (after_all c l ifs) gs) (expr_size iter) (expr_size target) (exprs_size ifs) (generators_size gs) loop (target_small i c m target).alone (conditions_small l ifs) (further_small (after_all c l ifs) gs)
+
+  clauses_small : (k : ℕ) (gs : tree.Generators) → ClausesSmall i (clause_forms c k gs) (generators_size gs)
+  clauses_small k tree.no_generators = no_clause_small i
+  clauses_small k (tree.more_generators target iter ifs is_async gs) =
+      let l = after c k target in
+      let loop = handed_small i FixedFast (codes ".0") (expr_size iter) in
+      each_small i (VLoad FixedFast (codes ".0")) (target_forms c k target).alone (filter_forms c l ifs) (further_forms c (after_all c l ifs) gs) (expr_size iter) (expr_size target) (exprs_size ifs) (generators_size gs) loop (target_small i c k target).alone (conditions_small l ifs) (further_small (after_all c l ifs) gs)
+
+  pair_small : (k m : ℕ) (e f : tree.Expr) → PartsWithin i (VMore (expr_forms c k e).value (VMore (expr_forms c m f).value VNone)) (16 * (expr_size e + expr_size f))
+  pair_small k m e f n =
+      let p = (expr_small i c k e).value n in
+      let q = (expr_small i c m f).value (n + labels_v (expr_forms c k e).value) in
+      simp burden-append (omega (arith, p, q))
+
+  element_small : (k : ℕ) (e : tree.Expr) → PartsWithin i (VMore (expr_forms c k e).value VNone) (16 * expr_size e)
+  element_small k e n = let p = (expr_small i c k e).value n in simp burden-append (omega (arith, p))
+
+  -- the whole codes of comprehensions
+  elements_small : (k m : ℕ) (build append : Instruction) (elt : tree.Expr) (gs : tree.Generators) → burden (body_code i (gathered build append (clause_forms c k gs) (VMore (expr_forms c m elt).value VNone))) ≤ 16 * (expr_size elt + generators_size gs + 1)
+  elements_small k m build append elt gs = gathered_small i build append (clause_forms c k gs) (VMore (expr_forms c m elt).value VNone) (expr_size elt) (generators_size gs) (element_small m elt) (clauses_small k gs)
+
+  pairs_small : (k m l : ℕ) (key value : tree.Expr) (gs : tree.Generators) → burden (body_code i (gathered op.BuildMap op.MapAdd (clause_forms c k gs) (VMore (expr_forms c m key).value (VMore (expr_forms c l value).value VNone)))) ≤ 16 * (expr_size key + expr_size value + generators_size gs + 1)
+  pairs_small k m l key value gs = gathered_small i op.BuildMap op.MapAdd (clause_forms c k gs) (VMore (expr_forms c m key).value (VMore (expr_forms c l value).value VNone)) (expr_size key + expr_size value) (generators_size gs) (pair_small m l key value) (clauses_small k gs)
+
+  given_small : (k m : ℕ) (elt : tree.Expr) (gs : tree.Generators) → burden (body_code i (generated (clause_forms c k gs) (expr_forms c m elt).value)) ≤ 16 * (expr_size elt + generators_size gs + 1)
+  given_small k m elt gs = generated_small i (clause_forms c k gs) (expr_forms c m elt).value (expr_size elt) (generators_size gs) (expr_small i c m elt).value (clauses_small k gs)
+
+-- a comprehension that adds each element to a collection
+pub element_comp_small : (d : Scope → Object) (c : Context) (n m : ℕ) (build append : Instruction) (elt : tree.Expr) (gs : tree.Generators) → expr_size elt + generators_size gs < 2 ^ 22 → burden (body_code (exactly d (MkScope (head_of c) (gathered build append (clause_forms c n gs) (VMore (expr_forms c m elt).value VNone)))) (gathered build append (clause_forms c n gs) (VMore (expr_forms c m elt).value VNone))) < 2 ^ 27
+element_comp_small d c n m build append elt gs small =
+    let p = elements_small (exactly d (MkScope (head_of c) (gathered build append (clause_forms c n gs) (VMore (expr_forms c m elt).value VNone)))) c n m build append elt gs in
+    omega (arith, p, small)
+
+-- one that adds each value at its key
+pub dict_comp_small : (d : Scope → Object) (c : Context) (n m l : ℕ) (key value : tree.Expr) (gs : tree.Generators) → expr_size key + expr_size value + generators_size gs < 2 ^ 22 → burden (body_code (exactly d (MkScope (head_of c) (gathered op.BuildMap op.MapAdd (clause_forms c n gs) (VMore (expr_forms c m key).value (VMore (expr_forms c l value).value VNone))))) (gathered op.BuildMap op.MapAdd (clause_forms c n gs) (VMore (expr_forms c m key).value (VMore (expr_forms c l value).value VNone)))) < 2 ^ 27
+dict_comp_small d c n m l key value gs small =
+    let p = pairs_small (exactly d (MkScope (head_of c) (gathered op.BuildMap op.MapAdd (clause_forms c n gs) (VMore (expr_forms c m key).value (VMore (expr_forms c l value).value VNone))))) c n m l key value gs in
+    omega (arith, p, small)
+
+-- and a generator
+pub generator_small : (d : Scope → Object) (c : Context) (n m : ℕ) (elt : tree.Expr) (gs : tree.Generators) → expr_size elt + generators_size gs < 2 ^ 22 → burden (body_code (exactly d (MkScope (head_of c) (generated (clause_forms c n gs) (expr_forms c m elt).value))) (generated (clause_forms c n gs) (expr_forms c m elt).value)) < 2 ^ 27
+generator_small d c n m elt gs small =
+    let p = given_small (exactly d (MkScope (head_of c) (generated (clause_forms c n gs) (expr_forms c m elt).value))) c n m elt gs in
     omega (arith, p, small)

@@ -3,7 +3,7 @@ use Rattle.std.proofs.Common.{ℕ, suc, ◌+◌, ◌*◌, ◌≤◌, List, [], �
 use Rattle.std.specs.Prelude.{codes, if◌then◌else◌}
 use Rattle.py_tree.specs.Tree as tree
 use Rattle.py_base.specs.declared.location.SourceLocation.{SourceLocation}
-use Rattle.py_limits.specs.Size.{arguments_size, expr_size, exprs_size, opt_expr_size, key_size, keys_size, keywords_size}
+use Rattle.py_limits.specs.Size.{arguments_size, expr_size, exprs_size, opt_expr_size, key_size, keys_size, keywords_size, generators_size}
 use Rattle.py_bytecode.specs.declared.instruction.Instruction.{Instruction}
 use Rattle.py_bytecode.specs.declared.instruction.Instruction.TheVariants as op
 use Rattle.py_bytecode.specs.Objects as const
@@ -15,7 +15,7 @@ use Rattle.py_forms.specs.Code.{labels_v}
 use Rattle.py_steps.specs.TableParts.{ExprForms, tested, values, elements, parts_of, conversion_case, counted, named, binary, display, value_or, debug_constant, is_debug, no_operand, unpacked_to}
 use Rattle.py_steps.specs.Children.{lambda_inside}
 use Rattle.py_steps.specs.Context.{Context, head_of, mangled}
-use Rattle.py_meaning.specs.Table.{after, after_all, after_args, after_defaults, after_opt, after_key, after_value, but_first_key, but_first_value, expr_forms, all_forms, opt_form, key_forms, value_forms, default_forms, positional_defaults, keyword_defaults, keyword_forms, target_forms, all_targets, unbuilt}
+use Rattle.py_meaning.specs.Table.{after, after_all, after_args, after_clauses, after_defaults, after_opt, after_key, after_value, but_first_key, but_first_value, expr_forms, all_forms, opt_form, key_forms, value_forms, default_forms, positional_defaults, keyword_defaults, keyword_forms, target_forms, all_targets, first_iterable, unbuilt}
 use Rattle.py_meaning.specs.TableScopes.{Defaults, default_flags, default_parts}
 use Rattle.py_adds.proofs.Burden.{burden-append}
 use Rattle.py_sizes.proofs.Together.{Together, Possible, OneElement, join_together}
@@ -25,6 +25,7 @@ use Rattle.py_sizes.proofs.SmallDisplays.{display_small, dict_small, value_or_sm
 use Rattle.py_sizes.proofs.SmallCalls.{KeywordSmall, call_small}
 use Rattle.py_sizes.proofs.SmallTargets.{store_small, drop_small, put_one_small, put_two_small, unpack_small, keep_small}
 use Rattle.py_sizes.proofs.SmallFunctions.{NotedSmall, defaults_small, make_small, yield_small, yield_from_small}
+use Rattle.py_sizes.proofs.SmallComprehensions.{called_small}
 use Rattle.py_sizes.proofs.ParamSizes.{default_size, positional_size, keyword_size, params_shared}
 
 -- no expression is without a size
@@ -50,7 +51,7 @@ module _ (i : Interp Object) where
   displayed_small : (at : SourceLocation) (build unpack : Instruction) (fs : List ExprForms) (s : ℕ) → Together (Small i) fs s → Small i (tested (VAt at (display build unpack (elements fs)))) (s + 1)
   displayed_small at build unpack fs s h = tested_small i (VAt at (display build unpack (elements fs))) (s + 1) (display_small i build unpack (elements fs) s (elements_small i fs s h))
 
-  -- a constant stands for what is not compiled yet
+  -- a constant stands for what is never compiled
   unbuilt_small : (at : SourceLocation) (s : ℕ) → 1 ≤ s → Small i (unbuilt at) s
   unbuilt_small at s some = tested_small i (VAt at no_operand) s (λ n. omega (arith, some))
 
@@ -85,6 +86,14 @@ module _ (i : Interp Object) where
     expr_small c k (tree.Dict at keys others) =
         tested_small i _ _ (dict_small i (key_forms c k keys others) (value_forms c k keys others) (keys_size keys) (exprs_size others) (keys_small c k keys others) (dict_values_small c k keys others))
     expr_small c k (tree.Set at elts) = displayed_small at op.BuildSet op.BuildSetUnpack (all_forms c k elts) (exprs_size elts) (exprs_small c k elts)
+    expr_small c k (tree.ListComp at elt gs) = let m = after c (after_clauses c (suc k) gs) elt in called_small i _ _ _ _ (expr_size elt + generators_size gs) (first_small c m (expr_size elt) gs (expr_some elt))
+    expr_small c k (tree.SetComp at elt gs) = let m = after c (after_clauses c (suc k) gs) elt in called_small i _ _ _ _ (expr_size elt + generators_size gs) (first_small c m (expr_size elt) gs (expr_some elt))
+    expr_small c k (tree.DictComp at key value gs) =
+        let some = expr_some key in
+        let m = after c (after c (after_clauses c (suc k) gs) key) value in
+        called_small i _ _ _ _ (expr_size key + expr_size value + generators_size gs) (first_small c m (expr_size key + expr_size value) gs (omega (arith, some)))
+    expr_small c k (tree.GeneratorExp at elt gs) = let m = after c (after_clauses c (suc k) gs) elt in called_small i _ _ _ _ (expr_size elt + generators_size gs) (first_small c m (expr_size elt) gs (expr_some elt))
+    expr_small c k (tree.Await at value) = unbuilt_small at (expr_size value + 1) (omega arith)
     expr_small c k (tree.Yield at value) = tested_small i _ _ (yield_small i (opt_form c k value) (opt_expr_size value) (opt_small c k value))
     expr_small c k (tree.YieldFrom at value) = tested_small i _ _ (yield_from_small i (expr_forms c k value).value (expr_size value) (expr_small c k value).value)
     expr_small c k (tree.Compare at left ops others) =
@@ -124,7 +133,6 @@ module _ (i : Interp Object) where
         let m = after_opt c k lower in
         let l = after_opt c m upper in
         tested_small i _ _ (slice_small i (opt_form c k lower) (opt_form c m upper) (opt_form c l step) (opt_expr_size lower) (opt_expr_size upper) (opt_expr_size step) (opt_small c k lower) (opt_small c m upper) (opt_small c l step))
-    expr_small c k other = unbuilt_small (tree.expr_location other) (expr_size other) (expr_some other)
 
     pub exprs_small : (c : Context) (k : ℕ) (ts : tree.Exprs) → Together (Small i) (all_forms c k ts) (exprs_size ts)
     exprs_small c k tree.no_exprs = tt
@@ -133,6 +141,11 @@ module _ (i : Interp Object) where
     opt_small : (c : Context) (k : ℕ) (o : tree.OptExpr) → Possible (FormSmall i) (opt_form c k o) (opt_expr_size o)
     opt_small c k tree.no_expr = tt
     opt_small c k (tree.some_expr t) = (expr_small c k t).value
+
+    -- the iterable of the first clause, or what stands for it where there is no clause
+    first_small : (c : Context) (k s : ℕ) (gs : tree.Generators) → 1 ≤ s → FormSmall i (first_iterable c k gs) (s + generators_size gs)
+    first_small c k s tree.no_generators some n = omega (arith, some)
+    first_small c k s (tree.more_generators target iter ifs is_async gs) some n = let p = (expr_small c k iter).value n in omega (arith, p)
 
     -- a key that is missing needs nothing
     key_small : (c : Context) (k : ℕ) (o : tree.OptExpr) → Possible (FormSmall i) (opt_form c k o) (key_size o)

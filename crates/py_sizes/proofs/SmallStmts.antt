@@ -20,6 +20,7 @@ use Rattle.py_meaning.specs.TableStmts.{function_body, handler_forms, stmt_form,
 use Rattle.py_adds.proofs.Burden.{burden, burden-append}
 use Rattle.py_sizes.proofs.Sizes.{expr_small, target_small}
 use Rattle.py_sizes.proofs.SmallAssigns.{CodeSmall, removals_small, assign_small, augment_small, declare_small}
+use Rattle.py_sizes.proofs.SmallImports.{from_small, import_small}
 use Rattle.py_sizes.proofs.SmallNotes.{def_small}
 
 -- what returns a value is one instruction more at most
@@ -174,6 +175,8 @@ module _ (i : Interp Object) (c : Context) where
         let r = stmts_small (after_stmts c l orelse) (tree.more_stmts d ds) x (o + labels (stmts_form c l orelse)) in
         simp burden-append (omega (arith, p, h, q, simp burden-append at r))
     stmt_small k (tree.Assert at t msg) x n = assert_small (nat_eq c.level 0) k t msg x n
+    stmt_small k (tree.Import at names) x n = let p = import_small i c names x n in omega (arith, p)
+    stmt_small k (tree.ImportFrom at path names level) x n = let p = from_small i c path names level x n in omega (arith, p)
     stmt_small k (tree.StmtExpr at v) x n = let p = (expr_small i c k v).value n in simp burden-append (omega (arith, p))
     stmt_small k (tree.Break at) x n = omega arith
     stmt_small k (tree.Continue at) x n = omega arith
