@@ -15,6 +15,10 @@ use Rattle.py_bytecode.specs.Values.{Answer}
 use Rattle.py_bytecode.specs.Machine.{Config, At, Over, steps, start}
 use Rattle.py_bytecode.specs.Decode.{tables}
 use Rattle.py_bytecode.specs.Units.{fetch_unit, machine}
+use Rattle.py_walks.specs.Sound.{code_look}
+use Rattle.py_walks.specs.Walks.{IsDepth}
+use Rattle.py_walks.specs.declared.info.InstructionInfo.{InstructionInfo}
+use Rattle.py_layout.specs.Written.{IsAssembled}
 use Rattle.py_forms.specs.Laws.{IsEnd}
 use Rattle.py_meaning.specs.ExprFaults.{Fault}
 use Rattle.py_steps.specs.Emitting.{Outcome, Refused}
@@ -27,6 +31,8 @@ abbrev pub stack_height : {K P : Type 0} → Config K P → ℕ
 stack_height (At p s bs slot w) = length s
 stack_height (Over events o) = 0
 
+-- what follows is said of one code object, and holds of each within it where it holds everywhere
+
 -- no state of a run is higher than the code object says
 abbrev pub NoHigher : Object → Type 0
 NoHigher o =
@@ -35,6 +41,25 @@ NoHigher o =
 -- every run returns, raises or stops for want of an answer
 abbrev pub AlwaysEnds : Object → Type 0
 AlwaysEnds o = (answers : List Answer) → IsEnd (machine o answers).outcome
+
+-- the height that the code object says is the greatest on a walk
+abbrev pub HasExactDepth : Object → Type 0
+HasExactDepth o = IsDepth (code_look o) 0 (head o).max_stackdepth
+
+-- the code object names this path
+abbrev pub NamesPath : List ℕ → Object → Type 0
+NamesPath path o = (head o).source_path ≡ path
+
+-- each unit has a location
+abbrev pub IsLocated : Object → Type 0
+IsLocated o = length (head o).locations ≡ length (head o).instructions
+
+abbrev pub HasFewUnits : Object → Type 0
+HasFewUnits o = length (head o).instructions < 2 ^ 32
+
+-- the units and locations are those of some instructions in the least widths, where each jump goes to where one of them begins
+abbrev pub InLeastWidths : Object → Type 0
+InLeastWidths o = (starts : List ℕ) × (items : List InstructionInfo) × IsAssembled starts items (head o).instructions (head o).locations
 
 -- the scopes have few symbols together
 abbrev pub HasFewSymbols : List ScopeEntry → Type 0

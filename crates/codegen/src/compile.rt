@@ -1,16 +1,18 @@
 //! The compile calls.
 
-ghost use Rattle.std.specs.Prelude.{◌≡◌, [], ◌<◌, ◌^◌, None, IfOk, IfErr, OnOk, length};
+ghost use Rattle.std.specs.Prelude.{◌≡◌, [], ◌<◌, ◌^◌, None, IfOk, IfErr, OnOk};
 ghost use Rattle.py_limits.specs.Size.{size_of};
 ghost use Rattle.py_tree.specs.View.{mod_tree};
 ghost use Rattle.py_bytecode.specs.View.{object};
 ghost use Rattle.py_forms.specs.Agreement.{Agree, AgreeFull};
+ghost use Rattle.py_steps.specs.Everywhere.{Everywhere};
+ghost use Rattle.py_walks.specs.Sound.{sound};
 ghost use Rattle.py_steps.specs.Context.{outermost};
 ghost use Rattle.py_meaning.specs.EmissionStmts.{emission_of_mod, emitted, unbuilt_tree};
 ghost use Rattle.py_meaning.specs.Faults.{faults};
 ghost use Rattle.py_meaning.specs.Meaning.{body};
 ghost use Rattle.py_meaning.specs.Scanned.{scan_faults, scopes_of};
-ghost use Rattle.codegen.specs.Compiled.{AlwaysEnds, HasFewSymbols, IsFirst, IsRefused, IsScan, IsScanned, NoHigher, around_tree};
+ghost use Rattle.codegen.specs.Compiled.{AlwaysEnds, HasExactDepth, HasFewSymbols, HasFewUnits, InLeastWidths, IsFirst, IsLocated, IsRefused, IsScan, IsScanned, NamesPath, NoHigher, around_tree};
 ghost use Rattle.py_emit.specs.Emitted.{IsEmitted};
 ghost use Rattle.py_emit.specs.States.{AreMade, Goes, Same, rest, state};
 
@@ -49,10 +51,14 @@ pub fn compile_top(
     ensures agrees { IfOk result (λ code. Agree (object code) (body (scopes_of (mod_tree ast.now)) (mod_tree ast.now) mode opts.optimize)) }
     ensures agrees_full { IfOk result (λ code. AgreeFull (object code) (body (scopes_of (mod_tree ast.now)) (mod_tree ast.now) mode opts.optimize)) }
     ensures emission { IfOk result (λ code. IsEmitted code (around_tree (mod_tree ast.now) source_path opts.optimize) (emitted (mod_tree ast.now) (around_tree (mod_tree ast.now) source_path opts.optimize))) }
-    ensures ends { IfOk result (λ code. AlwaysEnds (object code)) }
-    ensures depth { IfOk result (λ code. NoHigher (object code)) }
-    ensures named { IfOk result (λ code. code.source_path ≡ source_path) }
-    ensures located { IfOk result (λ code. length code.locations ≡ length code.instructions) }
+    ensures ends { IfOk result (λ code. Everywhere AlwaysEnds (object code)) }
+    ensures sound { IfOk result (λ code. Everywhere sound (object code)) }
+    ensures depth { IfOk result (λ code. Everywhere NoHigher (object code)) }
+    ensures exact { IfOk result (λ code. Everywhere HasExactDepth (object code)) }
+    ensures named { IfOk result (λ code. Everywhere (NamesPath source_path) (object code)) }
+    ensures located { IfOk result (λ code. Everywhere IsLocated (object code)) }
+    ensures units { IfOk result (λ code. Everywhere HasFewUnits (object code)) }
+    ensures widths { IfOk result (λ code. Everywhere InLeastWidths (object code)) }
     ensures clean { OnOk result (faults (mod_tree ast.now) mode opts.optimize ≡ []) }
     ensures first { IfErr result (λ e. IsFirst e (faults (mod_tree ast.now) mode opts.optimize)) }
     ensures path { IfErr result (λ e. e.source_path ≡ source_path) }

@@ -1,31 +1,32 @@
-use Rattle.std.proofs.Common.{◌≡◌, ℕ, ◌≤◌, ◌<◌, ◌^◌, List, [], length, true, false, Option, None, Some, Result, Ok, Err, IfOk, IfErr, OnOk, sym, ◌∙◌}
+use Rattle.std.proofs.Common.{◌≡◌, ℕ, ◌≤◌, ◌<◌, ◌^◌, List, [], true, false, Option, None, Some, Result, Ok, Err, IfOk, IfErr, OnOk, sym, ◌∙◌}
 use Rattle.std.specs.Option.{is_some}
 use Rattle.py_limits.specs.Limits.{IsBelow}
 use Rattle.py_limits.specs.Size.{size_of}
 use Rattle.py_limits.specs.Nesting.{nesting}
 use Rattle.py_tree.specs.View.{mod_tree}
+use Rattle.py_bytecode.specs.Objects.{Object}
 use Rattle.py_bytecode.specs.View.{object}
+use Rattle.py_tree.specs.declared.modules.Mode.{Mode}
+use Rattle.py_forms.specs.Form.{Scope}
 use Rattle.py_forms.specs.Agreement.{Agree, AgreeFull}
+use Rattle.py_steps.specs.Everywhere.{Everywhere}
+use Rattle.py_forms.proofs.CodeObjects.{objects_agree}
 use Rattle.py_meaning.specs.EmissionStmts.{emitted}
 use Rattle.py_meaning.specs.Faults.{faults}
 use Rattle.py_meaning.specs.Meaning.{body}
 use Rattle.py_bytecode.specs.declared.code.CodeObject.{CodeObject}
-use Rattle.py_scope.specs.declared.flat.ScopeEntry.{ScopeEntry}
 use Rattle.py_tree.specs.Tree as tree
-use Rattle.py_steps.specs.Context.{inside, outermost, room}
-use Rattle.py_steps.specs.Emitting.{Outcome}
 use Rattle.py_meaning.specs.Scanned.{scan_faults, scopes_of}
-use Rattle.codegen.specs.Compiled.{AlwaysEnds, HasFewSymbols, IsFirst, IsScanned, NoHigher, around_tree}
+use Rattle.codegen.specs.Compiled.{AlwaysEnds, HasExactDepth, HasFewSymbols, HasFewUnits, InLeastWidths, IsFirst, IsLocated, IsScanned, NamesPath, NoHigher, around_tree}
 use Rattle.py_emit.specs.Emitted.{IsEmitted}
-use Rattle.codegen.proofs.Agreeing.{agrees}
+use Rattle.py_walks.specs.Sound.{sound}
+use Rattle.py_adds.proofs.Codes.{MadeFrom}
+use Rattle.py_adds.proofs.WellMade.{WellMade, everywhere_so}
+use Rattle.codegen.proofs.Agreeing.{made_from_scope}
+use Rattle.codegen.proofs.Heights.{no_higher}
 use Rattle.codegen.proofs.Made.{few_everywhere}
-use Rattle.py_agree.proofs.Described.{locations_are, path_is}
 use Rattle.codegen.proofs.Firsts.{deep_first, large_first, malformed_first, refused_first, emitted_clean}
 use Rattle.codegen.proofs.compile.compile_top.Goals as goal
-
-on_ok : {T E : Type 0} (r : Result T E) (P Q : T → Type 0) → ((x : T) → P x → Q x) → IfOk r P → IfOk r Q
-on_ok (Ok x) P Q f p = f x p
-on_ok (Err e) P Q f p = p
 
 on_err : {T E : Type 0} (r : Result T E) (P Q : E → Type 0) → ((x : E) → P x → Q x) → IfErr r P → IfErr r Q
 on_err (Ok x) P Q f p = p
@@ -35,15 +36,14 @@ ok_both : {T E : Type 0} (r : Result T E) (P : T → Type 0) (R Q : Type 0) → 
 ok_both (Ok x) P R Q f p q = f x p q
 ok_both (Err e) P R Q f p q = p
 
--- what holds of a code object that is what is emitted for a tree whose scopes have few symbols
-emitted_so : {E : Type 0} (r : Result CodeObject E) (t : tree.Mod) (path : List ℕ) (l : ℕ) (Q : CodeObject → Type 0) → ((code : CodeObject) → IsEmitted code (around_tree t path l) (emitted t (around_tree t path l)) → ((n : ℕ) → room (scopes_of t) n < 2 ^ 26) → Q code) → IfOk r (λ code. IsEmitted code (around_tree t path l) (emitted t (around_tree t path l))) → OnOk r (HasFewSymbols (scopes_of t)) → IfOk r Q
-emitted_so (Ok code) t path l Q f p q = f code p (few_everywhere (scopes_of t) q)
-emitted_so (Err e) t path l Q f p q = p
+-- what holds of a code object that is made from the scope of a tree, where the scopes have few symbols
+made_so : {E : Type 0} (r : Result CodeObject E) (t : tree.Mod) (path : List ℕ) (m : Mode) (l : ℕ) (Q : Object → Type 0) → size_of t < 2 ^ 22 → ((o : Object) → MadeFrom path (o, body (scopes_of t) t m l) → Q o) → IfOk r (λ code. IsEmitted code (around_tree t path l) (emitted t (around_tree t path l))) → OnOk r (HasFewSymbols (scopes_of t)) → IfOk r (λ code. Q (object code))
+made_so (Ok code) t path m l Q small f p q = f (object code) (made_from_scope code path m l (scopes_of t) t small (few_everywhere (scopes_of t) q) p)
+made_so (Err e) t path m l Q small f p q = p
 
--- the path of what stands around
-source_is : (code : CodeObject) (path : List ℕ) (l : ℕ) (scopes : List ScopeEntry) (o : Outcome) → IsEmitted code (outermost l path scopes) o → code.source_path ≡ path
-unfolding inside
-source_is code path l scopes o e = path_is code (outermost l path scopes) o e
+-- and what holds of it and of each code object within it
+well_so : {E : Type 0} (r : Result CodeObject E) (t : tree.Mod) (path : List ℕ) (m : Mode) (l : ℕ) (Q : Object → Type 0) → size_of t < 2 ^ 22 → ((o : Object) → WellMade path o → Q o) → IfOk r (λ code. IsEmitted code (around_tree t path l) (emitted t (around_tree t path l))) → OnOk r (HasFewSymbols (scopes_of t)) → IfOk r (λ code. Everywhere Q (object code))
+well_so r t path m l Q small f p q = made_so r t path m l (Everywhere Q) small (λ o h. everywhere_so (WellMade path) Q f o h.well) p q
 
 -- a limit that is reached, and one that is not
 at_least : (r : Option ℕ) (limit n : ℕ) → is_some r ≡ false → IsBelow r limit n → limit ≤ n
@@ -71,41 +71,50 @@ returns-in-Some-clause-first c =
     let e = c.refused-in-Some in
     malformed_first e.result t c.args.mode c.args.opts.optimize c.in-Some.shape e.ensures.error e.ensures.location (below c.depth_of_tree.result 1024 (nesting t) c.if-is_none.ensures c.depth_of_tree.ensures) (below c.size_of_tree.result 4194304 (size_of t) c.if-is_none-2.ensures c.size_of_tree.ensures) (sym c.valid.ensures ∙ c.in-Some.is)
 
+-- what is made from the scope of a tree agrees with it, and so does each code object within it
+agree : (path : List ℕ) (o : Object) (s : Scope) → MadeFrom path (o, s) → Agree o s
+agree path o s h n = (objects_agree n o s (h.from n)).1
+
+agree_full : (path : List ℕ) (o : Object) (s : Scope) → MadeFrom path (o, s) → AgreeFull o s
+agree_full path o s h n = (objects_agree n o s (h.from n)).0
+
 pub returns-in-None-clause-agrees : goal.returns-in-None-clause-agrees
 returns-in-None-clause-agrees c =
     let t = mod_tree c.args.ast.now in
     let l = c.args.opts.optimize in
-    emitted_so c.compile_valid.result t c.args.source_path l (λ code. Agree (object code) (body (scopes_of t) t c.args.mode l)) (λ code e few. (agrees code c.args.source_path c.args.mode l (scopes_of t) t (below c.size_of_tree.result 4194304 (size_of t) c.if-is_none-2.ensures c.size_of_tree.ensures) few e).0) c.compile_valid.ensures.emission c.compile_valid.ensures.few
+    let s = body (scopes_of t) t c.args.mode l in
+    made_so c.compile_valid.result t c.args.source_path c.args.mode l (λ o. Agree o s) (below c.size_of_tree.result 4194304 (size_of t) c.if-is_none-2.ensures c.size_of_tree.ensures) (λ o h. agree c.args.source_path o s h) c.compile_valid.ensures.emission c.compile_valid.ensures.few
 
 pub returns-in-None-clause-agrees_full : goal.returns-in-None-clause-agrees_full
 returns-in-None-clause-agrees_full c =
     let t = mod_tree c.args.ast.now in
     let l = c.args.opts.optimize in
-    emitted_so c.compile_valid.result t c.args.source_path l (λ code. AgreeFull (object code) (body (scopes_of t) t c.args.mode l)) (λ code e few. (agrees code c.args.source_path c.args.mode l (scopes_of t) t (below c.size_of_tree.result 4194304 (size_of t) c.if-is_none-2.ensures c.size_of_tree.ensures) few e).1) c.compile_valid.ensures.emission c.compile_valid.ensures.few
+    let s = body (scopes_of t) t c.args.mode l in
+    made_so c.compile_valid.result t c.args.source_path c.args.mode l (λ o. AgreeFull o s) (below c.size_of_tree.result 4194304 (size_of t) c.if-is_none-2.ensures c.size_of_tree.ensures) (λ o h. agree_full c.args.source_path o s h) c.compile_valid.ensures.emission c.compile_valid.ensures.few
 
 pub returns-in-None-clause-ends : goal.returns-in-None-clause-ends
-returns-in-None-clause-ends c =
-    let t = mod_tree c.args.ast.now in
-    let l = c.args.opts.optimize in
-    emitted_so c.compile_valid.result t c.args.source_path l (λ code. AlwaysEnds (object code)) (λ code e few. (agrees code c.args.source_path c.args.mode l (scopes_of t) t (below c.size_of_tree.result 4194304 (size_of t) c.if-is_none-2.ensures c.size_of_tree.ensures) few e).2) c.compile_valid.ensures.emission c.compile_valid.ensures.few
+returns-in-None-clause-ends c = well_so c.compile_valid.result (mod_tree c.args.ast.now) c.args.source_path c.args.mode c.args.opts.optimize AlwaysEnds (below c.size_of_tree.result 4194304 (size_of (mod_tree c.args.ast.now)) c.if-is_none-2.ensures c.size_of_tree.ensures) (λ o w. w.ends) c.compile_valid.ensures.emission c.compile_valid.ensures.few
+
+pub returns-in-None-clause-sound : goal.returns-in-None-clause-sound
+returns-in-None-clause-sound c = well_so c.compile_valid.result (mod_tree c.args.ast.now) c.args.source_path c.args.mode c.args.opts.optimize sound (below c.size_of_tree.result 4194304 (size_of (mod_tree c.args.ast.now)) c.if-is_none-2.ensures c.size_of_tree.ensures) (λ o w. w.sound) c.compile_valid.ensures.emission c.compile_valid.ensures.few
 
 pub returns-in-None-clause-depth : goal.returns-in-None-clause-depth
-returns-in-None-clause-depth c =
-    let t = mod_tree c.args.ast.now in
-    let l = c.args.opts.optimize in
-    emitted_so c.compile_valid.result t c.args.source_path l (λ code. NoHigher (object code)) (λ code e few. (agrees code c.args.source_path c.args.mode l (scopes_of t) t (below c.size_of_tree.result 4194304 (size_of t) c.if-is_none-2.ensures c.size_of_tree.ensures) few e).3) c.compile_valid.ensures.emission c.compile_valid.ensures.few
+returns-in-None-clause-depth c = well_so c.compile_valid.result (mod_tree c.args.ast.now) c.args.source_path c.args.mode c.args.opts.optimize NoHigher (below c.size_of_tree.result 4194304 (size_of (mod_tree c.args.ast.now)) c.if-is_none-2.ensures c.size_of_tree.ensures) (λ o w. no_higher o w.sound) c.compile_valid.ensures.emission c.compile_valid.ensures.few
+
+pub returns-in-None-clause-exact : goal.returns-in-None-clause-exact
+returns-in-None-clause-exact c = well_so c.compile_valid.result (mod_tree c.args.ast.now) c.args.source_path c.args.mode c.args.opts.optimize HasExactDepth (below c.size_of_tree.result 4194304 (size_of (mod_tree c.args.ast.now)) c.if-is_none-2.ensures c.size_of_tree.ensures) (λ o w. w.depth) c.compile_valid.ensures.emission c.compile_valid.ensures.few
 
 pub returns-in-None-clause-named : goal.returns-in-None-clause-named
-returns-in-None-clause-named c =
-    let t = mod_tree c.args.ast.now in
-    let l = c.args.opts.optimize in
-    on_ok c.compile_valid.result (λ code. IsEmitted code (around_tree t c.args.source_path l) (emitted t (around_tree t c.args.source_path l))) (λ code. code.source_path ≡ c.args.source_path) (λ code e. source_is code c.args.source_path l (scopes_of t) (emitted t (around_tree t c.args.source_path l)) e) c.compile_valid.ensures.emission
+returns-in-None-clause-named c = well_so c.compile_valid.result (mod_tree c.args.ast.now) c.args.source_path c.args.mode c.args.opts.optimize (NamesPath c.args.source_path) (below c.size_of_tree.result 4194304 (size_of (mod_tree c.args.ast.now)) c.if-is_none-2.ensures c.size_of_tree.ensures) (λ o w. w.named) c.compile_valid.ensures.emission c.compile_valid.ensures.few
 
 pub returns-in-None-clause-located : goal.returns-in-None-clause-located
-returns-in-None-clause-located c =
-    let t = mod_tree c.args.ast.now in
-    let l = c.args.opts.optimize in
-    on_ok c.compile_valid.result (λ code. IsEmitted code (around_tree t c.args.source_path l) (emitted t (around_tree t c.args.source_path l))) (λ code. length code.locations ≡ length code.instructions) (λ code e. locations_are code (around_tree t c.args.source_path l) (emitted t (around_tree t c.args.source_path l)) e) c.compile_valid.ensures.emission
+returns-in-None-clause-located c = well_so c.compile_valid.result (mod_tree c.args.ast.now) c.args.source_path c.args.mode c.args.opts.optimize IsLocated (below c.size_of_tree.result 4194304 (size_of (mod_tree c.args.ast.now)) c.if-is_none-2.ensures c.size_of_tree.ensures) (λ o w. w.located) c.compile_valid.ensures.emission c.compile_valid.ensures.few
+
+pub returns-in-None-clause-units : goal.returns-in-None-clause-units
+returns-in-None-clause-units c = well_so c.compile_valid.result (mod_tree c.args.ast.now) c.args.source_path c.args.mode c.args.opts.optimize HasFewUnits (below c.size_of_tree.result 4194304 (size_of (mod_tree c.args.ast.now)) c.if-is_none-2.ensures c.size_of_tree.ensures) (λ o w. w.few) c.compile_valid.ensures.emission c.compile_valid.ensures.few
+
+pub returns-in-None-clause-widths : goal.returns-in-None-clause-widths
+returns-in-None-clause-widths c = well_so c.compile_valid.result (mod_tree c.args.ast.now) c.args.source_path c.args.mode c.args.opts.optimize InLeastWidths (below c.size_of_tree.result 4194304 (size_of (mod_tree c.args.ast.now)) c.if-is_none-2.ensures c.size_of_tree.ensures) (λ o w. w.written) c.compile_valid.ensures.emission c.compile_valid.ensures.few
 
 pub returns-in-None-clause-clean : goal.returns-in-None-clause-clean
 returns-in-None-clause-clean c =
