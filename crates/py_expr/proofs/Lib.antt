@@ -6,7 +6,10 @@ pub mod KeptDisplays
 pub mod KeptTargets
 pub mod KeptCalls
 pub mod KeptScopes
+pub mod KeptComprehensions
 pub mod Opening
+pub mod OpenClauses
+pub mod Comprehending
 pub mod Groups
 pub mod Pairs
 pub mod Dicts

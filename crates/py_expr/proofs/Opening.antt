@@ -18,13 +18,14 @@ use Rattle.py_steps.specs.Emitting.{State, Begin, Done, Emission, ◌▸◌, gen
 use Rattle.py_steps.specs.EmissionParts.{Emissions, pass_scopes, values, elements, value_or, shorts, tests, bool_value, links, lone_star, no_assignment, no_deletion}
 use Rattle.py_bytecode.specs.Values.{Load, Store, Delete}
 use Rattle.py_steps.specs.Accesses.{accessed, emission_of_name}
-use Rattle.py_emission.specs.Emission.{default_emissions, lambda_value, emission_of_return, keyword_only_emissions, name_return, positional_emissions, opt_emission, opt_emissions, emission, emission_of_test, emissions, all_emissions, all_stores, stores, keyword_emissions, deletion_name, emission_of_delete, emission_of_deletes, unbuilt}
+use Rattle.py_emission.specs.Emission.{clause_emissions, default_emissions, lambda_value, emission_of_return, keyword_only_emissions, name_return, positional_emissions, opt_emission, opt_emissions, emission, emission_of_test, emissions, all_emissions, all_stores, stores, keyword_emissions, deletion_name, emission_of_delete, emission_of_deletes, unbuilt}
 use Rattle.py_emit.specs.Steps.{IsOpen}
 use Rattle.py_expr.proofs.Keeping.{Keeps, grows_same, grows_block, grows_located, begun_other, still_open, opens, emit_keeps, jump_keeps, idle_keeps, accessed_keeps, mangled_keeps, constant_keeps, level_keeps, either_keeps, then_keeps, moved_keeps, refuse_keeps}
 use Rattle.py_expr.proofs.KeptParts.{EachKeeps, AllKeep, TurnsKeep, ordinary_keeps, truth_keeps, shorts_keep, tests_keep, bool_test_keeps, bool_value_keeps, tested_keeps, unary_keeps, links_keep, choice_keeps, compare_keeps, values_keep}
 use Rattle.py_expr.proofs.KeptDisplays.{ElementsKeep, MaybeKeeps, MaybesKeep, append_keep, dict_keeps, display_keeps, elements_keep, joined_keeps, joined_return_keeps, slice_keeps, value_or_keeps}
 use Rattle.py_expr.proofs.KeptTargets.{StoreKeeps, debug_keeps, plain_keeps, unpack_keeps}
 use Rattle.py_expr.proofs.KeptCalls.{KeywordsKeep, NamedKeep, call_keeps}
+use Rattle.py_expr.proofs.KeptComprehensions.{FirstKeeps, comprehension_keeps}
 use Rattle.py_expr.proofs.KeptScopes.{DefaultsKeep, child_keeps, defaults_keep, function_keeps, generating_keeps, made_keeps, pass_keeps}
 
 pub named_keeps : (x : List ℕ) → Keeps (emission_of_name x)
@@ -58,6 +59,10 @@ mutual
   expr_keeps (tree.UnaryOp at u operand) = unary_keeps at u (emissions operand) (expr_keeps operand)
   expr_keeps (tree.Lambda at params body) = tested_keeps _ (moved_keeps at _ (lambda_keeps params (default_emissions params) (emissions body).returned (defaults_each params)))
   expr_keeps (tree.IfExp at t body orelse) = tested_keeps _ (moved_keeps at _ (choice_keeps (emissions t).test (emissions body).value (expr_keeps t).test (expr_keeps body).value (emissions orelse).value (expr_keeps orelse).value))
+  expr_keeps (tree.ListComp at elt gs) = tested_keeps _ (moved_keeps at _ (comprehension_keeps _ _ (clause_emissions gs) _ (first_iterable_keeps gs)))
+  expr_keeps (tree.SetComp at elt gs) = tested_keeps _ (moved_keeps at _ (comprehension_keeps _ _ (clause_emissions gs) _ (first_iterable_keeps gs)))
+  expr_keeps (tree.DictComp at key value gs) = tested_keeps _ (moved_keeps at _ (comprehension_keeps _ _ (clause_emissions gs) _ (first_iterable_keeps gs)))
+  expr_keeps (tree.GeneratorExp at elt gs) = tested_keeps _ (moved_keeps at _ (comprehension_keeps _ _ (clause_emissions gs) _ (first_iterable_keeps gs)))
   expr_keeps (tree.Await at value) = tested_keeps _ (moved_keeps at (refuse error.InvalidAwait) (refuse_keeps error.InvalidAwait))
   expr_keeps (tree.Yield at value) =
       tested_keeps _ (moved_keeps at _ (function_keeps error.InvalidYield _ (then_keeps generating _ generating_keeps (then_keeps (value_or const.none (opt_emission value)) (emit op.YieldValue 0) (value_or_keeps const.none (opt_emission value) (opt_keeps value)) (emit_keeps op.YieldValue 0)))))
@@ -86,7 +91,10 @@ mutual
   expr_keeps (tree.List at elts) = tested_keeps _ (moved_keeps at _ (display_keeps op.BuildList op.BuildListUnpack (elements (all_emissions elts)) (elements_keep (all_emissions elts) (exprs_keep elts))))
   expr_keeps (tree.Tuple at elts) = tested_keeps _ (moved_keeps at _ (display_keeps op.BuildTuple op.BuildTupleUnpack (elements (all_emissions elts)) (elements_keep (all_emissions elts) (exprs_keep elts))))
   expr_keeps (tree.Slice at lower upper step) = tested_keeps _ (moved_keeps at _ (slice_keeps (opt_emission lower) (opt_emission upper) (opt_emission step) (opt_keeps lower) (opt_keeps upper) (opt_keeps step)))
-  expr_keeps t = tested_keeps (unbuilt (tree.expr_location t)) (unbuilt_keeps (tree.expr_location t))
+
+  first_iterable_keeps : (gs : tree.Generators) → FirstKeeps (clause_emissions gs)
+  first_iterable_keeps tree.no_generators = tt
+  first_iterable_keeps (tree.more_generators target iter ifs is_async gs) = (expr_keeps iter).value
 
   pub exprs_keep : (ts : tree.Exprs) → AllKeep (all_emissions ts)
   exprs_keep tree.no_exprs = tt
@@ -147,9 +155,6 @@ mutual
 
 pub expr_opens : (t : tree.Expr) (s r : State) (b : ℕ) → emission t s ≡ Done r → IsOpen b s → IsOpen b r
 expr_opens t = opens (emissions t).value (expr_keeps t).value
-
-pub return_opens : (t : tree.Expr) (s r : State) (b : ℕ) → emission_of_return t s ≡ Done r → IsOpen b s → IsOpen b r
-return_opens t = opens (emissions t).returned (expr_keeps t).returned
 
 pub test_opens : (t : tree.Expr) (c : Bool) (to : ℕ) (s r : State) (b : ℕ) → emission_of_test t c to s ≡ Done r → IsOpen b s → IsOpen b r
 test_opens t c to = opens ((emissions t).test c to) ((expr_keeps t).test c to)

@@ -56,10 +56,6 @@ module _ (xs : List (List ℕ)) (v : Emission) (s : State) where
   pub body_refused : (mid : State) (e : CodegenErrorType) (at : Option SourceLocation) → opening s ≡ Done mid → v mid ≡ Refused e at → function_scope xs v s ≡ Refused e at
   body_refused mid e at a b = scope_is ∙ went (opening s) v mid a ∙ b
 
--- where memory is wanting, nothing is said
-pub starved_gives : (r : Result CodeObject (LocatedError CodegenErrorType)) (x : LocatedError CodegenErrorType) (path : List ℕ) (s : State) (o : (Object → Emission) → Outcome) → r ≡ Err x → IsStarved x path → Gives r s o
-starved_gives r x path s o e h = subst (λ y. Gives y s o) (sym e) (λ k ne. absurd (ne h.error_is))
-
 module _ (typ : SymbolTableType) (n : Naming) (h : Shape) (first entry : Emitter) (begins : state entry ≡ begun (entered typ n (state first)) (state first).location (suc (state first).next)) where
   abbrev pub inner_child : Emission → (Object → Emission) → Emission
   inner_child body k = child (λ c m. inside typ m (named_in n c)) h body k

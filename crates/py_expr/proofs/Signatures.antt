@@ -70,33 +70,6 @@ given_at given xs i d x is lt =
     ∙ ap (λ y. enter_parameters (names_given given (args expr_tree (y ∷ drop (i + 1) xs)))) (sym is)
     ∙ given_next given x.def (opt_box expr_tree x.default) (args expr_tree (drop (i + 1) xs))
 
-value_next : (named : Bool) (a : ArgOf Expr) (default : tree.OptExpr) (rest : tree.Args) → in_turn (default_values named (tree.more_args (arg expr_tree a) default rest)) ≡ default_value named a.arg default ▸ in_turn (default_values named rest)
-value_next named a tree.no_expr rest = refl
-value_next named a (tree.some_expr e) rest = refl
-
-count_next : (named : Bool) (a : ArgOf Expr) (default : tree.OptExpr) (rest : tree.Args) → length (default_values named (tree.more_args (arg expr_tree a) default rest)) ≡ default_count default + length (default_values named rest)
-count_next named a tree.no_expr rest = omega arith
-count_next named a (tree.some_expr e) rest = omega arith
-
--- the default of the parameter at a place
-pub value_at : (named : Bool) (xs : List (ArgWithDefaultOf Expr)) (i : ℕ) (d x : ArgWithDefaultOf Expr) → x ≡ get_or xs i d → i < length xs → in_turn (default_values named (args expr_tree (drop i xs))) ≡ default_value named x.def.arg (opt_box expr_tree x.default) ▸ in_turn (default_values named (args expr_tree (drop (i + 1) xs)))
-value_at named xs i d x is lt =
-    ap (λ ys. in_turn (default_values named (args expr_tree ys))) (drop-cons xs i d lt)
-    ∙ ap (λ j. in_turn (default_values named (args expr_tree (get_or xs i d ∷ drop j xs)))) (one_more i)
-    ∙ ap (λ y. in_turn (default_values named (args expr_tree (y ∷ drop (i + 1) xs)))) (sym is)
-    ∙ value_next named x.def (opt_box expr_tree x.default) (args expr_tree (drop (i + 1) xs))
-
-pub count_at : (named : Bool) (xs : List (ArgWithDefaultOf Expr)) (i : ℕ) (d x : ArgWithDefaultOf Expr) → x ≡ get_or xs i d → i < length xs → length (default_values named (args expr_tree (drop i xs))) ≡ default_count (opt_box expr_tree x.default) + length (default_values named (args expr_tree (drop (i + 1) xs)))
-count_at named xs i d x is lt =
-    ap (λ ys. length (default_values named (args expr_tree ys))) (drop-cons xs i d lt)
-    ∙ ap (λ j. length (default_values named (args expr_tree (get_or xs i d ∷ drop j xs)))) (one_more i)
-    ∙ ap (λ y. length (default_values named (args expr_tree (y ∷ drop (i + 1) xs)))) (sym is)
-    ∙ count_next named x.def (opt_box expr_tree x.default) (args expr_tree (drop (i + 1) xs))
-
-pub at_most_one : (default : tree.OptExpr) → default_count default ≤ 1
-at_most_one tree.no_expr = omega arith
-at_most_one (tree.some_expr e) = omega arith
-
 -- the defaults of positional parameters have no names
 positional_are : (xs : tree.Args) → default_values false xs ≡ positional_emissions xs
 positional_are tree.no_args = refl

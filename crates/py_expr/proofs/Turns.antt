@@ -5,6 +5,7 @@ use Rattle.std.specs.Prelude.{nat_eq, nat_lt, if◌then◌else◌}
 use Rattle.std.proofs.Math.Seq.{drop-cons}
 use Rattle.std.proofs.lemmas.List.{length-drop}
 use Rattle.py_tree.specs.declared.expressions.Expr.{Expr}
+use Rattle.py_base.specs.declared.location.SourceLocation.{SourceLocation}
 use Rattle.py_base.specs.declared.operators.BoolOp.{BoolOp}
 use Rattle.py_base.specs.declared.operators.CmpOp.{CmpOp}
 use Rattle.py_tree.specs.Tree as tree
@@ -122,7 +123,7 @@ other_test true false es to e = refl
 eq_so : (m n : ℕ) → m ≡ n → nat_eq m n ≡ true
 eq_so m n h = search (rules, h)
 
-eq_not : (m n : ℕ) → m ≢ n → nat_eq m n ≡ false
+pub eq_not : (m n : ℕ) → m ≢ n → nat_eq m n ≡ false
 eq_not m n h = search (rules, h)
 
 less_so : (m n : ℕ) → m < n → nat_lt m n ≡ true
@@ -170,3 +171,12 @@ refused_shape m s path r e = refused_as (error.MalformedTree m) s r (ap (λ (x :
 
 pub path_of : (m : Malformed) (s : State) (path : List ℕ) (r : LocatedError CodegenErrorType) → r ≡ placed_error (error.MalformedTree m) s.location path → r.source_path ≡ path
 path_of m s path r e = ap (λ (x : LocatedError CodegenErrorType). x.source_path) e
+
+-- an error at the location of the state, unless it says that memory is wanting
+pub refused_so : (e : CodegenErrorType) (s : State) (path : List ℕ) (r : LocatedError CodegenErrorType) → r ≡ placed_error e s.location path → r.error ≢ error.OutOfMemory → refuse e s ≡ Refused r.error r.location
+refused_so error.OutOfMemory s path r h n = absurd (n (ap (λ (x : LocatedError CodegenErrorType). x.error) h))
+refused_so e s path r h n = refused_as e s r (ap (λ (x : LocatedError CodegenErrorType). x.error) h) (ap (λ (x : LocatedError CodegenErrorType). x.location) h)
+
+pub placed_path : (e : CodegenErrorType) (at : SourceLocation) (path : List ℕ) (r : LocatedError CodegenErrorType) → r ≡ placed_error e at path → r.source_path ≡ path
+placed_path error.OutOfMemory at path r h = ap (λ (x : LocatedError CodegenErrorType). x.source_path) h
+placed_path e at path r h = ap (λ (x : LocatedError CodegenErrorType). x.source_path) h

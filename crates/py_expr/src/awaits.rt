@@ -1,7 +1,7 @@
 //! Whether an expression awaits.
 ghost use Rattle.std.specs.Prelude.{◌≡◌, ◌||◌};
 ghost use Rattle.py_tree.specs.View.{exprs, expr_tree, generators, keywords, opt_box, opt_expr, opt_exprs};
-ghost use Rattle.py_expr.specs.Awaits.{any_awaits, any_keyword_awaits, any_key_awaits, awaits, iter_awaits, part_awaits};
+ghost use Rattle.py_emission.specs.Awaits.{any_awaits, any_keyword_awaits, any_key_awaits, awaits, iter_awaits, part_awaits};
 
 use py_tree::{Comprehension, Expr, Keyword};
 

@@ -1,4 +1,4 @@
-//! Expressions: all are compiled but comprehensions, which are refused.
+//! Expressions.
 ghost use Rattle.std.specs.Prelude.{◌≡◌};
 ghost use Rattle.py_tree.specs.View.{attribute_tree, bin_op_tree, expr_tree, exprs, if_exp_tree, name_tree, starred_tree, subscript_tree, unary_op_tree};
 ghost use Rattle.py_steps.specs.TableParts.{binary_case, unary_case};
@@ -7,6 +7,9 @@ ghost use Rattle.py_emit.specs.States.{Goes, Same, rest, state};
 
 use crate::calls::compile_call;
 use crate::comparisons::compile_compare;
+use crate::comprehensions::{
+    compile_dict_comp, compile_generator_exp, compile_list_comp, compile_set_comp,
+};
 use crate::conditions::{JumpIf, compile_bool_op, compile_test};
 use crate::displays::{compile_dict, compile_list, compile_set, compile_slice, compile_tuple};
 use crate::functions::compile_lambda;
@@ -40,10 +43,10 @@ pub fn compile_expression(em: &mut Emitter, expr: &Expr) -> Result<(), CodegenEr
         Expr::IfExp(e) => compile_if_exp(em, e),
         Expr::Dict(e) => compile_dict(em, e),
         Expr::Set(e) => compile_set(em, e),
-        Expr::ListComp(e) => refuse_unbuilt(em, e.location),
-        Expr::SetComp(e) => refuse_unbuilt(em, e.location),
-        Expr::DictComp(e) => refuse_unbuilt(em, e.location),
-        Expr::GeneratorExp(e) => refuse_unbuilt(em, e.location),
+        Expr::ListComp(e) => compile_list_comp(em, e),
+        Expr::SetComp(e) => compile_set_comp(em, e),
+        Expr::DictComp(e) => compile_dict_comp(em, e),
+        Expr::GeneratorExp(e) => compile_generator_exp(em, e),
         Expr::Await(e) => compile_await(em, e),
         Expr::Yield(e) => compile_yield(em, e),
         Expr::YieldFrom(e) => compile_yield_from(em, e),

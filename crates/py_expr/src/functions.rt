@@ -1,6 +1,6 @@
 //! Lambdas, and what they share with the definitions of functions.
-ghost use Rattle.std.specs.Prelude.{◌≡◌, ◌≤◌, ◌+◌, suc, length, codes, IfErr, IfOk, OnOk};
-ghost use Rattle.py_counts.specs.Counts.{scopes_in_annotations as annotation_scopes};
+ghost use Rattle.std.specs.Prelude.{◌≡◌, ◌≤◌, ◌+◌, ℕ, Bool, suc, length, codes, IfErr, IfOk, OnOk};
+ghost use Rattle.py_counts.specs.Counts.{IsSum, scopes_in_annotations as annotation_scopes};
 ghost use Rattle.py_tree.specs.View.{args, arguments, expr_tree, lambda_tree, opt_box};
 ghost use Rattle.py_bytecode.specs.Objects as object;
 ghost use Rattle.py_bytecode.specs.View.{object as code_object};
@@ -110,27 +110,39 @@ pub fn enter_function(
 ///
 /// # Errors
 /// SyntaxError where a parameter is named `__debug__`, or OutOfMemory.
-#[tactic(auto, unfolding(py_steps::specs::Emitting::add_constant), using(py_bytecode::proofs::View::views))]
+#[tactic(auto, using(py_bytecode::proofs::View::views))]
 pub fn begin_function(em: &mut Emitter, params: &Arguments) -> Result<(), CodegenError>
     ensures goes { Goes result (state em.new) ((enter_parameters (parameters (arguments expr_tree params.now)) ▸ add_constant object.none) (state em.old)) }
     ensures same { Same result (rest em.new) (rest em.old) }
 {
     enter_names(em, params)?;
-    em.add_constant(ConstantData::None)?;
-    Ok(())
+    em.enter_constant(ConstantData::None)
 }
 
 /// Passes the scopes over that stand in the annotations of parameters, which a lambda cannot have and a compiled tree may.
 ///
 /// # Errors
 /// OutOfMemory alone.
-#[tactic(auto, unfolding(py_steps::specs::Emitting::by_context, py_steps::specs::Emitting::pass_over, py_emit::specs::States::rest))]
+#[tactic(auto, unfolding(py_emit::specs::States::rest))]
 pub fn pass_annotations(em: &mut Emitter, params: &Arguments) -> Result<(), CodegenError>
     ensures goes { Goes result (state em.new) (pass_scopes (λ postponed. annotation_scopes postponed (arguments expr_tree params.now)) (state em.old)) }
     ensures same { Same result (rest em.new) (rest em.old) }
 {
     let postponed = em.context().future_annotations;
-    let Some(number) = scopes_in_annotations(params, postponed, em.next_scope()) else {
+    let next = scopes_in_annotations(params, postponed, em.next_scope());
+    pass_counted(em, next)
+}
+
+/// Passes over the scopes that were counted from the next one on. None says that their number has no usize.
+///
+/// # Errors
+/// OutOfMemory alone.
+#[tactic(auto, unfolding(py_steps::specs::Emitting::by_context, py_steps::specs::Emitting::pass_over))]
+pub fn pass_counted(em: &mut Emitter, next: Option<usize>) -> Result<(), CodegenError>
+    ensures goes { (count : (postponed : Bool) → ℕ) → IsSum next ((state em.old).next + count (state em.old).around.context.postponed) → Goes result (state em.new) (pass_scopes count (state em.old)) }
+    ensures same { Same result (rest em.new) (rest em.old) }
+{
+    let Some(number) = next else {
         refuse!(em, CodegenErrorType::OutOfMemory);
     };
     em.pass_scopes(number);
@@ -179,7 +191,7 @@ fn compile_positional_defaults(em: &mut Emitter, params: &Arguments) -> Result<b
     let Some(count) = posonly.checked_add(others) else {
         refuse!(em, CodegenErrorType::OutOfMemory);
     };
-    close_defaults(em, Instruction::BuildTuple, count)
+    build_some(em, Instruction::BuildTuple, count)
 }
 
 /// Emits the map of the defaults of keyword-only parameters. Answers whether there are any.
@@ -191,11 +203,14 @@ fn compile_keyword_defaults(em: &mut Emitter, params: &Arguments) -> Result<bool
     ensures same { Same result (rest em.new) (rest em.old) }
 {
     let count = compile_each_default(em, params.kwonlyargs.as_slice(), true)?;
-    close_defaults(em, Instruction::BuildMap, count)
+    build_some(em, Instruction::BuildMap, count)
 }
 
-/// Builds what so many defaults make, where there are any. Answers whether there are.
-fn close_defaults(em: &mut Emitter, build: Instruction, count: usize) -> Result<bool, CodegenError>
+/// Builds what so many values make, where there are any. Answers whether there are.
+///
+/// # Errors
+/// OutOfMemory alone.
+pub fn build_some(em: &mut Emitter, build: Instruction, count: usize) -> Result<bool, CodegenError>
     ensures any { IfOk result (λ any. any ≡ is_some count) }
     ensures goes { Goes result (state em.new) (closed_by build count (state em.old)) }
     ensures same { Same result (rest em.new) (rest em.old) }

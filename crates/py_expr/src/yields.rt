@@ -23,6 +23,20 @@ pub fn is_function(typ: SymbolTableType) -> bool
     !matches!(typ, SymbolTableType::Module | SymbolTableType::Class)
 }
 
+/// Leaves with this error where the present scope is no function.
+///
+/// # Errors
+/// The error alone.
+pub fn check_in_function(em: &mut Emitter, error: CodegenErrorType) -> Result<(), CodegenError>
+    ensures goes { Goes result (state em.new) (only_in_function error keep (state em.old)) }
+    ensures same { Same result (rest em.new) (rest em.old) }
+{
+    if is_function(em.scope_type()) {
+        return Ok(());
+    }
+    refuse!(em, error);
+}
+
 #[cycle(code)]
 #[tactic(auto, using(crate::proofs::Steps::steps))]
 pub(crate) fn compile_yield(em: &mut Emitter, e: &ExprYield) -> Result<(), CodegenError>
@@ -39,19 +53,8 @@ fn yield_within(em: &mut Emitter, value: &Option<Box<Expr>>) -> Result<(), Codeg
     ensures goes { Goes result (state em.new) (only_in_function CodegenErrorType.InvalidYield (generating ▸ value_or object.none (opt_emission (opt_box expr_tree value.now)) ▸ emitting Instruction.YieldValue 0) (state em.old)) }
     ensures same { Same result (rest em.new) (rest em.old) }
 {
-    check_yield(em)?;
+    check_in_function(em, CodegenErrorType::InvalidYield)?;
     yield_value(em, value)
-}
-
-/// Leaves where the present scope is no function.
-fn check_yield(em: &mut Emitter) -> Result<(), CodegenError>
-    ensures goes { Goes result (state em.new) (only_in_function CodegenErrorType.InvalidYield keep (state em.old)) }
-    ensures same { Same result (rest em.new) (rest em.old) }
-{
-    if is_function(em.scope_type()) {
-        return Ok(());
-    }
-    Err(em.error(CodegenErrorType::InvalidYield))
 }
 
 /// Emits a value, or None where it is missing, and what hands it on.
@@ -83,19 +86,8 @@ fn yield_all_within(em: &mut Emitter, value: &Expr) -> Result<(), CodegenError>
     ensures goes { Goes result (state em.new) (only_in_function CodegenErrorType.InvalidYieldFrom (generating ▸ emission (expr_tree value.now) ▸ emitting Instruction.GetIter 0 ▸ emit_constant Instruction.LoadConst object.none ▸ emitting Instruction.YieldFrom 0) (state em.old)) }
     ensures same { Same result (rest em.new) (rest em.old) }
 {
-    check_yield_from(em)?;
+    check_in_function(em, CodegenErrorType::InvalidYieldFrom)?;
     yield_all(em, value)
-}
-
-/// Leaves where the present scope is no function.
-fn check_yield_from(em: &mut Emitter) -> Result<(), CodegenError>
-    ensures goes { Goes result (state em.new) (only_in_function CodegenErrorType.InvalidYieldFrom keep (state em.old)) }
-    ensures same { Same result (rest em.new) (rest em.old) }
-{
-    if is_function(em.scope_type()) {
-        return Ok(());
-    }
-    Err(em.error(CodegenErrorType::InvalidYieldFrom))
 }
 
 /// Emits a value, and what hands on all that it gives.

@@ -7,3 +7,5 @@ pub mod Managing
 pub mod LastReturn
 pub mod Annotating
 pub mod KeptFunctions
+pub mod KeptImports
+pub mod Segments

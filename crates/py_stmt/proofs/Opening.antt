@@ -33,6 +33,7 @@ use Rattle.py_expr.proofs.Opening.{deletes_keep, expr_keeps, exprs_keep, named_k
 use Rattle.py_stmt.specs.Managing.{entered, full_body}
 use Rattle.py_stmt.specs.Parts.{each_begun, each_ended, each_turn, emission_of_caught, emission_of_match, guarded, handled, unguarded}
 use Rattle.py_stmt.proofs.KeptFunctions.{decorated_keeps, def_keeps}
+use Rattle.py_stmt.proofs.KeptImports.{from_keeps, import_keeps}
 use Rattle.py_stmt.proofs.KeptControl.{asserted_keeps, before_keeps, each_keeps, entered_keeps, handler_keeps, managed_keeps, match_keeps, named_body_keeps, to_last_keeps, try_keeps}
 
 assign_keeps : (ts : tree.Exprs) → Keeps (emission_of_assign ts)
@@ -142,6 +143,8 @@ mutual
       moved_keeps at _ (try_keeps (not (none finalbody)) (emission_of_stmts body) (emission_of_handlers excepts (not (none finalbody))) (emission_of_stmts orelse) (emission_of_last finalbody (emission_of_stmts finalbody))
       (stmts_keep body) (handlers_keep excepts (not (none finalbody))) (stmts_keep orelse) (last_keeps finalbody (emission_of_stmts finalbody) (stmts_keep finalbody)))
   stmt_keeps (tree.Assert at t msg) = moved_keeps at _ (level_keeps (emission_of_assert t msg) (assert_keeps t msg))
+  stmt_keeps (tree.Import at names) = moved_keeps at _ (import_keeps names)
+  stmt_keeps (tree.ImportFrom at path names level) = moved_keeps at _ (from_keeps path names level)
   stmt_keeps (tree.Global at names) = move_keeps at
   stmt_keeps (tree.Nonlocal at names) = move_keeps at
   stmt_keeps (tree.StmtExpr at v) = moved_keeps at _ (then_keeps (emissions v).value (emit op.Pop 0) (expr_keeps v).value (emit_keeps op.Pop 0))

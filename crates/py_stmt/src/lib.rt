@@ -5,6 +5,7 @@ mod annotations;
 mod assignments;
 mod docs;
 mod functions;
+mod imports;
 mod loops;
 mod notes;
 mod passed;

@@ -10,6 +10,7 @@ use crate::assignments::{
     compile_ann_assign, compile_assign, compile_aug_assign, compile_delete_statement,
 };
 use crate::functions::compile_function_def;
+use crate::imports::{compile_import, compile_import_from};
 use crate::loops::{compile_break, compile_continue, compile_for, compile_while};
 use crate::raises::{compile_assert, compile_raise};
 use crate::returns::compile_return_statement;
@@ -62,8 +63,8 @@ pub(crate) fn compile_statement(em: &mut Emitter, statement: &Stmt) -> Result<()
         Stmt::Try(s) => compile_try(em, s),
         Stmt::TryStar(s) => refuse_unbuilt(em, s.location),
         Stmt::Assert(s) => compile_assert(em, s),
-        Stmt::Import(s) => refuse_unbuilt(em, s.location),
-        Stmt::ImportFrom(s) => refuse_unbuilt(em, s.location),
+        Stmt::Import(s) => compile_import(em, s),
+        Stmt::ImportFrom(s) => compile_import_from(em, s),
         Stmt::Global(s) => stand_at(em, s.location),
         Stmt::Nonlocal(s) => stand_at(em, s.location),
         Stmt::Expr(s) => compile_expr_statement(em, s),

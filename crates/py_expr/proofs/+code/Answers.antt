@@ -1,4 +1,6 @@
 mod CallSteps
+mod ClauseSteps
+mod ComprehensionSteps
 mod LambdaSteps
 mod MapLoops
 mod PairLoops
@@ -19,6 +21,8 @@ use Rattle.py_emit.proofs.Joined.{first_refuses, goes_as, refuses_as, same_error
 use Rattle.py_expr.specs.Calling.{callee_value, is_method}
 use Rattle.py_expr.specs.Turns.{element_behind, group_count, group_rest, groups_by, run_behind}
 use Rattle.py_expr.proofs.+code.Answers.CallSteps.{call_goes, named_goes, plain_goes, positional_plain, tuple_plain, type_taken}
+use Rattle.py_expr.proofs.+code.Answers.ClauseSteps.{clause_begins, clause_refused, clauses_go_on, condition_refused, conditions_go_on, end_is, end_waits, start_waits}
+use Rattle.py_expr.proofs.+code.Answers.ComprehensionSteps.{body_refused, clauses_closed, clauses_refused, clauses_wait, comprehension_awaits, comprehension_called, comprehension_goes, comprehension_inner, comprehension_left, comprehension_made, comprehension_refused, dict_goes, function_refused, generator_goes, iterable_refused, no_generator, turn_refused, unstarred_done, unstarred_refused}
 use Rattle.py_expr.proofs.+code.Answers.LambdaSteps.{defaults_refused, lambda_goes, lambda_inner, lambda_left, lambda_not_begun, lambda_refused, scope_refused}
 use Rattle.py_expr.proofs.+code.Answers.MapLoops.{keyword_refused, map_alone, map_refused, maps_begin, maps_go_on, maps_joined}
 use Rattle.py_expr.proofs.+code.Answers.StoreLoops.{attribute_stored, element_stored, store_refused, stores_go_on}
@@ -387,17 +391,98 @@ pub functions::compile_lambda_value-returns-in_err-code-clause-goes : goal.funct
 functions::compile_lambda_value-returns-in_err-code-clause-goes = scope_refused
 
 pub yields::yield_within-returns-clause-goes : goal.yields::yield_within-returns-clause-goes
-yields::yield_within-returns-clause-goes t c = goes_as _ _ _ _ (inside_function error.InvalidYield _ (state c.args.em.now) ∙ went _ _ _ c.in_ok-check_yield.ensures.goes) c.yield_value.ensures.goes
+yields::yield_within-returns-clause-goes t c = goes_as _ _ _ _ (inside_function error.InvalidYield _ (state c.args.em.now) ∙ went _ _ _ c.in_ok-check_in_function.ensures.goes) c.yield_value.ensures.goes
 
-pub yields::yield_within-returns-in_err-check_yield-clause-goes : goal.yields::yield_within-returns-in_err-check_yield-clause-goes
-yields::yield_within-returns-in_err-check_yield-clause-goes t c =
-    let r : c.from_residual.result ≡ Err c.in_err-check_yield.field-0.0 = grind arith in
-    first_refuses _ _ _ _ _ _ r (inside_function error.InvalidYield _ (state c.args.em.now)) c.in_err-check_yield.ensures.goes
+pub yields::yield_within-returns-in_err-check_in_function-clause-goes : goal.yields::yield_within-returns-in_err-check_in_function-clause-goes
+yields::yield_within-returns-in_err-check_in_function-clause-goes t c =
+    let r : c.from_residual.result ≡ Err c.in_err-check_in_function.field-0.0 = grind arith in
+    first_refuses _ _ _ _ _ _ r (inside_function error.InvalidYield _ (state c.args.em.now)) c.in_err-check_in_function.ensures.goes
 
 pub yields::yield_all_within-returns-clause-goes : goal.yields::yield_all_within-returns-clause-goes
-yields::yield_all_within-returns-clause-goes t c = goes_as _ _ _ _ (inside_function error.InvalidYieldFrom _ (state c.args.em.now) ∙ went _ _ _ c.in_ok-check_yield_from.ensures.goes) c.yield_all.ensures.goes
+yields::yield_all_within-returns-clause-goes t c = goes_as _ _ _ _ (inside_function error.InvalidYieldFrom _ (state c.args.em.now) ∙ went _ _ _ c.in_ok-check_in_function.ensures.goes) c.yield_all.ensures.goes
 
-pub yields::yield_all_within-returns-in_err-check_yield_from-clause-goes : goal.yields::yield_all_within-returns-in_err-check_yield_from-clause-goes
-yields::yield_all_within-returns-in_err-check_yield_from-clause-goes t c =
-    let r : c.from_residual.result ≡ Err c.in_err-check_yield_from.field-0.0 = grind arith in
-    first_refuses _ _ _ _ _ _ r (inside_function error.InvalidYieldFrom _ (state c.args.em.now)) c.in_err-check_yield_from.ensures.goes
+pub yields::yield_all_within-returns-in_err-check_in_function-clause-goes : goal.yields::yield_all_within-returns-in_err-check_in_function-clause-goes
+yields::yield_all_within-returns-in_err-check_in_function-clause-goes t c =
+    let r : c.from_residual.result ≡ Err c.in_err-check_in_function.field-0.0 = grind arith in
+    first_refuses _ _ _ _ _ _ r (inside_function error.InvalidYieldFrom _ (state c.args.em.now)) c.in_err-check_in_function.ensures.goes
+
+pub clauses::open_clauses-loop-clause-preserved : goal.clauses::open_clauses-loop-clause-preserved
+clauses::open_clauses-loop-clause-preserved = clauses_go_on
+
+pub clauses::open_clauses-returns-in_err-next-clause-refused : goal.clauses::open_clauses-returns-in_err-next-clause-refused
+clauses::open_clauses-returns-in_err-next-clause-refused = clause_refused
+
+pub clauses::open_clause-returns-clause-open : goal.clauses::open_clause-returns-clause-open
+clauses::open_clause-returns-clause-open = end_waits
+
+pub clauses::open_clause-begin_clause-requires : goal.clauses::open_clause-begin_clause-requires
+clauses::open_clause-begin_clause-requires = clause_begins
+
+pub clauses::open_clause-returns-clause-end : goal.clauses::open_clause-returns-clause-end
+clauses::open_clause-returns-clause-end = end_is
+
+pub clauses::begin_clause-switch_to_block-requires : goal.clauses::begin_clause-switch_to_block-requires
+clauses::begin_clause-switch_to_block-requires = start_waits
+
+pub clauses::compile_conditions-loop-condition-preserved : goal.clauses::compile_conditions-loop-condition-preserved
+clauses::compile_conditions-loop-condition-preserved = conditions_go_on
+
+pub clauses::compile_conditions-returns-in_err-compile_test-clause-goes : goal.clauses::compile_conditions-returns-in_err-compile_test-clause-goes
+clauses::compile_conditions-returns-in_err-compile_test-clause-goes = condition_refused
+
+pub comprehensions::compile_comprehension_scope-returns : goal.comprehensions::compile_comprehension_scope-returns
+comprehensions::compile_comprehension_scope-returns = comprehension_left
+
+pub comprehensions::compile_comprehension_scope-leave_scope-requires : goal.comprehensions::compile_comprehension_scope-leave_scope-requires
+comprehensions::compile_comprehension_scope-leave_scope-requires = comprehension_inner
+
+pub comprehensions::compile_comprehension_scope-returns-in_err-compile_turns : goal.comprehensions::compile_comprehension_scope-returns-in_err-compile_turns
+comprehensions::compile_comprehension_scope-returns-in_err-compile_turns = comprehension_refused
+
+pub comprehensions::make_comprehension-returns-clause-goes : goal.comprehensions::make_comprehension-returns-clause-goes
+comprehensions::make_comprehension-returns-clause-goes = comprehension_made
+
+pub comprehensions::make_comprehension-returns-in_err-code-clause-goes : goal.comprehensions::make_comprehension-returns-in_err-code-clause-goes
+comprehensions::make_comprehension-returns-in_err-code-clause-goes = body_refused
+
+pub comprehensions::call_comprehension-returns-clause-goes : goal.comprehensions::call_comprehension-returns-clause-goes
+comprehensions::call_comprehension-returns-clause-goes = comprehension_called
+
+pub comprehensions::call_comprehension-returns-in_err-make_comprehension-clause-goes : goal.comprehensions::call_comprehension-returns-in_err-make_comprehension-clause-goes
+comprehensions::call_comprehension-returns-in_err-make_comprehension-clause-goes = function_refused
+
+pub comprehensions::call_comprehension-returns-in_err-compile_iterator-clause-goes : goal.comprehensions::call_comprehension-returns-in_err-compile_iterator-clause-goes
+comprehensions::call_comprehension-returns-in_err-compile_iterator-clause-goes = iterable_refused
+
+pub comprehensions::compile_comprehension-returns-then-is_empty : goal.comprehensions::compile_comprehension-returns-then-is_empty
+comprehensions::compile_comprehension-returns-then-is_empty = no_generator
+
+pub comprehensions::compile_comprehension-returns-then-is_awaited-clause-goes : goal.comprehensions::compile_comprehension-returns-then-is_awaited-clause-goes
+comprehensions::compile_comprehension-returns-then-is_awaited-clause-goes = comprehension_awaits
+
+pub comprehensions::compile_comprehension-returns-clause-goes : goal.comprehensions::compile_comprehension-returns-clause-goes
+comprehensions::compile_comprehension-returns-clause-goes = comprehension_goes
+
+pub comprehensions::compile_clauses-close_clauses-requires : goal.comprehensions::compile_clauses-close_clauses-requires
+comprehensions::compile_clauses-close_clauses-requires = clauses_wait
+
+pub comprehensions::compile_clauses-returns-clause-goes : goal.comprehensions::compile_clauses-returns-clause-goes
+comprehensions::compile_clauses-returns-clause-goes = clauses_closed
+
+pub comprehensions::compile_clauses-returns-in_err-blocks-clause-goes : goal.comprehensions::compile_clauses-returns-in_err-blocks-clause-goes
+comprehensions::compile_clauses-returns-in_err-blocks-clause-goes = clauses_refused
+
+pub comprehensions::compile_clauses-returns-in_err-compile_turn-clause-goes : goal.comprehensions::compile_clauses-returns-in_err-compile_turn-clause-goes
+comprehensions::compile_clauses-returns-in_err-compile_turn-clause-goes = turn_refused
+
+pub comprehensions::compile_unstarred-returns-in-Ok-clause-goes : goal.comprehensions::compile_unstarred-returns-in-Ok-clause-goes
+comprehensions::compile_unstarred-returns-in-Ok-clause-goes = unstarred_done
+
+pub comprehensions::compile_unstarred-returns-in-Err-clause-goes : goal.comprehensions::compile_unstarred-returns-in-Err-clause-goes
+comprehensions::compile_unstarred-returns-in-Err-clause-goes = unstarred_refused
+
+pub comprehensions::compile_dict_comp-returns-clause-goes : goal.comprehensions::compile_dict_comp-returns-clause-goes
+comprehensions::compile_dict_comp-returns-clause-goes = dict_goes
+
+pub comprehensions::compile_generator_exp-returns-clause-goes : goal.comprehensions::compile_generator_exp-returns-clause-goes
+comprehensions::compile_generator_exp-returns-clause-goes = generator_goes

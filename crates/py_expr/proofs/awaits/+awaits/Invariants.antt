@@ -1,6 +1,6 @@
 use Rattle.std.proofs.Common.{drop, ◌≡◌, ◌+◌, ◌*◌}
 use Rattle.py_tree.specs.View.{expr_tree, exprs, generators, keywords, opt_exprs}
-use Rattle.py_expr.specs.Awaits.{any_awaits, any_key_awaits, any_keyword_awaits, iter_awaits}
+use Rattle.py_emission.specs.Awaits.{any_awaits, any_key_awaits, any_keyword_awaits, iter_awaits}
 use Rattle.py_expr.proofs.awaits.+awaits.Given as goal
 
 abbrev pub invariant-any_contains_await-loop-e : goal.invariant-any_contains_await-loop-e

@@ -1,0 +1,167 @@
+//! The clauses of comprehensions, each of which stands around those after it.
+ghost use Rattle.std.specs.Prelude.{◌≡◌, ◌<◌, ◌++◌, ◌∷◌, [], suc, IfErr, IfOk, OnOk};
+ghost use Rattle.py_tree.specs.View.{expr_tree, exprs, generators as clause_trees};
+ghost use Rattle.py_steps.specs.Comprehensions.{conditions};
+ghost use Rattle.py_emission.specs.Emission.{all_emissions, clause_emissions, emission};
+ghost use Rattle.py_emit.specs.States.{Goes, IsStarved, Same, rest, state};
+ghost use Rattle.py_emit.specs.Steps.{IsOpen};
+ghost use Rattle.py_expr.specs.Clauses.{AllOpen, AreOpened, AreRefused, IsOpenClause, clause_of, closed, closing, iterator_of, opened, opened_clause};
+
+use crate::conditions::{JumpIf, compile_test};
+use crate::expressions::compile_expression;
+use crate::targets::compile_store;
+use py_bytecode::Instruction;
+use py_emit::{Emitter, emit};
+use py_forms::{CodegenError, CodegenErrorType};
+use py_ir::BlockIdx;
+use py_tree::{Comprehension, Expr, List};
+
+/// The blocks of a clause: each turn begins at one, and the other follows the last turn.
+#[derive(Clone, Copy)]
+pub(crate) struct ClauseBlocks {
+    pub(crate) start: BlockIdx,
+    pub(crate) end: BlockIdx,
+}
+
+/// Emits what stands before what is within all clauses. Answers the blocks of each of them.
+#[cycle(code)]
+pub(crate) fn open_clauses(
+    em: &mut Emitter,
+    generators: &[Comprehension],
+) -> Result<List<ClauseBlocks>, CodegenError>
+    ensures opened { IfOk result (λ blocks. AreOpened (clause_emissions (clause_trees expr_tree generators.now)) (state em.old) (state em.new) blocks) }
+    ensures open { IfOk result (λ blocks. AllOpen blocks (state em.new)) }
+    ensures refused { IfErr result (λ e. AreRefused e (clause_emissions (clause_trees expr_tree generators.now)) (state em.old)) }
+    ensures same { Same result (rest em.new) (rest em.old) }
+{
+    let mut blocks = List::new(em.alloc());
+    for clause in generators {
+        let first = blocks.is_empty();
+        let next = open_clause(em, clause, first)?;
+        keep_blocks(em, &mut blocks, next)?;
+    }
+    Ok(blocks)
+}
+
+/// Puts the blocks of a clause behind the others, or leaves with want of memory.
+fn keep_blocks(
+    em: &mut Emitter,
+    blocks: &mut List<ClauseBlocks>,
+    next: ClauseBlocks,
+) -> Result<(), CodegenError>
+    ensures kept { OnOk result (blocks.new ≡ blocks.old ++ next ∷ []) }
+    ensures same { OnOk result (em.new ≡ em.old) }
+    ensures err { IfErr result (λ e. IsStarved e (rest em.old).path) }
+{
+    match blocks.push(next) {
+        Ok(()) => Ok(()),
+        Err(_) => Err(em.error(CodegenErrorType::OutOfMemory)),
+    }
+}
+
+/// Emits what stands before what is within a clause: the iterator, the store of what it gives, and the conditions. Answers
+/// the blocks of the clause.
+#[cycle(code)]
+#[tactic(auto, using(crate::proofs::Steps::steps))]
+fn open_clause(
+    em: &mut Emitter,
+    clause: &Comprehension,
+    first: bool,
+) -> Result<ClauseBlocks, CodegenError>
+    ensures start { IfOk result (λ blocks. blocks.start.0 ≡ (state em.old).blocks) }
+    ensures end { IfOk result (λ blocks. blocks.end.0 ≡ suc (state em.old).blocks) }
+    ensures open { IfOk result (λ blocks. IsOpenClause blocks (state em.new)) }
+    ensures goes { Goes result (state em.new) (opened_clause (iterator_of first (clause_of clause.now).iterable) (clause_of clause.now) (state em.old)) }
+    ensures same { Same result (rest em.new) (rest em.old) }
+{
+    let start = em.new_block()?;
+    let end = em.new_block()?;
+    let blocks = ClauseBlocks { start, end };
+    begin_clause(em, clause, first, &blocks)?;
+    Ok(blocks)
+}
+
+/// Emits what stands before what is within a clause of these blocks.
+#[cycle(code)]
+#[tactic(auto, using(crate::proofs::Steps::steps))]
+fn begin_clause(
+    em: &mut Emitter,
+    clause: &Comprehension,
+    first: bool,
+    blocks: &ClauseBlocks,
+) -> Result<(), CodegenError>
+    requires open { IsOpen blocks.now.start.0 (state em.old) }
+    requires start_below { blocks.now.start.0 < 0xffff_ffff }
+    requires end_below { blocks.now.end.0 < 0xffff_ffff }
+    ensures goes { Goes result (state em.new) (opened (iterator_of first (clause_of clause.now).iterable) (clause_of clause.now) blocks.now.start.0 blocks.now.end.0 (state em.old)) }
+    ensures same { Same result (rest em.new) (rest em.old) }
+{
+    compile_iterator(em, &clause.iter, first)?;
+    em.switch_to_block(blocks.start);
+    emit!(em, Instruction::ForIter => blocks.end);
+    compile_store(em, &clause.target)?;
+    compile_conditions(em, clause.ifs.as_slice(), blocks.start)
+}
+
+/// Emits the iterator of a clause, which is handed in where it is the first.
+#[cycle(code)]
+pub(crate) fn compile_iterator(
+    em: &mut Emitter,
+    iterable: &Expr,
+    first: bool,
+) -> Result<(), CodegenError>
+    ensures goes { Goes result (state em.new) (iterator_of first (emission (expr_tree iterable.now)) (state em.old)) }
+    ensures same { Same result (rest em.new) (rest em.old) }
+{
+    if first {
+        return em.emit_varname(Instruction::LoadFast, ".0");
+    }
+    compile_expression(em, iterable)?;
+    emit!(em, Instruction::GetIter);
+    Ok(())
+}
+
+/// Emits conditions that go to the next turn where they are false.
+#[cycle(code)]
+fn compile_conditions(em: &mut Emitter, ifs: &[Expr], start: BlockIdx) -> Result<(), CodegenError>
+    requires { start.0 < 0xffff_ffff }
+    ensures goes { Goes result (state em.new) (conditions (all_emissions (exprs expr_tree ifs.now)) start.0 (state em.old)) }
+    ensures same { Same result (rest em.new) (rest em.old) }
+{
+    for condition in ifs {
+        let jump = JumpIf {
+            truth: false,
+            block: start,
+        };
+        compile_test(em, condition, &jump)?;
+    }
+    Ok(())
+}
+
+/// Emits what closes clauses, the last one first.
+pub(crate) fn close_clauses(
+    em: &mut Emitter,
+    blocks: List<ClauseBlocks>,
+) -> Result<(), CodegenError>
+    requires open { AllOpen blocks (state em.old) }
+    ensures goes { Goes result (state em.new) (closed blocks (state em.old)) }
+    ensures same { Same result (rest em.new) (rest em.old) }
+{
+    let mut blocks = blocks;
+    while let Some(clause) = blocks.pop() {
+        close_clause(em, &clause)?;
+    }
+    Ok(())
+}
+
+/// Emits what closes a clause: the jump to its next turn, and what follows the last one.
+#[tactic(auto, using(crate::proofs::Steps::steps))]
+fn close_clause(em: &mut Emitter, blocks: &ClauseBlocks) -> Result<(), CodegenError>
+    requires open { IsOpenClause blocks.now (state em.old) }
+    ensures goes { Goes result (state em.new) (closing blocks.now (state em.old)) }
+    ensures same { Same result (rest em.new) (rest em.old) }
+{
+    emit!(em, Instruction::Jump => blocks.start);
+    em.switch_to_block(blocks.end);
+    Ok(())
+}
