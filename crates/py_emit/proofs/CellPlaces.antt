@@ -53,3 +53,12 @@ module _ {A : Type 0} (f : A → Bool) where
       go : (b : Bool) → cond (not b) (1 + position_or_len f xs) 0 < length (x ∷ xs) → (position_or_len f xs < length xs → list_any f xs ≡ true) → b || list_any f xs ≡ true
       go true l next = refl
       go false l next = next (omega (arith, l))
+
+  -- what has no place is not there
+  pub none_within : (xs : List A) → length xs ≤ position_or_len f xs → list_any f xs ≡ false
+  none_within [] h = refl
+  none_within (x ∷ xs) h = go (f x) h (none_within xs)
+    where
+      go : (b : Bool) → length (x ∷ xs) ≤ cond (not b) (1 + position_or_len f xs) 0 → (length xs ≤ position_or_len f xs → list_any f xs ≡ false) → b || list_any f xs ≡ false
+      go true l next = absurd (omega (arith, l))
+      go false l next = next (omega (arith, l))

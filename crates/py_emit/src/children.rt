@@ -20,7 +20,7 @@ impl Emitter {
     /// # Errors
     /// OutOfMemory alone.
     #[tactic(auto, unfolding(py_steps::specs::Children::load_cell), using(crate::proofs::CellPlaces::any_within))]
-    fn load_cell(&mut self, name: &str) -> Result<(), CodegenError>
+    pub fn load_cell(&mut self, name: &str) -> Result<(), CodegenError>
         ensures goes { Goes result (state self.new) (cell_load name.now (state self.old)) }
         ensures same { Same result (rest self.new) (rest self.old) }
     {

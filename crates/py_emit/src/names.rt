@@ -1,6 +1,6 @@
 //! Accesses to names.
 ghost use Rattle.std.specs.Prelude.{◌≡◌, ◌≢◌, ◌++◌, ◌<◌, ◌^◌, find, length, IfOk, IfErr, OnOk};
-ghost use Rattle.std.specs.List.{position_or_len};
+ghost use Rattle.std.specs.List.{list_any, position_or_len};
 ghost use Rattle.std.specs.Option.{option_copied};
 ghost use Rattle.py_base.specs.Mangle.{mangled as mangled_name};
 ghost use Rattle.py_bytecode.specs.View.{constant};
@@ -232,7 +232,7 @@ impl Emitter {
     }
 
     /// What a name is in the present scope, where it is written as the innermost class writes it.
-    fn scope_of(&self, name: &str) -> SymbolScope
+    pub(crate) fn scope_of(&self, name: &str) -> SymbolScope
         ensures { result ≡ scope_of (state self.now).around.context name.now }
     {
         match self.symbol(name) {
@@ -272,6 +272,21 @@ impl Emitter {
         let name = self.text(name)?;
         let place = cell_position(&self.scope.code, &name);
         self.narrow(place)
+    }
+
+    /// Whether the scope has a cell of this name.
+    ///
+    /// # Errors
+    /// OutOfMemory alone.
+    #[tactic(auto, using(crate::proofs::CellPlaces::any_within, crate::proofs::CellPlaces::none_within))]
+    pub fn has_cell(&mut self, name: &str) -> Result<bool, CodegenError>
+        ensures data { IfOk result (λ has. has ≡ list_any (text_eq name.now) (state self.old).around.context.cells) }
+        ensures same { OnOk result (self.new ≡ self.old) }
+        ensures err { IfErr result (λ e. IsStarved e (rest self.old).path) }
+    {
+        let name = self.text(name)?;
+        let cells = &self.scope.code.cellvar_cache;
+        Ok(place_among(cells, &name) < cells.len())
     }
 
     /// The number of cells and free names.

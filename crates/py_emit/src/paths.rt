@@ -1,11 +1,13 @@
 //! Qualified names.
 ghost use Rattle.std.specs.Prelude.{◌≡◌, ◌++◌, IfErr, IfOk, OnOk};
-ghost use Rattle.py_steps.specs.Context.{behind_dot, function_path as path_of_function, qualified as qualified_name};
+ghost use Rattle.py_steps.specs.Classes.{class_path as path_of_class, is_global as is_declared_global};
+ghost use Rattle.py_steps.specs.Context.{behind_dot, function_path as path_of_function, mangled, qualified as qualified_name, scope_of};
 ghost use Rattle.py_emit.specs.States.{IsStarved, rest, state};
 
 use crate::emitter::Emitter;
 use py_base::Text;
 use py_forms::{CodegenError, CodegenErrorType};
+use py_scope::SymbolScope;
 use std::alloc::{AllocError, Global};
 
 impl Emitter {
@@ -37,6 +39,35 @@ impl Emitter {
             Ok(path) => Ok(path),
             Err(_) => Err(self.error(CodegenErrorType::OutOfMemory)),
         }
+    }
+
+    /// The qualified name of a class of this name, which stands in the present scope: where the name is declared global
+    /// there, the name alone.
+    ///
+    /// # Errors
+    /// OutOfMemory alone.
+    pub fn class_path(&mut self, name: &str) -> Result<Text, CodegenError>
+        ensures data { IfOk result (λ path. path ≡ path_of_class (state self.old).around.context name.now) }
+        ensures same { OnOk result (self.new ≡ self.old) }
+        ensures err { IfErr result (λ e. IsStarved e (rest self.old).path) }
+    {
+        if self.is_declared_global(name)? {
+            return self.text(name);
+        }
+        self.qualified(name)
+    }
+
+    /// Whether a name is declared global in the present scope.
+    fn is_declared_global(&mut self, name: &str) -> Result<bool, CodegenError>
+        ensures data { IfOk result (λ global. global ≡ is_declared_global (scope_of (state self.old).around.context (mangled (state self.old).around.context name.now))) }
+        ensures same { OnOk result (self.new ≡ self.old) }
+        ensures err { IfErr result (λ e. IsStarved e (rest self.old).path) }
+    {
+        let scope = match self.mangled(name)? {
+            Some(other) => self.scope_of(other.as_str()),
+            None => self.scope_of(name),
+        };
+        Ok(matches!(scope, SymbolScope::GlobalExplicit))
     }
 }
 

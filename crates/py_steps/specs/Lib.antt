@@ -9,3 +9,4 @@ pub mod Accesses
 pub mod Children
 pub mod Comprehensions
 pub mod Everywhere
+pub mod Classes
