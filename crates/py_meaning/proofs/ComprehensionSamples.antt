@@ -21,7 +21,7 @@ use Rattle.py_steps.specs.Emitting.{Refused, with_step, with_block, with_name, w
 use Rattle.py_steps.specs.Sealed.{sealed}
 use Rattle.py_emission.specs.Emission.{lambda_value}
 use Rattle.py_meaning.specs.EmissionDefs.{emission_of_def}
-use Rattle.py_meaning.specs.EmissionStmts.{emitted}
+use Rattle.py_meaning.specs.EmissionMods.{emitted}
 use Rattle.py_meaning.specs.Faults.{compile_faults}
 use Rattle.py_meaning.specs.Meaning.{body}
 use Rattle.py_meaning.proofs.ObjectTools.{codes_of_object, codes_of_scope, entry, object_emitted, sealed_as, symbol, unit}
@@ -269,7 +269,7 @@ stars = (tree.Module (tree.more_stmts (tree.Assign (at 1 1) (tree.more_exprs (tr
 abbrev stars_scopes : List ScopeEntry
 stars_scopes = ((entry kinds.Module ((symbol (codes "b") symbols.Unknown 1) ∷ (symbol (codes "x") symbols.Local 2) ∷ (symbol (codes "y") symbols.Local 2) ∷ (symbol (codes "z") symbols.Local 2) ∷ []) 7) ∷ (entry kinds.Comprehension ((symbol (codes ".0") symbols.Local 4) ∷ (symbol (codes "a") symbols.Local 129) ∷ []) 2) ∷ (entry kinds.Comprehension ((symbol (codes ".0") symbols.Local 4) ∷ (symbol (codes "a") symbols.Cell 128) ∷ (symbol (codes "f") symbols.GlobalImplicit 1) ∷ []) 4) ∷ (entry kinds.Function ((symbol (codes "a") symbols.Free 1) ∷ []) 4) ∷ (entry kinds.Comprehension ((symbol (codes ".0") symbols.Local 4) ∷ (symbol (codes "a") symbols.Local 128) ∷ (symbol (codes "b") symbols.GlobalImplicit 1) ∷ []) 6) ∷ (entry kinds.Comprehension ((symbol (codes ".0") symbols.Local 4) ∷ (symbol (codes "a") symbols.Local 129) ∷ (symbol (codes "c") symbols.GlobalImplicit 1) ∷ []) 6) ∷ (entry kinds.Comprehension ((symbol (codes ".0") symbols.Local 4) ∷ (symbol (codes "a") symbols.Local 129) ∷ (symbol (codes "c") symbols.GlobalImplicit 1) ∷ []) 7) ∷ [])
 
-stars_refused : emitted stars (outermost 0 (codes "m.py") stars_scopes) ≡ Refused (error.SyntaxError (codes "iterable unpacking cannot be used in comprehension")) (Some (at 1 6))
+stars_refused : emitted stars Exec (outermost 0 (codes "m.py") stars_scopes) ≡ Refused (error.SyntaxError (codes "iterable unpacking cannot be used in comprehension")) (Some (at 1 6))
 unfolding with_step with_block with_name with_varname with_constant with_loops located refuse emit jump begin new_block emit_count emit_name emit_varname emit_mangled add_varname add_constant emit_constant move generating pass_over by_context by_level by_loops in_loop accessed inside with_path child lambda_value emission_of_def load_cell sealed as_element called_at_once
 stars_refused = refl
 
@@ -287,7 +287,7 @@ asynchronous = (tree.Module (tree.more_stmts (tree.Assign (at 1 1) (tree.more_ex
 abbrev asynchronous_scopes : List ScopeEntry
 asynchronous_scopes = ((entry kinds.Module ((symbol (codes "b") symbols.Unknown 1) ∷ (symbol (codes "x") symbols.Local 2) ∷ (symbol (codes "y") symbols.Local 2) ∷ (symbol (codes "z") symbols.Local 2) ∷ []) 5) ∷ (entry kinds.Comprehension ((symbol (codes ".0") symbols.Local 4) ∷ (symbol (codes "a") symbols.Local 129) ∷ []) 2) ∷ (entry kinds.Comprehension ((symbol (codes ".0") symbols.Local 4) ∷ (symbol (codes "a") symbols.Local 129) ∷ (symbol (codes "c") symbols.GlobalImplicit 1) ∷ []) 3) ∷ (entry kinds.Comprehension ((symbol (codes ".0") symbols.Local 4) ∷ (symbol (codes "a") symbols.Local 129) ∷ (symbol (codes "b") symbols.GlobalImplicit 1) ∷ (symbol (codes "c") symbols.Local 128) ∷ (symbol (codes "e") symbols.GlobalImplicit 1) ∷ (symbol (codes "d") symbols.Local 128) ∷ (symbol (codes "f") symbols.GlobalImplicit 1) ∷ []) 4) ∷ (entry kinds.Comprehension ((symbol (codes ".0") symbols.Local 4) ∷ (symbol (codes "a") symbols.Local 129) ∷ []) 5) ∷ [])
 
-asynchronous_refused : emitted asynchronous (outermost 0 (codes "m.py") asynchronous_scopes) ≡ Refused error.NotImplementedYet (Some (at 2 5))
+asynchronous_refused : emitted asynchronous Exec (outermost 0 (codes "m.py") asynchronous_scopes) ≡ Refused error.NotImplementedYet (Some (at 2 5))
 unfolding with_step with_block with_name with_varname with_constant with_loops located refuse emit jump begin new_block emit_count emit_name emit_varname emit_mangled add_varname add_constant emit_constant move generating pass_over by_context by_level by_loops in_loop accessed inside with_path child lambda_value emission_of_def load_cell sealed as_element called_at_once
 asynchronous_refused = refl
 
@@ -304,7 +304,7 @@ awaits_within = (tree.Module (tree.more_stmts (tree.Assign (at 1 1) (tree.more_e
 abbrev awaits_within_scopes : List ScopeEntry
 awaits_within_scopes = ((entry kinds.Module ((symbol (codes "b") symbols.Unknown 1) ∷ (symbol (codes "x") symbols.Local 2) ∷ (symbol (codes "y") symbols.Local 2) ∷ (symbol (codes "z") symbols.Local 2) ∷ []) 7) ∷ (entry kinds.Comprehension ((symbol (codes ".0") symbols.Local 4) ∷ (symbol (codes "a") symbols.Cell 128) ∷ []) 3) ∷ (entry kinds.Function ((symbol (codes "a") symbols.Free 1) ∷ []) 3) ∷ (entry kinds.Comprehension ((symbol (codes ".0") symbols.Local 4) ∷ (symbol (codes "a") symbols.Local 129) ∷ []) 5) ∷ (entry kinds.Function ((symbol (codes "c") symbols.Local 5) ∷ []) 5) ∷ (entry kinds.Comprehension ((symbol (codes ".0") symbols.Local 4) ∷ (symbol (codes "a") symbols.Cell 129) ∷ []) 7) ∷ (entry kinds.Comprehension ((symbol (codes ".0") symbols.Local 4) ∷ (symbol (codes "c") symbols.Local 128) ∷ (symbol (codes "a") symbols.Free 1) ∷ []) 7) ∷ [])
 
-awaits_within_refused : emitted awaits_within (outermost 0 (codes "m.py") awaits_within_scopes) ≡ Refused error.NotImplementedYet (Some (at 1 5))
+awaits_within_refused : emitted awaits_within Exec (outermost 0 (codes "m.py") awaits_within_scopes) ≡ Refused error.NotImplementedYet (Some (at 1 5))
 unfolding with_step with_block with_name with_varname with_constant with_loops located refuse emit jump begin new_block emit_count emit_name emit_varname emit_mangled add_varname add_constant emit_constant move generating pass_over by_context by_level by_loops in_loop accessed inside with_path child lambda_value emission_of_def load_cell sealed as_element called_at_once
 awaits_within_refused = refl
 
@@ -320,7 +320,7 @@ further = (tree.Module (tree.more_stmts (tree.Assign (at 1 1) (tree.more_exprs (
 abbrev further_scopes : List ScopeEntry
 further_scopes = ((entry kinds.Module ((symbol (codes "b") symbols.Unknown 1) ∷ (symbol (codes "x") symbols.Local 2) ∷ []) 3) ∷ (entry kinds.Comprehension ((symbol (codes ".0") symbols.Local 4) ∷ (symbol (codes "a") symbols.Local 129) ∷ (symbol (codes "c") symbols.GlobalImplicit 1) ∷ (symbol (codes "f") symbols.GlobalImplicit 1) ∷ (symbol (codes "d") symbols.GlobalImplicit 1) ∷ []) 2) ∷ (entry kinds.Comprehension ((symbol (codes ".0") symbols.Local 4) ∷ (symbol (codes "a") symbols.Local 129) ∷ (symbol (codes "c") symbols.Local 129) ∷ (symbol (codes "d") symbols.Local 129) ∷ (symbol (codes "e") symbols.Local 128) ∷ (symbol (codes "h") symbols.GlobalImplicit 1) ∷ (symbol (codes "__debug__") symbols.Local 128) ∷ []) 3) ∷ [])
 
-further_refused : emitted further (outermost 0 (codes "m.py") further_scopes) ≡ Refused error.InvalidStarExpr (Some (at 1 43))
+further_refused : emitted further Exec (outermost 0 (codes "m.py") further_scopes) ≡ Refused error.InvalidStarExpr (Some (at 1 43))
 unfolding with_step with_block with_name with_varname with_constant with_loops located refuse emit jump begin new_block emit_count emit_name emit_varname emit_mangled add_varname add_constant emit_constant move generating pass_over by_context by_level by_loops in_loop accessed inside with_path child lambda_value emission_of_def load_cell sealed as_element called_at_once
 further_refused = refl
 
@@ -337,7 +337,7 @@ outside = (tree.Module (tree.more_stmts (tree.Assign (at 1 1) (tree.more_exprs (
 abbrev outside_scopes : List ScopeEntry
 outside_scopes = ((entry kinds.Module ((symbol (codes "b") symbols.Unknown 1) ∷ (symbol (codes "x") symbols.Local 2) ∷ (symbol (codes "y") symbols.Local 2) ∷ []) 4) ∷ (entry kinds.Comprehension ((symbol (codes ".0") symbols.Local 4) ∷ (symbol (codes "a") symbols.Local 128) ∷ (symbol (codes "c") symbols.Local 129) ∷ []) 2) ∷ (entry kinds.Comprehension ((symbol (codes ".0") symbols.Local 4) ∷ (symbol (codes "a") symbols.Local 129) ∷ []) 3) ∷ (entry kinds.Comprehension ((symbol (codes ".0") symbols.Local 4) ∷ (symbol (codes "a") symbols.Local 129) ∷ (symbol (codes "c") symbols.GlobalImplicit 1) ∷ []) 4) ∷ [])
 
-outside_refused : emitted outside (outermost 0 (codes "m.py") outside_scopes) ≡ Refused error.InvalidYield (Some (at 2 18))
+outside_refused : emitted outside Exec (outermost 0 (codes "m.py") outside_scopes) ≡ Refused error.InvalidYield (Some (at 2 18))
 unfolding with_step with_block with_name with_varname with_constant with_loops located refuse emit jump begin new_block emit_count emit_name emit_varname emit_mangled add_varname add_constant emit_constant move generating pass_over by_context by_level by_loops in_loop accessed inside with_path child lambda_value emission_of_def load_cell sealed as_element called_at_once
 outside_refused = refl
 
@@ -355,7 +355,7 @@ in_loops = (tree.Module (tree.more_stmts (tree.While (at 1 1) (tree.Name (at 1 7
 abbrev in_loops_scopes : List ScopeEntry
 in_loops_scopes = ((entry kinds.Module ((symbol (codes "a") symbols.Unknown 1) ∷ (symbol (codes "c") symbols.Unknown 1) ∷ []) 2) ∷ (entry kinds.Comprehension ((symbol (codes ".0") symbols.Local 4) ∷ (symbol (codes "b") symbols.Local 129) ∷ []) 2) ∷ [])
 
-in_loops_refused : emitted in_loops (outermost 0 (codes "m.py") in_loops_scopes) ≡ Refused error.InvalidContinue (Some (at 4 1))
+in_loops_refused : emitted in_loops Exec (outermost 0 (codes "m.py") in_loops_scopes) ≡ Refused error.InvalidContinue (Some (at 4 1))
 unfolding with_step with_block with_name with_varname with_constant with_loops located refuse emit jump begin new_block emit_count emit_name emit_varname emit_mangled add_varname add_constant emit_constant move generating pass_over by_context by_level by_loops in_loop accessed inside with_path child lambda_value emission_of_def load_cell sealed as_element called_at_once
 in_loops_refused = refl
 

@@ -2,6 +2,7 @@
 use Rattle.std.proofs.Common.{◌≡◌, refl, ℕ, List, [], ◌∷◌, pos, codes}
 use Rattle.py_base.specs.Literal as literal
 use Rattle.py_tree.specs.Tree as tree
+use Rattle.py_tree.specs.declared.modules.Mode.TheVariants.{Exec}
 use Rattle.py_bytecode.specs.declared.instruction.Instruction.TheVariants as op
 use Rattle.py_bytecode.specs.Objects as const
 use Rattle.py_bytecode.specs.Values.{Given, Gives, Operates, Accesses, Fast, Global, Deref, Load, Number, Named, operation, ran, It, Returned}
@@ -16,7 +17,8 @@ use Rattle.py_steps.specs.Emitting.{Emission, Outcome, ◌▸◌, add_varname, b
 use Rattle.py_steps.specs.Accesses.{accessed}
 use Rattle.py_steps.specs.Context.{Context, head_of, inside, outermost, within_class}
 use Rattle.py_emission.specs.Emission.{emission}
-use Rattle.py_meaning.specs.EmissionStmts.{emission_of_stmts, emitted}
+use Rattle.py_meaning.specs.EmissionStmts.{emission_of_stmts}
+use Rattle.py_meaning.specs.EmissionMods.{emitted}
 use Rattle.py_meaning.specs.Table.{expr_form}
 use Rattle.py_meaning.proofs.SampleTools.{at, line, lines_in, told_with}
 
@@ -100,6 +102,6 @@ shared =
     record { typ = kind.Function; symbols = symbol (codes "g") scope.GlobalExplicit ∷ []; next = 2 } ∷ []
 
 -- the others are looked up by name
-module_names : lines_in (emitted (tree.Module (all_of (tree.Assign (at 3 1) (one (named 3 1 (codes "g"))) (named 3 5 (codes "h")) ∷ tree.StmtExpr (at 4 1) (tree.Call (at 4 1) (named 4 1 (codes "f")) (one (named 4 3 (codes "g"))) tree.no_keywords) ∷ tree.Delete (at 5 1) (one (named 5 5 (codes "g"))) ∷ []))) (outermost 0 [] shared)) ≡ told_with (line op.LoadNameAny 0 3 5 ∷ line op.StoreGlobal 1 3 5 ∷ line op.LoadNameAny 2 4 1 ∷ line op.LoadGlobal 1 4 3 ∷ line op.CallFunctionPositional 1 4 3 ∷ line op.Pop 0 4 3 ∷ line op.DeleteGlobal 1 5 1 ∷ line op.ReturnConst 0 5 1 ∷ []) (codes "h" ∷ codes "g" ∷ codes "f" ∷ []) [] (const.none ∷ [])
+module_names : lines_in (emitted (tree.Module (all_of (tree.Assign (at 3 1) (one (named 3 1 (codes "g"))) (named 3 5 (codes "h")) ∷ tree.StmtExpr (at 4 1) (tree.Call (at 4 1) (named 4 1 (codes "f")) (one (named 4 3 (codes "g"))) tree.no_keywords) ∷ tree.Delete (at 5 1) (one (named 5 5 (codes "g"))) ∷ []))) Exec (outermost 0 [] shared)) ≡ told_with (line op.LoadNameAny 0 3 5 ∷ line op.StoreGlobal 1 3 5 ∷ line op.LoadNameAny 2 4 1 ∷ line op.LoadGlobal 1 4 3 ∷ line op.CallFunctionPositional 1 4 3 ∷ line op.Pop 0 4 3 ∷ line op.DeleteGlobal 1 5 1 ∷ line op.ReturnConst 0 5 1 ∷ []) (codes "h" ∷ codes "g" ∷ codes "f" ∷ []) [] (const.none ∷ [])
 unfolding with_step with_block with_name with_varname with_constant with_loops located refuse emit jump begin new_block emit_count emit_name emit_varname emit_mangled emit_constant move by_context by_level by_loops in_loop accessed inside
 module_names = refl

@@ -18,7 +18,7 @@ use Rattle.py_steps.specs.Emitting.{Refused, with_step, with_block, with_name, w
 use Rattle.py_steps.specs.Sealed.{sealed}
 use Rattle.py_emission.specs.Emission.{lambda_value}
 use Rattle.py_meaning.specs.EmissionDefs.{emission_of_def}
-use Rattle.py_meaning.specs.EmissionStmts.{emitted}
+use Rattle.py_meaning.specs.EmissionMods.{emitted}
 use Rattle.py_meaning.specs.Faults.{compile_faults}
 use Rattle.py_meaning.specs.Meaning.{body}
 use Rattle.py_meaning.proofs.ObjectTools.{codes_of_object, codes_of_scope, entry, object_emitted, sealed_as, symbol, unit}
@@ -259,7 +259,7 @@ yields_outside = (tree.Module (tree.more_stmts (tree.Assign (at 1 1) (tree.more_
 abbrev yields_outside_scopes : List ScopeEntry
 yields_outside_scopes = ((entry kinds.Module ((symbol (codes "x") symbols.Local 2) ∷ []) 1) ∷ [])
 
-yields_outside_refused : emitted yields_outside (outermost 0 (codes "m.py") yields_outside_scopes) ≡ Refused error.InvalidYield (Some (at 1 5))
+yields_outside_refused : emitted yields_outside Exec (outermost 0 (codes "m.py") yields_outside_scopes) ≡ Refused error.InvalidYield (Some (at 1 5))
 unfolding with_step with_block with_name with_varname with_constant with_loops located refuse emit jump begin new_block emit_count emit_name emit_varname emit_mangled add_varname add_constant emit_constant move generating pass_over by_context by_level by_loops in_loop accessed inside with_path child lambda_value emission_of_def load_cell sealed
 yields_outside_refused = refl
 
@@ -275,7 +275,7 @@ yields_from_outside = (tree.Module (tree.more_stmts (tree.StmtExpr (at 1 1) (tre
 abbrev yields_from_outside_scopes : List ScopeEntry
 yields_from_outside_scopes = ((entry kinds.Module ((symbol (codes "a") symbols.Unknown 1) ∷ (symbol (codes "b") symbols.Unknown 1) ∷ (symbol (codes "x") symbols.Local 2) ∷ []) 2) ∷ (entry kinds.Function ((symbol (codes "a") symbols.GlobalImplicit 1) ∷ []) 2) ∷ [])
 
-yields_from_outside_refused : emitted yields_from_outside (outermost 0 (codes "m.py") yields_from_outside_scopes) ≡ Refused error.InvalidYieldFrom (Some (at 2 10))
+yields_from_outside_refused : emitted yields_from_outside Exec (outermost 0 (codes "m.py") yields_from_outside_scopes) ≡ Refused error.InvalidYieldFrom (Some (at 2 10))
 unfolding with_step with_block with_name with_varname with_constant with_loops located refuse emit jump begin new_block emit_count emit_name emit_varname emit_mangled add_varname add_constant emit_constant move generating pass_over by_context by_level by_loops in_loop accessed inside with_path child lambda_value emission_of_def load_cell sealed
 yields_from_outside_refused = refl
 
@@ -292,7 +292,7 @@ returns_outside = (tree.Module (tree.more_stmts (tree.FunctionDef (at 1 1) (code
 abbrev returns_outside_scopes : List ScopeEntry
 returns_outside_scopes = ((entry kinds.Module ((symbol (codes "f") symbols.Local 3) ∷ (symbol (codes "a") symbols.Unknown 1) ∷ []) 2) ∷ (entry kinds.Function [] 2) ∷ [])
 
-returns_outside_refused : emitted returns_outside (outermost 0 (codes "m.py") returns_outside_scopes) ≡ Refused error.InvalidReturn (Some (at 3 5))
+returns_outside_refused : emitted returns_outside Exec (outermost 0 (codes "m.py") returns_outside_scopes) ≡ Refused error.InvalidReturn (Some (at 3 5))
 unfolding with_step with_block with_name with_varname with_constant with_loops located refuse emit jump begin new_block emit_count emit_name emit_varname emit_mangled add_varname add_constant emit_constant move generating pass_over by_context by_level by_loops in_loop accessed inside with_path child lambda_value emission_of_def load_cell sealed
 returns_outside_refused = refl
 
@@ -309,7 +309,7 @@ awaits = (tree.Module (tree.more_stmts (tree.While (at 1 1) (tree.Name (at 1 7) 
 abbrev awaits_scopes : List ScopeEntry
 awaits_scopes = ((entry kinds.Module ((symbol (codes "f") symbols.Local 3) ∷ (symbol (codes "a") symbols.Unknown 1) ∷ (symbol (codes "b") symbols.Unknown 1) ∷ []) 3) ∷ (entry kinds.Function ((symbol (codes "__debug__") symbols.Local 4) ∷ []) 2) ∷ (entry kinds.Function ((symbol (codes "x") symbols.Local 4) ∷ (symbol (codes "__debug__") symbols.Local 12) ∷ []) 3) ∷ [])
 
-awaits_refused : emitted awaits (outermost 0 (codes "m.py") awaits_scopes) ≡ Refused (error.SyntaxError (codes "cannot assign to __debug__")) (Some (at 2 13))
+awaits_refused : emitted awaits Exec (outermost 0 (codes "m.py") awaits_scopes) ≡ Refused (error.SyntaxError (codes "cannot assign to __debug__")) (Some (at 2 13))
 unfolding with_step with_block with_name with_varname with_constant with_loops located refuse emit jump begin new_block emit_count emit_name emit_varname emit_mangled add_varname add_constant emit_constant move generating pass_over by_context by_level by_loops in_loop accessed inside with_path child lambda_value emission_of_def load_cell sealed
 awaits_refused = refl
 

@@ -17,7 +17,7 @@ use Rattle.py_steps.specs.Emitting.{Refused, with_step, with_block, with_name, w
 use Rattle.py_steps.specs.Sealed.{sealed}
 use Rattle.py_emission.specs.Emission.{lambda_value}
 use Rattle.py_meaning.specs.EmissionDefs.{emission_of_def}
-use Rattle.py_meaning.specs.EmissionStmts.{emitted}
+use Rattle.py_meaning.specs.EmissionMods.{emitted}
 use Rattle.py_meaning.specs.Faults.{compile_faults}
 use Rattle.py_meaning.specs.Meaning.{body}
 use Rattle.py_meaning.proofs.ObjectTools.{codes_of_object, codes_of_scope, entry, object_emitted, sealed_as, symbol, unit}
@@ -155,7 +155,7 @@ star_in_function = (tree.Module (tree.more_stmts (tree.FunctionDef (at 1 1) (cod
 abbrev star_in_function_scopes : List ScopeEntry
 star_in_function_scopes = ((entry kinds.Module ((symbol (codes "f") symbols.Local 2) ∷ []) 2) ∷ (entry kinds.Function ((symbol (codes "x") symbols.GlobalImplicit 1) ∷ (symbol (codes "a") symbols.Local 18) ∷ (symbol (codes "*") symbols.Local 18) ∷ []) 2) ∷ [])
 
-star_in_function_refused : emitted star_in_function (outermost 0 (codes "m.py") star_in_function_scopes) ≡ Refused error.FunctionImportStar (Some (at 3 5))
+star_in_function_refused : emitted star_in_function Exec (outermost 0 (codes "m.py") star_in_function_scopes) ≡ Refused error.FunctionImportStar (Some (at 3 5))
 unfolding with_step with_block with_name with_varname with_constant with_loops located refuse emit jump begin new_block emit_count emit_name emit_varname emit_mangled add_varname add_constant emit_constant move generating pass_over by_context by_level by_loops in_loop accessed inside with_path child lambda_value emission_of_def load_cell sealed
 star_in_function_refused = refl
 
@@ -171,7 +171,7 @@ first_segment = (tree.Module (tree.more_stmts (tree.Import (at 1 1) ((alias (cod
 abbrev first_segment_scopes : List ScopeEntry
 first_segment_scopes = ((entry kinds.Module ((symbol (codes "b") symbols.Local 18) ∷ (symbol (codes "__debug__") symbols.Local 18) ∷ (symbol (codes "f") symbols.Local 18) ∷ (symbol (codes "g") symbols.Local 18) ∷ []) 1) ∷ [])
 
-first_segment_refused : emitted first_segment (outermost 0 (codes "m.py") first_segment_scopes) ≡ Refused (error.SyntaxError (codes "cannot assign to __debug__")) (Some (at 1 1))
+first_segment_refused : emitted first_segment Exec (outermost 0 (codes "m.py") first_segment_scopes) ≡ Refused (error.SyntaxError (codes "cannot assign to __debug__")) (Some (at 1 1))
 unfolding with_step with_block with_name with_varname with_constant with_loops located refuse emit jump begin new_block emit_count emit_name emit_varname emit_mangled add_varname add_constant emit_constant move generating pass_over by_context by_level by_loops in_loop accessed inside with_path child lambda_value emission_of_def load_cell sealed
 first_segment_refused = refl
 
@@ -186,7 +186,7 @@ taken = (tree.Module (tree.more_stmts (tree.ImportFrom (at 1 1) (Some (codes "m"
 abbrev taken_scopes : List ScopeEntry
 taken_scopes = ((entry kinds.Module ((symbol (codes "a") symbols.Local 18) ∷ (symbol (codes "__debug__") symbols.Local 18) ∷ []) 1) ∷ [])
 
-taken_refused : emitted taken (outermost 0 (codes "m.py") taken_scopes) ≡ Refused (error.SyntaxError (codes "cannot assign to __debug__")) (Some (at 1 1))
+taken_refused : emitted taken Exec (outermost 0 (codes "m.py") taken_scopes) ≡ Refused (error.SyntaxError (codes "cannot assign to __debug__")) (Some (at 1 1))
 unfolding with_step with_block with_name with_varname with_constant with_loops located refuse emit jump begin new_block emit_count emit_name emit_varname emit_mangled add_varname add_constant emit_constant move generating pass_over by_context by_level by_loops in_loop accessed inside with_path child lambda_value emission_of_def load_cell sealed
 taken_refused = refl
 

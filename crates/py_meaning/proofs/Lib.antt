@@ -12,3 +12,5 @@ mod OrderSamples
 mod FunctionSamples
 mod ComprehensionSamples
 mod ImportSamples
+mod InteractiveSamples
+mod ClassSamples

@@ -3,6 +3,8 @@ use Rattle.std.specs.Prelude.{ℕ, ℤ, zero, suc, List, [], ◌∷◌, Option, 
 use Rattle.std.specs.List.{flat_map}
 use Rattle.py_base.specs.declared.location.SourceLocation.{SourceLocation}
 use Rattle.py_tree.specs.Tree as tree
+use Rattle.py_tree.specs.declared.modules.Mode.{Mode}
+use Rattle.py_tree.specs.declared.modules.Mode.TheVariants.{Exec}
 use Rattle.py_scope.specs.declared.flat.ScopeEntry.{ScopeEntry}
 use Rattle.py_scope.specs.declared.kinds.SymbolScope.{SymbolScope}
 use Rattle.py_scope.specs.declared.symbols.Symbol.{Symbol}
@@ -20,7 +22,7 @@ use Rattle.py_steps.specs.Children.{Shape, code_head}
 use Rattle.py_steps.specs.Context.{Context, outermost}
 use Rattle.py_steps.specs.Emitting.{Outcome, Done, TooWide, Refused}
 use Rattle.py_steps.specs.Sealed.{sealed}
-use Rattle.py_meaning.specs.EmissionStmts.{emitted}
+use Rattle.py_meaning.specs.EmissionMods.{emitted}
 use Rattle.py_meaning.proofs.SampleTools.{at}
 
 abbrev pub symbol : List ℕ → SymbolScope → (flags : ℕ) → Symbol
@@ -63,8 +65,12 @@ object_in c (Done s) = Some (sealed c.level (code_head c module_shape (at 1 1)) 
 object_in c TooWide = None
 object_in c (Refused e p) = None
 
+abbrev pub object_in_mode : List ScopeEntry → tree.Mod → Mode → (level : ℕ) → Option (Object × ℕ)
+object_in_mode scopes t m level = let c = outermost level path scopes in object_in c (emitted t m c)
+
+-- of a tree that is compiled alike in every mode
 abbrev pub object_emitted : List ScopeEntry → tree.Mod → (level : ℕ) → Option (Object × ℕ)
-object_emitted scopes t level = let c = outermost level path scopes in object_in c (emitted t c)
+object_emitted scopes t level = object_in_mode scopes t Exec level
 
 -- without the scopes within
 abbrev decoded : Tables → CodeUnit → Option (Instr ℕ ℕ)

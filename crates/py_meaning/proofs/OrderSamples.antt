@@ -12,7 +12,7 @@ use Rattle.py_steps.specs.Emitting.{Refused, with_step, with_block, with_name, w
 use Rattle.py_steps.specs.Accesses.{accessed}
 use Rattle.py_steps.specs.Context.{inside}
 use Rattle.py_forms.specs.Form.{Scope}
-use Rattle.py_meaning.specs.EmissionStmts.{emitted}
+use Rattle.py_meaning.specs.EmissionMods.{emitted}
 use Rattle.py_meaning.specs.Faults.{compile_faults}
 use Rattle.py_meaning.specs.Meaning.{body, meaning}
 use Rattle.py_meaning.proofs.SampleTools.{at, line, lines_in, told, told_as, unscoped}
@@ -24,7 +24,7 @@ loads name = Accesses Unsaid Load name 0 []
 abbrev spread_first : tree.Mod
 spread_first = (tree.Module (tree.more_stmts (tree.StmtExpr (at 1 1) (tree.Dict (at 1 1) (tree.more_opts tree.no_expr (tree.more_opts (tree.some_expr (tree.Constant (at 1 7) (literal.Str (codes "x")))) tree.no_opts)) (tree.more_exprs (tree.Name (at 1 4) (codes "a")) (tree.more_exprs (tree.Constant (at 1 12) (literal.Int (pos 1))) tree.no_exprs)))) tree.no_stmts))
 
-spread_first_emitted : lines_in (emitted spread_first (unscoped 0)) ≡ (told_as ((line op.BuildMap 0 1 1) ∷ (line op.LoadNameAny 0 1 4) ∷ (line op.DictUpdate 0 1 4) ∷ (line op.LoadConst 0 1 7) ∷ (line op.LoadConst 1 1 12) ∷ (line op.BuildMap 1 1 12) ∷ (line op.DictUpdate 0 1 12) ∷ (line op.Pop 0 1 12) ∷ (line op.ReturnConst 2 1 12) ∷ []) ((codes "a") ∷ []) ((const.str (codes "x")) ∷ (const.integer (pos 1)) ∷ const.none ∷ []))
+spread_first_emitted : lines_in (emitted spread_first Exec (unscoped 0)) ≡ (told_as ((line op.BuildMap 0 1 1) ∷ (line op.LoadNameAny 0 1 4) ∷ (line op.DictUpdate 0 1 4) ∷ (line op.LoadConst 0 1 7) ∷ (line op.LoadConst 1 1 12) ∷ (line op.BuildMap 1 1 12) ∷ (line op.DictUpdate 0 1 12) ∷ (line op.Pop 0 1 12) ∷ (line op.ReturnConst 2 1 12) ∷ []) ((codes "a") ∷ []) ((const.str (codes "x")) ∷ (const.integer (pos 1)) ∷ const.none ∷ []))
 unfolding with_step with_block with_name with_constant with_loops located refuse emit jump begin new_block emit_count emit_name emit_mangled emit_constant move by_context by_level by_loops in_loop accessed inside
 spread_first_emitted = refl
 
@@ -36,7 +36,7 @@ spread_first_given = refl
 abbrev spread_between : tree.Mod
 spread_between = (tree.Module (tree.more_stmts (tree.StmtExpr (at 1 1) (tree.Dict (at 1 1) (tree.more_opts (tree.some_expr (tree.Name (at 1 2) (codes "a"))) (tree.more_opts tree.no_expr (tree.more_opts tree.no_expr (tree.more_opts (tree.some_expr (tree.Name (at 1 18) (codes "e"))) (tree.more_opts (tree.some_expr (tree.Name (at 1 24) (codes "g"))) tree.no_opts))))) (tree.more_exprs (tree.Name (at 1 5) (codes "b")) (tree.more_exprs (tree.Name (at 1 10) (codes "c")) (tree.more_exprs (tree.Name (at 1 15) (codes "d")) (tree.more_exprs (tree.Name (at 1 21) (codes "f")) (tree.more_exprs (tree.Name (at 1 27) (codes "h")) tree.no_exprs))))))) tree.no_stmts))
 
-spread_between_emitted : lines_in (emitted spread_between (unscoped 0)) ≡ (told_as ((line op.LoadNameAny 0 1 2) ∷ (line op.LoadNameAny 1 1 5) ∷ (line op.BuildMap 1 1 5) ∷ (line op.LoadNameAny 2 1 10) ∷ (line op.DictUpdate 0 1 10) ∷ (line op.LoadNameAny 3 1 15) ∷ (line op.DictUpdate 0 1 15) ∷ (line op.LoadNameAny 4 1 18) ∷ (line op.LoadNameAny 5 1 21) ∷ (line op.LoadNameAny 6 1 24) ∷ (line op.LoadNameAny 7 1 27) ∷ (line op.BuildMap 2 1 27) ∷ (line op.DictUpdate 0 1 27) ∷ (line op.Pop 0 1 27) ∷ (line op.ReturnConst 0 1 27) ∷ []) ((codes "a") ∷ (codes "b") ∷ (codes "c") ∷ (codes "d") ∷ (codes "e") ∷ (codes "f") ∷ (codes "g") ∷ (codes "h") ∷ []) (const.none ∷ []))
+spread_between_emitted : lines_in (emitted spread_between Exec (unscoped 0)) ≡ (told_as ((line op.LoadNameAny 0 1 2) ∷ (line op.LoadNameAny 1 1 5) ∷ (line op.BuildMap 1 1 5) ∷ (line op.LoadNameAny 2 1 10) ∷ (line op.DictUpdate 0 1 10) ∷ (line op.LoadNameAny 3 1 15) ∷ (line op.DictUpdate 0 1 15) ∷ (line op.LoadNameAny 4 1 18) ∷ (line op.LoadNameAny 5 1 21) ∷ (line op.LoadNameAny 6 1 24) ∷ (line op.LoadNameAny 7 1 27) ∷ (line op.BuildMap 2 1 27) ∷ (line op.DictUpdate 0 1 27) ∷ (line op.Pop 0 1 27) ∷ (line op.ReturnConst 0 1 27) ∷ []) ((codes "a") ∷ (codes "b") ∷ (codes "c") ∷ (codes "d") ∷ (codes "e") ∷ (codes "f") ∷ (codes "g") ∷ (codes "h") ∷ []) (const.none ∷ []))
 unfolding with_step with_block with_name with_constant with_loops located refuse emit jump begin new_block emit_count emit_name emit_mangled emit_constant move by_context by_level by_loops in_loop accessed inside
 spread_between_emitted = refl
 
@@ -52,7 +52,7 @@ spread_between_stopped = refl
 abbrev spread_last : tree.Mod
 spread_last = (tree.Module (tree.more_stmts (tree.StmtExpr (at 1 1) (tree.Dict (at 1 1) (tree.more_opts (tree.some_expr (tree.Name (at 1 2) (codes "a"))) (tree.more_opts tree.no_expr tree.no_opts)) (tree.more_exprs (tree.Name (at 1 5) (codes "b")) (tree.more_exprs (tree.Name (at 1 10) (codes "c")) tree.no_exprs)))) tree.no_stmts))
 
-spread_last_emitted : lines_in (emitted spread_last (unscoped 0)) ≡ (told_as ((line op.LoadNameAny 0 1 2) ∷ (line op.LoadNameAny 1 1 5) ∷ (line op.BuildMap 1 1 5) ∷ (line op.LoadNameAny 2 1 10) ∷ (line op.DictUpdate 0 1 10) ∷ (line op.Pop 0 1 10) ∷ (line op.ReturnConst 0 1 10) ∷ []) ((codes "a") ∷ (codes "b") ∷ (codes "c") ∷ []) (const.none ∷ []))
+spread_last_emitted : lines_in (emitted spread_last Exec (unscoped 0)) ≡ (told_as ((line op.LoadNameAny 0 1 2) ∷ (line op.LoadNameAny 1 1 5) ∷ (line op.BuildMap 1 1 5) ∷ (line op.LoadNameAny 2 1 10) ∷ (line op.DictUpdate 0 1 10) ∷ (line op.Pop 0 1 10) ∷ (line op.ReturnConst 0 1 10) ∷ []) ((codes "a") ∷ (codes "b") ∷ (codes "c") ∷ []) (const.none ∷ []))
 unfolding with_step with_block with_name with_constant with_loops located refuse emit jump begin new_block emit_count emit_name emit_mangled emit_constant move by_context by_level by_loops in_loop accessed inside
 spread_last_emitted = refl
 
@@ -64,7 +64,7 @@ spread_last_given = refl
 abbrev no_pair : tree.Mod
 no_pair = (tree.Module (tree.more_stmts (tree.StmtExpr (at 1 1) (tree.Dict (at 1 1) (tree.more_opts tree.no_expr tree.no_opts) (tree.more_exprs (tree.Name (at 1 4) (codes "a")) tree.no_exprs))) tree.no_stmts))
 
-no_pair_emitted : lines_in (emitted no_pair (unscoped 0)) ≡ (told_as ((line op.BuildMap 0 1 1) ∷ (line op.LoadNameAny 0 1 4) ∷ (line op.DictUpdate 0 1 4) ∷ (line op.Pop 0 1 4) ∷ (line op.ReturnConst 0 1 4) ∷ []) ((codes "a") ∷ []) (const.none ∷ []))
+no_pair_emitted : lines_in (emitted no_pair Exec (unscoped 0)) ≡ (told_as ((line op.BuildMap 0 1 1) ∷ (line op.LoadNameAny 0 1 4) ∷ (line op.DictUpdate 0 1 4) ∷ (line op.Pop 0 1 4) ∷ (line op.ReturnConst 0 1 4) ∷ []) ((codes "a") ∷ []) (const.none ∷ []))
 unfolding with_step with_block with_name with_constant with_loops located refuse emit jump begin new_block emit_count emit_name emit_mangled emit_constant move by_context by_level by_loops in_loop accessed inside
 no_pair_emitted = refl
 
@@ -76,7 +76,7 @@ no_pair_given = refl
 abbrev within : tree.Mod
 within = (tree.Module (tree.more_stmts (tree.StmtExpr (at 1 1) (tree.Dict (at 1 1) (tree.more_opts tree.no_expr (tree.more_opts (tree.some_expr (tree.Name (at 1 17) (codes "d"))) (tree.more_opts tree.no_expr tree.no_opts))) (tree.more_exprs (tree.Dict (at 1 4) (tree.more_opts tree.no_expr (tree.more_opts (tree.some_expr (tree.Name (at 1 10) (codes "b"))) tree.no_opts)) (tree.more_exprs (tree.Name (at 1 7) (codes "a")) (tree.more_exprs (tree.Name (at 1 13) (codes "c")) tree.no_exprs))) (tree.more_exprs (tree.Dict (at 1 20) (tree.more_opts (tree.some_expr (tree.Name (at 1 21) (codes "e"))) tree.no_opts) (tree.more_exprs (tree.Name (at 1 24) (codes "f")) tree.no_exprs)) (tree.more_exprs (tree.Name (at 1 30) (codes "g")) tree.no_exprs))))) tree.no_stmts))
 
-within_emitted : lines_in (emitted within (unscoped 0)) ≡ (told_as ((line op.BuildMap 0 1 1) ∷ (line op.BuildMap 0 1 4) ∷ (line op.LoadNameAny 0 1 7) ∷ (line op.DictUpdate 0 1 7) ∷ (line op.LoadNameAny 1 1 10) ∷ (line op.LoadNameAny 2 1 13) ∷ (line op.BuildMap 1 1 13) ∷ (line op.DictUpdate 0 1 13) ∷ (line op.DictUpdate 0 1 13) ∷ (line op.LoadNameAny 3 1 17) ∷ (line op.LoadNameAny 4 1 21) ∷ (line op.LoadNameAny 5 1 24) ∷ (line op.BuildMap 1 1 24) ∷ (line op.BuildMap 1 1 24) ∷ (line op.DictUpdate 0 1 24) ∷ (line op.LoadNameAny 6 1 30) ∷ (line op.DictUpdate 0 1 30) ∷ (line op.Pop 0 1 30) ∷ (line op.ReturnConst 0 1 30) ∷ []) ((codes "a") ∷ (codes "b") ∷ (codes "c") ∷ (codes "d") ∷ (codes "e") ∷ (codes "f") ∷ (codes "g") ∷ []) (const.none ∷ []))
+within_emitted : lines_in (emitted within Exec (unscoped 0)) ≡ (told_as ((line op.BuildMap 0 1 1) ∷ (line op.BuildMap 0 1 4) ∷ (line op.LoadNameAny 0 1 7) ∷ (line op.DictUpdate 0 1 7) ∷ (line op.LoadNameAny 1 1 10) ∷ (line op.LoadNameAny 2 1 13) ∷ (line op.BuildMap 1 1 13) ∷ (line op.DictUpdate 0 1 13) ∷ (line op.DictUpdate 0 1 13) ∷ (line op.LoadNameAny 3 1 17) ∷ (line op.LoadNameAny 4 1 21) ∷ (line op.LoadNameAny 5 1 24) ∷ (line op.BuildMap 1 1 24) ∷ (line op.BuildMap 1 1 24) ∷ (line op.DictUpdate 0 1 24) ∷ (line op.LoadNameAny 6 1 30) ∷ (line op.DictUpdate 0 1 30) ∷ (line op.Pop 0 1 30) ∷ (line op.ReturnConst 0 1 30) ∷ []) ((codes "a") ∷ (codes "b") ∷ (codes "c") ∷ (codes "d") ∷ (codes "e") ∷ (codes "f") ∷ (codes "g") ∷ []) (const.none ∷ []))
 unfolding with_step with_block with_name with_constant with_loops located refuse emit jump begin new_block emit_count emit_name emit_mangled emit_constant move by_context by_level by_loops in_loop accessed inside
 within_emitted = refl
 
@@ -88,7 +88,7 @@ within_given = refl
 abbrev formatted : tree.Mod
 formatted = (tree.Module (tree.more_stmts (tree.StmtExpr (at 1 1) (tree.JoinedStr (at 1 1) (tree.more_exprs (tree.FormattedValue (at 1 1) (tree.Name (at 1 4) (codes "a")) conversion.None (tree.some_expr (tree.JoinedStr (at 1 1) (tree.more_exprs (tree.Constant (at 1 1) (literal.Str (codes ">4"))) tree.no_exprs)))) tree.no_exprs))) tree.no_stmts))
 
-formatted_emitted : lines_in (emitted formatted (unscoped 0)) ≡ (told_as ((line op.LoadNameAny 0 1 4) ∷ (line op.LoadConst 0 1 1) ∷ (line op.FormatValue 0 1 1) ∷ (line op.BuildString 1 1 1) ∷ (line op.Pop 0 1 1) ∷ (line op.ReturnConst 1 1 1) ∷ []) ((codes "a") ∷ []) ((const.str (codes ">4")) ∷ const.none ∷ []))
+formatted_emitted : lines_in (emitted formatted Exec (unscoped 0)) ≡ (told_as ((line op.LoadNameAny 0 1 4) ∷ (line op.LoadConst 0 1 1) ∷ (line op.FormatValue 0 1 1) ∷ (line op.BuildString 1 1 1) ∷ (line op.Pop 0 1 1) ∷ (line op.ReturnConst 1 1 1) ∷ []) ((codes "a") ∷ []) ((const.str (codes ">4")) ∷ const.none ∷ []))
 unfolding with_step with_block with_name with_constant with_loops located refuse emit jump begin new_block emit_count emit_name emit_mangled emit_constant move by_context by_level by_loops in_loop accessed inside
 formatted_emitted = refl
 
@@ -100,7 +100,7 @@ formatted_given = refl
 abbrev formatted_by : tree.Mod
 formatted_by = (tree.Module (tree.more_stmts (tree.StmtExpr (at 1 1) (tree.JoinedStr (at 1 1) (tree.more_exprs (tree.FormattedValue (at 1 1) (tree.Name (at 1 4) (codes "a")) conversion.Repr (tree.some_expr (tree.JoinedStr (at 1 1) (tree.more_exprs (tree.FormattedValue (at 1 1) (tree.Name (at 1 9) (codes "b")) conversion.None tree.no_expr) tree.no_exprs)))) (tree.more_exprs (tree.FormattedValue (at 1 1) (tree.Name (at 1 13) (codes "c")) conversion.None tree.no_expr) tree.no_exprs)))) tree.no_stmts))
 
-formatted_by_emitted : lines_in (emitted formatted_by (unscoped 0)) ≡ (told_as ((line op.LoadNameAny 0 1 4) ∷ (line op.LoadNameAny 1 1 9) ∷ (line op.LoadConst 0 1 9) ∷ (line op.FormatValue 0 1 9) ∷ (line op.BuildString 1 1 9) ∷ (line op.FormatValue 3 1 9) ∷ (line op.LoadNameAny 2 1 13) ∷ (line op.LoadConst 0 1 13) ∷ (line op.FormatValue 0 1 13) ∷ (line op.BuildString 2 1 13) ∷ (line op.Pop 0 1 13) ∷ (line op.ReturnConst 1 1 13) ∷ []) ((codes "a") ∷ (codes "b") ∷ (codes "c") ∷ []) ((const.str []) ∷ const.none ∷ []))
+formatted_by_emitted : lines_in (emitted formatted_by Exec (unscoped 0)) ≡ (told_as ((line op.LoadNameAny 0 1 4) ∷ (line op.LoadNameAny 1 1 9) ∷ (line op.LoadConst 0 1 9) ∷ (line op.FormatValue 0 1 9) ∷ (line op.BuildString 1 1 9) ∷ (line op.FormatValue 3 1 9) ∷ (line op.LoadNameAny 2 1 13) ∷ (line op.LoadConst 0 1 13) ∷ (line op.FormatValue 0 1 13) ∷ (line op.BuildString 2 1 13) ∷ (line op.Pop 0 1 13) ∷ (line op.ReturnConst 1 1 13) ∷ []) ((codes "a") ∷ (codes "b") ∷ (codes "c") ∷ []) ((const.str []) ∷ const.none ∷ []))
 unfolding with_step with_block with_name with_constant with_loops located refuse emit jump begin new_block emit_count emit_name emit_mangled emit_constant move by_context by_level by_loops in_loop accessed inside
 formatted_by_emitted = refl
 
@@ -116,7 +116,7 @@ formatted_by_stopped = refl
 abbrev wrong_entries : tree.Mod
 wrong_entries = (tree.Module (tree.more_stmts (tree.StmtExpr (at 1 1) (tree.Dict (at 1 1) (tree.more_opts tree.no_expr (tree.more_opts (tree.some_expr (tree.Call (at 1 20) (tree.Name (at 1 20) (codes "g")) tree.no_exprs (tree.more_keywords (Some (codes "__debug__")) (tree.Constant (at 1 32) (literal.Int (pos 2))) tree.no_keywords))) (tree.more_opts tree.no_expr tree.no_opts))) (tree.more_exprs (tree.Call (at 1 4) (tree.Name (at 1 4) (codes "f")) tree.no_exprs (tree.more_keywords (Some (codes "__debug__")) (tree.Constant (at 1 16) (literal.Int (pos 1))) tree.no_keywords)) (tree.more_exprs (tree.Constant (at 1 36) (literal.Int (pos 3))) (tree.more_exprs (tree.Call (at 1 41) (tree.Name (at 1 41) (codes "h")) tree.no_exprs (tree.more_keywords (Some (codes "__debug__")) (tree.Constant (at 1 53) (literal.Int (pos 4))) tree.no_keywords)) tree.no_exprs))))) tree.no_stmts))
 
-wrong_entries_refused : emitted wrong_entries (unscoped 0) ≡ Refused (error.SyntaxError (codes "cannot assign to __debug__")) (Some (at 1 4))
+wrong_entries_refused : emitted wrong_entries Exec (unscoped 0) ≡ Refused (error.SyntaxError (codes "cannot assign to __debug__")) (Some (at 1 4))
 unfolding with_step with_block with_name with_constant with_loops located refuse emit jump begin new_block emit_count emit_name emit_mangled emit_constant move by_context by_level by_loops in_loop accessed inside
 wrong_entries_refused = refl
 
@@ -127,7 +127,7 @@ wrong_entries_faults = refl
 abbrev wrong_format : tree.Mod
 wrong_format = (tree.Module (tree.more_stmts (tree.StmtExpr (at 1 1) (tree.JoinedStr (at 1 1) (tree.more_exprs (tree.FormattedValue (at 1 1) (tree.Call (at 1 4) (tree.Name (at 1 4) (codes "f")) tree.no_exprs (tree.more_keywords (Some (codes "__debug__")) (tree.Constant (at 1 16) (literal.Int (pos 1))) tree.no_keywords)) conversion.None (tree.some_expr (tree.JoinedStr (at 1 1) (tree.more_exprs (tree.FormattedValue (at 1 1) (tree.Call (at 1 20) (tree.Name (at 1 20) (codes "g")) tree.no_exprs (tree.more_keywords (Some (codes "__debug__")) (tree.Constant (at 1 32) (literal.Int (pos 2))) tree.no_keywords)) conversion.None tree.no_expr) tree.no_exprs)))) tree.no_exprs))) tree.no_stmts))
 
-wrong_format_refused : emitted wrong_format (unscoped 0) ≡ Refused (error.SyntaxError (codes "cannot assign to __debug__")) (Some (at 1 4))
+wrong_format_refused : emitted wrong_format Exec (unscoped 0) ≡ Refused (error.SyntaxError (codes "cannot assign to __debug__")) (Some (at 1 4))
 unfolding with_step with_block with_name with_constant with_loops located refuse emit jump begin new_block emit_count emit_name emit_mangled emit_constant move by_context by_level by_loops in_loop accessed inside
 wrong_format_refused = refl
 
@@ -138,7 +138,7 @@ wrong_format_faults = refl
 abbrev wrong_behind : tree.Mod
 wrong_behind = (tree.Module (tree.more_stmts (tree.StmtExpr (at 1 1) (tree.NamedExpr (at 1 2) (tree.Name (at 1 2) (codes "__debug__")) (tree.JoinedStr (at 1 15) (tree.more_exprs (tree.FormattedValue (at 1 15) (tree.Name (at 1 18) (codes "a")) conversion.None (tree.some_expr (tree.JoinedStr (at 1 15) (tree.more_exprs (tree.FormattedValue (at 1 15) (tree.Name (at 1 21) (codes "b")) conversion.None tree.no_expr) tree.no_exprs)))) tree.no_exprs)))) tree.no_stmts))
 
-wrong_behind_refused : emitted wrong_behind (unscoped 0) ≡ Refused (error.SyntaxError (codes "cannot assign to __debug__")) (Some (at 1 21))
+wrong_behind_refused : emitted wrong_behind Exec (unscoped 0) ≡ Refused (error.SyntaxError (codes "cannot assign to __debug__")) (Some (at 1 21))
 unfolding with_step with_block with_name with_constant with_loops located refuse emit jump begin new_block emit_count emit_name emit_mangled emit_constant move by_context by_level by_loops in_loop accessed inside
 wrong_behind_refused = refl
 
@@ -149,7 +149,7 @@ wrong_behind_faults = refl
 abbrev wrong_after_pair : tree.Mod
 wrong_after_pair = (tree.Module (tree.more_stmts (tree.StmtExpr (at 1 1) (tree.NamedExpr (at 1 2) (tree.Name (at 1 2) (codes "__debug__")) (tree.Dict (at 1 15) (tree.more_opts tree.no_expr (tree.more_opts (tree.some_expr (tree.Name (at 1 21) (codes "b"))) tree.no_opts)) (tree.more_exprs (tree.Name (at 1 18) (codes "a")) (tree.more_exprs (tree.Name (at 1 24) (codes "c")) tree.no_exprs))))) tree.no_stmts))
 
-wrong_after_pair_refused : emitted wrong_after_pair (unscoped 0) ≡ Refused (error.SyntaxError (codes "cannot assign to __debug__")) (Some (at 1 24))
+wrong_after_pair_refused : emitted wrong_after_pair Exec (unscoped 0) ≡ Refused (error.SyntaxError (codes "cannot assign to __debug__")) (Some (at 1 24))
 unfolding with_step with_block with_name with_constant with_loops located refuse emit jump begin new_block emit_count emit_name emit_mangled emit_constant move by_context by_level by_loops in_loop accessed inside
 wrong_after_pair_refused = refl
 
@@ -160,7 +160,7 @@ wrong_after_pair_faults = refl
 abbrev wrong_after_map : tree.Mod
 wrong_after_map = (tree.Module (tree.more_stmts (tree.StmtExpr (at 1 1) (tree.NamedExpr (at 1 2) (tree.Name (at 1 2) (codes "__debug__")) (tree.Dict (at 1 15) (tree.more_opts (tree.some_expr (tree.Name (at 1 16) (codes "a"))) (tree.more_opts tree.no_expr tree.no_opts)) (tree.more_exprs (tree.Name (at 1 19) (codes "b")) (tree.more_exprs (tree.Name (at 1 24) (codes "c")) tree.no_exprs))))) tree.no_stmts))
 
-wrong_after_map_refused : emitted wrong_after_map (unscoped 0) ≡ Refused (error.SyntaxError (codes "cannot assign to __debug__")) (Some (at 1 24))
+wrong_after_map_refused : emitted wrong_after_map Exec (unscoped 0) ≡ Refused (error.SyntaxError (codes "cannot assign to __debug__")) (Some (at 1 24))
 unfolding with_step with_block with_name with_constant with_loops located refuse emit jump begin new_block emit_count emit_name emit_mangled emit_constant move by_context by_level by_loops in_loop accessed inside
 wrong_after_map_refused = refl
 

@@ -55,9 +55,13 @@ of_module = record { name = codes "top"; typ = kind.Module; line_number = 0; is_
 declared_scopes : scopes_of declares ≡ record { typ = kind.Module; symbols = symbol (codes "f") scope.Local 0x3 ∷ symbol (codes "h") scope.Unknown 0x1 ∷ symbol (codes "g") scope.GlobalExplicit 0x3 ∷ []; next = 2 } ∷ record { typ = kind.Function; symbols = symbol (codes "g") scope.GlobalExplicit 0x0 ∷ []; next = 2 } ∷ []
 declared_scopes = flat_of of_module 0 ∙ ap (λ (xs : List ScopeEntry). record { typ = kind.Module; symbols = symbol (codes "f") scope.Local 0x3 ∷ symbol (codes "h") scope.Unknown 0x1 ∷ symbol (codes "g") scope.GlobalExplicit 0x3 ∷ []; next = 1 + length (xs ++ []) } ∷ (xs ++ [])) (flat_of of_f 1)
 
--- an interactive tree is not scanned
-unscanned : scopes_of (tree.Interactive tree.no_stmts) ≡ []
-unscanned = refl
+-- what is entered at a prompt is scanned as a file is
+prompted : (stmts : tree.Stmts) → scopes_of (tree.Interactive stmts) ≡ scopes_of (tree.Module stmts)
+prompted stmts = refl
+
+-- the type of a function is not scanned
+unscanned : (argtypes : tree.Exprs) (returns : tree.Expr) → scopes_of (tree.FunctionType argtypes returns) ≡ []
+unscanned argtypes returns = refl
 
 -- def f(x):
 --     global x

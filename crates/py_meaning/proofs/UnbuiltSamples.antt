@@ -8,7 +8,7 @@ use Rattle.py_tree.specs.declared.modules.Mode.TheVariants.{Exec, Eval, Single, 
 use Rattle.py_forms.specs.declared.errors.CodegenErrorType.TheVariants as error
 use Rattle.py_steps.specs.Emitting.{Refused, by_level, by_loops, located, move, refuse}
 use Rattle.py_steps.specs.Context.{inside}
-use Rattle.py_meaning.specs.EmissionStmts.{emitted}
+use Rattle.py_meaning.specs.EmissionMods.{emitted}
 use Rattle.py_meaning.specs.ExprFaults.{Fault, fault_at}
 use Rattle.py_meaning.specs.Faults.{faults, unbuilt_tree}
 use Rattle.py_meaning.proofs.SampleTools.{unscoped}
@@ -37,7 +37,7 @@ not_yet place = fault_at error.NotImplementedYet place
 def_alone : faults (tree.Module (one (def_f (at 1)))) Exec 0 ≡ not_yet (at 1) ∷ []
 def_alone = refl
 
-def_refused : emitted (tree.Module (one (def_f (at 1)))) (unscoped 0) ≡ Refused error.NotImplementedYet (Some (at 1))
+def_refused : emitted (tree.Module (one (def_f (at 1)))) Exec (unscoped 0) ≡ Refused error.NotImplementedYet (Some (at 1))
 unfolding move refuse located by_level by_loops inside
 def_refused = refl
 
@@ -48,7 +48,7 @@ future place = tree.ImportFrom place (Some (codes "__future__")) (record { name 
 future_alone : faults (tree.Module (one (future (at 1)))) Exec 0 ≡ not_yet (at 1) ∷ []
 future_alone = refl
 
-future_refused : emitted (tree.Module (one (future (at 1)))) (unscoped 0) ≡ Refused error.NotImplementedYet (Some (at 1))
+future_refused : emitted (tree.Module (one (future (at 1)))) Exec (unscoped 0) ≡ Refused error.NotImplementedYet (Some (at 1))
 unfolding move refuse located by_level by_loops inside
 future_refused = refl
 
@@ -56,7 +56,7 @@ future_refused = refl
 break_before : faults (tree.Module (tree.more_stmts (tree.Break (at 1)) (one (def_f (at 8))))) Exec 0 ≡ fault_at error.InvalidBreak (at 1) ∷ not_yet (at 8) ∷ []
 break_before = refl
 
-break_decides : emitted (tree.Module (tree.more_stmts (tree.Break (at 1)) (one (def_f (at 8))))) (unscoped 0) ≡ Refused error.InvalidBreak (Some (at 1))
+break_decides : emitted (tree.Module (tree.more_stmts (tree.Break (at 1)) (one (def_f (at 8))))) Exec (unscoped 0) ≡ Refused error.InvalidBreak (Some (at 1))
 unfolding move refuse located by_level by_loops inside
 break_decides = refl
 
@@ -68,19 +68,22 @@ ones_called = refl
 ones_stored : faults (tree.Module (one (tree.Assign (at 1) (tree.more_exprs (ones (at 1)) tree.no_exprs) (tree.Name (at 24) (codes "x"))))) Exec 0 ≡ fault_at (error.Assign (codes "list comprehension")) (at 24) ∷ []
 ones_stored = refl
 
--- an interactive tree is at fault as a whole, where its mode is one of a prompt
-prompted : faults (tree.Interactive tree.no_stmts) Single 0 ≡ unbuilt_tree ∷ []
+-- what is entered at a prompt has no fault as a whole, but where its mode is no such one
+prompted : faults (tree.Interactive tree.no_stmts) Single 0 ≡ []
 prompted = refl
 
-blocked : faults (tree.Interactive tree.no_stmts) BlockExpr 0 ≡ unbuilt_tree ∷ []
+blocked : faults (tree.Interactive tree.no_stmts) BlockExpr 0 ≡ []
 blocked = refl
 
-prompt_refused : emitted (tree.Interactive tree.no_stmts) (unscoped 0) ≡ Refused error.NotImplementedYet None
-prompt_refused = refl
-
--- the wrong mode comes first
-not_prompted : faults (tree.Interactive tree.no_stmts) Eval 0 ≡ record { error = error.MalformedTree WrongMode; location = None } ∷ unbuilt_tree ∷ []
+not_prompted : faults (tree.Interactive tree.no_stmts) Eval 0 ≡ record { error = error.MalformedTree WrongMode; location = None } ∷ []
 not_prompted = refl
 
-typed : faults (tree.FunctionType tree.no_exprs (tree.Name (at 1) (codes "x"))) Single 0 ≡ record { error = error.MalformedTree WrongMode; location = None } ∷ unbuilt_tree ∷ []
+-- nor has the type of a function a mode, and it is at fault as a whole
+abbrev type : tree.Mod
+type = tree.FunctionType tree.no_exprs (tree.Name (at 1) (codes "x"))
+
+typed : faults type Single 0 ≡ record { error = error.MalformedTree WrongMode; location = None } ∷ unbuilt_tree ∷ []
 typed = refl
+
+type_refused : emitted type Single (unscoped 0) ≡ Refused error.NotImplementedYet None
+type_refused = refl

@@ -1,14 +1,17 @@
--- What is emitted of functions, by what is emitted of their statements.
-use Rattle.std.specs.Prelude.{ℕ, List, [], ◌∷◌, ◌++◌, Bool, false, codes, if◌then◌else◌}
+-- What is emitted of functions and classes, by what is emitted of their statements.
+use Rattle.std.specs.Prelude.{ℕ, List, [], ◌∷◌, ◌++◌, Bool, true, false, codes, if◌then◌else◌}
 use Rattle.py_tree.specs.Tree as tree
 use Rattle.py_bytecode.specs.declared.instruction.Instruction.TheVariants as op
 use Rattle.py_bytecode.specs.Objects as const
-use Rattle.py_steps.specs.Children.{child, documented, emission_of_defaults, flags_of_defaults, function_inside, function_made, function_scope, noted}
-use Rattle.py_steps.specs.Emitting.{Emission, ◌▸◌, by_level, emit_constant, keep}
-use Rattle.py_emission.specs.Emission.{default_emissions, emission}
+use Rattle.py_steps.specs.Children.{child, documented, emission_of_defaults, flags_of_defaults, function_inside, function_made, function_scope, made, noted}
+use Rattle.py_steps.specs.Classes.{behind_name, class_end, class_inside, class_names, class_shape}
+use Rattle.py_steps.specs.Elements.{Function}
+use Rattle.py_steps.specs.Emitting.{Emission, ◌▸◌, by_level, emit, emit_constant, keep}
+use Rattle.py_steps.specs.EmissionParts.{built, elements, emission_of_call}
+use Rattle.py_emission.specs.Emission.{all_emissions, default_emissions, emission, keyword_emissions}
 use Rattle.py_emission.specs.Parameters.{function_shape, parameters}
-use Rattle.py_emission.specs.Texts.{doc_of}
-use Rattle.py_meaning.specs.StmtParts.{is_last_return}
+use Rattle.py_emission.specs.Texts.{after_doc, doc_of}
+use Rattle.py_meaning.specs.StmtParts.{annotated, is_last_return}
 
 -- an annotation by its name, where there is one
 abbrev pub opt_note : (name : List ℕ) → tree.OptExpr → List Emission
@@ -50,3 +53,21 @@ emission_of_def name params stmts returns body =
     let d = default_emissions params in
     emission_of_defaults d ▸ child (function_inside name) (function_shape params name) (function_scope (parameters params) body) (λ o. function_made (flags_of_defaults d) (notes params returns) name o)
     ▸ by_level (λ l. documented (doc_of l stmts))
+
+-- room for annotations, where there are any
+abbrev pub emission_of_setup : Bool → Emission
+emission_of_setup false = keep
+emission_of_setup true = emit op.SetupAnnotation 0
+
+-- the scope of a class, by what is emitted of its statements
+abbrev pub class_scope : tree.Stmts → (body : Emission) → Emission
+class_scope stmts body = by_level (λ l. class_names (doc_of l stmts)) ▸ emission_of_setup (annotated (after_doc stmts)) ▸ body ▸ class_end
+
+-- the function of a class
+abbrev pub class_function : (name : List ℕ) → tree.Stmts → (body : Emission) → Emission
+class_function name stmts body = child (class_inside name) (class_shape name) (class_scope stmts body) (made 0 name)
+
+-- a class, by what is emitted of its statements: what builds it is called with its function, its name, its bases and its keywords
+unfoldable pub emission_of_class : (name : List ℕ) → (bases : tree.Exprs) → tree.Keywords → tree.Stmts → (body : Emission) → Emission
+emission_of_class name bases keywords stmts body =
+    emission_of_call (Function (emit op.LoadBuildClass 0)) (behind_name (built op.BuildTuple) (class_function name stmts body) (emit_constant op.LoadConst (const.str name)) (elements (all_emissions bases))) (keyword_emissions keywords)

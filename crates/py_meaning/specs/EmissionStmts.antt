@@ -1,4 +1,4 @@
--- What is emitted for each statement and for a whole tree, in which order, and where it stands.
+-- What is emitted for each statement, in which order, and where it stands.
 use Rattle.std.specs.Prelude.{ℕ, ◌+◌, List, Bool, true, false, not, Option, Some, None, codes, nat_eq, if◌then◌else◌}
 use Rattle.py_tree.specs.PythonName.{python_name}
 use Rattle.py_tree.specs.Tree as tree
@@ -12,17 +12,17 @@ use Rattle.py_bytecode.specs.Objects as const
 use Rattle.py_forms.specs.declared.errors.CodegenErrorType.{CodegenErrorType}
 use Rattle.py_forms.specs.declared.errors.CodegenErrorType.TheVariants as error
 use Rattle.py_counts.specs.Counts.{scopes_in, scopes_in_opt}
-use Rattle.py_emission.specs.Texts.{after_doc, doc_of, stmt_text}
+use Rattle.py_emission.specs.Texts.{after_doc, stmt_text}
 use Rattle.py_steps.specs.TableParts.{binary_case}
 use Rattle.py_meaning.specs.Imports.{from_future}
 use Rattle.py_meaning.specs.ControlEmissions.{any_match, asserted, caught, for_each, handler, managed, named_body, raise_again, try_body, typed_match}
-use Rattle.py_meaning.specs.EmissionDefs.{emission_of_def, emission_of_end}
+use Rattle.py_meaning.specs.EmissionDefs.{emission_of_class, emission_of_def, emission_of_end}
 use Rattle.py_meaning.specs.EmissionImports.{emission_of_from, emission_of_import}
-use Rattle.py_meaning.specs.StmtParts.{annotated, but_doc, message_count, none}
+use Rattle.py_meaning.specs.StmtParts.{but_doc, message_count, none}
 use Rattle.py_steps.specs.Children.{decorated}
-use Rattle.py_steps.specs.Emitting.{Emission, LoopBlocks, Outcome, Refused, ◌▸◌, begin, by_context, by_level, by_loops, emit, emit_constant, emit_mangled, emit_name, in_loop, jump, keep, move, new_block, nothing, refuse}
+use Rattle.py_steps.specs.Emitting.{Emission, LoopBlocks, ◌▸◌, begin, by_context, by_level, by_loops, emit, emit_constant, emit_mangled, emit_name, in_loop, jump, keep, move, new_block, refuse}
 use Rattle.py_steps.specs.Accesses.{emission_of_name, emission_of_stored}
-use Rattle.py_steps.specs.Context.{Context, is_function, mangled}
+use Rattle.py_steps.specs.Context.{is_function, mangled}
 use Rattle.py_steps.specs.EmissionParts.{choice, no_assignment, only, only_in_function, pass_scopes, unless_debug, values}
 use Rattle.py_emission.specs.Emission.{all_emissions, emission, emission_of_deletes, emission_of_return, emission_of_store, emission_of_test, unbuilt}
 
@@ -112,6 +112,8 @@ abbrev mutual
   pub emission_of_stmt : tree.Stmt → Emission
   emission_of_stmt (tree.FunctionDef at name params body decorators returns tree.no_type_params) =
       move at ▸ decorated (values (all_emissions decorators)) (emission_of_def name params body returns (emission_of_rest body ▸ emission_of_end (after_doc body))) ▸ emission_of_stored name
+  emission_of_stmt (tree.ClassDef at name bases keywords body decorators tree.no_type_params) =
+      move at ▸ decorated (values (all_emissions decorators)) (emission_of_class name bases keywords body (emission_of_rest body)) ▸ emission_of_stored name
   emission_of_stmt (tree.Return at value) = move at ▸ only_in_function error.InvalidReturn (emission_of_returned value)
   emission_of_stmt (tree.Delete at targets) = move at ▸ emission_of_deletes targets
   emission_of_stmt (tree.Assign at targets value) = move at ▸ emission value ▸ emission_of_assign targets
@@ -155,30 +157,3 @@ abbrev mutual
   emission_of_handlers (tree.more_handlers tree.no_expr name body rest) last end = handler last end any_match (emission_of_stmts body) (emission_of_handlers rest last end)
   emission_of_handlers (tree.more_handlers (tree.some_expr e) name body rest) last end =
       handler last end (typed_match (emission e) (caught name)) (named_body name (emission_of_stmts body)) (emission_of_handlers rest last end)
-
--- a docstring is stored under its name, which is global
-abbrev pub emission_of_doc : Option (List ℕ) → Emission
-emission_of_doc None = keep
-emission_of_doc (Some text) = emit_constant op.LoadConst (const.str text) ▸ emit_name op.StoreGlobal (codes "__doc__")
-
-abbrev pub emission_of_setup : Bool → Emission
-emission_of_setup false = keep
-emission_of_setup true = emit op.SetupAnnotation 0
-
--- the docstring that is kept, room for annotations where there are any, what follows, and a return of None
-abbrev pub emission_of_program : tree.Stmts → Emission
-emission_of_program body =
-    by_level (λ l. emission_of_doc (doc_of l body)) ▸ emission_of_setup (annotated (after_doc body)) ▸ emission_of_stmts (after_doc body) ▸ emit_constant op.ReturnConst const.none
-
--- a tree that is not compiled yet, which is at fault as a whole
-abbrev pub unbuilt_tree : Emission
-unbuilt_tree s = Refused error.NotImplementedYet None
-
-abbrev pub emission_of_mod : tree.Mod → Emission
-emission_of_mod (tree.Module body) = emission_of_program body
-emission_of_mod (tree.Expression body) = emission_of_return body
-emission_of_mod other = unbuilt_tree
-
--- where this is the context of the outermost scope
-abbrev pub emitted : tree.Mod → Context → Outcome
-emitted t c = emission_of_mod t (nothing c)

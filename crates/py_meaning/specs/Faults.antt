@@ -9,7 +9,7 @@ use Rattle.py_base.specs.declared.shapes.Malformed.{Malformed}
 use Rattle.py_base.specs.declared.limits.TreeLimit.TheVariants as limit
 use Rattle.py_steps.specs.EmissionParts.{no_assignment}
 use Rattle.py_meaning.specs.Ends.{ends_of, expr_end, items_end, last_of}
-use Rattle.py_meaning.specs.StmtEnds.{Setting, default_ends, scope_setting, stmt_end}
+use Rattle.py_meaning.specs.StmtEnds.{Setting, default_ends, rest_end, scope_setting, stmt_end}
 use Rattle.py_meaning.specs.StmtParts.{but_doc, none}
 use Rattle.py_emission.specs.Parameters.{parameters}
 use Rattle.py_emission.specs.Texts.{after_doc, stmt_text}
@@ -20,7 +20,7 @@ use Rattle.py_tree.specs.declared.statements.Alias.{Alias}
 use Rattle.py_meaning.specs.Imports.{from_future, import_name, taken_name, takes_all}
 use Rattle.py_meaning.specs.EmissionStmts.{itemless}
 use Rattle.py_meaning.specs.Scanned.{scan_faults}
-use Rattle.py_meaning.specs.ExprFaults.{Fault, assign_faults, augment_faults, debug_faults, declared_faults, default_faults, deletes_faults, expr_faults, exprs_faults, fault_at, faults_to, opt_expr_faults, parameter_faults, unbuilt, when}
+use Rattle.py_meaning.specs.ExprFaults.{Fault, all_faults, assign_faults, augment_faults, debug_faults, declared_faults, default_faults, deletes_faults, elements, expr_faults, exprs_faults, fault_at, faults_to, in_order, keyword_faults, keyword_values, opt_expr_faults, parameter_faults, unbuilt, when}
 
 -- a fault of the whole tree, where it is at fault
 abbrev pub whole : Fault → ℕ → ℕ → List Fault
@@ -37,7 +37,7 @@ abbrev pub only_in_loop : (in_loop : Bool) → CodegenErrorType → SourceLocati
 only_in_loop true e at = []
 only_in_loop false e at = record { error = e; location = Some at } ∷ []
 
--- a tree that is not compiled yet
+-- the type of a function, which is no tree of a program in any mode
 abbrev pub unbuilt_tree : Fault
 unbuilt_tree = record { error = error.NotImplementedYet; location = None }
 
@@ -110,6 +110,10 @@ notes_faults b (tree.arguments posonly args vararg kwonly kwarg) returns =
 abbrev pub def_faults : (in_function : Bool) → SourceLocation → tree.Arguments → (returns : tree.OptExpr) → (body : List Fault) → List Fault
 def_faults b p params returns body = default_faults b params ++ (parameter_faults (last_of p (default_ends params)) (parameters params) ++ (body ++ notes_faults b params returns))
 
+-- the bases and keywords of a class, whose statements leave off there
+abbrev pub base_faults : (in_function : Bool) → SourceLocation → (bases : tree.Exprs) → tree.Keywords → List Fault
+base_faults b p bases keywords = in_order (elements (all_faults b bases)) ++ (keyword_faults (last_of p (ends_of bases)) keywords ++ in_order (keyword_values b keywords))
+
 -- what is wrong in the parts of a statement, in the order in which they are compiled: also a break or continue with no loop body of its
 -- own scope around it; a loop's else part is not its body
 abbrev mutual
@@ -118,6 +122,12 @@ abbrev mutual
       exprs_faults c.in_function decorators
       ++ (def_faults c.in_function (last_of at (ends_of decorators)) params returns (rest_faults (scope_setting true c) body)
       ++ debug_faults no_assignment (stmt_end c (tree.FunctionDef at name params body decorators returns tree.no_type_params)) name)
+  stmt_faults c b (tree.ClassDef at name bases keywords body decorators tree.no_type_params) =
+      let p = last_of at (ends_of decorators) in
+      exprs_faults c.in_function decorators
+      ++ (rest_faults (scope_setting false c) body
+      ++ (base_faults c.in_function (rest_end (scope_setting false c) p body) bases keywords
+      ++ debug_faults no_assignment (stmt_end c (tree.ClassDef at name bases keywords body decorators tree.no_type_params)) name))
   stmt_faults c b (tree.Return at value) = when (not c.in_function) (fault_at error.InvalidReturn at) ++ opt_expr_faults c.in_function value
   stmt_faults c b (tree.Delete at targets) = deletes_faults c.in_function at targets
   stmt_faults c b (tree.Assign at targets value) = expr_faults c.in_function value ++ assign_faults c.in_function (expr_end value) targets
@@ -160,9 +170,10 @@ abbrev mutual
 abbrev pub first_setting : (level : ℕ) → Setting
 first_setting l = record { level = l; in_function = false }
 
--- what is wrong with the nodes that are compiled
+-- what is wrong with the nodes that are compiled, in whatever mode; what is entered at a prompt has no docstring
 abbrev pub compile_faults : (level : ℕ) → tree.Mod → List Fault
 compile_faults l (tree.Module body) = stmts_faults (first_setting l) false (after_doc body)
+compile_faults l (tree.Interactive body) = stmts_faults (first_setting l) false body
 compile_faults l (tree.Expression value) = expr_faults false value
 compile_faults l other = unbuilt_tree ∷ []
 

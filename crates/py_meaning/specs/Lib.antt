@@ -7,11 +7,13 @@ pub mod StmtParts
 pub mod Imports
 pub mod TableStmts
 pub mod StmtEnds
+pub mod Interactive
 pub mod Meaning
 pub mod ControlEmissions
 pub mod EmissionDefs
 pub mod EmissionImports
 pub mod EmissionStmts
+pub mod EmissionMods
 pub mod ExprFaults
 pub mod Scanned
 pub mod Faults

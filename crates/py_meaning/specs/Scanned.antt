@@ -15,9 +15,11 @@ abbrev pub entries_of : Option SymbolTable → List ScopeEntry
 entries_of None = []
 entries_of (Some table) = flat_table table 0
 
--- the scopes to which the names of a tree resolve; a tree that is not compiled yet has none
+-- the scopes to which the names of a tree resolve; what is entered at a prompt is scanned as a file is, and the type of a function, which is no tree
+-- of a program, has none
 abbrev pub scopes_of : tree.Mod → List ScopeEntry
 scopes_of (tree.Module stmts) = entries_of (table_of (scan_program stmts))
+scopes_of (tree.Interactive stmts) = entries_of (table_of (scan_program stmts))
 scopes_of (tree.Expression value) = entries_of (table_of (scan_value value))
 scopes_of other = []
 
@@ -25,8 +27,9 @@ scopes_of other = []
 abbrev pub fault_as : tables.Fault → Fault
 fault_as f = record { error = codegen_error f.error; location = f.location }
 
--- what the scan of a tree refuses; a tree that is not compiled yet is not scanned
+-- what the scan of a tree refuses; the type of a function is not scanned
 abbrev pub scan_faults : tree.Mod → List Fault
 scan_faults (tree.Module stmts) = map fault_as (body_faults stmts)
+scan_faults (tree.Interactive stmts) = map fault_as (body_faults stmts)
 scan_faults (tree.Expression value) = map fault_as (value_faults value)
 scan_faults other = []

@@ -1,10 +1,10 @@
 -- Where the code of a statement leaves off in the source.
-use Rattle.std.specs.Prelude.{ℕ, List, [], ◌++◌, Bool, true, nat_eq, if◌then◌else◌}
+use Rattle.std.specs.Prelude.{ℕ, List, [], ◌++◌, Bool, true, false, nat_eq, if◌then◌else◌}
 use Rattle.py_tree.specs.Tree as tree
 use Rattle.py_base.specs.declared.location.SourceLocation.{SourceLocation}
 use Rattle.py_steps.specs.Context.{Context, is_function}
 use Rattle.py_emission.specs.Texts.{stmt_text}
-use Rattle.py_meaning.specs.Ends.{deletes_end, ends_of, expr_end, last_of, opt_end, some_of, store_end, stores_end}
+use Rattle.py_meaning.specs.Ends.{deletes_end, ends_of, expr_end, keyword_ends, last_of, opt_end, some_of, store_end, stores_end}
 use Rattle.py_meaning.specs.StmtParts.{but_doc}
 
 -- what a statement is read with: the level, and whether it stands in a function
@@ -65,6 +65,8 @@ abbrev mutual
   pub stmt_end : Setting → tree.Stmt → SourceLocation
   stmt_end c (tree.FunctionDef at name params body decorators returns tree.no_type_params) =
       last_of (rest_end (scope_setting true c) (last_of (last_of at (ends_of decorators)) (default_ends params)) body) (note_ends params returns)
+  stmt_end c (tree.ClassDef at name bases keywords body decorators tree.no_type_params) =
+      last_of (last_of (rest_end (scope_setting false c) (last_of at (ends_of decorators)) body) (ends_of bases)) (keyword_ends keywords)
   stmt_end c (tree.Return at value) = last_of at (some_of (opt_end value))
   stmt_end c (tree.Delete at targets) = deletes_end at targets
   stmt_end c (tree.Assign at targets value) = stores_end (expr_end value) targets

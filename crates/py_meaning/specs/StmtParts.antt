@@ -6,14 +6,16 @@ use Rattle.py_bytecode.specs.declared.instruction.Instruction.TheVariants as op
 use Rattle.py_bytecode.specs.Objects as const
 use Rattle.py_bytecode.specs.Values.{operation, Bare, Number}
 use Rattle.py_steps.specs.Children.{function_inside}
+use Rattle.py_steps.specs.Classes.{behind_name, class_inside}
 use Rattle.py_steps.specs.Context.{Context, head_of, is_function, mangled, qualified}
-use Rattle.py_emission.specs.Texts.{doc_of}
-use Rattle.py_forms.specs.Form.{VForm, VConst, VLoad, VOp, VKeep, VForms, VNone, VMore, TNot, Resolved, FixedByName, FixedGlobal, Target, GDrop, GStore, GPut, SForm, SSkip, SThen, SDo, SInto, SRemove, SIf, SReturn, SReraise, SAugment, SAugmentTwo, SFinally, SWith, MkScope}
-use Rattle.py_steps.specs.TableParts.{counted, inplace, name_form, named}
+use Rattle.py_steps.specs.Elements.{Function}
+use Rattle.py_emission.specs.Texts.{after_doc, doc_of}
+use Rattle.py_forms.specs.Form.{VForm, VConst, VLoad, VOp, VMake, VKeep, VForms, VNone, VMore, TNot, Resolved, FixedByName, FixedGlobal, Target, GDrop, GStore, GPut, SForm, SSkip, SThen, SDo, SInto, SRemove, SIf, SReturn, SReraise, SAugment, SAugmentTwo, SFinally, SWith, MkScope}
+use Rattle.py_steps.specs.TableParts.{built, call_form, counted, elements, inplace, name_form, named}
 use Rattle.py_meaning.specs.StmtCounts.{scopes_in_stmt, scopes_in_stmts}
-use Rattle.py_meaning.specs.Table.{after, after_defaults, after_opt, default_forms, expr_form, target_form, test_form}
+use Rattle.py_meaning.specs.Table.{after, after_all, after_defaults, after_opt, all_forms, default_forms, expr_form, keyword_forms, target_form, test_form}
 use Rattle.py_meaning.specs.TableNotes.{note_forms}
-use Rattle.py_meaning.specs.TableScopes.{default_flags, default_parts, function_form}
+use Rattle.py_meaning.specs.TableScopes.{build_class, class_form, default_flags, default_parts, function_form}
 
 -- what is deleted, a list or a tuple element by element
 abbrev mutual
@@ -123,6 +125,17 @@ abbrev pub defined : Context → (next : ℕ) → (name : List ℕ) → tree.Arg
 defined c n name params body returns f =
     let d = default_forms c n params in let m = after_defaults c n params in
     function_form (default_flags d) (default_parts d VNone) (MkScope (head_of (function_inside name c m)) f) (qualified c name) (note_forms c (suc m + scopes_in_stmts c.postponed body) params returns) (doc_of c.level body)
+
+-- the function of a class whose own scope has this number, and what its statements are
+abbrev pub class_function : Context → (number : ℕ) → (name : List ℕ) → tree.Stmts → SForm → VForm
+class_function c n name body f =
+    let i = class_inside name c n in VMake 0 VNone (MkScope (head_of i) (class_form i.path (doc_of c.level body) (annotated (after_doc body)) f)) name VNone
+
+-- a class is what its function, its name, its bases and its keywords build; these come after its own scope
+abbrev pub class_value : Context → (number : ℕ) → (name : List ℕ) → (bases : tree.Exprs) → tree.Keywords → tree.Stmts → SForm → VForm
+class_value c n name bases keywords body f =
+    let m = suc n + scopes_in_stmts c.postponed body in
+    call_form (Function build_class) (behind_name (built op.BuildTuple) (class_function c n name body f) (VConst (const.str name)) (elements (all_forms c m bases))) (keyword_forms c (after_all c m bases) keywords)
 
 -- on every way out of its body the name of a handler is set to None and deleted
 abbrev pub named_form : Context → Option (List ℕ) → (body : SForm) → SForm

@@ -1,11 +1,12 @@
--- The forms of functions and comprehensions, by the forms of their parts.
-use Rattle.std.specs.Prelude.{ℕ, ◌+◌, List, [], ◌∷◌, Option, Some, None, codes}
+-- The forms of functions, classes and comprehensions, by the forms of their parts.
+use Rattle.std.specs.Prelude.{ℕ, ◌+◌, List, [], ◌∷◌, Bool, true, false, Option, Some, None, codes}
 use Rattle.py_bytecode.specs.declared.instruction.Instruction.{Instruction}
 use Rattle.py_bytecode.specs.declared.instruction.Instruction.TheVariants as op
 use Rattle.py_bytecode.specs.Objects as const
 use Rattle.py_bytecode.specs.Values.{operation, Bare}
-use Rattle.py_forms.specs.Form.{VForm, VConst, VOp, VMake, VKeep, VForms, VNone, VMore, GUnder, SForm, SThen, SReturn, SGather, SGenerate, Clauses, Scope}
+use Rattle.py_forms.specs.Form.{VForm, VConst, VLoad, VOp, VMake, VKeep, VForms, VNone, VMore, FixedByName, FixedGlobal, GStore, GUnder, SForm, SSkip, SThen, SDo, SInto, SReturn, SClassEnd, SGather, SGenerate, Clauses, Scope}
 use Rattle.py_steps.specs.Children.{some_flag}
+use Rattle.py_steps.specs.Classes.{doc_const}
 use Rattle.py_steps.specs.TableParts.{built, counted, map_of, named, some_built}
 
 -- the defaults of a function: of the positional parameters, and of those that are keywords only, by their names
@@ -34,6 +35,22 @@ function_form flags parts s name notes doc = documented doc (VMake (flags + some
 abbrev pub decorated : List VForm → VForm → VForm
 decorated [] f = f
 decorated (d ∷ ds) f = VOp (counted op.CallFunctionPositional 1) (VMore d (VMore (decorated ds f) VNone))
+
+-- room for annotations, where there are any
+abbrev pub setup_form : Bool → SForm
+setup_form false = SSkip
+setup_form true = SDo (operation op.SetupAnnotation Bare) false VNone
+
+-- a class body: its module, qualified name and docstring, or None, room for annotations where there are any, and what follows; it ends with its cell
+abbrev pub class_form : (path : List ℕ) → (doc : Option (List ℕ)) → (annotated : Bool) → SForm → SForm
+class_form path doc notes f =
+    SThen (SInto (VLoad FixedGlobal (codes "__name__")) (GStore FixedByName (codes "__module__")))
+    (SThen (SInto (VConst (const.str path)) (GStore FixedByName (codes "__qualname__")))
+    (SThen (SInto (VConst (doc_const doc)) (GStore FixedByName (codes "__doc__"))) (SThen (setup_form notes) (SThen f SClassEnd))))
+
+-- what builds classes
+abbrev pub build_class : VForm
+build_class = VOp (operation op.LoadBuildClass Bare) VNone
 
 -- the iterator of a value
 abbrev pub iterator : VForm → VForm

@@ -1,19 +1,18 @@
 -- What form each statement is, in a context, and the whole of a program.
-use Rattle.std.specs.Prelude.{ℕ, suc, ◌+◌, List, Bool, true, false, Option, Some, None, codes}
+use Rattle.std.specs.Prelude.{ℕ, suc, ◌+◌, List, Option, Some, None, codes}
 use Rattle.py_tree.specs.Tree as tree
-use Rattle.py_bytecode.specs.declared.instruction.Instruction.TheVariants as op
 use Rattle.py_bytecode.specs.Objects as const
-use Rattle.py_bytecode.specs.Values.{operation, Bare}
 use Rattle.py_steps.specs.Children.{function_inside}
+use Rattle.py_steps.specs.Classes.{class_inside}
 use Rattle.py_steps.specs.Context.{Context, mangled}
 use Rattle.py_emission.specs.Texts.{after_doc, doc_of, stmt_text}
-use Rattle.py_forms.specs.Form.{VConst, VNone, Resolved, FixedGlobal, GDrop, GStore, SForm, SSkip, SThen, SDo, SInto, SIf, SIfElse, SWhile, SFor, SBreak, SContinue, SReturn, STry, STryFinal, SAt, Handlers, HNone, HAny, HTyped}
+use Rattle.py_forms.specs.Form.{VConst, Resolved, FixedGlobal, GDrop, GStore, SForm, SSkip, SThen, SInto, SIf, SIfElse, SWhile, SFor, SBreak, SContinue, SReturn, STry, STryFinal, SAt, Handlers, HNone, HAny, HTyped}
 use Rattle.py_steps.specs.TableParts.{values}
 use Rattle.py_meaning.specs.Imports.{from_form, import_form}
 use Rattle.py_meaning.specs.StmtCounts.{scopes_in_handlers, scopes_in_items}
-use Rattle.py_meaning.specs.StmtParts.{after_stmt, after_stmts, annotated, annotated_form, assert_form, assign_form, augment_form, but_doc, declared_form, defined, handler_target, is_last_return, named_form, raise_form, removals, return_form, unless_last, with_form}
+use Rattle.py_meaning.specs.StmtParts.{after_stmt, after_stmts, annotated, annotated_form, assert_form, assign_form, augment_form, but_doc, class_value, declared_form, defined, handler_target, is_last_return, named_form, raise_form, removals, return_form, unless_last, with_form}
 use Rattle.py_meaning.specs.Table.{after, after_all, after_defaults, after_opt, all_forms, expr_form, target_form, test_form}
-use Rattle.py_meaning.specs.TableScopes.{decorated, iterator}
+use Rattle.py_meaning.specs.TableScopes.{decorated, iterator, setup_form}
 
 -- an expression statement drops its value; nothing stands for a statement that is not compiled yet
 abbrev mutual
@@ -21,6 +20,9 @@ abbrev mutual
   stmt_form c n (tree.FunctionDef at name params body decorators returns tree.no_type_params) =
       let m = after_all c n decorators in let k = after_defaults c m params in
       SAt at (SInto (decorated (values (all_forms c n decorators)) (defined c m name params body returns (function_body (function_inside name c k) (suc k) body))) (GStore Resolved (mangled c name)))
+  stmt_form c n (tree.ClassDef at name bases keywords body decorators tree.no_type_params) =
+      let m = after_all c n decorators in
+      SAt at (SInto (decorated (values (all_forms c n decorators)) (class_value c m name bases keywords body (rest_form (class_inside name c m) (suc m) body))) (GStore Resolved (mangled c name)))
   stmt_form c n (tree.Return at value) = SAt at (return_form c n value)
   stmt_form c n (tree.Delete at targets) = SAt at (removals c n targets)
   stmt_form c n (tree.Assign at targets value) = SAt at (assign_form c (after c n value) (expr_form c n value) targets)
@@ -57,6 +59,11 @@ abbrev mutual
   stmts_form c n tree.no_stmts = SSkip
   stmts_form c n (tree.more_stmts s ss) = SThen (stmt_form c n s) (stmts_form c (after_stmt c n s) ss)
 
+  -- the statements of a scope within, but a docstring
+  pub rest_form : Context → (next : ℕ) → tree.Stmts → SForm
+  rest_form c n tree.no_stmts = SSkip
+  rest_form c n (tree.more_stmts s ss) = but_doc (stmt_text s) (stmts_form c n ss) (SThen (stmt_form c n s) (stmts_form c (after_stmt c n s) ss))
+
   -- the statements of a function, and a return of None where the last is none
   pub ended_form : Context → (next : ℕ) → tree.Stmts → SForm
   ended_form c n tree.no_stmts = SReturn (VConst const.none)
@@ -80,11 +87,6 @@ abbrev mutual
 abbrev pub doc_form : Option (List ℕ) → SForm
 doc_form None = SSkip
 doc_form (Some text) = SInto (VConst (const.str text)) (GStore FixedGlobal (codes "__doc__"))
-
--- room for annotations, where there are any
-abbrev pub setup_form : Bool → SForm
-setup_form false = SSkip
-setup_form true = SDo (operation op.SetupAnnotation Bare) false VNone
 
 -- the docstring that is kept, room for annotations where there are any, what follows, and a return of None
 abbrev pub program_form : Context → tree.Stmts → SForm
