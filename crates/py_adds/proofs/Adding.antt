@@ -1,6 +1,6 @@
 -- What an emission adds: steps that read as the code of the node's form, in all tables that begin with those so far, where each child
 -- is the object that stands at the number of its scope.
-use Rattle.std.proofs.Common.{◌≡◌, ℕ, ◌+◌, ◌<◌, ◌≤◌, ◌^◌, List, [], ◌∷◌, ◌++◌, false, Option, Some, None, refl, sym, ap, ◌∙◌, subst, arith, append_assoc, append-nil}
+use Rattle.std.proofs.Common.{◌≡◌, ℕ, suc, ◌+◌, ◌<◌, ◌≤◌, ◌^◌, List, [], ◌∷◌, ◌++◌, false, Option, Some, None, refl, sym, ap, ◌∙◌, subst, arith, append_assoc, append-nil}
 use Rattle.py_bytecode.specs.declared.instruction.Instruction.{Instruction}
 use Rattle.py_bytecode.specs.Objects.{Const, Object}
 use Rattle.py_bytecode.specs.Machine.{Instr}
@@ -117,6 +117,17 @@ pub record Adds (s s1 : State) (is : List (Item Scope)) (m l : ℕ) : Type 0 whe
   pub next_is : s1.next ≡ s.next + l
   pub counted : Counted s.next s1.next made
   pub cells : cells_in is + room (scopes_in s) s.next ≤ room (scopes_in s) s1.next
+
+-- a whole scope may load one cell more than the scopes within it pay for
+pub record Completes (s s1 : State) (is : List (Item Scope)) (m l : ℕ) : Type 0 where
+  pub made : List (Object × Scope)
+  pub added : Added s s1 is m made
+  pub next_is : s1.next ≡ s.next + l
+  pub counted : Counted s.next s1.next made
+  pub cells : cells_in is + room (scopes_in s) s.next ≤ suc (room (scopes_in s) s1.next)
+
+pub completed : (s s1 : State) (is : List (Item Scope)) (m l : ℕ) → Adds s s1 is m l → Completes s s1 is m l
+completed s s1 is m l a = record { made = a.made; added = a.added; next_is = a.next_is; counted = a.counted; cells = let c = a.cells in omega (arith, c) }
 
 -- tables that begin with the second begin with the first
 pub begins_before : (s s1 : State) (is : List (Item Scope)) (m : ℕ) (ps : List (Object × Scope)) (t : Tables) → Added s s1 is m ps → Begins s1 t → Begins s t

@@ -38,7 +38,7 @@ module _ (c : Around) where
   abbrev place : List ℕ → ℕ
   place = cell_place c.context
 
-  load_adds : (x : List ℕ) (s r : State) → Stands c s → load_cell x s ≡ Done r → Quietly s r (cell_codes (cells_of place (x ∷ [])))
+  pub load_adds : (x : List ℕ) (s r : State) → Stands c s → load_cell x s ≡ Done r → Quietly s r (cell_codes (cells_of place (x ∷ [])))
   unfolding load_cell
   load_adds x s r z e =
       let cells : List (List ℕ) = adding.cells_of s.around in

@@ -1,27 +1,27 @@
 -- The emission of a comprehension adds the code of its form: clauses around what is within, a scope that gathers or generates, and the call of a function of it.
-use Rattle.std.proofs.Common.{◌≡◌, ℕ, suc, ◌+◌, ◌<◌, ◌^◌, List, [], ◌∷◌, ◌++◌, length, Bool, true, false, Some, refl, sym, ap, subst, arith}
-use Rattle.std.specs.Prelude.{codes, if◌then◌else◌}
+use Rattle.std.proofs.Common.{◌≡◌, ℕ, suc, ◌+◌, ◌<◌, ◌^◌, List, [], ◌∷◌, ◌++◌, length, Bool, false, Some, refl, ap, subst, arith}
+use Rattle.std.specs.Prelude.{codes}
 use Rattle.py_base.specs.declared.shapes.Malformed.TheVariants as shape
 use Rattle.py_bytecode.specs.declared.instruction.Instruction.{Instruction}
 use Rattle.py_bytecode.specs.declared.instruction.Instruction.TheVariants as op
 use Rattle.py_bytecode.specs.Objects as const
-use Rattle.py_bytecode.specs.Values.{Bare, Child, Constant, Fast, Load, operation}
+use Rattle.py_bytecode.specs.Values.{Bare, Constant, Fast, Load, operation}
 use Rattle.py_bytecode.specs.Machine.{Access, Operate, ReturnConst, ReturnValue}
 use Rattle.py_forms.specs.declared.errors.CodegenErrorType.TheVariants as error
 use Rattle.py_forms.specs.Form.{Interp, Scope, VForm, VForms, VOp, VMake, VMore, VNone, Target, TForm, Filters, NoFilter, MoreFilter, Clauses, CLast, CEach}
-use Rattle.py_forms.specs.Code.{Item, Do, append_code, code_bs, code_c, code_g, code_v, count, drop_code, each_code, labels_bs, labels_c, labels_g, labels_t, labels_v, labels_vs, make_code}
+use Rattle.py_forms.specs.Code.{Item, Do, append_code, code_bs, code_c, code_g, code_v, count, drop_code, each_code, labels_bs, labels_c, labels_g, labels_t, labels_v, labels_vs}
 use Rattle.py_forms.specs.Agree.{cells_of}
 use Rattle.py_steps.specs.TableParts.{counted}
 use Rattle.py_steps.specs.Context.{cell_place}
 use Rattle.py_steps.specs.Children.{child, made}
 use Rattle.py_steps.specs.Comprehensions.{ClauseEmissions, as_element, called_at_once, clause, clauses, comprehension, comprehension_inside, comprehension_shape, conditions, further_clauses, gathered, generated, handed_iterator, retold_in}
-use Rattle.py_steps.specs.Emitting.{Around, Emission, Outcome, State, Done, TooWide, Refused, ◌▸◌, begin, emit, emit_count, generating, jump, keep}
+use Rattle.py_steps.specs.Emitting.{Around, Emission, Outcome, State, Done, TooWide, Refused, ◌▸◌, begin, emit, emit_count, generating, jump}
 use Rattle.py_steps.specs.EmissionParts.{Emissions}
 use Rattle.py_adds.proofs.AccessAdds.{own_adds}
 use Rattle.py_adds.proofs.ControlInstructions.{for_iter_adds, generating_yields, iterator_adds, yield_adds}
 use Rattle.py_adds.proofs.Emitting.{Gives, Yields, after_these, counts_as, gives_as, keep_yields, next_as, refused_gives, regroup_late, scopes_as, then_these, then_yields, two_blocks_give}
 use Rattle.py_adds.proofs.FormAdds.{PartsAdd, TestAdds, ValueAdds, one_adds, operation_adds, two_parts}
-use Rattle.py_adds.proofs.Functions.{Flagged, Makes, function_adds}
+use Rattle.py_adds.proofs.Functions.{Makes, made_alone_adds}
 use Rattle.py_adds.proofs.Instructions.{Appends, MakesEmpty, call_adds, going_adds, pop_adds, return_adds, return_value_adds}
 use Rattle.py_adds.proofs.OperatorAdds.{if_not_gives}
 use Rattle.py_adds.proofs.Steps.{StepAdds, StepHere, begin_adds}
@@ -41,11 +41,6 @@ told_done (Refused d at) r e = absurd cc
 pub element_gives : {c : Around} {n k : ℕ} {v : Emission} {p : List (Item Scope)} {m l : ℕ} {P : Type 0} → Gives c n k v p m l P → Gives c n k (as_element v) p m l P
 unfolding as_element
 element_gives {v = v} h = record { run = λ s r b g z e. h.run s r b g z (told_done (v s) r e) }
-
--- a function of no parts but its cells
-no_flags : Flagged 0 0
-no_flags true t = refl
-no_flags false t = refl
 
 module _ (i : Interp Scope) (c : Around) where
   -- conditions that go to the next turn
@@ -121,10 +116,7 @@ module _ (i : Interp Scope) (c : Around) where
 
   -- a function of the scope
   pub made_at_once : (k l : ℕ) (name : List ℕ) (scope : Emission) (x : Scope) → Makes c.context (comprehension_inside c.context k) (comprehension_shape name) scope k l x → i.child x ≡ x → i.closure x ≡ cells_of (cell_place c.context) (comprehension_inside c.context k).frees → ValueAdds i c k (suc l) (child comprehension_inside (comprehension_shape name) scope (made 0 name)) (VMake 0 VNone x name VNone)
-  made_at_once k l name scope x makes same cells n =
-      let none : PartsAdd i c (k + suc l) 0 keep VNone = λ j. keep_yields in
-      gives_as (λ j. make_code 0 (sym cells j) 0 (Child (sym same j)) name) refl (omega arith)
-      (function_adds i c comprehension_inside (comprehension_shape name) scope keep 0 0 (λ v o. made 0 name o) name VNone x k l 0 makes none no_flags (λ o s r z e. e) n)
+  made_at_once k l name scope x makes same cells n = made_alone_adds i c comprehension_inside (comprehension_shape name) scope name x k l makes same cells n
 
   -- it is called with the iterator of a value
   pub called_adds : (k l m : ℕ) (name : List ℕ) (scope iterable : Emission) (x : Scope) (f : VForm) → Makes c.context (comprehension_inside c.context k) (comprehension_shape name) scope k l x → i.child x ≡ x → i.closure x ≡ cells_of (cell_place c.context) (comprehension_inside c.context k).frees → ValueAdds i c (k + suc l) m iterable f → ValueAdds i c k (suc l + m) (called_at_once name scope iterable) (VOp (counted op.CallFunctionPositional 1) (VMore (VMake 0 VNone x name VNone) (VMore (VOp (operation op.GetIter Bare) (VMore f VNone)) VNone)))

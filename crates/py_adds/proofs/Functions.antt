@@ -12,11 +12,11 @@ use Rattle.py_bytecode.specs.Machine.{MakeFunction, Push}
 use Rattle.py_bytecode.specs.Decode.{Tables, for_some, instr_of, value_of}
 use Rattle.py_bytecode.proofs.Entered.{constant_stands}
 use Rattle.py_scope.specs.declared.symbols.Symbol.{Symbol}
-use Rattle.py_forms.specs.Form.{Interp, Scope, VForms}
+use Rattle.py_forms.specs.Form.{Interp, Scope, VForms, VMake, VNone}
 use Rattle.py_forms.specs.Code.{Item, Do, closure_code, code_vs, has_cells, labels_vs, make_code}
 use Rattle.py_forms.specs.Agree.{AllOf, cells_of}
 use Rattle.py_steps.specs.Context.{Context, cell_place, frees_among, frees_here, mangled, room, symbols_in}
-use Rattle.py_steps.specs.Emitting.{Around, Emission, Outcome, Put, State, Done, TooWide, Refused, ◌▸◌, add_constant, add_varname, begun, emit, emit_constant, place_in, with_constant, with_step, with_varname}
+use Rattle.py_steps.specs.Emitting.{Around, Emission, Outcome, Put, State, Done, TooWide, Refused, ◌▸◌, add_constant, add_varname, begun, emit, emit_constant, keep, place_in, with_constant, with_step, with_varname}
 use Rattle.py_steps.specs.Children.{Shape, behind_child, child, closure, code_head, enter_parameters, free_names, function_scope, made, on_sealed, some_flag}
 use Rattle.py_steps.specs.EmissionParts.{no_assignment}
 use Rattle.py_steps.specs.Sealed.{sealed}
@@ -24,8 +24,8 @@ use Rattle.py_adds.proofs.Adding.{Added, Adds, added_join, adds_nothing, scopes_
 use Rattle.py_adds.proofs.Burden.{cells_in, cells-append}
 use Rattle.py_adds.proofs.Cells.{closure_adds, closure_count}
 use Rattle.py_adds.proofs.Codes.{Counted, Known, MadeFrom, codes_join, counted_first, known_back, number_of}
-use Rattle.py_adds.proofs.Emitting.{Gives, Stands, Yields, after_these, both, done_is, elsewhere, keep_yields, still, yields}
-use Rattle.py_adds.proofs.FormAdds.{PartsAdd, unless_debug_gives}
+use Rattle.py_adds.proofs.Emitting.{Gives, Stands, Yields, after_these, both, done_is, elsewhere, gives_as, keep_yields, still, yields}
+use Rattle.py_adds.proofs.FormAdds.{PartsAdd, ValueAdds, unless_debug_gives}
 use Rattle.py_adds.proofs.Instructions.{constant_adds}
 use Rattle.py_adds.proofs.Steps.{adds_constant, adds_own, emit_adds, enters, enters_if, entry_stays, fits_if}
 
@@ -217,3 +217,15 @@ parameters_yield (x ∷ xs) = after_these (unless_debug_gives no_assignment x (v
 -- a function's scope adds what its body adds
 pub scope_gives : (xs : List (List ℕ)) (body : Emission) {c : Around} {n k : ℕ} {p : List (Item Scope)} {m l : ℕ} {P : Type 0} → Gives c n k body p m l P → Gives c n k (function_scope xs body) p m l P
 scope_gives xs body h = after_these (parameters_yield xs) (after_these (constant_yields const.none refl) h)
+
+-- a function that is made of its cells alone has no flags
+no_flags : Flagged 0 0
+no_flags true t = refl
+no_flags false t = refl
+
+-- a function of a scope within that has no further parts
+pub made_alone_adds : (i : Interp Scope) (c : Around) (within : Context → (number : ℕ) → Context) (h : Shape) (body : Emission) (name : List ℕ) (x : Scope) (k l : ℕ) → Makes c.context (within c.context k) h body k l x → i.child x ≡ x → i.closure x ≡ cells_of (cell_place c.context) (within c.context k).frees → ValueAdds i c k (suc l) (child within h body (made 0 name)) (VMake 0 VNone x name VNone)
+made_alone_adds i c within h body name x k l makes same cells n =
+    let none : PartsAdd i c (k + suc l) 0 keep VNone = λ j. keep_yields in
+    gives_as (λ j. make_code 0 (sym cells j) 0 (Child (sym same j)) name) refl (omega arith)
+    (function_adds i c within h body keep 0 0 (λ v o. made 0 name o) name VNone x k l 0 makes none no_flags (λ o s r z e. e) n)

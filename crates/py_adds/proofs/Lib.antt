@@ -33,3 +33,4 @@ pub mod Functions
 pub mod Pushed
 pub mod Defaults
 pub mod ComprehensionAdds
+pub mod ClassAdds

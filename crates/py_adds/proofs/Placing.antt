@@ -1,6 +1,6 @@
 -- Steps that read as the code of a scope have each block begin once, and their operands are in range.
-use Rattle.std.proofs.Common.{◌≡◌, ◌≢◌, ℕ, zero, suc, ◌+◌, ◌*◌, ◌<◌, ◌≤◌, ◌^◌, List, [], ◌∷◌, length, All, AllPairs, Bool, true, false, Option, Some, None, refl, sym, ap, ◌∙◌, subst, arith}
-use Rattle.std.specs.Prelude.{nat_eq, not, if◌then◌else◌}
+use Rattle.std.proofs.Common.{◌≡◌, ◌≢◌, ℕ, zero, suc, ◌<◌, ◌≤◌, ◌^◌, List, [], ◌∷◌, length, All, AllPairs, Bool, true, false, Some, None, refl, sym, ap, ◌∙◌, arith}
+use Rattle.std.specs.Prelude.{not}
 use Rattle.std.proofs.lemmas.Bool.Decides.{nat_tests}
 use Rattle.std.proofs.lemmas.List.Elements.{All-cons, All-nil}
 use Rattle.std.proofs.lemmas.List.Kept.{AllPairs-cons}
@@ -14,7 +14,7 @@ use Rattle.py_forms.proofs.Assembly.{is_label, occurs}
 use Rattle.py_steps.specs.Emitting.{Step, Put, Begin}
 use Rattle.py_steps.specs.Listed.{cut_steps, items_in, number_of, steps_at}
 use Rattle.py_emit.specs.Placed.{AllNamed, IsPlaced, begun_in}
-use Rattle.py_adds.proofs.Adding.{AllRead, AllInside, Below}
+use Rattle.py_adds.proofs.Adding.{AllRead, AllInside}
 
 own_label : (b : ℕ) → is_label b b ≡ 1
 own_label b = grind (arith, nat_tests)

@@ -31,7 +31,7 @@ use Rattle.py_forms.proofs.Laws.{scope_ends}
 use Rattle.py_forms.proofs.OtherChildren.{children_over}
 use Rattle.py_steps.specs.Context.{Context, frees_among, room, symbols_in}
 use Rattle.py_steps.specs.Children.{Shape, code_head}
-use Rattle.py_steps.specs.Emitting.{Emission, State, begun}
+use Rattle.py_steps.specs.Emitting.{Emission, State, Done, begun}
 use Rattle.py_steps.specs.Listed.{items_in, steps_at}
 use Rattle.py_steps.specs.Sealed.{Head, sealed, tables_in}
 use Rattle.py_emit.specs.Placed.{IsFit, IsPlaced, IsSealedOf, begun_in, blocks_in}
@@ -40,10 +40,10 @@ use Rattle.py_emit.proofs.Chains.{chain_leads, chain_short}
 use Rattle.py_emit.proofs.Placed.{chain_in, long, steps_back}
 use Rattle.py_emit.proofs.Sealed.{items_are}
 use Rattle.py_emit.proofs.SealedLaid.{sealed_runs}
-use Rattle.py_adds.proofs.Adding.{Adds, AllInside, AllRead, Begins, cells_of, read_as}
+use Rattle.py_adds.proofs.Adding.{AllInside, AllRead, Begins, Completes, cells_of, completed, read_as}
 use Rattle.py_adds.proofs.Burden.{burden, burden_is, cells_in, cells_over, labels_few}
-use Rattle.py_adds.proofs.Codes.{AllKnown, MadeFrom, Numbered, all_known, all_stand, by_number, number_of, scopes, stand_at}
-use Rattle.py_adds.proofs.Emitting.{Gives, outside}
+use Rattle.py_adds.proofs.Codes.{AllKnown, MadeFrom, Numbered, all_known, all_stand, by_number, number_of, room_more, scopes, stand_at}
+use Rattle.py_adds.proofs.Emitting.{Gives, Stands, outside}
 use Rattle.py_adds.proofs.Functions.{Makes}
 use Rattle.py_adds.proofs.Settled.{Settled}
 use Rattle.py_adds.proofs.Counting.{few, units_enough}
@@ -73,7 +73,7 @@ fuel_more a b answers h = let le : 2 * a + 2 ≤ 2 * b + 2 = omega (arith, h) in
 -- what is emitted of a whole scope
 pub record Emitted (c : Context) (at : SourceLocation) (k : ℕ) (s : Scope) (t : State) : Type 0 where
   pub count : ℕ
-  pub adds : Adds (begun c at k) t (body_code (exactly (λ x. x) s) (form_of s)) (labels (form_of s)) count
+  pub adds : Completes (begun c at k) t (body_code (exactly (λ x. x) s) (form_of s)) (labels (form_of s)) count
   pub looped : Looped false (form_of s)
   pub small : (d : Scope → Object) → burden (body_code (exactly d s) (form_of s)) < 2 ^ 27
   pub roomy : (n : ℕ) → room c.scopes n < 2 ^ 26
@@ -103,7 +103,7 @@ module _ (c : Context) (at : SourceLocation) (k : ℕ) (s : Scope) (t : State) (
   pub steps_inside : AllInside t.blocks t.steps
   steps_inside = subst (AllInside t.blocks) (sym e.adds.added.steps_are) e.adds.added.inside
 
-  cells_few : cells_in object_items < 2 ^ 26
+  cells_few : cells_in object_items ≤ 2 ^ 26
   cells_few =
       let a : cells_in (read_as objects_at items) ≡ cells_in items = cells_over child_at items in
       let b : cells_in object_items ≡ cells_in items = ap cells_in (sym over) ∙ a in
@@ -265,17 +265,30 @@ module _ (c : Context) (at : SourceLocation) (k : ℕ) (s : Scope) (t : State) (
 abbrev pub Whole : (inner : Context) → (body : Emission) → (next count : ℕ) → Scope → Type 0
 Whole inner body k l x = Gives (outside inner) 1 k body (body_code (exactly (λ y. y) x) (form_of x)) (labels (form_of x)) l (Looped false (form_of x))
 
+-- the same, where one cell more may be loaded
+pub record Completing (inner : Context) (body : Emission) (next count : ℕ) (x : Scope) : Type 0 where
+  pub run : (at : SourceLocation) (t : State) → Stands (outside inner) (begun inner at next) → body (begun inner at next) ≡ Done t → Completes (begun inner at next) t (body_code (exactly (λ y. y) x) (form_of x)) (labels (form_of x)) count × Looped false (form_of x)
+
+whole_completes : (inner : Context) (body : Emission) (next count : ℕ) (x : Scope) → Whole inner body next count x → Completing inner body next count x
+whole_completes inner body next count x w = record {
+  run = λ at t z e. let a = w.run (begun inner at next) t refl refl z e in (completed (begun inner at next) t (body_code (exactly (λ y. y) x) (form_of x)) (labels (form_of x)) count a.0, a.1);
+}
+
 -- so the code object of the scope is made from it
-pub scope_makes : (c inner : Context) (h : Shape) (body : Emission) (k l : ℕ) (x : Scope) → number_of x ≡ k → inner.frees ≡ frees_among (symbols_in c.scopes k) → inner.scopes ≡ c.scopes → inner.source ≡ c.source → Settled inner → ((n : ℕ) → room c.scopes n < 2 ^ 26) → ((d : Scope → Object) → burden (body_code (exactly d x) (form_of x)) < 2 ^ 27) → Whole inner body (suc k) l x → Makes c inner h body k l x
-scope_makes c inner h body k l x number frees same source settled roomy small whole = record {
+pub completed_makes : (c inner : Context) (h : Shape) (body : Emission) (k l : ℕ) (x : Scope) → number_of x ≡ k → inner.frees ≡ frees_among (symbols_in c.scopes k) → inner.scopes ≡ c.scopes → inner.source ≡ c.source → Settled inner → ((n : ℕ) → room c.scopes n < 2 ^ 26) → ((d : Scope → Object) → burden (body_code (exactly d x) (form_of x)) < 2 ^ 27) → Completing inner body (suc k) l x → Makes c inner h body k l x
+completed_makes c inner h body k l x number frees same source settled roomy small completing = record {
   number = number;
   frees = frees;
   run = λ at t e.
       let own : (n : ℕ) → room inner.scopes n < 2 ^ 26 = λ n. subst (λ es. room es n < 2 ^ 26) (sym same) (roomy n) in
-      let a = whole.run (begun inner at (suc k)) t refl refl (record { around = refl; settled = settled; roomy = own }) e in
+      let a = completing.run at t (record { around = refl; settled = settled; roomy = own }) e in
       let m : Emitted inner at (suc k) x t = record { count = l; adds = a.0; looped = a.1; small = small; roomy = own } in (
         subst (λ path. MadeFrom path (sealed inner.level (code_head inner h at) t, x)) source (sealed_made inner at (suc k) x t m inner.level (code_head inner h at) refl refl refl),
         a.0.next_is,
-        subst (λ es. room es (suc k) ≤ room es t.next) same (let g = a.0.cells in omega (arith, g)),
+        subst (λ n. room c.scopes (suc k) ≤ room c.scopes n) (sym a.0.next_is) (room_more c.scopes (suc k) l),
       );
 }
+
+pub scope_makes : (c inner : Context) (h : Shape) (body : Emission) (k l : ℕ) (x : Scope) → number_of x ≡ k → inner.frees ≡ frees_among (symbols_in c.scopes k) → inner.scopes ≡ c.scopes → inner.source ≡ c.source → Settled inner → ((n : ℕ) → room c.scopes n < 2 ^ 26) → ((d : Scope → Object) → burden (body_code (exactly d x) (form_of x)) < 2 ^ 27) → Whole inner body (suc k) l x → Makes c inner h body k l x
+scope_makes c inner h body k l x number frees same source settled roomy small whole =
+    completed_makes c inner h body k l x number frees same source settled roomy small (whole_completes inner body (suc k) l x whole)

@@ -371,7 +371,7 @@ mutual
       let j = k + scopes_in_opt c.context.postponed o in
       ((expr_adds c j e (omega (arith, y))).value, others_add c (j + scopes_in c.context.postponed e) os es (omega (arith, y)))
 
-  keywords_add : (c : Around) (k : ℕ) (ks : tree.Keywords) → keywords_size ks < 2 ^ 22 → KeywordsAdd (outer c) c k (scopes_in_keywords c.context.postponed ks) (keyword_emissions ks) (keyword_forms (told c) k ks)
+  pub keywords_add : (c : Around) (k : ℕ) (ks : tree.Keywords) → keywords_size ks < 2 ^ 22 → KeywordsAdd (outer c) c k (scopes_in_keywords c.context.postponed ks) (keyword_emissions ks) (keyword_forms (told c) k ks)
   keywords_add c k tree.no_keywords z = refl
   keywords_add c k (tree.more_keywords None t ks) z = (scopes_in c.context.postponed t, scopes_in_keywords c.context.postponed ks, refl, (expr_adds c k t (omega (arith, z))).value, keywords_add c (k + scopes_in c.context.postponed t) ks (omega (arith, z)))
   keywords_add c k (tree.more_keywords (Some name) t ks) z = (scopes_in c.context.postponed t, scopes_in_keywords c.context.postponed ks, refl, (refl, (expr_adds c k t (omega (arith, z))).value), keywords_add c (k + scopes_in c.context.postponed t) ks (omega (arith, z)))

@@ -49,7 +49,7 @@ alike_gives : {c : Around} {n k : ℕ} {v w : Emission} {p : List (Item Scope)} 
 alike_gives same a = record { run = λ s r b g z e. a.run s r b g z (sym (same s) ∙ e) }
 
 -- what follows runs alike
-on_each : (o : Outcome) (v w : Emission) → ((m : State) → v m ≡ w m) → go_on o v ≡ go_on o w
+pub on_each : (o : Outcome) (v w : Emission) → ((m : State) → v m ≡ w m) → go_on o v ≡ go_on o w
 on_each (Done s) v w same = same s
 on_each TooWide v w same = refl
 on_each (Refused e at) v w same = refl

@@ -8,6 +8,10 @@ pub mod AssignAdds
 pub mod ImportAdds
 pub mod Unlooped
 pub mod FunctionAdds
+pub mod ClassAdds
+pub mod Controls
+pub mod DefinitionAdds
 pub mod StmtAdds
+pub mod InteractiveAdds
 pub mod Programs
 pub mod NeverRefused

@@ -1,5 +1,5 @@
 -- Blocks and tables that hold what is emitted for a tree of such a size are refused for want of memory alone.
-use Rattle.std.proofs.Common.{◌≡◌, ℕ, ◌<◌, ◌^◌, List, [], ◌++◌, length, map, sym, ◌∙◌, append-nil}
+use Rattle.std.proofs.Common.{◌≡◌, ℕ, ◌<◌, ◌^◌, List, [], ◌++◌, map, sym, ◌∙◌, append-nil}
 use Rattle.std.proofs.lemmas.List.{length-map}
 use Rattle.py_tree.specs.Tree as tree
 use Rattle.py_limits.specs.Size.{size_of}
@@ -11,7 +11,7 @@ use Rattle.py_scope.specs.declared.flat.ScopeEntry.{ScopeEntry}
 use Rattle.py_steps.specs.Context.{outermost, room}
 use Rattle.py_meaning.specs.Meaning.{body}
 use Rattle.py_steps.specs.Emitting.{State, Done}
-use Rattle.py_meaning.specs.EmissionStmts.{emitted}
+use Rattle.py_meaning.specs.EmissionMods.{emitted}
 use Rattle.py_emit.specs.Emitted.{Holds}
 use Rattle.py_steps.specs.Sealed.{Head}
 use Rattle.py_emit.specs.States.{IsUnrefused}
@@ -38,7 +38,7 @@ begins_all info head o k h = record {
 }
 
 -- what holds an emission is refused for want of memory alone
-pub never_refused : (t : tree.Mod) (m : Mode) (l : ℕ) (path : List ℕ) (scopes : List ScopeEntry) (o : State) (info : CodeInfo) (head : Head) → size_of t < 2 ^ 22 → ((n : ℕ) → room scopes n < 2 ^ 26) → emitted t (outermost l path scopes) ≡ Done o → IsCelled head o → Holds info head o → IsUnrefused l info
+pub never_refused : (t : tree.Mod) (m : Mode) (l : ℕ) (path : List ℕ) (scopes : List ScopeEntry) (o : State) (info : CodeInfo) (head : Head) → size_of t < 2 ^ 22 → ((n : ℕ) → room scopes n < 2 ^ 26) → emitted t m (outermost l path scopes) ≡ Done o → IsCelled head o → Holds info head o → IsUnrefused l info
 never_refused t m l path scopes o info head small roomy is k h cs chain short e refused =
     let s = body scopes t m l in
     let x = outermost l path scopes in

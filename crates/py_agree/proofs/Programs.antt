@@ -1,59 +1,47 @@
 -- What is emitted for a whole tree adds the code of its scope.
-use Rattle.std.proofs.Common.{◌≡◌, ℕ, ◌+◌, ◌*◌, ◌<◌, ◌≤◌, ◌^◌, List, [], ◌∷◌, ◌++◌, Bool, true, false, Option, Some, None, codes, refl, sym, ap, subst, arith, append-nil}
+use Rattle.std.proofs.Common.{◌≡◌, ℕ, ◌+◌, ◌<◌, ◌≤◌, ◌^◌, List, [], ◌++◌, false, Option, Some, None, codes, refl, sym, ap, subst, arith, append-nil}
 use Rattle.py_tree.specs.Tree as tree
 use Rattle.py_tree.specs.declared.modules.Mode.{Mode}
-use Rattle.py_limits.specs.Size.{size_of, expr_size, stmts_size}
+use Rattle.py_limits.specs.Size.{size_of, stmts_size}
 use Rattle.py_counts.specs.Counts.{scopes_in}
 use Rattle.py_base.specs.declared.location.SourceLocation.{SourceLocation}
-use Rattle.py_bytecode.specs.declared.instruction.Instruction.TheVariants as op
 use Rattle.py_bytecode.specs.Objects as const
 use Rattle.py_bytecode.specs.Objects.{Object}
-use Rattle.py_bytecode.specs.Values.{operation, Bare}
-use Rattle.py_bytecode.specs.Machine.{Operate}
 use Rattle.py_scope.specs.declared.flat.ScopeEntry.{ScopeEntry}
-use Rattle.py_forms.specs.Form.{Scope, MkScope, SForm, SReturn}
-use Rattle.py_forms.specs.Fit.{Loops}
-use Rattle.py_forms.specs.Code.{Item, body_code, code, labels, labels_v, return_code}
+use Rattle.py_forms.specs.Form.{Scope, MkScope}
+use Rattle.py_forms.specs.Code.{Item, body_code, closes, code, labels, labels_v, return_code}
 use Rattle.py_forms.specs.Looped.{Looped}
 use Rattle.py_forms.specs.Agree.{exactly, form_of}
 use Rattle.py_emission.specs.Texts.{after_doc, doc_of, first_text, unless_text}
 use Rattle.py_steps.specs.Context.{Context, head_of, inside, outermost, room}
-use Rattle.py_steps.specs.Emitting.{Around, Emission, State, Done, ◌▸◌, begun, nothing}
-use Rattle.py_meaning.specs.EmissionStmts.{emission_of_doc, emission_of_program, emission_of_setup, emitted}
+use Rattle.py_steps.specs.Emitting.{Around, State, Done, nothing}
+use Rattle.py_meaning.specs.EmissionMods.{emission_of_doc, emission_of_interactive, emission_of_program, emitted}
+use Rattle.py_meaning.specs.Interactive.{interactive_form}
 use Rattle.py_meaning.specs.Meaning.{body, mod_form}
 use Rattle.py_meaning.specs.StmtCounts.{scopes_in_stmts}
 use Rattle.py_meaning.specs.StmtParts.{annotated}
 use Rattle.py_meaning.specs.Table.{expr_form}
-use Rattle.py_meaning.specs.TableStmts.{doc_form, program_form, setup_form, stmts_form}
-use Rattle.py_adds.proofs.Adding.{Adds, adds_as}
+use Rattle.py_meaning.specs.TableScopes.{setup_form}
+use Rattle.py_meaning.specs.TableStmts.{doc_form, program_form}
+use Rattle.py_adds.proofs.Adding.{adds_as, completed}
 use Rattle.py_adds.proofs.Burden.{burden}
-use Rattle.py_adds.proofs.Emitting.{Gives, Yields, after_these, and_yields, gives_as, keep_yields, level_gives, outside, scopes_as, so, then_yields}
+use Rattle.py_adds.proofs.Emitting.{Gives, Yields, after_these, and_yields, gives_as, keep_yields, level_gives, outside, so, then_yields}
 use Rattle.py_adds.proofs.Instructions.{constant_adds, return_adds, store_adds}
 use Rattle.py_adds.proofs.Settled.{Settled, outermost_settled}
-use Rattle.py_adds.proofs.Steps.{emit_adds}
-use Rattle.py_adds.proofs.Within.{Emitted, Whole}
+use Rattle.py_adds.proofs.Within.{Emitted}
+use Rattle.py_agree.proofs.ClassAdds.{setup_adds, setup_looped, unlooped_labels}
 use Rattle.py_agree.proofs.ExprAdds.{expr_adds}
-use Rattle.py_agree.proofs.Told.{outer, pathless, told}
+use Rattle.py_agree.proofs.DefinitionAdds.{closed}
+use Rattle.py_agree.proofs.InteractiveAdds.{interactive_closes, interactive_gives}
+use Rattle.py_agree.proofs.Told.{outer, pathless}
 use Rattle.py_agree.proofs.StmtAdds.{stmts_add}
 use Rattle.py_sizes.proofs.ProgramSizes.{body_small}
-
-abbrev unlooped_labels : Loops
-unlooped_labels = record { inside = false; on_break = 0; on_continue = 0 }
 
 module _ (c : Around) where
   -- a docstring is stored
   doc_adds : (text : Option (List ℕ)) (n k : ℕ) → Yields c n k (emission_of_doc text) (code (outer c) (doc_form text) unlooped_labels n) (labels (doc_form text)) 0
   doc_adds None n k = keep_yields
   doc_adds (Some text) n k = after_these (constant_adds (const.str text) refl c n k) (store_adds (codes "__doc__") c n k)
-
-  -- room for annotations
-  setup_adds : (b : Bool) (n k : ℕ) → Yields c n k (emission_of_setup b) (code (outer c) (setup_form b) unlooped_labels n) (labels (setup_form b)) 0
-  setup_adds false n k = keep_yields
-  setup_adds true n k = emit_adds op.SetupAnnotation 0 (Operate (operation op.SetupAnnotation Bare) 0 (Some 0)) (refl, refl) (λ d t. refl) c n k
-
-setup_looped : (b : Bool) → Looped false (setup_form b)
-setup_looped false = tt
-setup_looped true = tt
 
 doc_looped : (text : Option (List ℕ)) → Looped false (doc_form text)
 doc_looped None = tt
@@ -80,26 +68,35 @@ program_gives x stmts z =
     (then_yields (setup_adds c (annotated others) m (1 + 0))
     (and_yields (stmts_add c (1 + 0 + 0) others (omega (arith, z, less)) unlooped_labels k tt) (return_adds const.none refl c _ _)))))
 
+-- what is entered at a prompt
+interactive_whole : (x : Context) (m : Mode) (stmts : tree.Stmts) → stmts_size stmts < 2 ^ 22 → Gives (outside x) 1 1 (emission_of_interactive m stmts) (body_code (outer (outside x)) (interactive_form m (pathless x) stmts)) (labels (interactive_form m (pathless x) stmts)) (scopes_in_stmts x.postponed stmts) (Looped false (interactive_form m (pathless x) stmts))
+interactive_whole x m stmts z =
+    let f = interactive_form m (pathless x) stmts in
+    gives_as (closed (code (outer (outside x)) f unlooped_labels 1) (closes f) (interactive_closes m (pathless x) stmts)) refl refl (interactive_gives m stmts z (outside x) unlooped_labels 1 tt)
+
 -- the scope of a tree, of which the context of its emission says all but what it is compiled from
-abbrev scope_in : Context → tree.Mod → Scope
-scope_in c t = MkScope (head_of (pathless c)) (mod_form (pathless c) t)
+abbrev scope_in : Context → tree.Mod → Mode → Scope
+scope_in c t m = MkScope (head_of (pathless c)) (mod_form (pathless c) t m)
 
 -- where a tree begins
 abbrev pub first_place : SourceLocation
 first_place = record { row = 1; column = 1 }
 
 module _ (x : Context) (settled : Settled x) (roomy : (n : ℕ) → room x.scopes n < 2 ^ 26) where
-  mod_adds : (t : tree.Mod) → size_of t < 2 ^ 22 → ((d : Scope → Object) → burden (body_code (exactly d (scope_in x t)) (form_of (scope_in x t))) < 2 ^ 27) → (o : State) → emitted t x ≡ Done o → Emitted x first_place 1 (scope_in x t) o
-  mod_adds (tree.Module stmts) z small o e =
+  mod_adds : (t : tree.Mod) (m : Mode) → size_of t < 2 ^ 22 → ((d : Scope → Object) → burden (body_code (exactly d (scope_in x t m)) (form_of (scope_in x t m))) < 2 ^ 27) → (o : State) → emitted t m x ≡ Done o → Emitted x first_place 1 (scope_in x t m) o
+  mod_adds (tree.Module stmts) m z small o e =
       let a = (program_gives x stmts (omega (arith, z))).run (nothing x) o refl refl (record { around = refl; settled = settled; roomy = roomy }) e in
-      record { count = scopes_in_stmts x.postponed (after_doc stmts); adds = a.0; looped = a.1; small = small; roomy = roomy }
-  mod_adds (tree.Expression e) z small o h =
+      record { count = scopes_in_stmts x.postponed (after_doc stmts); adds = completed (nothing x) o _ _ _ a.0; looped = a.1; small = small; roomy = roomy }
+  mod_adds (tree.Interactive stmts) m z small o e =
+      let a = (interactive_whole x m stmts (omega (arith, z))).run (nothing x) o refl refl (record { around = refl; settled = settled; roomy = roomy }) e in
+      record { count = scopes_in_stmts x.postponed stmts; adds = completed (nothing x) o _ _ _ a.0; looped = a.1; small = small; roomy = roomy }
+  mod_adds (tree.Expression e) m z small o h =
       let c = outside x in
       let f = expr_form (pathless x) 1 e in
       let a = ((expr_adds c 1 e (omega (arith, z))).returned 1).run (nothing x) o refl refl (record { around = refl; settled = settled; roomy = roomy }) h in
       let items : List (Item Scope) = return_code (outer c) f 1 in
-      record { count = scopes_in x.postponed e; adds = adds_as (nothing x) o items (items ++ []) (labels_v f) (labels_v f) (scopes_in x.postponed e) (scopes_in x.postponed e) (sym (append-nil items)) refl refl a.0; looped = tt; small = small; roomy = roomy }
-  mod_adds other z small o h = absurd cc
+      record { count = scopes_in x.postponed e; adds = completed (nothing x) o _ _ _ (adds_as (nothing x) o items (items ++ []) (labels_v f) (labels_v f) (scopes_in x.postponed e) (scopes_in x.postponed e) (sym (append-nil items)) refl refl a.0); looped = tt; small = small; roomy = roomy }
+  mod_adds other m z small o h = absurd cc
 
 pathless_is : (l : ℕ) (path : List ℕ) (scopes : List ScopeEntry) → pathless (outermost l path scopes) ≡ outermost l [] scopes
 unfolding inside
@@ -110,11 +107,11 @@ unfolding inside
 same_scopes l path scopes = refl
 
 -- what is emitted for a tree of such a size, whose scopes have few symbols
-pub tree_adds : (t : tree.Mod) (m : Mode) (l : ℕ) (path : List ℕ) (scopes : List ScopeEntry) (o : State) → size_of t < 2 ^ 22 → ((n : ℕ) → room scopes n < 2 ^ 26) → emitted t (outermost l path scopes) ≡ Done o → Emitted (outermost l path scopes) first_place 1 (body scopes t m l) o
+pub tree_adds : (t : tree.Mod) (m : Mode) (l : ℕ) (path : List ℕ) (scopes : List ScopeEntry) (o : State) → size_of t < 2 ^ 22 → ((n : ℕ) → room scopes n < 2 ^ 26) → emitted t m (outermost l path scopes) ≡ Done o → Emitted (outermost l path scopes) first_place 1 (body scopes t m l) o
 tree_adds t m l path scopes o z roomy e =
     let x = outermost l path scopes in
     let own : (n : ℕ) → room x.scopes n < 2 ^ 26 = λ n. subst (λ es. room es n < 2 ^ 26) (sym (same_scopes l path scopes)) (roomy n) in
     let small : (d : Scope → Object) → burden (body_code (exactly d (body scopes t m l)) (form_of (body scopes t m l))) < 2 ^ 27 = λ d. let b = body_small (exactly d (body scopes t m l)) scopes t m l in omega (arith, b, z) in
-    let there : scope_in x t ≡ body scopes t m l = ap (λ (c : Context). MkScope (head_of c) (mod_form c t)) (pathless_is l path scopes) in
+    let there : scope_in x t m ≡ body scopes t m l = ap (λ (c : Context). MkScope (head_of c) (mod_form c t m)) (pathless_is l path scopes) in
     subst (λ s. Emitted x first_place 1 s o) there
-    (mod_adds x (outermost_settled l path scopes) own t z (λ d. subst (λ s. burden (body_code (exactly d s) (form_of s)) < 2 ^ 27) (sym there) (small d)) o e)
+    (mod_adds x (outermost_settled l path scopes) own t m z (λ d. subst (λ s. burden (body_code (exactly d s) (form_of s)) < 2 ^ 27) (sym there) (small d)) o e)

@@ -1,5 +1,5 @@
 -- No scope stands in texts.
-use Rattle.std.proofs.Common.{◌≡◌, ℕ, ◌+◌, List, Bool, Option, Some, None, refl, arith}
+use Rattle.std.proofs.Common.{◌≡◌, ℕ, List, Bool, Option, Some, None, refl, arith}
 use Rattle.py_tree.specs.Tree as tree
 use Rattle.py_counts.specs.Counts.{scopes_in, scopes_in_all}
 use Rattle.py_emission.specs.Texts.{joined, text_of, texts_of}

@@ -1,72 +1,47 @@
 -- The emission of a statement adds the code of its form, in which breaks and continues stand within loops.
-use Rattle.std.proofs.Common.{◌≡◌, ℕ, suc, ◌+◌, ◌<◌, ◌≤◌, ◌^◌, List, [], ◌∷◌, ◌++◌, Bool, true, false, Option, Some, None, refl, sym, subst, arith, append-nil}
+use Rattle.std.proofs.Common.{◌≡◌, ℕ, ◌+◌, ◌<◌, ◌≤◌, ◌^◌, List, [], ◌∷◌, Bool, true, false, Option, Some, None, refl, subst, arith}
 use Rattle.std.specs.Prelude.{nat_eq, if◌then◌else◌}
 use Rattle.py_tree.specs.Tree as tree
 use Rattle.py_base.specs.declared.location.SourceLocation.{SourceLocation}
-use Rattle.py_limits.specs.Size.{expr_size, handlers_size, head_size, opt_expr_size, stmt_size, stmts_size, with_items_size}
-use Rattle.py_counts.specs.Counts.{scopes_in, scopes_in_all, scopes_in_defaults, scopes_in_opt}
+use Rattle.py_limits.specs.Size.{expr_size, handlers_size, opt_expr_size, stmt_size, stmts_size, with_items_size}
+use Rattle.py_counts.specs.Counts.{scopes_in, scopes_in_opt}
 use Rattle.py_bytecode.specs.declared.instruction.Instruction.TheVariants as op
 use Rattle.py_bytecode.specs.Objects as const
 use Rattle.py_bytecode.specs.Values.{Store, Delete, operation, Bare, Number}
 use Rattle.py_bytecode.specs.Machine.{Break, Continue}
-use Rattle.py_forms.specs.Form.{MkScope, VForm, VConst, VMore, VNone, TNot, SForm, SSkip, SDo, SInto, SIf, SBreak, SContinue, SReturn, GDrop, GStore, Resolved}
+use Rattle.py_forms.specs.Form.{VMore, VNone, TNot, SForm, SSkip, SDo, SInto, SIf, SBreak, SContinue, GDrop}
 use Rattle.py_forms.specs.Fit.{Loops}
-use Rattle.py_forms.specs.Code.{Item, Do, closes, closing, labels_v, labels_g, labels_t, labels_h, labels, code_h, code}
+use Rattle.py_forms.specs.Code.{Do, labels_v, labels_g, labels_t, labels_h, labels, code_h}
 use Rattle.py_forms.specs.Looped.{Looped, LoopedAll}
-use Rattle.py_steps.specs.Context.{Context, head_of, is_function, mangled}
-use Rattle.py_steps.specs.Accesses.{emission_of_stored}
-use Rattle.py_steps.specs.Children.{decorated, function_inside}
-use Rattle.py_steps.specs.TableParts as table
-use Rattle.py_steps.specs.EmissionParts as emitting
-use Rattle.py_emission.specs.Texts.{after_doc, stmt_text, unless_text}
-use Rattle.py_meaning.specs.StmtCounts.{scopes_in_all_notes, scopes_in_handlers, scopes_in_items, scopes_in_raise, scopes_in_stmt, scopes_in_stmts}
-use Rattle.py_meaning.specs.Table.{all_forms, expr_form, target_form, test_form}
+use Rattle.py_steps.specs.Context.{Context, is_function}
+use Rattle.py_meaning.specs.StmtCounts.{scopes_in_handlers, scopes_in_items, scopes_in_raise, scopes_in_stmt, scopes_in_stmts}
+use Rattle.py_meaning.specs.Table.{expr_form, target_form, test_form}
 use Rattle.py_meaning.specs.TableScopes.{iterator}
-use Rattle.py_meaning.specs.TableScopes as forms
 use Rattle.py_meaning.specs.Imports.{from_form, import_form}
-use Rattle.py_meaning.specs.EmissionDefs.{emission_of_def, emission_of_end}
-use Rattle.py_meaning.specs.TableStmts.{ended_form, function_body, handler_forms, stmt_form, stmts_form}
-use Rattle.py_meaning.specs.StmtParts.{after_stmt, assert_form, assertion, but_doc, defined, handler_target, is_return, item_target, message_count, message_parts, named_form, none, raise_form, return_form, unless_last, with_form}
+use Rattle.py_meaning.specs.TableStmts.{handler_forms, stmt_form, stmts_form}
+use Rattle.py_meaning.specs.StmtParts.{assert_form, assertion, handler_target, item_target, message_count, message_parts, named_form, none, raise_form, return_form, with_form}
 use Rattle.py_forms.specs.declared.errors.CodegenErrorType.{CodegenErrorType}
 use Rattle.py_forms.specs.declared.errors.CodegenErrorType.TheVariants as error
-use Rattle.py_steps.specs.Emitting.{Around, Emission, LoopBlocks, ◌▸◌, by_level, emit, emit_constant, jump, keep, move, refuse}
+use Rattle.py_steps.specs.Emitting.{Around, Emission, LoopBlocks, ◌▸◌, by_level, emit, jump, keep, refuse}
 use Rattle.py_steps.specs.EmissionParts.{no_assignment, only_in_function, pass_scopes}
-use Rattle.py_emission.specs.Emission.{all_emissions, emission, emission_of_store, emission_of_test}
+use Rattle.py_emission.specs.Emission.{emission, emission_of_store, emission_of_test}
 use Rattle.py_meaning.specs.ControlEmissions.{asserted, caught, forgotten, named_body}
-use Rattle.py_meaning.specs.EmissionStmts.{emission_of_assert, emission_of_handlers, emission_of_item, emission_of_items, emission_of_message, emission_of_raise, emission_of_rest, emission_of_returned, emission_of_stmt, emission_of_stmts, leave_loop}
-use Rattle.py_adds.proofs.Emitting.{Gives, Yields, after_these, context_gives, from_as, gives_as, keep_yields, level_gives, loops_give, looping, move_yields, moved_gives, moved_refused, next_as, outside, refused_gives, regroup, scopes_as, so, then_gives, then_keep, then_these, ungroup}
+use Rattle.py_meaning.specs.EmissionStmts.{emission_of_assert, emission_of_handlers, emission_of_item, emission_of_items, emission_of_message, emission_of_raise, emission_of_returned, emission_of_stmt, emission_of_stmts, leave_loop}
+use Rattle.py_adds.proofs.Emitting.{Gives, Yields, after_these, context_gives, from_as, gives_as, keep_yields, level_gives, loops_give, looping, move_yields, moved_gives, moved_refused, next_as, refused_gives, regroup, scopes_as, so, then_gives, then_these}
 use Rattle.py_adds.proofs.Instructions.{break_adds, constant_adds, continue_adds, return_adds}
 use Rattle.py_adds.proofs.AccessAdds.{accessed_adds}
 use Rattle.py_adds.proofs.ControlInstructions.{end_finally_adds, iterator_adds, raise_adds, raise_cause_adds, reraise_adds}
-use Rattle.py_adds.proofs.FormAdds.{PartsAdd, all_values_add, one_adds, one_part, two_parts, unless_debug_gives}
+use Rattle.py_adds.proofs.FormAdds.{PartsAdd, one_adds, one_part, two_parts, unless_debug_gives}
 use Rattle.py_adds.proofs.Shapes.{choice_gives, only_gives, while_gives}
 use Rattle.py_adds.proofs.TargetAdds.{TargetAdds, drop_adds}
-use Rattle.py_adds.proofs.Within.{Whole}
-use Rattle.py_agree.proofs.ExprAdds.{expr_adds, exprs_add, target_adds}
-use Rattle.py_agree.proofs.Scopeless.{text_scopeless}
-use Rattle.py_agree.proofs.Told.{outer, pathless, told}
+use Rattle.py_agree.proofs.ExprAdds.{expr_adds, target_adds}
+use Rattle.py_agree.proofs.Told.{outer, told}
 use Rattle.py_agree.proofs.ControlAdds.{any_gives, asserted_gives, finally_gives, for_gives, managed_gives, try_gives, typed_gives}
 use Rattle.py_agree.proofs.AssignAdds.{ActAdds, into_adds, deletes_add, assign_adds, augmented_adds, annotated_adds, passed_adds}
-use Rattle.py_agree.proofs.FunctionAdds.{decorated_adds, def_adds}
 use Rattle.py_agree.proofs.ImportAdds.{from_adds, import_adds}
 use Rattle.py_agree.proofs.Unlooped.{Unlooped, annotated_unlooped, removals_unlooped, assign_unlooped, augment_unlooped, declared_unlooped, either_unlooped, from_unlooped, import_unlooped, return_unlooped}
-
-abbrev pub held : Option LoopBlocks → Bool
-held None = false
-held (Some b) = true
-
--- the labels of the innermost loop
-abbrev pub labels_in : LoopBlocks → Loops
-labels_in x = record { inside = true; on_break = x.on_break; on_continue = x.on_continue }
-
--- where there is a loop, its blocks are among the first so many
-abbrev pub InLoop : Option LoopBlocks → Loops → ℕ → Type 0
-InLoop None b n = Unit {0}
-InLoop (Some x) b n = (labels_in x ≡ b) × (x.on_break < n) × (x.on_continue < n)
-
-in_more : (x : Option LoopBlocks) (b : Loops) (m n : ℕ) → m ≤ n → InLoop x b m → InLoop x b n
-in_more None b m n le h = tt
-in_more (Some x) b m n le h = let p = h.1 in let q = h.2 in (h.0, omega (arith, le, p), omega (arith, le, q))
+use Rattle.py_agree.proofs.Controls.{Controls, InLoop, StmtAdds, StmtsAdd, act_gives, held, in_more, labels_in}
+use Rattle.py_agree.proofs.DefinitionAdds.{ClassRestAdd, EndedAdd, RestAdd, class_gives, class_rest_more, def_gives, ended_more, rest_more}
 
 break_gives : (c : Around) (n k : ℕ) (x : Option LoopBlocks) (b : Loops) (e : CodegenErrorType) → InLoop x b n → Gives c n k (leave_loop op.Break (λ y. y.on_break) e x) (Do (Break b.on_break) ∷ []) 0 0 (Looped (held x) SBreak)
 break_gives c n k None b e h = refused_gives e
@@ -75,20 +50,6 @@ break_gives c n k (Some x) b e h = subst (λ (z : Loops). Yields c n k (jump op.
 continue_gives : (c : Around) (n k : ℕ) (x : Option LoopBlocks) (b : Loops) (e : CodegenErrorType) → InLoop x b n → Gives c n k (leave_loop op.Continue (λ y. y.on_continue) e x) (Do (Continue b.on_continue) ∷ []) 0 0 (Looped (held x) SContinue)
 continue_gives c n k None b e h = refused_gives e
 continue_gives c n k (Some x) b e h = subst (λ (z : Loops). Yields c n k (jump op.Continue x.on_continue) (Do (Continue z.on_continue) ∷ []) 0 0) h.0 (continue_adds x.on_continue c n k h.2)
-
--- an emission adds the code of the form from n blocks on, where k is the number of the next scope, and l scopes; its labels in a loop are these
-abbrev pub Controls : Around → Loops → (n k l : ℕ) → Emission → SForm → Type 0
-Controls c b n k l v g = Gives c n k v (code (outer c) g b n) (labels g) l (Looped (held c.loops) g)
-
-abbrev pub StmtAdds : tree.Stmt → Type 0
-StmtAdds t = (c : Around) (k : ℕ) (b : Loops) (n : ℕ) → InLoop c.loops b n → Controls c b n k (scopes_in_stmt c.context.postponed t) (emission_of_stmt t) (stmt_form (told c) k t)
-
-abbrev pub StmtsAdd : tree.Stmts → Type 0
-StmtsAdd ts = (c : Around) (k : ℕ) (b : Loops) (n : ℕ) → InLoop c.loops b n → Controls c b n k (scopes_in_stmts c.context.postponed ts) (emission_of_stmts ts) (stmts_form (told c) k ts)
-
--- what leaves no loop, from where it stands
-act_gives : (c : Around) (b : Loops) (n k l : ℕ) (at : SourceLocation) (v : Emission) (g : SForm) → ActAdds (outer c) c k l v g → Unlooped g → Controls c b n k l (move at ▸ v) g
-act_gives c b n k l at v g h u = moved_gives at (so (λ z. u (held c.loops)) (h b n))
 
 if_gives : (at : SourceLocation) (t : tree.Expr) (body : tree.Stmts) → expr_size t < 2 ^ 22 → StmtsAdd body → StmtAdds (tree.If at t body tree.no_stmts)
 if_gives at t body few h c k b n w =
@@ -261,99 +222,8 @@ return_gives c k value few b n =
     let v : Emission = emission_of_returned value in
     context_gives (λ d. if is_function d.typ then v else refuse error.InvalidReturn) (in_function_gives (is_function c.context.typ) c k (scopes_in_opt c.context.postponed value) error.InvalidReturn v (return_form (told c) k value) (returned_adds c k value few) b n)
 
--- the statements of a function: where the last is no return, None is returned
-abbrev EndedAdd : tree.Stmts → Type 0
-EndedAdd ts = (c : Around) (k : ℕ) (b : Loops) (n : ℕ) → InLoop c.loops b n → Controls c b n k (scopes_in_stmts c.context.postponed ts) (emission_of_stmts ts ▸ emission_of_end ts) (ended_form (told c) k ts)
-
-last_gives : (s : tree.Stmt) → StmtAdds s → EndedAdd (tree.more_stmts s tree.no_stmts)
-last_gives s h c k b n w = go (is_return s)
-  where
-    go : (z : Bool) → Controls c b n k (scopes_in_stmt c.context.postponed s + 0) ((emission_of_stmt s ▸ keep) ▸ (if z then keep else emit_constant op.ReturnConst const.none)) (unless_last z (stmt_form (told c) k s) (SReturn (VConst const.none)))
-    go true = scopes_as (omega arith) (then_keep (then_keep (h c k b n w)))
-    go false = then_gives (then_keep (h c k b n w)) (return_adds const.none refl c _ _)
-
-ended_more : (s : tree.Stmt) (ss : tree.Stmts) → StmtAdds s → EndedAdd ss → EndedAdd (tree.more_stmts s ss)
-ended_more s tree.no_stmts h g c k b n w = last_gives s h c k b n w
-ended_more s (tree.more_stmts t ts) h g c k b n w =
-    let m = n + labels (stmt_form (told c) k s) in
-    ungroup (emission_of_stmt s) (emission_of_stmts (tree.more_stmts t ts)) (emission_of_end (tree.more_stmts t ts)) (then_gives (h c k b n w) (g c (k + scopes_in_stmt c.context.postponed s) b m (in_more c.loops b n m (omega arith) w)))
-
--- a docstring holds no scope
-doc_scopeless : (p : Bool) (s : tree.Stmt) (text : List ℕ) → stmt_text s ≡ Some text → scopes_in_stmt p s ≡ 0
-doc_scopeless p (tree.StmtExpr at value) text e = text_scopeless p value text e
-doc_scopeless p other text e = absurd cc
-
--- the same, but a docstring
-abbrev RestAdd : tree.Stmts → Type 0
-RestAdd ts = (c : Around) (k : ℕ) (b : Loops) (n : ℕ) → InLoop c.loops b n → Controls c b n k (scopes_in_stmts c.context.postponed ts) (emission_of_rest ts ▸ emission_of_end (after_doc ts)) (function_body (told c) k ts)
-
-rest_more : (s : tree.Stmt) (ss : tree.Stmts) → StmtAdds s → EndedAdd ss → RestAdd (tree.more_stmts s ss)
-rest_more s ss h g c k b n w = go (stmt_text s) refl
-  where
-    all : tree.Stmts
-    all = tree.more_stmts s ss
-
-    go : (o : Option (List ℕ)) → stmt_text s ≡ o → Controls c b n k (scopes_in_stmts c.context.postponed all) (but_doc o (emission_of_stmts ss) (emission_of_stmts all) ▸ emission_of_end (unless_text o all)) (but_doc o (ended_form (told c) k ss) (ended_form (told c) k all))
-    go None e = ended_more s ss h g c k b n w
-    go (Some text) e = scopes_as (let z = doc_scopeless c.context.postponed s text e in omega (arith, z)) (g c k b n w)
-
--- a function's code closes with a return
-return_closes : (c : Context) (k : ℕ) (s : tree.Stmt) → is_return s ≡ true → closes (stmt_form c k s) ≡ true
-return_closes c k (tree.Return at tree.no_expr) e = refl
-return_closes c k (tree.Return at (tree.some_expr v)) e = refl
-return_closes c k other e = absurd cc
-
-last_closes : (z : Bool) (f : SForm) → (z ≡ true → closes f ≡ true) → closes (unless_last z f (SReturn (VConst const.none))) ≡ true
-last_closes true f h = h refl
-last_closes false f h = refl
-
-ended_closes : (c : Context) (k : ℕ) (ss : tree.Stmts) → closes (ended_form c k ss) ≡ true
-ended_closes c k tree.no_stmts = refl
-ended_closes c k (tree.more_stmts s tree.no_stmts) = last_closes (is_return s) (stmt_form c k s) (return_closes c k s)
-ended_closes c k (tree.more_stmts s (tree.more_stmts t ts)) = ended_closes c (after_stmt c k s) (tree.more_stmts t ts)
-
-doc_closes : (o : Option (List ℕ)) (f g : SForm) → closes f ≡ true → closes g ≡ true → closes (but_doc o f g) ≡ true
-doc_closes None f g e h = h
-doc_closes (Some text) f g e h = e
-
-body_closes : (c : Context) (k : ℕ) (ss : tree.Stmts) → closes (function_body c k ss) ≡ true
-body_closes c k tree.no_stmts = refl
-body_closes c k (tree.more_stmts s ss) = doc_closes (stmt_text s) (ended_form c k ss) (ended_form c k (tree.more_stmts s ss)) (ended_closes c k ss) (ended_closes c k (tree.more_stmts s ss))
-
--- a scope's code, where it closes with a return
-closed : {K : Type 0} (is : List (Item K)) (z : Bool) → z ≡ true → is ≡ is ++ closing z
-closed is true e = sym (append-nil is)
-closed is false e = absurd cc
-
--- the whole code of a function
-whole_gives : (inner : Context) (k : ℕ) (body : tree.Stmts) → RestAdd body → Whole inner (emission_of_rest body ▸ emission_of_end (after_doc body)) k (scopes_in_stmts inner.postponed body) (MkScope (head_of (pathless inner)) (function_body (pathless inner) k body))
-whole_gives inner k body h =
-    let f = function_body (pathless inner) k body in
-    let none : Loops = record { inside = false; on_break = 0; on_continue = 0 } in
-    gives_as (closed (code (outer (outside inner)) f none 1) (closes f) (body_closes (pathless inner) k body)) refl refl (h (outside inner) k none 1 tt)
-
--- a function, with its decorators, is stored
-def_gives : (at : SourceLocation) (name : List ℕ) (params : tree.Arguments) (body : tree.Stmts) (decorators : tree.Exprs) (returns : tree.OptExpr) → head_size params decorators returns tree.no_type_params + stmts_size body < 2 ^ 22 → RestAdd body → StmtAdds (tree.FunctionDef at name params body decorators returns tree.no_type_params)
-def_gives at name params body decorators returns few h c k b n w =
-    let p = c.context.postponed in
-    let x = scopes_in_all p decorators in
-    let m = k + x in
-    let j = m + scopes_in_defaults p params in
-    let l = scopes_in_defaults p params + suc (scopes_in_stmts p body + (scopes_in_opt p returns + scopes_in_all_notes p params)) in
-    let v : Emission = emission_of_rest body ▸ emission_of_end (after_doc body) in
-    let ds = emitting.values (all_emissions decorators) in
-    let fs = table.values (all_forms (told c) k decorators) in
-    let def : Emission = emission_of_def name params body returns v in
-    let form : VForm = defined (told c) m name params body returns (function_body (function_inside name (told c) j) (suc j) body) in
-    let inner : Context = function_inside name c.context j in
-    let own = def_adds c m name params body returns (omega (arith, few)) (omega (arith, few)) v (whole_gives inner (suc j) body h) in
-    let all = decorated_adds (outer c) c k x l ds fs def form (all_values_add (outer c) c k x (all_emissions decorators) (all_forms (told c) k decorators) (exprs_add c k decorators (omega (arith, few)))) own in
-    let store : TargetAdds (outer c) c (k + (x + l)) 0 (emission_of_stored name) (GStore Resolved (mangled (told c) name)) = λ i. unless_debug_gives no_assignment name (accessed_adds Store name c i (k + (x + l))) in
-    scopes_as (omega arith) (act_gives c b n k (x + l + 0) at (decorated ds def ▸ emission_of_stored name) (SInto (forms.decorated fs form) (GStore Resolved (mangled (told c) name)))
-    (into_adds (outer c) c k (x + l) 0 (decorated ds def) (emission_of_stored name) (forms.decorated fs form) (GStore Resolved (mangled (told c) name)) all store) (λ z. tt))
-
 mutual
-  stmt_gives : (t : tree.Stmt) → stmt_size t < 2 ^ 22 → StmtAdds t
+  pub stmt_gives : (t : tree.Stmt) → stmt_size t < 2 ^ 22 → StmtAdds t
   stmt_gives (tree.Return at value) few c k b n w = act_gives c b n k _ at _ (return_form (told c) k value) (return_gives c k value (omega (arith, few))) (return_unlooped (told c) k value)
   stmt_gives (tree.Delete at ts) few c k b n w = act_gives c b n k _ at _ (stmt_form (told c) k (tree.Delete at ts)) (deletes_add c k ts (omega (arith, few))) (removals_unlooped (told c) k ts)
   stmt_gives (tree.Assign at ts v) few c k b n w =
@@ -383,6 +253,7 @@ mutual
   stmt_gives (tree.Continue at) few c k b n w = moved_gives at (loops_give (leave_loop op.Continue (λ y. y.on_continue) error.InvalidContinue) (continue_gives c n k c.loops b error.InvalidContinue w))
   stmt_gives (tree.Pass at) few c k b n w = move_yields at
   stmt_gives (tree.FunctionDef at name params body decorators returns tree.no_type_params) few c k b n w = def_gives at name params body decorators returns few (rest_give body (omega (arith, few))) c k b n w
+  stmt_gives (tree.ClassDef at name bases keywords body decorators tree.no_type_params) few c k b n w = class_gives at name bases keywords body decorators few (class_rest_give body (omega (arith, few))) c k b n w
   stmt_gives other few c k b n w = moved_refused (tree.stmt_location other) error.NotImplementedYet
 
   stmts_give : (ts : tree.Stmts) → stmts_size ts < 2 ^ 22 → StmtsAdd ts
@@ -401,7 +272,11 @@ mutual
   ended_give tree.no_stmts few c k b n w = after_these keep_yields (return_adds const.none refl c n k)
   ended_give (tree.more_stmts s ss) few c k b n w = ended_more s ss (stmt_gives s (omega (arith, few))) (ended_give ss (omega (arith, few))) c k b n w
 
-  rest_give : (ts : tree.Stmts) → stmts_size ts < 2 ^ 22 → RestAdd ts
+  pub class_rest_give : (ts : tree.Stmts) → stmts_size ts < 2 ^ 22 → ClassRestAdd ts
+  class_rest_give tree.no_stmts few c k b n w = keep_yields
+  class_rest_give (tree.more_stmts s ss) few c k b n w = class_rest_more s ss (stmt_gives s (omega (arith, few))) (stmts_give ss (omega (arith, few))) c k b n w
+
+  pub rest_give : (ts : tree.Stmts) → stmts_size ts < 2 ^ 22 → RestAdd ts
   rest_give tree.no_stmts few c k b n w = after_these keep_yields (return_adds const.none refl c n k)
   rest_give (tree.more_stmts s ss) few c k b n w = rest_more s ss (stmt_gives s (omega (arith, few))) (ended_give ss (omega (arith, few))) c k b n w
 

@@ -10,6 +10,8 @@ pub mod RefusingExprs
 pub mod RefusingChanges
 pub mod ControlEnds
 pub mod DefEnds
+pub mod ClassEnds
 pub mod RefusingImports
 pub mod RefusingStmts
+pub mod InteractiveEnds
 pub mod Ending

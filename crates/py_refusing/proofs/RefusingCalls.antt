@@ -1,5 +1,5 @@
 -- Calls end as the faults of what is called, of the arguments, of the names of the keywords and of their values say.
-use Rattle.std.proofs.Common.{◌≡◌, ℕ, List, [], ◌∷◌, ◌++◌, length, Bool, Some, None, sym, ap, ◌∙◌, append_assoc, append-nil}
+use Rattle.std.proofs.Common.{◌≡◌, ℕ, List, [], ◌∷◌, ◌++◌, length, Some, None, sym, ap, ◌∙◌, append_assoc, append-nil}
 use Rattle.std.specs.Prelude.{◌||◌}
 use Rattle.py_tree.specs.Tree as tree
 use Rattle.py_base.specs.declared.location.SourceLocation.{SourceLocation}
@@ -7,7 +7,7 @@ use Rattle.py_bytecode.specs.declared.instruction.Instruction.{Instruction}
 use Rattle.py_bytecode.specs.declared.instruction.Instruction.TheVariants as op
 use Rattle.py_bytecode.specs.Objects as const
 use Rattle.py_steps.specs.Elements.{Element, Single, Spread, Callee, Function, Method, starred, bare, groups}
-use Rattle.py_meaning.specs.Ends.{last_of, expr_end, ends_of, keyword_ends, args_end}
+use Rattle.py_meaning.specs.Ends.{last_of, expr_end, keyword_ends, args_end}
 use Rattle.py_meaning.specs.ExprFaults.{Fault, in_order, faults_in, all_faults, keyword_faults, keyword_values}
 use Rattle.py_meaning.specs.ExprFaults as fault
 use Rattle.py_steps.specs.TableParts.{any}
@@ -28,12 +28,10 @@ joined_map_ends [] x = x
 joined_map_ends (v ∷ []) x = unkept_ends v x
 joined_map_ends (v ∷ w ∷ ws) x = last_ends x (count_passes op.BuildMapForCall (length (v ∷ w ∷ ws)))
 
--- where a call leaves off whose arguments begin there, and what is wrong in them
-abbrev call_end : SourceLocation → tree.Exprs → tree.Keywords → SourceLocation
-call_end p es ks = last_of (last_of p (ends_of es)) (keyword_ends ks)
-
-abbrev args_faults : (in_function : Bool) → SourceLocation → tree.Exprs → tree.Keywords → List Fault
-args_faults b p es ks = in_order (fault.elements (all_faults b es)) ++ keyword_faults (last_of p (ends_of es)) ks ++ in_order (keyword_values b ks)
+-- the elements end so, in their places and packed run by run
+pub record ArgsEnd (c : Around) (es : List (Element Emission Emission)) (p q : SourceLocation) (fs : List Fault) : Type 0 where
+  pub places : EndsAs c (in_turn (bare es)) p q fs
+  pub packs : EndsAs c (in_turn (groups (built op.BuildTuple) [] es)) p q fs
 
 regrouped : (fs gs hs is : List Fault) → fs ++ (gs ++ hs ++ is) ≡ fs ++ gs ++ hs ++ is
 regrouped fs gs hs is = sym (append_assoc fs (gs ++ hs) is) ∙ ap (λ l. l ++ is) (sym (append_assoc fs gs hs))
@@ -42,9 +40,6 @@ module _ (c : Around) where
   abbrev pub KeywordsEnding : tree.Keywords → Type 0
   KeywordsEnding tree.no_keywords = Unit {0}
   KeywordsEnding (tree.more_keywords name e ks) = EndsWell c e × KeywordsEnding ks
-
-  abbrev arguments : tree.Exprs → List (Element Emission Emission)
-  arguments es = elements (all_emissions es)
 
   checked_ends : (p : SourceLocation) (ks : tree.Keywords) → EndsAs c (checked (keyword_emissions ks)) p p (keyword_faults p ks)
   checked_ends p tree.no_keywords = nothing_passes
@@ -68,36 +63,38 @@ module _ (c : Around) where
   maps_end : (p : SourceLocation) (ks : tree.Keywords) → KeywordsEnding ks → EndsAs c (joined_map (groups map_of [] (keyword_emissions ks))) p (last_of p (keyword_ends ks)) (in_order (keyword_values (in_function c) ks))
   maps_end p ks x = joined_map_ends (groups map_of [] (keyword_emissions ks)) (groups_end p p [] [] ks nothing_passes x)
 
-  -- a tuple, and a map
-  packed_tuple_ends : (p : SourceLocation) (es : tree.Exprs) (ks : tree.Keywords) → AllEnding c es → EndsAs c (packed_tuple (arguments es) (keyword_emissions ks)) p (last_of p (ends_of es)) (in_order (fault.elements (all_faults (in_function c) es)) ++ keyword_faults (last_of p (ends_of es)) ks)
-  packed_tuple_ends p es ks x =
-      let names = checked_ends (last_of p (ends_of es)) ks in
-      if_ends (starred (arguments es))
-      (then_ends (tuples_end c p es x) (last_ends names (count_passes op.BuildTupleUnpack (length (groups (built op.BuildTuple) [] (arguments es))))))
-      (then_ends (bare_ends c p es x) (last_ends names (count_passes op.BuildTuple (length (arguments es)))))
+  -- what is wrong in arguments whose elements leave off there
+  abbrev args_faults : SourceLocation → List Fault → tree.Keywords → List Fault
+  args_faults p fs ks = fs ++ keyword_faults p ks ++ in_order (keyword_values (in_function c) ks)
 
-  packed_ends : (p : SourceLocation) (es : tree.Exprs) (ks : tree.Keywords) → AllEnding c es → KeywordsEnding ks → EndsAs c (packed (arguments es) (keyword_emissions ks)) p (call_end p es ks) (args_faults (in_function c) p es ks)
-  packed_ends p es ks x y = then_ends (packed_tuple_ends p es ks x) (maps_end (last_of p (ends_of es)) ks y)
+  -- a tuple, and a map
+  packed_tuple_ends : {p m : SourceLocation} {fs : List Fault} (es : List (Element Emission Emission)) (ks : tree.Keywords) → ArgsEnd c es p m fs → EndsAs c (packed_tuple es (keyword_emissions ks)) p m (fs ++ keyword_faults m ks)
+  packed_tuple_ends {m = m} es ks x =
+      if_ends (starred es)
+      (then_ends x.packs (last_ends (checked_ends m ks) (count_passes op.BuildTupleUnpack (length (groups (built op.BuildTuple) [] es)))))
+      (then_ends x.places (last_ends (checked_ends m ks) (count_passes op.BuildTuple (length es))))
+
+  packed_ends : {p m : SourceLocation} {fs : List Fault} (es : List (Element Emission Emission)) (ks : tree.Keywords) → ArgsEnd c es p m fs → KeywordsEnding ks → EndsAs c (packed es (keyword_emissions ks)) p (last_of m (keyword_ends ks)) (args_faults m fs ks)
+  packed_ends {m = m} es ks x y = then_ends (packed_tuple_ends es ks x) (maps_end m ks y)
 
   -- arguments in their places, values of keywords and their names
-  abbrev keyword_args : tree.Exprs → tree.Keywords → Emission
-  keyword_args es ks = in_turn (bare (arguments es)) ▸ checked (keyword_emissions ks) ▸ in_turn (values_in (keyword_emissions ks)) ▸ emit_constant op.LoadConst (const.tuple (names_in (keyword_emissions ks)))
+  abbrev keyword_args : List (Element Emission Emission) → tree.Keywords → Emission
+  keyword_args es ks = in_turn (bare es) ▸ checked (keyword_emissions ks) ▸ in_turn (values_in (keyword_emissions ks)) ▸ emit_constant op.LoadConst (const.tuple (names_in (keyword_emissions ks)))
 
-  keyword_args_end : (p : SourceLocation) (es : tree.Exprs) (ks : tree.Keywords) → AllEnding c es → KeywordsEnding ks → EndsAs c (keyword_args es ks) p (call_end p es ks) (args_faults (in_function c) p es ks)
-  keyword_args_end p es ks x y =
-      let m = last_of p (ends_of es) in
-      three_end (bare_ends c p es x) (checked_ends m ks) (last_ends (values_end m ks y) (constant_passes op.LoadConst (const.tuple (names_in (keyword_emissions ks)))))
+  keyword_args_end : {p m : SourceLocation} {fs : List Fault} (es : List (Element Emission Emission)) (ks : tree.Keywords) → ArgsEnd c es p m fs → KeywordsEnding ks → EndsAs c (keyword_args es ks) p (last_of m (keyword_ends ks)) (args_faults m fs ks)
+  keyword_args_end {m = m} es ks x y = three_end x.places (checked_ends m ks) (last_ends (values_end m ks y) (constant_passes op.LoadConst (const.tuple (names_in (keyword_emissions ks)))))
 
-  placed_ends : (p : SourceLocation) (func : tree.Expr) (es : tree.Exprs) (ks : tree.Keywords) → EndsWell c func → AllEnding c es → KeywordsEnding ks → EndsAs c (placed (emissions func).callee (bare (arguments es)) (keyword_emissions ks)) p (call_end (expr_end func) es ks) ((faults_in (in_function c) func).value ++ args_faults (in_function c) (expr_end func) es ks)
-  placed_ends p func es tree.no_keywords x y z =
-      called_ends (emissions func).callee (faults_in (in_function c) func).value op.CallFunctionPositional op.CallMethodPositional _ (x.callee p) (alone_ends (alone_ends (bare_ends c (expr_end func) es y)))
-  placed_ends p func es (tree.more_keywords None e ks) x y z =
-      called_ends (emissions func).callee (faults_in (in_function c) func).value op.CallFunctionKeyword op.CallMethodKeyword _ (x.callee p) (keyword_args_end (expr_end func) es (tree.more_keywords None e ks) y z)
-  placed_ends p func es (tree.more_keywords (Some name) e ks) x y z =
-      called_ends (emissions func).callee (faults_in (in_function c) func).value op.CallFunctionKeyword op.CallMethodKeyword _ (x.callee p) (keyword_args_end (expr_end func) es (tree.more_keywords (Some name) e ks) y z)
+  placed_ends : {p m n : SourceLocation} {gs : List Fault} (d : Callee Emission) (fs : List Fault) (es : List (Element Emission Emission)) (ks : tree.Keywords) → CalleeEnds c d p m fs → ArgsEnd c es m n gs → KeywordsEnding ks → EndsAs c (placed d (bare es) (keyword_emissions ks)) p (last_of n (keyword_ends ks)) (fs ++ args_faults n gs ks)
+  placed_ends d fs es tree.no_keywords x y z = called_ends d fs op.CallFunctionPositional op.CallMethodPositional _ x (alone_ends (alone_ends y.places))
+  placed_ends d fs es (tree.more_keywords None e ks) x y z = called_ends d fs op.CallFunctionKeyword op.CallMethodKeyword _ x (keyword_args_end es (tree.more_keywords None e ks) y z)
+  placed_ends d fs es (tree.more_keywords (Some name) e ks) x y z = called_ends d fs op.CallFunctionKeyword op.CallMethodKeyword _ x (keyword_args_end es (tree.more_keywords (Some name) e ks) y z)
+
+  -- a call of anything, whose elements end so
+  pub any_call_ends : {p m n : SourceLocation} {gs : List Fault} (d : Callee Emission) (fs : List Fault) (es : List (Element Emission Emission)) (ks : tree.Keywords) → CalleeEnds c d p m fs → ArgsEnd c es m n gs → KeywordsEnding ks → EndsAs c (emission_of_call d es (keyword_emissions ks)) p (last_of n (keyword_ends ks)) (fs ++ gs ++ keyword_faults n ks ++ in_order (keyword_values (in_function c) ks))
+  any_call_ends {n = n} {gs = gs} d fs es ks x y z =
+      ends_so (regrouped fs gs (keyword_faults n ks) (in_order (keyword_values (in_function c) ks)))
+      (if_ends (starred es || starred (keyword_emissions ks)) (called_ends d fs op.CallFunctionEx op.CallMethodEx (any (keyword_emissions ks)) x (packed_ends es ks y z)) (placed_ends d fs es ks x y z))
 
   pub call_ends : (p : SourceLocation) (func : tree.Expr) (es : tree.Exprs) (ks : tree.Keywords) → EndsWell c func → AllEnding c es → KeywordsEnding ks → EndsAs c (emission_of_call (emissions func).callee (elements (all_emissions es)) (keyword_emissions ks)) p (last_of (args_end func es) (keyword_ends ks)) ((faults_in (in_function c) func).value ++ in_order (fault.elements (all_faults (in_function c) es)) ++ keyword_faults (args_end func es) ks ++ in_order (keyword_values (in_function c) ks))
   call_ends p func es ks x y z =
-      let packs = called_ends (emissions func).callee (faults_in (in_function c) func).value op.CallFunctionEx op.CallMethodEx (any (keyword_emissions ks)) (x.callee p) (packed_ends (expr_end func) es ks y z) in
-      ends_so (regrouped (faults_in (in_function c) func).value (in_order (fault.elements (all_faults (in_function c) es))) (keyword_faults (args_end func es) ks) (in_order (keyword_values (in_function c) ks)))
-      (if_ends (starred (arguments es) || starred (keyword_emissions ks)) packs (placed_ends p func es ks x y z))
+      any_call_ends (emissions func).callee (faults_in (in_function c) func).value (elements (all_emissions es)) ks (x.callee p) (record { places = bare_ends c (expr_end func) es y; packs = tuples_end c (expr_end func) es y }) z

@@ -10,7 +10,7 @@ use Rattle.py_counts.specs.Counts.{scopes_in_annotations}
 use Rattle.py_meaning.specs.Ends.{expr_end, last_of}
 use Rattle.py_meaning.specs.StmtEnds.{arg_default_ends, default_ends}
 use Rattle.py_meaning.specs.ExprFaults.{Fault, arg_faults, default_faults, faults_in, parameter_faults}
-use Rattle.py_steps.specs.Children.{cell_loads, child, closure, emission_of_defaults, enter_parameters, flags_of_defaults, free_names, function_scope, lambda_inside, made, some_emitted, some_flag}
+use Rattle.py_steps.specs.Children.{cell_loads, closure, emission_of_defaults, enter_parameters, flags_of_defaults, free_names, function_scope, lambda_inside, made, some_emitted, some_flag}
 use Rattle.py_steps.specs.Context.{Context, inside}
 use Rattle.py_steps.specs.Emitting.{Around, Emission, ◌▸◌}
 use Rattle.py_steps.specs.EmissionParts.{built, in_turn, map_of, name_values, no_assignment, pass_scopes}

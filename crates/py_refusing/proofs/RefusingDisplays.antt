@@ -53,7 +53,7 @@ module _ (c : Around) where
   bare_ends p (tree.more_exprs e es) x = bare_step c (faults_in (in_function c) e).element (emissions e).element (elements (all_emissions es)) (x.0.element p) (bare_ends (expr_end e) es x.1)
 
   -- a run, and the elements after it
-  groups_end : (p m : SourceLocation) (fs : List Fault) (run : List Emission) (es : tree.Exprs) → EndsAs c (in_turn run) p m fs → AllEnding c es → EndsAs c (in_turn (groups (built op.BuildTuple) run (elements (all_emissions es)))) p (last_of m (ends_of es)) (fs ++ in_order (fault.elements (all_faults (in_function c) es)))
+  pub groups_end : (p m : SourceLocation) (fs : List Fault) (run : List Emission) (es : tree.Exprs) → EndsAs c (in_turn run) p m fs → AllEnding c es → EndsAs c (in_turn (groups (built op.BuildTuple) run (elements (all_emissions es)))) p (last_of m (ends_of es)) (fs ++ in_order (fault.elements (all_faults (in_function c) es)))
   groups_end p m fs run tree.no_exprs x y = ends_so (sym (append-nil fs)) (last_grouped c (tuples c) run x)
   groups_end p m fs run (tree.more_exprs e es) x y =
       group_step c (tuples c) (faults_in (in_function c) e).element (emissions e).element run (elements (all_emissions es)) x (y.0.element m) (λ longer r gs z. groups_end r (expr_end e) gs longer es z y.1)

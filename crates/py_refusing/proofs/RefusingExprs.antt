@@ -217,7 +217,7 @@ module _ (class : Option (List ℕ)) where
     opts_end c tree.no_opts h = tt
     opts_end c (tree.more_opts o os) h = let p = both_none (opt_expr_shapes class o) (opt_exprs_shapes class os) h in (opt_ends c o p.0, opts_end c os p.1)
 
-    keywords_end : (c : Around) (ks : tree.Keywords) → keywords_shapes class ks ≡ [] → KeywordsEnding c ks
+    pub keywords_end : (c : Around) (ks : tree.Keywords) → keywords_shapes class ks ≡ [] → KeywordsEnding c ks
     keywords_end c tree.no_keywords h = tt
     keywords_end c (tree.more_keywords name e ks) h =
         let p = both_none (opt_name_shapes name ++ expr_shapes class e) (keywords_shapes class ks) h in

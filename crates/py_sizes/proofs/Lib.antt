@@ -10,6 +10,8 @@ pub mod ParamSizes
 pub mod Sizes
 pub mod SmallAssigns
 pub mod SmallNotes
+pub mod SmallClasses
 pub mod SmallImports
 pub mod SmallStmts
+pub mod InteractiveSizes
 pub mod ProgramSizes

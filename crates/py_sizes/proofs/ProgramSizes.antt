@@ -1,5 +1,5 @@
--- What the whole code of a scope weighs, of a program, of a lambda and of a function: at most sixteen for each unit of size, and two more for what ends a function.
-use Rattle.std.proofs.Common.{ℕ, ◌+◌, ◌*◌, ◌^◌, ◌<◌, ◌≤◌, ◌≡◌, List, [], Bool, true, false, Option, Some, None, refl, arith, append-nil}
+-- What the whole code of a scope weighs, of a program, of a lambda, of a function and of a class: at most sixteen for each unit of size, two more for what ends a function, and fourteen more for what begins and ends a class.
+use Rattle.std.proofs.Common.{ℕ, ◌+◌, ◌*◌, ◌^◌, ◌<◌, ◌≤◌, ◌≡◌, List, [], ◌∷◌, Bool, true, false, Option, Some, None, refl, arith, append-nil}
 use Rattle.std.specs.Prelude.{codes, nat_lt, if◌then◌else◌}
 use Rattle.py_tree.specs.Tree as tree
 use Rattle.py_limits.specs.Size.{expr_size, exprs_size, generators_size, stmt_size, stmts_size, size_of}
@@ -7,19 +7,22 @@ use Rattle.py_tree.specs.declared.modules.Mode.{Mode}
 use Rattle.py_bytecode.specs.declared.instruction.Instruction.{Instruction}
 use Rattle.py_bytecode.specs.declared.instruction.Instruction.TheVariants as op
 use Rattle.py_bytecode.specs.Objects.{Object}
-use Rattle.py_forms.specs.Form.{Interp, VLoad, VNone, VMore, FixedFast, SForm, SReturn, Scope, MkScope}
+use Rattle.py_bytecode.specs.Values.{Cell}
+use Rattle.py_forms.specs.Form.{Interp, VLoad, VNone, VMore, FixedFast, SForm, SThen, SReturn, Scope, MkScope}
 use Rattle.py_forms.specs.Fit.{Loops}
 use Rattle.py_forms.specs.Agree.{exactly, form_of}
-use Rattle.py_forms.specs.Code.{closes, closing, labels, labels_v, code, code_v, body_code}
+use Rattle.py_forms.specs.Code.{class_code, closes, closing, labels, labels_v, code, code_v, body_code}
 use Rattle.py_scope.specs.declared.flat.ScopeEntry.{ScopeEntry}
 use Rattle.py_steps.specs.Context.{Context, head_of, outermost}
 use Rattle.py_emission.specs.Texts.{after_doc, doc_of, first_text, stmt_text, unless_text}
+use Rattle.py_meaning.specs.Interactive.{interactive_form}
 use Rattle.py_meaning.specs.Meaning.{body, mod_form}
 use Rattle.py_meaning.specs.StmtParts.{after_stmt, annotated, but_doc, is_last_return, unless_last}
 use Rattle.py_meaning.specs.Table.{after, after_all, clause_forms, expr_form, expr_forms, filter_forms, further_forms, target_forms}
-use Rattle.py_meaning.specs.TableScopes.{gathered, generated, iterator}
-use Rattle.py_meaning.specs.TableStmts.{doc_form, ended_form, function_body, setup_form, stmt_form}
+use Rattle.py_meaning.specs.TableScopes.{class_form, gathered, generated, iterator, setup_form}
+use Rattle.py_meaning.specs.TableStmts.{doc_form, ended_form, function_body, rest_form, stmt_form, stmts_form}
 use Rattle.py_adds.proofs.Burden.{burden, burden-append}
+use Rattle.py_sizes.proofs.InteractiveSizes.{interactive_small}
 use Rattle.py_sizes.proofs.Sizes.{expr_small, target_small}
 use Rattle.py_sizes.proofs.SmallAssigns.{CodeSmall}
 use Rattle.py_sizes.proofs.SmallComprehensions.{ClausesSmall, FiltersSmall, each_small, gathered_small, generated_small, handed_small, iterator_small, more_filter_small, no_clause_small, no_filter_small}
@@ -56,22 +59,28 @@ abbrev unlooped : Loops
 unlooped = record { inside = false; on_break = 0; on_continue = 0 }
 
 -- the whole code
-mod_small : (i : Interp Object) (c : Context) (t : tree.Mod) → burden (body_code i (mod_form c t)) ≤ 16 * size_of t
-mod_small i c (tree.Module stmts) =
+mod_small : (i : Interp Object) (c : Context) (t : tree.Mod) (m : Mode) → burden (body_code i (mod_form c t m)) ≤ 16 * size_of t
+mod_small i c (tree.Module stmts) m =
     let p = doc_small i unlooped 1 c.level stmts in
     let begun = 1 + labels (doc_form (doc_of c.level stmts)) in
     let setup = setup_form (annotated (after_doc stmts)) in
     let q = setup_small i (annotated (after_doc stmts)) unlooped begun in
     let r = stmts_small i c 1 (after_doc stmts) unlooped (begun + labels setup) in
     simp burden-append (omega (arith, p, q, r))
-mod_small i c (tree.Expression e) =
+mod_small i c (tree.Interactive stmts) m =
+    let f = interactive_form m c stmts in
+    let p = interactive_small i c m stmts unlooped 1 in
+    let q = closing_small (closes f) in
+    let e = burden-append (code i f unlooped 1) (closing (closes f)) in
+    omega (arith, p, q, e)
+mod_small i c (tree.Expression e) m =
     let p = (expr_small i c 1 e).value 1 in
     let q = return_small i (expr_form c 1 e) 1 (burden (code_v i (expr_form c 1 e) 1)) (omega arith) in
     simp append-nil (omega (arith, p, q))
-mod_small i c other = omega arith
+mod_small i c other m = omega arith
 
 pub body_small : (i : Interp Object) (scopes : List ScopeEntry) (t : tree.Mod) (m : Mode) (l : ℕ) → burden (body_code i (form_of (body scopes t m l))) ≤ 16 * size_of t
-body_small i scopes t m l = mod_small i (outermost l [] scopes) t
+body_small i scopes t m l = mod_small i (outermost l [] scopes) t m
 
 -- what a lambda returns
 returned_small : (i : Interp Object) (c : Context) (n : ℕ) (e : tree.Expr) → burden (body_code i (SReturn (expr_forms c n e).value)) ≤ 16 * expr_size e
@@ -115,6 +124,31 @@ module _ (i : Interp Object) (c : Context) where
       let e = burden-append (code i (function_body c k ts) unlooped 1) (closing (closes (function_body c k ts))) in
       omega (arith, p, q, e)
 
+-- what keeps and returns the cell of a class, or returns None
+cell_small : (cs : List Cell) → burden (class_code {K = Object} cs) ≤ 4
+cell_small [] = omega arith
+cell_small (c ∷ cs) = omega arith
+
+module _ (i : Interp Object) (c : Context) where
+  -- what a docstring leaves
+  but_doc_rest_small : (text : Option (List ℕ)) (rest all : SForm) (a s : ℕ) → CodeSmall i c rest s → CodeSmall i c all (a + s) → CodeSmall i c (but_doc text rest all) (a + s)
+  but_doc_rest_small None rest all a s p q x n = q x n
+  but_doc_rest_small (Some text) rest all a s p q x n = let u = p x n in omega (arith, u)
+
+  -- the statements of a class
+  rest_small : (k : ℕ) (ts : tree.Stmts) → CodeSmall i c (rest_form c k ts) (stmts_size ts)
+  rest_small k tree.no_stmts x n = omega arith
+  rest_small k (tree.more_stmts t ts) x n =
+      but_doc_rest_small (stmt_text t) (stmts_form c k ts) (SThen (stmt_form c k t) (stmts_form c (after_stmt c k t) ts)) (stmt_size t) (stmts_size ts) (stmts_small i c k ts) (stmts_small i c k (tree.more_stmts t ts)) x n
+
+  -- the whole code of a class
+  pub class_run_small : (path : List ℕ) (doc : Option (List ℕ)) (b : Bool) (k : ℕ) (ts : tree.Stmts) → burden (body_code i (class_form path doc b (rest_form c k ts))) ≤ 16 * stmts_size ts + 14
+  class_run_small path doc b k ts =
+      let p = setup_small i b unlooped 1 in
+      let q = rest_small k ts unlooped (1 + labels (setup_form b)) in
+      let r = cell_small i.class_cells in
+      simp burden-append (omega (arith, p, q, r))
+
 -- a lambda has a small code of its own, whatever stands within it
 pub lambda_small : (d : Scope → Object) (c : Context) (n : ℕ) (e : tree.Expr) → expr_size e < 2 ^ 22 → burden (body_code (exactly d (MkScope (head_of c) (SReturn (expr_forms c n e).value))) (SReturn (expr_forms c n e).value)) < 2 ^ 27
 lambda_small d c n e small =
@@ -125,6 +159,12 @@ lambda_small d c n e small =
 pub function_small : (d : Scope → Object) (c : Context) (n : ℕ) (stmts : tree.Stmts) → stmts_size stmts < 2 ^ 22 → burden (body_code (exactly d (MkScope (head_of c) (function_body c n stmts))) (function_body c n stmts)) < 2 ^ 27
 function_small d c n stmts small =
     let p = run_small (exactly d (MkScope (head_of c) (function_body c n stmts))) c n stmts in
+    omega (arith, p, small)
+
+-- and a class
+pub class_body_small : (d : Scope → Object) (c : Context) (path : List ℕ) (doc : Option (List ℕ)) (b : Bool) (n : ℕ) (stmts : tree.Stmts) → stmts_size stmts < 2 ^ 22 → burden (body_code (exactly d (MkScope (head_of c) (class_form path doc b (rest_form c n stmts)))) (class_form path doc b (rest_form c n stmts))) < 2 ^ 27
+class_body_small d c path doc b n stmts small =
+    let p = class_run_small (exactly d (MkScope (head_of c) (class_form path doc b (rest_form c n stmts)))) c path doc b n stmts in
     omega (arith, p, small)
 
 module _ (i : Interp Object) (c : Context) where

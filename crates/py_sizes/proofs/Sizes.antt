@@ -162,7 +162,7 @@ module _ (i : Interp Object) where
         let m = after_key c k os in
         (expr_size t, exprs_size ts, (expr_small c m t).value, dict_values_small c (after c m t) (but_first_key os) ts, omega arith)
 
-    keywords_small : (c : Context) (k : ℕ) (ks : tree.Keywords) → Together (KeywordSmall i) (keyword_forms c k ks) (keywords_size ks)
+    pub keywords_small : (c : Context) (k : ℕ) (ks : tree.Keywords) → Together (KeywordSmall i) (keyword_forms c k ks) (keywords_size ks)
     keywords_small c k tree.no_keywords = tt
     keywords_small c k (tree.more_keywords None t ks) =
         let x = (expr_small c k t).value in

@@ -50,16 +50,21 @@ module _ (i : Interp Object) where
   joined_map_small (f ∷ []) s h n = let p = h n in omega (arith, p)
   joined_map_small (f ∷ g ∷ gs) s h n = let p = h n in simp burden-append (omega (arith, simp burden-append at p))
 
+  -- the map of all keywords
+  pub keyword_maps_small : (ks : Keywords) (b : ℕ) → Together KeywordSmall ks b → (n : ℕ) → burden (code_vs i (joined_map (groups map_of [] ks)) n) ≤ 16 * b + 2
+  keyword_maps_small ks b y n =
+      let maps = groups_small i map_of NamedSmall map_small [] ks 0 b tt y in
+      joined_map_small (groups map_of [] ks) b (λ m. let r = maps m in omega (arith, r)) n
+
   packed_small : (es : List (Element VForm VForm)) (ks : Keywords) (s b : ℕ) → ElementsSmall i es s → Together KeywordSmall ks b → (n : ℕ) → burden (code_vs i (packed es ks) n) ≤ 16 * (s + b) + 4
   packed_small es ks s b x y n =
       let tuple : VForm = if starred es then unpacked op.BuildTupleUnpack es else built op.BuildTuple (bare es) in
       let p = gathered_small i (starred es) op.BuildTuple op.BuildTupleUnpack es s x n in
-      let maps = groups_small i map_of NamedSmall map_small [] ks 0 b tt y in
-      let q = joined_map_small (groups map_of [] ks) b (λ m. let r = maps m in omega (arith, r)) (n + labels_v tuple) in
+      let q = keyword_maps_small ks b y (n + labels_v tuple) in
       simp burden-append (omega (arith, p, q))
 
   -- keywords in their places
-  values_in_small : (ks : Keywords) (b : ℕ) → Together KeywordSmall ks b → Together (FormSmall i) (values_in ks) b
+  pub values_in_small : (ks : Keywords) (b : ℕ) → Together KeywordSmall ks b → Together (FormSmall i) (values_in ks) b
   values_in_small [] b y = tt
   values_in_small (Single p ∷ ks) b y = (y.0, y.1, (λ n. let e = y.2 n in omega (arith, e)), values_in_small ks y.1 y.3, y.4)
   values_in_small (Spread f ∷ ks) b y = (y.0, y.1, y.2, values_in_small ks y.1 y.3, y.4)

@@ -55,8 +55,12 @@ module _ (i : Interp Object) where
   tuple_small : (f : VForm) (fs : List VForm) (r : ℕ) → Together (FormSmall i) (f ∷ fs) r → (n : ℕ) → burden (code_v i (built op.BuildTuple (f ∷ fs)) n) ≤ 16 * r
   tuple_small f fs r x n = let p = parts_small i (f ∷ fs) r x n in simp burden-append (omega (arith, simp burden-append at p))
 
+  -- a tuple of each run of elements
+  pub tuples_small : (es : List (Element VForm VForm)) (s : ℕ) → ElementsSmall es s → PartsSmall (groups (built op.BuildTuple) [] es) s
+  tuples_small es s h n = let p = groups_small (built op.BuildTuple) (FormSmall i) tuple_small [] es 0 s tt h n in omega (arith, p)
+
   unpacked_small : (gather : Instruction) (es : List (Element VForm VForm)) (s : ℕ) → ElementsSmall es s → (n : ℕ) → burden (code_v i (unpacked gather es) n) ≤ 16 * s + 2
-  unpacked_small gather es s h n = let p = groups_small (built op.BuildTuple) (FormSmall i) tuple_small [] es 0 s tt h n in simp burden-append (omega (arith, p))
+  unpacked_small gather es s h n = let p = tuples_small es s h n in simp burden-append (omega (arith, p))
 
   -- all the elements in one value
   pub gathered_small : (b : Bool) (build gather : Instruction) (es : List (Element VForm VForm)) (s : ℕ) → ElementsSmall es s → (n : ℕ) → burden (code_v i (if b then unpacked gather es else built build (bare es)) n) ≤ 16 * s + 2

@@ -51,7 +51,7 @@ module _ (i : Interp Object) where
   built_tuple_small fs s h n = let a = parts_small i fs s h n in simp burden-append (omega (arith, a))
 
   -- one value, and then others
-  first_within : (f : VForm) (fs : VForms) (a b : ℕ) → ValueWithin f a → PartsWithin fs b → PartsWithin (VMore f fs) (a + b)
+  pub first_within : (f : VForm) (fs : VForms) (a b : ℕ) → ValueWithin f a → PartsWithin fs b → PartsWithin (VMore f fs) (a + b)
   first_within f fs a b x y n =
       let p = x n in
       let q = y (n + labels_v f) in

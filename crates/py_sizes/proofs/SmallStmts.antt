@@ -11,15 +11,17 @@ use Rattle.py_forms.specs.Form.{Interp, VForm, VConst, VLoad, VOp, VMake, VMore,
 use Rattle.py_forms.specs.Fit.{Loops}
 use Rattle.py_forms.specs.Code.{Do, labels, labels_v, labels_g, labels_h, labels_t, code_v, code_vs, code_g, code_h, tail_code, return_code}
 use Rattle.py_steps.specs.Children.{function_inside}
+use Rattle.py_steps.specs.Classes.{class_inside}
 use Rattle.py_steps.specs.Context.{Context}
 use Rattle.py_meaning.specs.StmtCounts.{scopes_in_handlers, scopes_in_items}
 use Rattle.py_meaning.specs.StmtParts.{after_stmt, after_stmts, assertion, handler_target, item_target, message_parts, named_form, raise_form, return_form, with_form}
 use Rattle.py_meaning.specs.Table.{after, after_all, after_defaults, after_opt, expr_form, target_form, test_form}
 use Rattle.py_meaning.specs.TableScopes.{iterator}
-use Rattle.py_meaning.specs.TableStmts.{function_body, handler_forms, stmt_form, stmts_form}
+use Rattle.py_meaning.specs.TableStmts.{function_body, handler_forms, rest_form, stmt_form, stmts_form}
 use Rattle.py_adds.proofs.Burden.{burden, burden-append}
 use Rattle.py_sizes.proofs.Sizes.{expr_small, target_small}
 use Rattle.py_sizes.proofs.SmallAssigns.{CodeSmall, removals_small, assign_small, augment_small, declare_small}
+use Rattle.py_sizes.proofs.SmallClasses.{class_small}
 use Rattle.py_sizes.proofs.SmallImports.{from_small, import_small}
 use Rattle.py_sizes.proofs.SmallNotes.{def_small}
 
@@ -117,6 +119,11 @@ module _ (i : Interp Object) (c : Context) where
         let j = after_defaults c m params in
         let f = function_body (function_inside name c j) (suc j) body in
         let p = def_small i c k name params body decorators returns f n in
+        simp burden-append (omega (arith, p))
+    stmt_small k (tree.ClassDef at name bases keywords body decorators tree.no_type_params) x n =
+        let m = after_all c k decorators in
+        let f = rest_form (class_inside name c m) (suc m) body in
+        let p = class_small i c k name bases keywords body decorators f n in
         simp burden-append (omega (arith, p))
     stmt_small k (tree.Return at value) x n = returned_small k value x n
     stmt_small k (tree.Delete at targets) x n = let p = removals_small i c k targets x n in omega (arith, p)
