@@ -17,7 +17,7 @@ use Rattle.py_meaning.specs.Meaning.{body}
 use Rattle.py_steps.specs.Context.{Context, inside, outermost, room}
 use Rattle.py_steps.specs.Emitting.{Around, State, Outcome, Done, TooWide, Refused}
 use Rattle.py_steps.specs.Sealed.{sealed}
-use Rattle.py_meaning.specs.EmissionStmts.{emitted}
+use Rattle.py_meaning.specs.EmissionMods.{emitted}
 use Rattle.py_emit.specs.Emitted.{IsMade, IsEmitted}
 use Rattle.py_emit.specs.States.{module_head}
 use Rattle.py_emit.proofs.Sealed.{AllAimed, sealed_is}
@@ -28,7 +28,7 @@ use Rattle.py_adds.proofs.Within.{Emitted, child_at, reading, sealed_made}
 use Rattle.py_agree.proofs.NeverRefused.{IsCelled, begins_all}
 use Rattle.py_agree.proofs.Programs.{first_place, tree_adds}
 
-module _ (code : CodeObject) (path : List ℕ) (m : Mode) (l : ℕ) (scopes : List ScopeEntry) (t : tree.Mod) (s : State) (small : size_of t < 2 ^ 22) (roomy : (n : ℕ) → room scopes n < 2 ^ 26) (done : emitted t (outermost l path scopes) ≡ Done s) (made : IsMade code (outermost l path scopes) s) where
+module _ (code : CodeObject) (path : List ℕ) (m : Mode) (l : ℕ) (scopes : List ScopeEntry) (t : tree.Mod) (s : State) (small : size_of t < 2 ^ 22) (roomy : (n : ℕ) → room scopes n < 2 ^ 26) (done : emitted t m (outermost l path scopes) ≡ Done s) (made : IsMade code (outermost l path scopes) s) where
   abbrev around : Context
   around = outermost l path scopes
 
@@ -72,10 +72,10 @@ unfolding inside
 same_source l path scopes = refl
 
 -- a code object that is what is emitted for a tree is made from the scope of the tree
-pub made_from_scope : (code : CodeObject) (path : List ℕ) (m : Mode) (l : ℕ) (scopes : List ScopeEntry) (t : tree.Mod) → size_of t < 2 ^ 22 → ((n : ℕ) → room scopes n < 2 ^ 26) → IsEmitted code (outermost l path scopes) (emitted t (outermost l path scopes)) → MadeFrom path (object code, body scopes t m l)
-made_from_scope code path m l scopes t small roomy is = subst (λ source. MadeFrom source (object code, body scopes t m l)) (same_source l path scopes) (go (emitted t (outermost l path scopes)) refl is)
+pub made_from_scope : (code : CodeObject) (path : List ℕ) (m : Mode) (l : ℕ) (scopes : List ScopeEntry) (t : tree.Mod) → size_of t < 2 ^ 22 → ((n : ℕ) → room scopes n < 2 ^ 26) → IsEmitted code (outermost l path scopes) (emitted t m (outermost l path scopes)) → MadeFrom path (object code, body scopes t m l)
+made_from_scope code path m l scopes t small roomy is = subst (λ source. MadeFrom source (object code, body scopes t m l)) (same_source l path scopes) (go (emitted t m (outermost l path scopes)) refl is)
   where
-    go : (r : Outcome) → emitted t (outermost l path scopes) ≡ r → IsEmitted code (outermost l path scopes) r → MadeFrom (outermost l path scopes).source (object code, body scopes t m l)
+    go : (r : Outcome) → emitted t m (outermost l path scopes) ≡ r → IsEmitted code (outermost l path scopes) r → MadeFrom (outermost l path scopes).source (object code, body scopes t m l)
     go (Done s) e h = from_scope code path m l scopes t s small roomy e h
     go TooWide e h = absurd h
     go (Refused r at) e h = absurd h

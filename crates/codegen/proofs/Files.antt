@@ -6,7 +6,9 @@ use Rattle.py_bytecode.specs.Objects.{none}
 use Rattle.py_emission.specs.Texts.{after_doc, doc_of}
 use Rattle.py_meaning.specs.StmtParts.{annotated}
 use Rattle.py_steps.specs.Emitting.{Done, Emission, State, ◌▸◌, by_level, emit_constant}
-use Rattle.py_meaning.specs.EmissionStmts.{emission_of_doc, emission_of_program, emission_of_setup, emission_of_stmts}
+use Rattle.py_meaning.specs.EmissionStmts.{emission_of_stmts}
+use Rattle.py_meaning.specs.EmissionDefs.{emission_of_setup}
+use Rattle.py_meaning.specs.EmissionMods.{emission_of_doc, emission_of_program}
 use Rattle.py_emit.proofs.Joined.{went}
 
 -- statements, and the return of None

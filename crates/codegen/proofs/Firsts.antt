@@ -10,7 +10,7 @@ use Rattle.py_tree.specs.declared.modules.Mode.{Mode}
 use Rattle.py_base.specs.declared.shapes.Malformed.{Malformed}
 use Rattle.py_bytecode.specs.declared.code.CodeObject.{CodeObject}
 use Rattle.py_steps.specs.Emitting.{Outcome, Done, TooWide, Refused}
-use Rattle.py_meaning.specs.EmissionStmts.{emitted}
+use Rattle.py_meaning.specs.EmissionMods.{emitted}
 use Rattle.py_meaning.specs.ExprFaults.{Fault}
 use Rattle.py_meaning.specs.Faults.{faults, whole, too_deep, too_large, malformed, compile_faults}
 use Rattle.py_forms.specs.declared.errors.CodegenErrorType.{CodegenErrorType}
@@ -90,7 +90,7 @@ compiled : (t : tree.Mod) (m : Mode) (l : ℕ) → nesting t < 1024 → size_of 
 compiled t m l d z h = not_large t m l d z ∙ ap (λ ms. malformed ms ++ scanned l t) h
 
 -- the first of what the scan refuses, or of the nodes that are compiled
-pub refused_first : (e : LocatedError CodegenErrorType) (t : tree.Mod) (m : Mode) (l : ℕ) (path : List ℕ) → nesting t < 1024 → size_of t < 4194304 → first (shapes t m) ≡ None → IsScanned e t (around_tree t path l) → IsFirst e (faults t m l)
+pub refused_first : (e : LocatedError CodegenErrorType) (t : tree.Mod) (m : Mode) (l : ℕ) (path : List ℕ) → nesting t < 1024 → size_of t < 4194304 → first (shapes t m) ≡ None → IsScanned e t m (around_tree t path l) → IsFirst e (faults t m l)
 refused_first e t m l path d z n (inl h) known =
     let none = no_shapes (shapes t m) n in
     let f = h known in
@@ -100,12 +100,12 @@ refused_first e t m l path d z n (inr h) known =
     let f = refusal_heads t m l path (scopes_of t) e.error e.location none (h.1 known) in
     (f.0, compiled t m l d z none ∙ ap (λ fs. fs ++ compile_faults l t) h.0 ∙ f.1)
 
-emitted_faultless : (code : CodeObject) (path : List ℕ) (t : tree.Mod) (m : Mode) (l : ℕ) (o : Outcome) → emitted t (around_tree t path l) ≡ o → shapes t m ≡ [] → IsEmitted code (around_tree t path l) o → compile_faults l t ≡ []
+emitted_faultless : (code : CodeObject) (path : List ℕ) (t : tree.Mod) (m : Mode) (l : ℕ) (o : Outcome) → emitted t m (around_tree t path l) ≡ o → shapes t m ≡ [] → IsEmitted code (around_tree t path l) o → compile_faults l t ≡ []
 emitted_faultless code path t m l (Done r) e h is = done_faultless t m l path (scopes_of t) r h e
 emitted_faultless code path t m l TooWide e h is = absurd is
 emitted_faultless code path t m l (Refused r at) e h is = absurd is
 
-pub emitted_clean : (code : CodeObject) (path : List ℕ) (t : tree.Mod) (m : Mode) (l : ℕ) → nesting t < 1024 → size_of t < 4194304 → first (shapes t m) ≡ None → scan_faults t ≡ [] → IsEmitted code (around_tree t path l) (emitted t (around_tree t path l)) → faults t m l ≡ []
+pub emitted_clean : (code : CodeObject) (path : List ℕ) (t : tree.Mod) (m : Mode) (l : ℕ) → nesting t < 1024 → size_of t < 4194304 → first (shapes t m) ≡ None → scan_faults t ≡ [] → IsEmitted code (around_tree t path l) (emitted t m (around_tree t path l)) → faults t m l ≡ []
 emitted_clean code path t m l d z n clean is =
     let none = no_shapes (shapes t m) n in
-    compiled t m l d z none ∙ (λ i. clean i ++ emitted_faultless code path t m l (emitted t (around_tree t path l)) refl none is i)
+    compiled t m l d z none ∙ (λ i. clean i ++ emitted_faultless code path t m l (emitted t m (around_tree t path l)) refl none is i)

@@ -2,14 +2,14 @@
 use Rattle.std.proofs.Common.{◌≡◌, ◌<◌, ◌^◌, ℕ, List, Result, refl, sym, ap, ◌∙◌, subst, arith}
 use Rattle.py_tree.specs.Tree as tree
 use Rattle.py_limits.specs.Size.{size_of}
-use Rattle.py_tree.specs.declared.modules.Mode.TheVariants.{Exec}
+use Rattle.py_tree.specs.declared.modules.Mode.{Mode}
 use Rattle.py_base.specs.declared.location.LocatedError.{LocatedError}
 use Rattle.py_bytecode.specs.declared.code.CodeObject.{CodeObject}
 use Rattle.py_ir.specs.Final.{IsFinal}
 use Rattle.py_scope.specs.declared.flat.ScopeEntry.{ScopeEntry}
 use Rattle.py_steps.specs.Context.{Context, outermost, room}
 use Rattle.py_steps.specs.Emitting.{Done, State, nothing}
-use Rattle.py_meaning.specs.EmissionStmts.{emission_of_mod, emitted}
+use Rattle.py_meaning.specs.EmissionMods.{emission_of_mod, emitted}
 use Rattle.py_forms.specs.declared.errors.CodegenErrorType.{CodegenErrorType}
 use Rattle.py_emit.specs.Emitted.{IsEmitted, Holds}
 use Rattle.py_emit.specs.States.{Goes, IsUnrefused, Rest, first_rest, info, rest, state}
@@ -26,14 +26,14 @@ pub few_everywhere : (scopes : List ScopeEntry) → HasFewSymbols scopes → (n 
 few_everywhere scopes few n = let all = room_all scopes n in omega (arith, all, few)
 
 -- an emitter before anything is emitted, and one that emitted a tree
-module _ (t : tree.Mod) (opts : CompileOpts) (path : List ℕ) (scopes : List ScopeEntry) (first : Emitter) (s : state first ≡ nothing (outermost opts.optimize path scopes)) (r : rest first ≡ first_rest opts path scopes) where
+module _ (t : tree.Mod) (m : Mode) (opts : CompileOpts) (path : List ℕ) (scopes : List ScopeEntry) (first : Emitter) (s : state first ≡ nothing (outermost opts.optimize path scopes)) (r : rest first ≡ first_rest opts path scopes) where
   abbrev around : Context
   around = outermost opts.optimize path scopes
 
-  pub goes_first : {A : Type 0} (x : Result A (LocatedError CodegenErrorType)) (after : State) → Goes x after (emission_of_mod t (state first)) → Goes x after (emitted t around)
-  goes_first x after h = subst (λ q. Goes x after (emission_of_mod t q)) s h
+  pub goes_first : {A : Type 0} (x : Result A (LocatedError CodegenErrorType)) (after : State) → Goes x after (emission_of_mod t m (state first)) → Goes x after (emitted t m around)
+  goes_first x after h = subst (λ q. Goes x after (emission_of_mod t m q)) s h
 
-  module _ (last : Emitter) (same : rest last ≡ rest first) (is : emitted t around ≡ Done (state last)) where
+  module _ (last : Emitter) (same : rest last ≡ rest first) (is : emitted t m around ≡ Done (state last)) where
     level_same : (rest last).opts.optimize ≡ opts.optimize
     level_same = ap (λ (q : Rest). q.opts.optimize) (same ∙ r)
 
@@ -42,9 +42,9 @@ module _ (t : tree.Mod) (opts : CompileOpts) (path : List ℕ) (scopes : List Sc
     celled = record { cellvars = refl; freevars = refl }
 
     pub unrefused_mod : size_of t < 2 ^ 22 → ((n : ℕ) → room scopes n < 2 ^ 26) → IsUnrefused (rest last).opts.optimize (info last)
-    unrefused_mod small roomy = subst (λ l. IsUnrefused l (info last)) (sym level_same) (never_refused t Exec opts.optimize path scopes (state last) (info last) (rest last).head small roomy is celled (info_holds last))
+    unrefused_mod small roomy = subst (λ l. IsUnrefused l (info last)) (sym level_same) (never_refused t m opts.optimize path scopes (state last) (info last) (rest last).head small roomy is celled (info_holds last))
 
-    pub made_mod : (code : CodeObject) → IsFinal (rest last).opts.optimize (info last) code → IsEmitted code around (emitted t around)
+    pub made_mod : (code : CodeObject) → IsFinal (rest last).opts.optimize (info last) code → IsEmitted code around (emitted t m around)
     made_mod code f = subst (IsEmitted code around) (sym is) (record {
       info = info last;
       holds = subst (λ (q : Rest). Holds (info last) q.head (state last)) (same ∙ r) (info_holds last);

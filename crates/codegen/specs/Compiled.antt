@@ -1,6 +1,7 @@
 -- What a compile call answers.
 use Rattle.std.specs.Prelude.{◌≡◌, ◌≢◌, ◌⊎◌, ℕ, ◌<◌, ◌≤◌, ◌^◌, List, [], ◌∷◌, length, None, Result, Ok, Err}
 use Rattle.py_tree.specs.Tree as tree
+use Rattle.py_tree.specs.declared.modules.Mode.{Mode}
 use Rattle.py_scope.specs.Flat.{flat_table}
 use Rattle.py_scope.specs.declared.error.ScanFault.TheVariants as fault
 use Rattle.py_scope.specs.declared.error.SymbolTableError.{SymbolTableError}
@@ -8,7 +9,7 @@ use Rattle.py_scope.specs.declared.table.SymbolTable.{SymbolTable}
 use Rattle.symboltable.specs.Errors.{codegen_error}
 use Rattle.py_scope.specs.declared.flat.ScopeEntry.{ScopeEntry}
 use Rattle.py_steps.specs.Context.{Context, outermost, room}
-use Rattle.py_meaning.specs.EmissionStmts.{emitted}
+use Rattle.py_meaning.specs.EmissionMods.{emitted}
 use Rattle.py_meaning.specs.Scanned.{scan_faults, scopes_of}
 use Rattle.py_bytecode.specs.Objects.{Object, head}
 use Rattle.py_bytecode.specs.Values.{Answer}
@@ -78,8 +79,8 @@ abbrev pub IsRefused : LocatedError CodegenErrorType → Outcome → Type 0
 IsRefused e o = e.error ≢ error.OutOfMemory → o ≡ Refused e.error e.location
 
 -- the error is the first of what the scan refuses; or it refuses nothing, and the emission is refused so
-abbrev pub IsScanned : LocatedError CodegenErrorType → tree.Mod → Context → Type 0
-IsScanned e t c = IsFirst e (scan_faults t) ⊎ ((scan_faults t ≡ []) × IsRefused e (emitted t c))
+abbrev pub IsScanned : LocatedError CodegenErrorType → tree.Mod → Mode → Context → Type 0
+IsScanned e t m c = IsFirst e (scan_faults t) ⊎ ((scan_faults t ≡ []) × IsRefused e (emitted t m c))
 
 -- the table is that of the tree's scopes, or the error is the first of what the scan refuses
 abbrev pub IsScan : tree.Mod → Result SymbolTable SymbolTableError → Type 0

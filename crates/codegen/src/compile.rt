@@ -8,7 +8,7 @@ ghost use Rattle.py_forms.specs.Agreement.{Agree, AgreeFull};
 ghost use Rattle.py_steps.specs.Everywhere.{Everywhere};
 ghost use Rattle.py_walks.specs.Sound.{sound};
 ghost use Rattle.py_steps.specs.Context.{outermost};
-ghost use Rattle.py_meaning.specs.EmissionStmts.{emission_of_mod, emitted, unbuilt_tree};
+ghost use Rattle.py_meaning.specs.EmissionMods.{emission_of_mod, emitted, unbuilt_tree};
 ghost use Rattle.py_meaning.specs.Faults.{faults};
 ghost use Rattle.py_meaning.specs.Meaning.{body};
 ghost use Rattle.py_meaning.specs.Scanned.{scan_faults, scopes_of};
@@ -16,7 +16,7 @@ ghost use Rattle.codegen.specs.Compiled.{AlwaysEnds, HasExactDepth, HasFewSymbol
 ghost use Rattle.py_emit.specs.Emitted.{IsEmitted};
 ghost use Rattle.py_emit.specs.States.{AreMade, Goes, Same, rest, state};
 
-use crate::program::emit_program;
+use crate::program::{emit_interactive, emit_program};
 use crate::scopes::has_few_symbols;
 use py_bytecode::CodeObject;
 pub use py_emit::CompileOpts;
@@ -50,7 +50,7 @@ pub fn compile_top(
 ) -> Result<CodeObject, CodegenError>
     ensures agrees { IfOk result (λ code. Agree (object code) (body (scopes_of (mod_tree ast.now)) (mod_tree ast.now) mode opts.optimize)) }
     ensures agrees_full { IfOk result (λ code. AgreeFull (object code) (body (scopes_of (mod_tree ast.now)) (mod_tree ast.now) mode opts.optimize)) }
-    ensures emission { IfOk result (λ code. IsEmitted code (around_tree (mod_tree ast.now) source_path opts.optimize) (emitted (mod_tree ast.now) (around_tree (mod_tree ast.now) source_path opts.optimize))) }
+    ensures emission { IfOk result (λ code. IsEmitted code (around_tree (mod_tree ast.now) source_path opts.optimize) (emitted (mod_tree ast.now) mode (around_tree (mod_tree ast.now) source_path opts.optimize))) }
     ensures ends { IfOk result (λ code. Everywhere AlwaysEnds (object code)) }
     ensures sound { IfOk result (λ code. Everywhere sound (object code)) }
     ensures depth { IfOk result (λ code. Everywhere NoHigher (object code)) }
@@ -71,7 +71,7 @@ pub fn compile_top(
     }
     match valid(ast, mode) {
         Some(shape) => Err(refused(CodegenErrorType::MalformedTree(shape), source_path)),
-        None => compile_valid(alloc, ast, source_path, opts),
+        None => compile_valid(alloc, ast, source_path, mode, opts),
     }
 }
 
@@ -88,32 +88,36 @@ fn refused(error: CodegenErrorType, source_path: Text) -> CodegenError
     }
 }
 
-/// The code of a tree whose nesting, size and shapes are right: its scopes come first.
+/// The code of a tree whose nesting, size and shapes are right: its scopes come first. What is entered at a prompt is
+/// scanned as a file is.
 fn compile_valid(
     alloc: Global,
     ast: &Mod,
     source_path: Text,
+    mode: Mode,
     opts: CompileOpts,
 ) -> Result<CodeObject, CodegenError>
     requires { size_of (mod_tree ast.now) < 2 ^ 22 }
-    ensures emission { IfOk result (λ code. IsEmitted code (around_tree (mod_tree ast.now) source_path opts.optimize) (emitted (mod_tree ast.now) (around_tree (mod_tree ast.now) source_path opts.optimize))) }
+    ensures emission { IfOk result (λ code. IsEmitted code (around_tree (mod_tree ast.now) source_path opts.optimize) (emitted (mod_tree ast.now) mode (around_tree (mod_tree ast.now) source_path opts.optimize))) }
     ensures few { OnOk result (HasFewSymbols (scopes_of (mod_tree ast.now))) }
     ensures clean { OnOk result (scan_faults (mod_tree ast.now) ≡ []) }
-    ensures first { IfErr result (λ e. IsScanned e (mod_tree ast.now) (around_tree (mod_tree ast.now) source_path opts.optimize)) }
+    ensures first { IfErr result (λ e. IsScanned e (mod_tree ast.now) mode (around_tree (mod_tree ast.now) source_path opts.optimize)) }
     ensures path { IfErr result (λ e. e.source_path ≡ source_path) }
 {
     match ast {
         Mod::Module(m) => {
             let table = scan_body(alloc, &m.body);
-            compile_scanned(alloc, ast, source_path, opts, table)
+            compile_scanned(alloc, ast, source_path, mode, opts, table)
         }
         Mod::Expression(m) => {
             let table = scan_value(alloc, &m.body);
-            compile_scanned(alloc, ast, source_path, opts, table)
+            compile_scanned(alloc, ast, source_path, mode, opts, table)
         }
-        Mod::Interactive(_) | Mod::FunctionType(_) => {
-            Err(refused(CodegenErrorType::NotImplementedYet, source_path))
+        Mod::Interactive(m) => {
+            let table = scan_body(alloc, &m.body);
+            compile_scanned(alloc, ast, source_path, mode, opts, table)
         }
+        Mod::FunctionType(_) => { Err(refused(CodegenErrorType::NotImplementedYet, source_path)) }
     }
 }
 
@@ -122,15 +126,16 @@ fn compile_scanned(
     alloc: Global,
     ast: &Mod,
     source_path: Text,
+    mode: Mode,
     opts: CompileOpts,
     table: Result<SymbolTable, SymbolTableError>,
 ) -> Result<CodeObject, CodegenError>
     requires size { size_of (mod_tree ast.now) < 2 ^ 22 }
     requires scanned { IsScan (mod_tree ast.now) table }
-    ensures emission { IfOk result (λ code. IsEmitted code (around_tree (mod_tree ast.now) source_path opts.optimize) (emitted (mod_tree ast.now) (around_tree (mod_tree ast.now) source_path opts.optimize))) }
+    ensures emission { IfOk result (λ code. IsEmitted code (around_tree (mod_tree ast.now) source_path opts.optimize) (emitted (mod_tree ast.now) mode (around_tree (mod_tree ast.now) source_path opts.optimize))) }
     ensures few { OnOk result (HasFewSymbols (scopes_of (mod_tree ast.now))) }
     ensures clean { OnOk result (scan_faults (mod_tree ast.now) ≡ []) }
-    ensures first { IfErr result (λ e. IsScanned e (mod_tree ast.now) (around_tree (mod_tree ast.now) source_path opts.optimize)) }
+    ensures first { IfErr result (λ e. IsScanned e (mod_tree ast.now) mode (around_tree (mod_tree ast.now) source_path opts.optimize)) }
     ensures path { IfErr result (λ e. e.source_path ≡ source_path) }
 {
     let table = match table {
@@ -138,7 +143,7 @@ fn compile_scanned(
         Err(error) => return Err(into_codegen_error(error, source_path)),
     };
     match FlatScopes::from_table(alloc, table) {
-        Ok(scopes) => compile_mod(alloc, ast, source_path, opts, scopes),
+        Ok(scopes) => compile_mod(alloc, ast, source_path, mode, opts, scopes),
         Err(_) => Err(refused(CodegenErrorType::OutOfMemory, source_path)),
     }
 }
@@ -148,38 +153,39 @@ fn compile_mod(
     alloc: Global,
     ast: &Mod,
     source_path: Text,
+    mode: Mode,
     opts: CompileOpts,
     scopes: FlatScopes,
 ) -> Result<CodeObject, CodegenError>
     requires { size_of (mod_tree ast.now) < 2 ^ 22 }
-    ensures emission { IfOk result (λ code. IsEmitted code (outermost opts.optimize source_path scopes) (emitted (mod_tree ast.now) (outermost opts.optimize source_path scopes))) }
+    ensures emission { IfOk result (λ code. IsEmitted code (outermost opts.optimize source_path scopes) (emitted (mod_tree ast.now) mode (outermost opts.optimize source_path scopes))) }
     ensures few { OnOk result (HasFewSymbols scopes) }
-    ensures refused { IfErr result (λ e. IsRefused e (emitted (mod_tree ast.now) (outermost opts.optimize source_path scopes))) }
+    ensures refused { IfErr result (λ e. IsRefused e (emitted (mod_tree ast.now) mode (outermost opts.optimize source_path scopes))) }
     ensures path { IfErr result (λ e. e.source_path ≡ source_path) }
 {
     if !has_few_symbols(&scopes) {
         return Err(refused(CodegenErrorType::OutOfMemory, source_path));
     }
     let mut em = Emitter::new(alloc, opts, source_path, scopes)?;
-    emit_mod(&mut em, ast)?;
+    emit_mod(&mut em, ast, mode)?;
     em.finish()
 }
 
 /// Emits a whole tree.
-fn emit_mod(em: &mut Emitter, ast: &Mod) -> Result<(), CodegenError>
+fn emit_mod(em: &mut Emitter, ast: &Mod, mode: Mode) -> Result<(), CodegenError>
     requires loops { AreMade (rest em.old).context.loop_blocks }
-    ensures goes { Goes result (state em.new) (emission_of_mod (mod_tree ast.now) (state em.old)) }
+    ensures goes { Goes result (state em.new) (emission_of_mod (mod_tree ast.now) mode (state em.old)) }
     ensures same { Same result (rest em.new) (rest em.old) }
 {
     match ast {
         Mod::Module(m) => emit_program(em, &m.body),
-        Mod::Interactive(_) => refuse_tree(em),
+        Mod::Interactive(m) => emit_interactive(em, &m.body, mode),
         Mod::Expression(m) => compile_return(em, &m.body),
         Mod::FunctionType(_) => refuse_tree(em),
     }
 }
 
-/// Refuses a tree of a kind that is not compiled yet.
+/// Refuses the type of a function, which is no tree of a program in any mode.
 fn refuse_tree(em: &mut Emitter) -> Result<(), CodegenError>
     ensures goes { Goes result (state em.new) (unbuilt_tree (state em.old)) }
     ensures same { Same result (rest em.new) (rest em.old) }

@@ -1,8 +1,10 @@
-//! The code of a file.
+//! The code of a file, and of what is entered at a prompt.
 ghost use Rattle.std.specs.Prelude.{◌≡◌, ◌≤◌, drop, length, IfOk};
 ghost use Rattle.py_tree.specs.View.{stmt_tree, stmts};
 ghost use Rattle.py_steps.specs.Emitting.{◌▸◌, by_level, emit_constant};
-ghost use Rattle.py_meaning.specs.EmissionStmts.{emission_of_doc, emission_of_program, emission_of_setup, emission_of_stmts};
+ghost use Rattle.py_meaning.specs.EmissionStmts.{emission_of_stmts};
+ghost use Rattle.py_meaning.specs.EmissionDefs.{emission_of_setup};
+ghost use Rattle.py_meaning.specs.EmissionMods.{emission_of_doc, emission_of_interactive, emission_of_program};
 ghost use Rattle.py_bytecode.specs.Objects.{none};
 ghost use Rattle.py_emission.specs.Texts.{after_doc, doc_of};
 ghost use Rattle.py_emit.specs.States.{AreMade, Goes, Same, rest, state};
@@ -10,8 +12,10 @@ ghost use Rattle.py_emit.specs.States.{AreMade, Goes, Same, rest, state};
 use py_bytecode::{ConstantData, Instruction};
 use py_emit::{Emitter, emit, refuse};
 use py_forms::{CodegenError, CodegenErrorType};
-use py_stmt::{compile_statements, find_ann, split_doc, statements_from};
-use py_tree::{Stmt, Stmts, Text};
+use py_stmt::{
+    compile_block, compile_single, compile_statements, find_ann, split_doc, statements_from,
+};
+use py_tree::{Mode, Stmt, Stmts, Text};
 
 /// Emits the statements of a file, its docstring first, and the return of None.
 pub(crate) fn emit_program(em: &mut Emitter, body: &Stmts) -> Result<(), CodegenError>
@@ -77,4 +81,20 @@ fn emit_setup(em: &mut Emitter, annotated: bool) -> Result<(), CodegenError>
         emit!(em, Instruction::SetupAnnotation);
     }
     Ok(())
+}
+
+/// Emits what is entered at a prompt, or a file whose last value is given. In the other modes there is no such tree.
+pub(crate) fn emit_interactive(
+    em: &mut Emitter,
+    body: &Stmts,
+    mode: Mode,
+) -> Result<(), CodegenError>
+    requires loops { AreMade (rest em.old).context.loop_blocks }
+    ensures goes { Goes result (state em.new) (emission_of_interactive mode (stmts stmt_tree body.now) (state em.old)) }
+    ensures same { Same result (rest em.new) (rest em.old) }
+{
+    match mode {
+        Mode::Single => compile_single(em, body.as_slice()),
+        Mode::BlockExpr | Mode::Exec | Mode::Eval => compile_block(em, body.as_slice()),
+    }
 }

@@ -9,3 +9,7 @@ pub mod Annotating
 pub mod KeptFunctions
 pub mod KeptImports
 pub mod Segments
+pub mod Building
+pub mod ClassParts
+pub mod KeptClasses
+pub mod Lasts

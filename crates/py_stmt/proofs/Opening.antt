@@ -15,7 +15,7 @@ use Rattle.py_forms.specs.declared.errors.CodegenErrorType.TheVariants as error
 use Rattle.py_steps.specs.Emitting.{State, Done, Emission, LoopBlocks, ◌▸◌, begin, by_context, emit, emit_count, emit_mangled, emit_name, emit_constant, in_loop, jump, refuse}
 use Rattle.py_bytecode.specs.Values.{Store}
 use Rattle.py_steps.specs.Accesses.{accessed, emission_of_name, emission_of_stored}
-use Rattle.py_steps.specs.Context.{Context, is_function, mangled}
+use Rattle.py_steps.specs.Context.{is_function, mangled}
 use Rattle.py_steps.specs.EmissionParts.{choice, no_assignment, only, pass_scopes, values}
 use Rattle.py_emission.specs.Emission.{all_emissions, emission, emission_of_test, emissions, stores}
 use Rattle.py_emission.specs.Texts.{after_doc}
@@ -32,6 +32,7 @@ use Rattle.py_expr.proofs.KeptTargets.{debug_keeps}
 use Rattle.py_expr.proofs.Opening.{deletes_keep, expr_keeps, exprs_keep, named_keeps, store_keeps, unbuilt_keeps}
 use Rattle.py_stmt.specs.Managing.{entered, full_body}
 use Rattle.py_stmt.specs.Parts.{each_begun, each_ended, each_turn, emission_of_caught, emission_of_match, guarded, handled, unguarded}
+use Rattle.py_stmt.proofs.KeptClasses.{class_keeps}
 use Rattle.py_stmt.proofs.KeptFunctions.{decorated_keeps, def_keeps}
 use Rattle.py_stmt.proofs.KeptImports.{from_keeps, import_keeps}
 use Rattle.py_stmt.proofs.KeptControl.{asserted_keeps, before_keeps, each_keeps, entered_keeps, handler_keeps, managed_keeps, match_keeps, named_body_keeps, to_last_keeps, try_keeps}
@@ -122,6 +123,9 @@ mutual
   pub stmt_keeps : (t : tree.Stmt) → Keeps (emission_of_stmt t)
   stmt_keeps (tree.FunctionDef at name params body decorators returns tree.no_type_params) =
       moved_keeps at _ (then_keeps _ (emission_of_stored name) (decorated_keeps (values (all_emissions decorators)) _ (values_keep (all_emissions decorators) (exprs_keep decorators)) (def_keeps name params body returns (emission_of_rest body ▸ emission_of_end (after_doc body))))
+      (debug_keeps no_assignment name (accessed Store name) (accessed_keeps Store name)))
+  stmt_keeps (tree.ClassDef at name bases ks body decorators tree.no_type_params) =
+      moved_keeps at _ (then_keeps _ (emission_of_stored name) (decorated_keeps (values (all_emissions decorators)) _ (values_keep (all_emissions decorators) (exprs_keep decorators)) (class_keeps name bases ks body (emission_of_rest body)))
       (debug_keeps no_assignment name (accessed Store name) (accessed_keeps Store name)))
   stmt_keeps (tree.Return at value) = moved_keeps at _ (function_keeps error.InvalidReturn (emission_of_returned value) (returned_keeps value))
   stmt_keeps (tree.Delete at targets) = moved_keeps at _ (deletes_keep targets)

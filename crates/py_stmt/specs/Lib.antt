@@ -2,3 +2,5 @@ pub mod Assigning
 pub mod Managing
 pub mod Parts
 pub mod Functions
+pub mod Classes
+pub mod Interactive

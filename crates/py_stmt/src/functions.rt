@@ -57,7 +57,7 @@ fn compile_plain_def(em: &mut Emitter, s: &StmtFunctionDef) -> Result<(), Codege
 
 /// Emits decorators, the function and their calls.
 #[cycle(code)]
-fn compile_decorated(em: &mut Emitter, s: &StmtFunctionDef) -> Result<(), CodegenError>
+pub(crate) fn compile_decorated(em: &mut Emitter, s: &StmtFunctionDef) -> Result<(), CodegenError>
     ensures goes { Goes result (state em.new) (decorated (values (all_emissions (exprs expr_tree s.now.decorator_list))) (def_emission s.now) (state em.old)) }
     ensures same { Same result (rest em.new) (rest em.old) }
 {
@@ -67,7 +67,7 @@ fn compile_decorated(em: &mut Emitter, s: &StmtFunctionDef) -> Result<(), Codege
 }
 
 /// Emits the call of each decorator.
-fn call_decorators(em: &mut Emitter, items: &[Expr]) -> Result<(), CodegenError>
+pub(crate) fn call_decorators(em: &mut Emitter, items: &[Expr]) -> Result<(), CodegenError>
     ensures goes { Goes result (state em.new) (decorations (values (all_emissions (exprs expr_tree items.now))) (state em.old)) }
     ensures same { Same result (rest em.new) (rest em.old) }
 {
@@ -150,7 +150,7 @@ fn compile_body(em: &mut Emitter, body: &Stmts) -> Result<(), CodegenError>
 
 /// Emits the statements from a place on, one after the other.
 #[cycle(code)]
-fn compile_rest(em: &mut Emitter, body: &[Stmt], from: usize) -> Result<(), CodegenError>
+pub(crate) fn compile_rest(em: &mut Emitter, body: &[Stmt], from: usize) -> Result<(), CodegenError>
     requires loops { AreMade (rest em.old).context.loop_blocks }
     requires from { from ≤ length body.now }
     ensures goes { Goes result (state em.new) (emission_of_stmts (stmts stmt_tree (drop from body.now)) (state em.old)) }

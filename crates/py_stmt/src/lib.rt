@@ -3,9 +3,11 @@
 
 mod annotations;
 mod assignments;
+mod classes;
 mod docs;
 mod functions;
 mod imports;
+mod interactive;
 mod loops;
 mod notes;
 mod passed;
@@ -17,4 +19,5 @@ mod withs;
 
 pub use annotations::find_ann;
 pub use docs::{split_doc, statements_from};
+pub use interactive::{compile_block, compile_single};
 pub use statements::compile_statements;

@@ -5,12 +5,12 @@ ghost use Rattle.py_steps.specs.Children.{some_emitted, some_flag};
 ghost use Rattle.py_steps.specs.EmissionParts.{built, in_turn};
 ghost use Rattle.py_meaning.specs.EmissionDefs.{arg_notes, notes, opt_arg_note, opt_note};
 ghost use Rattle.py_emit.specs.States.{Goes, Same, rest, state};
-ghost use Rattle.py_expr.specs.Functions.{closed_by, flag_if, is_some};
+ghost use Rattle.py_expr.specs.Functions.{flag_if};
 
 use crate::assignments::load_mangled;
 use py_bytecode::Instruction;
 use py_emit::{Emitter, refuse};
-use py_expr::compile_expression;
+use py_expr::{build_some, compile_expression};
 use py_forms::{CodegenError, CodegenErrorType};
 use py_tree::{Arg, ArgWithDefault, Arguments, Expr};
 
@@ -26,20 +26,7 @@ pub(crate) fn compile_notes(
     ensures same { Same result (rest em.new) (rest em.old) }
 {
     let count = compile_each_note(em, params, returns)?;
-    close_notes(em, count)
-}
-
-/// Builds the map of so many annotations, where there are any. Answers whether there are.
-fn close_notes(em: &mut Emitter, count: usize) -> Result<bool, CodegenError>
-    ensures any { IfOk result (λ any. any ≡ is_some count) }
-    ensures goes { Goes result (state em.new) (closed_by Instruction.BuildMap count (state em.old)) }
-    ensures same { Same result (rest em.new) (rest em.old) }
-{
-    if count == 0 {
-        return Ok(false);
-    }
-    em.emit_count(Instruction::BuildMap, count)?;
-    Ok(true)
+    build_some(em, Instruction::BuildMap, count)
 }
 
 /// Emits the annotations of a function in turn, each after its name. Answers how many there are.

@@ -6,42 +6,37 @@ ghost use Rattle.py_steps.specs.EmissionParts.{pass_scopes};
 ghost use Rattle.py_emit.specs.States.{Goes, Same, rest, state};
 
 use py_counts::{scopes_in_expr, scopes_in_opt};
-use py_emit::{Emitter, refuse};
-use py_forms::{CodegenError, CodegenErrorType};
+use py_emit::Emitter;
+use py_expr::pass_counted;
+use py_forms::CodegenError;
 use py_tree::{Expr, StmtAssert};
 
 /// Passes over the scopes in an expression.
 ///
 /// # Errors
 /// OutOfMemory alone.
-#[tactic(auto, unfolding(py_steps::specs::Emitting::by_context, py_steps::specs::Emitting::pass_over, py_emit::specs::States::rest))]
+#[tactic(auto, unfolding(py_emit::specs::States::rest))]
 pub(crate) fn pass_expression(em: &mut Emitter, e: &Expr) -> Result<(), CodegenError>
     ensures goes { Goes result (state em.new) (pass_scopes (λ postponed. scopes_in postponed (expr_tree e.now)) (state em.old)) }
     ensures same { Same result (rest em.new) (rest em.old) }
 {
     let postponed = em.context().future_annotations;
-    let Some(number) = scopes_in_expr(e, postponed, em.next_scope()) else {
-        refuse!(em, CodegenErrorType::OutOfMemory);
-    };
-    em.pass_scopes(number);
-    Ok(())
+    let next = scopes_in_expr(e, postponed, em.next_scope());
+    pass_counted(em, next)
 }
 
 /// Passes over the scopes in an assertion.
 ///
 /// # Errors
 /// OutOfMemory alone.
-#[tactic(auto, unfolding(py_steps::specs::Emitting::by_context, py_steps::specs::Emitting::pass_over, py_emit::specs::States::rest))]
+#[tactic(auto, unfolding(py_emit::specs::States::rest))]
 pub(crate) fn pass_assertion(em: &mut Emitter, s: &StmtAssert) -> Result<(), CodegenError>
     ensures goes { Goes result (state em.new) (pass_scopes (λ postponed. scopes_in postponed (expr_tree s.now.test.value) + scopes_in_opt postponed (opt_box expr_tree s.now.msg)) (state em.old)) }
     ensures same { Same result (rest em.new) (rest em.old) }
 {
     let postponed = em.context().future_annotations;
-    let Some(number) = scopes_in_assertion(s, postponed, em.next_scope()) else {
-        refuse!(em, CodegenErrorType::OutOfMemory);
-    };
-    em.pass_scopes(number);
-    Ok(())
+    let next = scopes_in_assertion(s, postponed, em.next_scope());
+    pass_counted(em, next)
 }
 
 /// `count` and the scopes in an assertion. None exactly where the sum has no usize.

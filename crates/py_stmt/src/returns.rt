@@ -6,8 +6,8 @@ ghost use Rattle.py_meaning.specs.EmissionStmts.{emission_of_returned, emission_
 ghost use Rattle.py_emit.specs.States.{Goes, Same, rest, state};
 
 use py_bytecode::ConstantData;
-use py_emit::{Emitter, refuse};
-use py_expr::{compile_return, is_function};
+use py_emit::Emitter;
+use py_expr::{check_in_function, compile_return};
 use py_forms::{CodegenError, CodegenErrorType};
 use py_tree::{Expr, StmtReturn};
 
@@ -21,14 +21,11 @@ pub(crate) fn compile_return_statement(em: &mut Emitter, s: &StmtReturn) -> Resu
 }
 
 /// Emits the return of a value, or of None where it is missing, and refuses it outside of functions.
-#[tactic(auto, using(py_expr::proofs::Steps::refuse_goes), unfolding(py_steps::specs::Emitting::by_context))]
 fn return_from_function(em: &mut Emitter, value: &Option<Box<Expr>>) -> Result<(), CodegenError>
     ensures goes { Goes result (state em.new) (only_in_function CodegenErrorType.InvalidReturn (emission_of_returned (opt_box expr_tree value.now)) (state em.old)) }
     ensures same { Same result (rest em.new) (rest em.old) }
 {
-    if !is_function(em.scope_type()) {
-        refuse!(em, CodegenErrorType::InvalidReturn);
-    }
+    check_in_function(em, CodegenErrorType::InvalidReturn)?;
     compile_returned(em, value)
 }
 

@@ -9,6 +9,7 @@ ghost use Rattle.py_emit.specs.States.{AreMade, Goes, Same, rest, state};
 use crate::assignments::{
     compile_ann_assign, compile_assign, compile_aug_assign, compile_delete_statement,
 };
+use crate::classes::compile_class_def;
 use crate::functions::compile_function_def;
 use crate::imports::{compile_import, compile_import_from};
 use crate::loops::{compile_break, compile_continue, compile_for, compile_while};
@@ -45,7 +46,7 @@ pub(crate) fn compile_statement(em: &mut Emitter, statement: &Stmt) -> Result<()
     match statement {
         Stmt::FunctionDef(s) => compile_function_def(em, s),
         Stmt::AsyncFunctionDef(s) => refuse_unbuilt(em, s.location),
-        Stmt::ClassDef(s) => refuse_unbuilt(em, s.location),
+        Stmt::ClassDef(s) => compile_class_def(em, s),
         Stmt::Return(s) => compile_return_statement(em, s),
         Stmt::Delete(s) => compile_delete_statement(em, s),
         Stmt::Assign(s) => compile_assign(em, s),

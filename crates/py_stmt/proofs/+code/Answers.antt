@@ -1,4 +1,5 @@
 mod Around
+mod Classes
 mod Defining
 mod Iterating
 mod Managing
@@ -21,6 +22,7 @@ use Rattle.py_expr.proofs.Steps.{move_goes}
 use Rattle.py_expr.proofs.Opening.{apart, begin_opens, block_opens, emit_opens, jump_opens, test_opens}
 use Rattle.py_stmt.proofs.Opening.{loop_opens, stmts_open}
 use Rattle.py_stmt.proofs.+code.Answers.Around.{each_around, last_around, unguarded_around, while_around}
+use Rattle.py_stmt.proofs.+code.Answers.Classes as class
 use Rattle.py_stmt.proofs.+code.Answers.Defining.{defaults_refused, function_refused, generic_refused, inner_goes, inner_refused, made_goes, made_refused, plain_refused, rest_done, rest_goes_on, rest_refused, scope_inner, scope_left, scope_refused, scope_unlooped}
 use Rattle.py_stmt.proofs.+code.Answers.Iterating.{end_begins, end_refused, for_goes, other_begins, turn_begins, turn_refused}
 use Rattle.py_stmt.proofs.+code.Answers.Managing.{left_open, no_body, no_items, some_body, some_items}
@@ -223,3 +225,30 @@ functions::compile_rest-returns-in_err-compile_statement-clause-goes = rest_refu
 
 pub functions::compile_rest-returns-clause-goes : goal.functions::compile_rest-returns-clause-goes
 functions::compile_rest-returns-clause-goes = rest_done
+
+pub classes::compile_class_scope-returns : goal.classes::compile_class_scope-returns
+classes::compile_class_scope-returns = class.scope_left
+
+pub classes::compile_class_scope-leave_scope-requires : goal.classes::compile_class_scope-leave_scope-requires
+classes::compile_class_scope-leave_scope-requires = class.scope_inner
+
+pub classes::compile_class_scope-returns-in_err-compile_inner : goal.classes::compile_class_scope-returns-in_err-compile_inner
+classes::compile_class_scope-returns-in_err-compile_inner = class.scope_refused
+
+pub classes::compile_class_scope-compile_inner-requires : goal.classes::compile_class_scope-compile_inner-requires
+classes::compile_class_scope-compile_inner-requires = class.scope_begins
+
+pub classes::compile_class_function-returns-clause-goes : goal.classes::compile_class_function-returns-clause-goes
+classes::compile_class_function-returns-clause-goes = class.function_goes
+
+pub classes::compile_class_function-returns-in_err-code-clause-goes : goal.classes::compile_class_function-returns-in_err-code-clause-goes
+classes::compile_class_function-returns-in_err-code-clause-goes = class.function_refused
+
+pub classes::compile_class-returns-clause-goes : goal.classes::compile_class-returns-clause-goes
+classes::compile_class-returns-clause-goes = class.class_goes
+
+pub classes::compile_plain_class-returns-in_err-compile_decorated-clause-goes : goal.classes::compile_plain_class-returns-in_err-compile_decorated-clause-goes
+classes::compile_plain_class-returns-in_err-compile_decorated-clause-goes = class.plain_refused
+
+pub classes::compile_class_def-returns-in-len1-up-clause-goes : goal.classes::compile_class_def-returns-in-len1-up-clause-goes
+classes::compile_class_def-returns-in-len1-up-clause-goes = class.generic_refused

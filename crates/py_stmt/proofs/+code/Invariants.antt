@@ -114,3 +114,27 @@ decreases-functions::compile_plain_def l = 16 * goal.size-functions::compile_pla
 
 abbrev pub decreases-functions::compile_function_def : goal.decreases-functions::compile_function_def
 decreases-functions::compile_function_def l = 16 * goal.size-functions::compile_function_def l + 9
+
+abbrev pub decreases-classes::compile_inner : goal.decreases-classes::compile_inner
+decreases-classes::compile_inner l = 16 * goal.size-classes::compile_inner l + 2
+
+abbrev pub decreases-classes::compile_class_scope : goal.decreases-classes::compile_class_scope
+decreases-classes::compile_class_scope l = 16 * goal.size-classes::compile_class_scope l + 3
+
+abbrev pub decreases-classes::compile_class_function : goal.decreases-classes::compile_class_function
+decreases-classes::compile_class_function l = 16 * goal.size-classes::compile_class_function l + 4
+
+abbrev pub decreases-classes::compile_built : goal.decreases-classes::compile_built
+decreases-classes::compile_built l = 16 * goal.size-classes::compile_built l + 5
+
+abbrev pub decreases-classes::compile_class : goal.decreases-classes::compile_class
+decreases-classes::compile_class l = 16 * goal.size-classes::compile_class l + 6
+
+abbrev pub decreases-classes::compile_decorated : goal.decreases-classes::compile_decorated
+decreases-classes::compile_decorated l = 16 * goal.size-classes::compile_decorated l + 7
+
+abbrev pub decreases-classes::compile_plain_class : goal.decreases-classes::compile_plain_class
+decreases-classes::compile_plain_class l = 16 * goal.size-classes::compile_plain_class l + 8
+
+abbrev pub decreases-classes::compile_class_def : goal.decreases-classes::compile_class_def
+decreases-classes::compile_class_def l = 16 * goal.size-classes::compile_class_def l + 9

@@ -11,7 +11,7 @@ use Rattle.py_forms.specs.Form.{Scope}
 use Rattle.py_forms.specs.Agreement.{Agree, AgreeFull}
 use Rattle.py_steps.specs.Everywhere.{Everywhere}
 use Rattle.py_forms.proofs.CodeObjects.{objects_agree}
-use Rattle.py_meaning.specs.EmissionStmts.{emitted}
+use Rattle.py_meaning.specs.EmissionMods.{emitted}
 use Rattle.py_meaning.specs.Faults.{faults}
 use Rattle.py_meaning.specs.Meaning.{body}
 use Rattle.py_bytecode.specs.declared.code.CodeObject.{CodeObject}
@@ -37,12 +37,12 @@ ok_both (Ok x) P R Q f p q = f x p q
 ok_both (Err e) P R Q f p q = p
 
 -- what holds of a code object that is made from the scope of a tree, where the scopes have few symbols
-made_so : {E : Type 0} (r : Result CodeObject E) (t : tree.Mod) (path : List ℕ) (m : Mode) (l : ℕ) (Q : Object → Type 0) → size_of t < 2 ^ 22 → ((o : Object) → MadeFrom path (o, body (scopes_of t) t m l) → Q o) → IfOk r (λ code. IsEmitted code (around_tree t path l) (emitted t (around_tree t path l))) → OnOk r (HasFewSymbols (scopes_of t)) → IfOk r (λ code. Q (object code))
+made_so : {E : Type 0} (r : Result CodeObject E) (t : tree.Mod) (path : List ℕ) (m : Mode) (l : ℕ) (Q : Object → Type 0) → size_of t < 2 ^ 22 → ((o : Object) → MadeFrom path (o, body (scopes_of t) t m l) → Q o) → IfOk r (λ code. IsEmitted code (around_tree t path l) (emitted t m (around_tree t path l))) → OnOk r (HasFewSymbols (scopes_of t)) → IfOk r (λ code. Q (object code))
 made_so (Ok code) t path m l Q small f p q = f (object code) (made_from_scope code path m l (scopes_of t) t small (few_everywhere (scopes_of t) q) p)
 made_so (Err e) t path m l Q small f p q = p
 
 -- and what holds of it and of each code object within it
-well_so : {E : Type 0} (r : Result CodeObject E) (t : tree.Mod) (path : List ℕ) (m : Mode) (l : ℕ) (Q : Object → Type 0) → size_of t < 2 ^ 22 → ((o : Object) → WellMade path o → Q o) → IfOk r (λ code. IsEmitted code (around_tree t path l) (emitted t (around_tree t path l))) → OnOk r (HasFewSymbols (scopes_of t)) → IfOk r (λ code. Everywhere Q (object code))
+well_so : {E : Type 0} (r : Result CodeObject E) (t : tree.Mod) (path : List ℕ) (m : Mode) (l : ℕ) (Q : Object → Type 0) → size_of t < 2 ^ 22 → ((o : Object) → WellMade path o → Q o) → IfOk r (λ code. IsEmitted code (around_tree t path l) (emitted t m (around_tree t path l))) → OnOk r (HasFewSymbols (scopes_of t)) → IfOk r (λ code. Everywhere Q (object code))
 well_so r t path m l Q small f p q = made_so r t path m l (Everywhere Q) small (λ o h. everywhere_so (WellMade path) Q f o h.well) p q
 
 -- a limit that is reached, and one that is not
@@ -122,7 +122,7 @@ returns-in-None-clause-clean c =
     let l = c.args.opts.optimize in
     let deep = below c.depth_of_tree.result 1024 (nesting t) c.if-is_none.ensures c.depth_of_tree.ensures in
     let large = below c.size_of_tree.result 4194304 (size_of t) c.if-is_none-2.ensures c.size_of_tree.ensures in
-    ok_both c.compile_valid.result (λ code. IsEmitted code (around_tree t c.args.source_path l) (emitted t (around_tree t c.args.source_path l))) (scan_faults t ≡ []) (faults t c.args.mode l ≡ []) (λ code e z. emitted_clean code c.args.source_path t c.args.mode l deep large (sym c.valid.ensures ∙ c.in-None.is) z e) c.compile_valid.ensures.emission c.compile_valid.ensures.clean
+    ok_both c.compile_valid.result (λ code. IsEmitted code (around_tree t c.args.source_path l) (emitted t c.args.mode (around_tree t c.args.source_path l))) (scan_faults t ≡ []) (faults t c.args.mode l ≡ []) (λ code e z. emitted_clean code c.args.source_path t c.args.mode l deep large (sym c.valid.ensures ∙ c.in-None.is) z e) c.compile_valid.ensures.emission c.compile_valid.ensures.clean
 
 pub returns-in-None-clause-first : goal.returns-in-None-clause-first
 returns-in-None-clause-first c =
@@ -130,4 +130,4 @@ returns-in-None-clause-first c =
     let l = c.args.opts.optimize in
     let deep = below c.depth_of_tree.result 1024 (nesting t) c.if-is_none.ensures c.depth_of_tree.ensures in
     let large = below c.size_of_tree.result 4194304 (size_of t) c.if-is_none-2.ensures c.size_of_tree.ensures in
-    on_err c.compile_valid.result (λ e. IsScanned e t (around_tree t c.args.source_path l)) (λ e. IsFirst e (faults t c.args.mode l)) (λ e r. refused_first e t c.args.mode l c.args.source_path deep large (sym c.valid.ensures ∙ c.in-None.is) r) c.compile_valid.ensures.first
+    on_err c.compile_valid.result (λ e. IsScanned e t c.args.mode (around_tree t c.args.source_path l)) (λ e. IsFirst e (faults t c.args.mode l)) (λ e r. refused_first e t c.args.mode l c.args.source_path deep large (sym c.valid.ensures ∙ c.in-None.is) r) c.compile_valid.ensures.first

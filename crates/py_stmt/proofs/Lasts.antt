@@ -1,0 +1,56 @@
+-- Statements at a prompt, and a block, as all statements but the last, and the last.
+use Rattle.std.proofs.Common.{◌≡◌, ◌≤◌, ℕ, zero, suc, List, [], ◌∷◌, length, take, get_or, refl, sym, ap, ◌∙◌, arith}
+use Rattle.py_tree.specs.Tree as tree
+use Rattle.py_tree.specs.View.{stmt_tree, stmts, type_params}
+use Rattle.py_tree.specs.declared.statements.Stmt.{Stmt}
+use Rattle.py_tree.specs.declared.statements.TypeParam.{TypeParam}
+use Rattle.py_base.specs.declared.location.SourceLocation.{SourceLocation}
+use Rattle.py_bytecode.specs.declared.instruction.Instruction.TheVariants as op
+use Rattle.py_bytecode.specs.Objects as const
+use Rattle.py_steps.specs.Emitting.{Emission, ◌▸◌, emit, emit_constant, keep}
+use Rattle.py_emission.specs.Emission.{emission, unbuilt}
+use Rattle.py_meaning.specs.EmissionMods.{emission_of_block, emission_of_single, emission_of_value}
+use Rattle.py_meaning.specs.EmissionStmts.{emission_of_stmt, emission_of_stmts}
+use Rattle.py_emit.proofs.Joined.{joined}
+use Rattle.py_stmt.specs.Interactive.{all_prompted, prompted, shown}
+
+-- one statement, and one that others follow
+one_shown : (t : tree.Stmt) → emission_of_single (tree.more_stmts t tree.no_stmts) ≡ shown t
+one_shown (tree.StmtExpr at value) = refl
+one_shown other = refl
+
+more_prompted : (s t : tree.Stmt) (ts : tree.Stmts) → emission_of_single (tree.more_stmts s (tree.more_stmts t ts)) ≡ prompted s ▸ emission_of_single (tree.more_stmts t ts)
+more_prompted (tree.StmtExpr at value) t ts = sym (joined (emission value) (emit op.PrintExpr 0) (emission_of_single (tree.more_stmts t ts)))
+more_prompted other t ts = refl
+
+-- nothing before it
+keep_first : (v : Emission) → keep ▸ v ≡ v
+keep_first v = refl
+
+pub single_parts : (xs : List Stmt) (n : ℕ) (d x : Stmt) → suc n ≡ length xs → x ≡ get_or xs n d → emission_of_single (stmts stmt_tree xs) ≡ all_prompted (stmts stmt_tree (take n xs)) ▸ shown (stmt_tree x)
+single_parts [] n d x e is = absurd cc
+single_parts (y ∷ []) zero d x e is = one_shown (stmt_tree y) ∙ ap (λ z. shown (stmt_tree z)) (sym is) ∙ sym (keep_first (shown (stmt_tree x)))
+single_parts (y ∷ []) (suc n) d x e is = absurd (omega (arith, e))
+single_parts (y ∷ z ∷ xs) zero d x e is = absurd (omega (arith, e))
+single_parts (y ∷ z ∷ xs) (suc n) d x e is =
+    more_prompted (stmt_tree y) (stmt_tree z) (stmts stmt_tree xs)
+    ∙ ap (λ v. prompted (stmt_tree y) ▸ v) (single_parts (z ∷ xs) n d x (omega (arith, e)) is)
+    ∙ sym (joined (prompted (stmt_tree y)) (all_prompted (stmts stmt_tree (take n (z ∷ xs)))) (shown (stmt_tree x)))
+
+pub block_parts : (xs : List Stmt) (n : ℕ) (d x : Stmt) → suc n ≡ length xs → x ≡ get_or xs n d → emission_of_block (stmts stmt_tree xs) ≡ emission_of_stmts (stmts stmt_tree (take n xs)) ▸ emission_of_value (stmt_tree x)
+block_parts [] n d x e is = absurd cc
+block_parts (y ∷ []) zero d x e is = ap (λ z. emission_of_value (stmt_tree z)) (sym is) ∙ sym (keep_first (emission_of_value (stmt_tree x)))
+block_parts (y ∷ []) (suc n) d x e is = absurd (omega (arith, e))
+block_parts (y ∷ z ∷ xs) zero d x e is = absurd (omega (arith, e))
+block_parts (y ∷ z ∷ xs) (suc n) d x e is =
+    ap (λ v. emission_of_stmt (stmt_tree y) ▸ v) (block_parts (z ∷ xs) n d x (omega (arith, e)) is)
+    ∙ sym (joined (emission_of_stmt (stmt_tree y)) (emission_of_stmts (stmts stmt_tree (take n (z ∷ xs)))) (emission_of_value (stmt_tree x)))
+
+-- a definition with type parameters
+pub generic_function : (at : SourceLocation) (name : List ℕ) (params : tree.Arguments) (body : tree.Stmts) (decorators : tree.Exprs) (returns : tree.OptExpr) (ps : List TypeParam) → 1 ≤ length ps → emission_of_value (tree.FunctionDef at name params body decorators returns (type_params ps)) ≡ unbuilt at ▸ emit_constant op.ReturnConst const.none
+generic_function at name params body decorators returns [] h = absurd (omega (arith, h))
+generic_function at name params body decorators returns (p ∷ ps) h = refl
+
+pub generic_class : (at : SourceLocation) (name : List ℕ) (bases : tree.Exprs) (keywords : tree.Keywords) (body : tree.Stmts) (decorators : tree.Exprs) (ps : List TypeParam) → 1 ≤ length ps → emission_of_value (tree.ClassDef at name bases keywords body decorators (type_params ps)) ≡ unbuilt at ▸ emit_constant op.ReturnConst const.none
+generic_class at name bases words body decorators [] h = absurd (omega (arith, h))
+generic_class at name bases words body decorators (p ∷ ps) h = refl

@@ -1,0 +1,303 @@
+//! Definitions of classes.
+ghost use Rattle.std.specs.Prelude.{◌≡◌, ◌≤◌, drop, length, suc, IfErr, IfOk, OnOk};
+ghost use Rattle.py_tree.specs.View.{class_def_tree, expr_tree, exprs, keywords as keyword_trees, stmt_tree, stmts};
+ghost use Rattle.py_bytecode.specs.Objects.{str};
+ghost use Rattle.py_bytecode.specs.View.{constant, object};
+ghost use Rattle.py_steps.specs.Accesses.{emission_of_stored};
+ghost use Rattle.py_steps.specs.Children.{code_head, decorated, made};
+ghost use Rattle.py_steps.specs.Classes.{cell_returned, class_end, class_names, class_shape, doc_const};
+ghost use Rattle.py_steps.specs.Emitting.{◌▸◌, begun, by_level, emit_constant, move as moving};
+ghost use Rattle.py_steps.specs.EmissionParts.{values};
+ghost use Rattle.py_emission.specs.Emission.{all_emissions};
+ghost use Rattle.py_emission.specs.Texts.{after_doc, doc_of};
+ghost use Rattle.py_meaning.specs.EmissionDefs.{emission_of_setup};
+ghost use Rattle.py_meaning.specs.EmissionStmts.{emission_of_stmt};
+ghost use Rattle.py_emit.specs.States.{AreMade, Goes, IsStarved, Same, entered, entered_rest, rest, state};
+ghost use Rattle.py_expr.specs.Functions.{Gives};
+ghost use Rattle.py_stmt.specs.Classes.{builder_called, built_emission, cell_kept, cells_kept, class_emission, class_within, copied, function_emission, own_emission, own_scope, stored_as};
+
+use crate::annotations::find_ann;
+use crate::docs::split_doc;
+use crate::functions::{call_decorators, compile_rest};
+use bitflags::Flags;
+use py_bytecode::{CodeFlags, CodeObject, ConstantData, Instruction, MakeFunctionFlags};
+use py_emit::{Emitter, NameUsage, Naming, ScopeHead, emit, refuse};
+use py_expr::{compile_call_inner, compile_expressions, emit_call, refuse_unbuilt};
+use py_forms::{CodegenError, CodegenErrorType};
+use py_scope::SymbolTableType;
+use py_tree::{Exprs, Keyword, List, StmtClassDef, Stmts, Text};
+
+/// Emits the definition of a class. One with type parameters is refused.
+#[cycle(code)]
+pub(crate) fn compile_class_def(em: &mut Emitter, s: &StmtClassDef) -> Result<(), CodegenError>
+    ensures goes { Goes result (state em.new) (emission_of_stmt (class_def_tree s.now) (state em.old)) }
+    ensures same { Same result (rest em.new) (rest em.old) }
+{
+    match s.type_params.as_slice() {
+        [] => compile_plain_class(em, s),
+        [_, ..] => refuse_unbuilt(em, s.location),
+    }
+}
+
+/// Emits the definition of a class, and what stores it under its name.
+#[cycle(code)]
+#[tactic(auto, using(crate::proofs::Steps::steps))]
+fn compile_plain_class(em: &mut Emitter, s: &StmtClassDef) -> Result<(), CodegenError>
+    ensures goes { Goes result (state em.new) ((moving s.now.location ▸ decorated (values (all_emissions (exprs expr_tree s.now.decorator_list))) (class_emission s.now) ▸ emission_of_stored s.now.name) (state em.old)) }
+    ensures same { Same result (rest em.new) (rest em.old) }
+{
+    em.set_location(s.location);
+    compile_decorated(em, s)?;
+    em.compile_name(NameUsage::Store, s.name.as_str())
+}
+
+/// Emits decorators, the class and their calls (language reference, "Class definitions": they are called as those of
+/// functions are).
+#[cycle(code)]
+pub(crate) fn compile_decorated(em: &mut Emitter, s: &StmtClassDef) -> Result<(), CodegenError>
+    ensures goes { Goes result (state em.new) (decorated (values (all_emissions (exprs expr_tree s.now.decorator_list))) (class_emission s.now) (state em.old)) }
+    ensures same { Same result (rest em.new) (rest em.old) }
+{
+    compile_expressions(em, s.decorator_list.as_slice())?;
+    compile_class(em, s)?;
+    call_decorators(em, s.decorator_list.as_slice())
+}
+
+/// Emits a class.
+#[cycle(code)]
+fn compile_class(em: &mut Emitter, s: &StmtClassDef) -> Result<(), CodegenError>
+    ensures goes { Goes result (state em.new) (class_emission s.now (state em.old)) }
+    ensures same { Same result (rest em.new) (rest em.old) }
+{
+    compile_built(em, s.name.as_str(), &s.body, &s.bases, &s.keywords)
+}
+
+/// Emits what builds a class, the function of the class, and the call with that, the name, the bases and the keywords.
+#[cycle(code)]
+fn compile_built(
+    em: &mut Emitter,
+    name: &str,
+    body: &Stmts,
+    bases: &Exprs,
+    keywords: &List<Keyword>,
+) -> Result<(), CodegenError>
+    ensures goes { Goes result (state em.new) (built_emission name.now (stmts stmt_tree body.now) (exprs expr_tree bases.now) (keyword_trees expr_tree keywords.now) (state em.old)) }
+    ensures same { Same result (rest em.new) (rest em.old) }
+{
+    emit!(em, Instruction::LoadBuildClass);
+    compile_class_function(em, name, body)?;
+    call_builder(em, name, bases, keywords)
+}
+
+/// Emits the call of what builds a class, behind which the function of the class lies: the name of the class and its bases
+/// are the other arguments, with its keywords.
+fn call_builder(
+    em: &mut Emitter,
+    name: &str,
+    bases: &Exprs,
+    keywords: &List<Keyword>,
+) -> Result<(), CodegenError>
+    ensures goes { Goes result (state em.new) (builder_called name.now (exprs expr_tree bases.now) (keyword_trees expr_tree keywords.now) (state em.old)) }
+    ensures same { Same result (rest em.new) (rest em.old) }
+{
+    load_text(em, name)?;
+    let call = compile_call_inner(em, 2, bases, keywords)?;
+    emit_call(em, false, call)
+}
+
+/// Loads a text.
+#[tactic(auto, using(py_bytecode::proofs::View::views))]
+fn load_text(em: &mut Emitter, text: &str) -> Result<(), CodegenError>
+    ensures goes { Goes result (state em.new) (emit_constant Instruction.LoadConst (str text.now) (state em.old)) }
+    ensures same { Same result (rest em.new) (rest em.old) }
+{
+    let value = em.text(text)?;
+    em.load_const(ConstantData::Str { value })
+}
+
+/// Emits the function of a class: the class's own scope, and what makes a function of it under the name of the class.
+#[cycle(code)]
+fn compile_class_function(em: &mut Emitter, name: &str, body: &Stmts) -> Result<(), CodegenError>
+    ensures goes { Goes result (state em.new) (function_emission name.now (stmts stmt_tree body.now) (state em.old)) }
+    ensures same { Same result (rest em.new) (rest em.old) }
+{
+    let path = em.class_path(name)?;
+    let code = compile_class_scope(em, name, body, path)?;
+    make_class(em, name, code)
+}
+
+/// Emits what makes a function of the code of a class, under the name of the class.
+fn make_class(em: &mut Emitter, name: &str, code: CodeObject) -> Result<(), CodegenError>
+    ensures goes { Goes result (state em.new) (made 0 name.now (object code) (state em.old)) }
+    ensures same { Same result (rest em.new) (rest em.old) }
+{
+    let name = em.text(name)?;
+    em.make_function(MakeFunctionFlags::from_bits_retain(0), name, code)
+}
+
+/// Emits a class's own scope, around whose names this path stands, and lays its code out.
+#[cycle(code)]
+fn compile_class_scope(
+    em: &mut Emitter,
+    name: &str,
+    body: &Stmts,
+    path: Text,
+) -> Result<CodeObject, CodegenError>
+    ensures goes { Gives result (state em.new) (λ k. own_scope (class_within name.now path) name.now (stmts stmt_tree body.now) k (state em.old)) }
+    ensures same { Same result (rest em.new) (rest em.old) }
+{
+    let full = em.text(path.as_str())?;
+    enter_class(em, name, path)?;
+    compile_inner(em, body, full)?;
+    em.leave_scope()
+}
+
+/// Goes into the scope of a class of this name, around whose names this path stands; the scope around waits.
+///
+/// # Errors
+/// OutOfMemory alone.
+fn enter_class(em: &mut Emitter, name: &str, path: Text) -> Result<(), CodegenError>
+    ensures state { OnOk result (state em.new ≡ begun (entered SymbolTableType.Class (Naming.Class name.now path) (state em.old)) (state em.old).location (suc (state em.old).next)) }
+    ensures rest { OnOk result (rest em.new ≡ entered_rest em.old.scope (code_head (entered SymbolTableType.Class (Naming.Class name.now path) (state em.old)) (class_shape name.now) (state em.old).location) (rest em.old)) }
+    ensures err { IfErr result (λ e. IsStarved e (rest em.old).path) }
+{
+    let obj_name = em.text(name)?;
+    let name = em.text(name)?;
+    let head = ScopeHead {
+        flags: CodeFlags::from_bits_retain(0),
+        posonlyarg_count: 0,
+        arg_count: 0,
+        kwonlyarg_count: 0,
+        obj_name,
+    };
+    em.enter_scope(head, SymbolTableType::Class, Naming::Class { name, path })
+}
+
+/// Emits what a class's own scope holds: its names, room for annotations where there are any, its statements and its end.
+#[cycle(code)]
+#[tactic(auto, using(crate::proofs::LastReturn::rest_is))]
+fn compile_inner(em: &mut Emitter, body: &Stmts, path: Text) -> Result<(), CodegenError>
+    requires loops { AreMade (rest em.old).context.loop_blocks }
+    requires path { path ≡ (state em.old).around.context.path }
+    ensures goes { Goes result (state em.new) (own_emission (stmts stmt_tree body.now) (state em.old)) }
+    ensures same { Same result (rest em.new) (rest em.old) }
+{
+    let from = begin_class(em, body, path)?;
+    emit_setup(em, find_ann(body, from))?;
+    compile_rest(em, body.as_slice(), from)?;
+    end_class(em)
+}
+
+/// Emits the names with which a class begins. Answers the place at which the statements behind the docstring begin.
+#[tactic(auto, unfolding(py_steps::specs::Emitting::by_level, py_emit::specs::States::rest))]
+fn begin_class(em: &mut Emitter, body: &Stmts, path: Text) -> Result<usize, CodegenError>
+    requires path { path ≡ (state em.old).around.context.path }
+    ensures goes { Goes result (state em.new) (by_level (λ l. class_names (doc_of l (stmts stmt_tree body.now))) (state em.old)) }
+    ensures from { IfOk result (λ from. stmts stmt_tree (drop from body.now) ≡ after_doc (stmts stmt_tree body.now)) }
+    ensures within { IfOk result (λ from. from ≤ length body.now) }
+    ensures same { Same result (rest em.new) (rest em.old) }
+{
+    match split_doc(em.alloc(), body, em.opts()) {
+        Ok((doc, from)) => {
+            name_class(em, path, doc)?;
+            Ok(from)
+        }
+        Err(_) => refuse!(em, CodegenErrorType::OutOfMemory),
+    }
+}
+
+/// Emits the names with which a class begins: `__module__`, `__qualname__` and `__doc__`, which is None where no docstring
+/// is kept.
+fn name_class(em: &mut Emitter, path: Text, doc: Option<Text>) -> Result<(), CodegenError>
+    requires path { path ≡ (state em.old).around.context.path }
+    ensures goes { Goes result (state em.new) (class_names doc (state em.old)) }
+    ensures same { Same result (rest em.new) (rest em.old) }
+{
+    copy_name(em, "__name__", "__module__")?;
+    store_text(em, path, "__qualname__")?;
+    store_doc(em, doc, "__doc__")
+}
+
+/// Emits what stores a global name under another.
+fn copy_name(em: &mut Emitter, from: &str, to: &str) -> Result<(), CodegenError>
+    ensures goes { Goes result (state em.new) (copied from.now to.now (state em.old)) }
+    ensures same { Same result (rest em.new) (rest em.old) }
+{
+    em.emit_name(Instruction::LoadGlobal, from)?;
+    em.emit_name(Instruction::StoreLocal, to)
+}
+
+/// Emits what stores a text under a name.
+#[tactic(auto, using(py_bytecode::proofs::View::views))]
+fn store_text(em: &mut Emitter, value: Text, name: &str) -> Result<(), CodegenError>
+    ensures goes { Goes result (state em.new) (stored_as name.now (str value) (state em.old)) }
+    ensures same { Same result (rest em.new) (rest em.old) }
+{
+    em.load_const(ConstantData::Str { value })?;
+    em.emit_name(Instruction::StoreLocal, name)
+}
+
+/// Emits what stores a docstring under a name, or None where there is none.
+fn store_doc(em: &mut Emitter, doc: Option<Text>, name: &str) -> Result<(), CodegenError>
+    ensures goes { Goes result (state em.new) (stored_as name.now (doc_const doc) (state em.old)) }
+    ensures same { Same result (rest em.new) (rest em.old) }
+{
+    em.load_const(doc_constant(doc))?;
+    em.emit_name(Instruction::StoreLocal, name)
+}
+
+/// A docstring, or None.
+#[tactic(auto, using(py_bytecode::proofs::View::views))]
+fn doc_constant(doc: Option<Text>) -> ConstantData
+    ensures { constant result ≡ doc_const doc }
+{
+    match doc {
+        Some(value) => ConstantData::Str { value },
+        None => ConstantData::None,
+    }
+}
+
+/// Emits the instruction that makes room for annotations, where there are any.
+fn emit_setup(em: &mut Emitter, annotated: bool) -> Result<(), CodegenError>
+    ensures goes { Goes result (state em.new) (emission_of_setup annotated (state em.old)) }
+    ensures same { Same result (rest em.new) (rest em.old) }
+{
+    if annotated {
+        emit!(em, Instruction::SetupAnnotation);
+    }
+    Ok(())
+}
+
+/// Emits the end of a class: where methods use `super` or `__class__` their cell is kept under `__classcell__` and
+/// returned, by which the class is put into it (data model, "Creating the class object"); else None is returned.
+fn end_class(em: &mut Emitter) -> Result<(), CodegenError>
+    ensures goes { Goes result (state em.new) (class_end (state em.old)) }
+    ensures same { Same result (rest em.new) (rest em.old) }
+{
+    let kept = em.has_cell("__class__")?;
+    end_with(em, kept)
+}
+
+/// Emits the end of a class by whether the cell of `__class__` is kept.
+#[tactic(auto, using(py_bytecode::proofs::View::views))]
+fn end_with(em: &mut Emitter, kept: bool) -> Result<(), CodegenError>
+    ensures goes { Goes result (state em.new) (cell_returned (cells_kept kept) (state em.old)) }
+    ensures same { Same result (rest em.new) (rest em.old) }
+{
+    if kept {
+        return return_cell(em, "__class__", "__classcell__");
+    }
+    em.return_const(ConstantData::None)
+}
+
+/// Emits what keeps a cell under a name, and its return.
+fn return_cell(em: &mut Emitter, cell: &str, name: &str) -> Result<(), CodegenError>
+    ensures goes { Goes result (state em.new) (cell_kept cell.now name.now (state em.old)) }
+    ensures same { Same result (rest em.new) (rest em.old) }
+{
+    em.load_cell(cell)?;
+    emit!(em, Instruction::Duplicate);
+    em.emit_name(Instruction::StoreLocal, name)?;
+    emit!(em, Instruction::ReturnValue);
+    Ok(())
+}

@@ -1,0 +1,232 @@
+//! Statements at a prompt, and blocks whose last value is given.
+ghost use Rattle.std.specs.Prelude.{◌≡◌};
+ghost use Rattle.py_tree.specs.View.{class_def_tree, expr_tree, exprs, function_def_tree, stmt_tree, stmts};
+ghost use Rattle.py_bytecode.specs.Objects.{none};
+ghost use Rattle.py_steps.specs.Children.{decorated};
+ghost use Rattle.py_steps.specs.Emitting.{◌▸◌, emit as emitting, emit_constant, move as moving};
+ghost use Rattle.py_steps.specs.EmissionParts.{values};
+ghost use Rattle.py_emission.specs.Emission.{all_emissions, emission, unbuilt};
+ghost use Rattle.py_meaning.specs.EmissionMods.{emission_of_block, emission_of_single, emission_of_value, stored_and_returned};
+ghost use Rattle.py_meaning.specs.EmissionStmts.{emission_of_stmt, emission_of_stmts};
+ghost use Rattle.py_emit.specs.States.{AreMade, Goes, Same, rest, state};
+ghost use Rattle.py_stmt.specs.Classes.{class_emission};
+ghost use Rattle.py_stmt.specs.Functions.{def_emission};
+ghost use Rattle.py_stmt.specs.Interactive.{all_prompted, prompted, shown};
+
+use crate::statements::{compile_statement, compile_statements};
+use crate::{classes, functions};
+use py_bytecode::{ConstantData, Instruction};
+use py_emit::{Emitter, NameUsage, emit};
+use py_expr::{compile_expression, compile_return, refuse_unbuilt};
+use py_forms::CodegenError;
+use py_tree::{Expr, SourceLocation, Stmt, StmtClassDef, StmtFunctionDef};
+
+/// Emits statements at a prompt: an expression that stands there itself is printed, and the last is returned too; after
+/// another last statement None is returned.
+///
+/// # Errors
+/// The first compile fault of the statements, or OutOfMemory.
+#[tactic(auto, using(py_bytecode::proofs::View::views))]
+pub fn compile_single(em: &mut Emitter, body: &[Stmt]) -> Result<(), CodegenError>
+    requires loops { AreMade (rest em.old).context.loop_blocks }
+    ensures goes { Goes result (state em.new) (emission_of_single (stmts stmt_tree body.now) (state em.old)) }
+    ensures same { Same result (rest em.new) (rest em.old) }
+{
+    let count = body.len();
+    if count == 0 {
+        return em.return_const(ConstantData::None);
+    }
+    compile_single_parts(em, &body[..count - 1], &body[count - 1])
+}
+
+/// Emits statements at a prompt, the last of which is given apart.
+fn compile_single_parts(em: &mut Emitter, first: &[Stmt], last: &Stmt) -> Result<(), CodegenError>
+    requires loops { AreMade (rest em.old).context.loop_blocks }
+    ensures goes { Goes result (state em.new) ((all_prompted (stmts stmt_tree first.now) ▸ shown (stmt_tree last.now)) (state em.old)) }
+    ensures same { Same result (rest em.new) (rest em.old) }
+{
+    compile_prompted(em, first)?;
+    compile_shown(em, last)
+}
+
+/// Emits statements at a prompt that others follow.
+fn compile_prompted(em: &mut Emitter, body: &[Stmt]) -> Result<(), CodegenError>
+    requires loops { AreMade (rest em.old).context.loop_blocks }
+    ensures goes { Goes result (state em.new) (all_prompted (stmts stmt_tree body.now) (state em.old)) }
+    ensures same { Same result (rest em.new) (rest em.old) }
+{
+    for statement in body {
+        compile_prompt(em, statement)?;
+    }
+    Ok(())
+}
+
+/// Emits a statement at a prompt that others follow.
+#[tactic(auto, using(py_tree::proofs::View::trees))]
+fn compile_prompt(em: &mut Emitter, statement: &Stmt) -> Result<(), CodegenError>
+    requires loops { AreMade (rest em.old).context.loop_blocks }
+    ensures goes { Goes result (state em.new) (prompted (stmt_tree statement.now) (state em.old)) }
+    ensures same { Same result (rest em.new) (rest em.old) }
+{
+    match statement {
+        Stmt::Expr(s) => print_value(em, &s.value),
+        _ => compile_statement(em, statement),
+    }
+}
+
+/// Emits a value and what prints it.
+fn print_value(em: &mut Emitter, value: &Expr) -> Result<(), CodegenError>
+    ensures goes { Goes result (state em.new) ((emission (expr_tree value.now) ▸ emitting Instruction.PrintExpr 0) (state em.old)) }
+    ensures same { Same result (rest em.new) (rest em.old) }
+{
+    compile_expression(em, value)?;
+    emit!(em, Instruction::PrintExpr);
+    Ok(())
+}
+
+/// Emits the last statement at a prompt.
+#[tactic(auto, using(py_tree::proofs::View::trees))]
+fn compile_shown(em: &mut Emitter, statement: &Stmt) -> Result<(), CodegenError>
+    requires loops { AreMade (rest em.old).context.loop_blocks }
+    ensures goes { Goes result (state em.new) (shown (stmt_tree statement.now) (state em.old)) }
+    ensures same { Same result (rest em.new) (rest em.old) }
+{
+    match statement {
+        Stmt::Expr(s) => show_value(em, &s.value),
+        _ => compile_ended(em, statement),
+    }
+}
+
+/// Emits a value, what prints it, and its return.
+fn show_value(em: &mut Emitter, value: &Expr) -> Result<(), CodegenError>
+    ensures goes { Goes result (state em.new) ((emission (expr_tree value.now) ▸ emitting Instruction.Duplicate 0 ▸ emitting Instruction.PrintExpr 0 ▸ emitting Instruction.ReturnValue 0) (state em.old)) }
+    ensures same { Same result (rest em.new) (rest em.old) }
+{
+    compile_expression(em, value)?;
+    emit!(em, Instruction::Duplicate);
+    emit!(em, Instruction::PrintExpr);
+    emit!(em, Instruction::ReturnValue);
+    Ok(())
+}
+
+/// Emits a statement and a return of None.
+#[tactic(auto, using(py_bytecode::proofs::View::views))]
+fn compile_ended(em: &mut Emitter, statement: &Stmt) -> Result<(), CodegenError>
+    requires loops { AreMade (rest em.old).context.loop_blocks }
+    ensures goes { Goes result (state em.new) ((emission_of_stmt (stmt_tree statement.now) ▸ emit_constant Instruction.ReturnConst none) (state em.old)) }
+    ensures same { Same result (rest em.new) (rest em.old) }
+{
+    compile_statement(em, statement)?;
+    em.return_const(ConstantData::None)
+}
+
+/// Emits a block: the value of its last statement is returned, which is that of an expression, or the function or class
+/// that a definition stores; after another None is returned.
+///
+/// # Errors
+/// The first compile fault of the statements, or OutOfMemory.
+#[tactic(auto, using(py_bytecode::proofs::View::views))]
+pub fn compile_block(em: &mut Emitter, body: &[Stmt]) -> Result<(), CodegenError>
+    requires loops { AreMade (rest em.old).context.loop_blocks }
+    ensures goes { Goes result (state em.new) (emission_of_block (stmts stmt_tree body.now) (state em.old)) }
+    ensures same { Same result (rest em.new) (rest em.old) }
+{
+    let count = body.len();
+    if count == 0 {
+        return em.return_const(ConstantData::None);
+    }
+    compile_block_parts(em, &body[..count - 1], &body[count - 1])
+}
+
+/// Emits a block, the last statement of which is given apart.
+fn compile_block_parts(em: &mut Emitter, first: &[Stmt], last: &Stmt) -> Result<(), CodegenError>
+    requires loops { AreMade (rest em.old).context.loop_blocks }
+    ensures goes { Goes result (state em.new) ((emission_of_stmts (stmts stmt_tree first.now) ▸ emission_of_value (stmt_tree last.now)) (state em.old)) }
+    ensures same { Same result (rest em.new) (rest em.old) }
+{
+    compile_statements(em, first)?;
+    compile_value(em, last)
+}
+
+/// Emits the last statement of a block, and the return of its value.
+#[tactic(auto, using(py_tree::proofs::View::trees, crate::proofs::Steps::steps))]
+fn compile_value(em: &mut Emitter, statement: &Stmt) -> Result<(), CodegenError>
+    requires loops { AreMade (rest em.old).context.loop_blocks }
+    ensures goes { Goes result (state em.new) (emission_of_value (stmt_tree statement.now) (state em.old)) }
+    ensures same { Same result (rest em.new) (rest em.old) }
+{
+    match statement {
+        Stmt::Expr(s) => {
+            em.set_location(s.location);
+            compile_return(em, &s.value)
+        }
+        Stmt::FunctionDef(s) => return_function(em, s),
+        Stmt::ClassDef(s) => return_class(em, s),
+        _ => compile_ended(em, statement),
+    }
+}
+
+/// Emits a function that is stored and returned. One with type parameters is refused.
+fn return_function(em: &mut Emitter, s: &StmtFunctionDef) -> Result<(), CodegenError>
+    ensures goes { Goes result (state em.new) (emission_of_value (function_def_tree s.now) (state em.old)) }
+    ensures same { Same result (rest em.new) (rest em.old) }
+{
+    match s.type_params.as_slice() {
+        [] => return_plain_function(em, s),
+        [_, ..] => refuse_ended(em, s.location),
+    }
+}
+
+/// Emits a function without type parameters, which is stored and returned.
+#[tactic(auto, using(crate::proofs::Steps::steps))]
+fn return_plain_function(em: &mut Emitter, s: &StmtFunctionDef) -> Result<(), CodegenError>
+    ensures goes { Goes result (state em.new) ((moving s.now.location ▸ decorated (values (all_emissions (exprs expr_tree s.now.decorator_list))) (def_emission s.now) ▸ stored_and_returned s.now.name) (state em.old)) }
+    ensures same { Same result (rest em.new) (rest em.old) }
+{
+    em.set_location(s.location);
+    functions::compile_decorated(em, s)?;
+    store_and_return(em, s.name.as_str())
+}
+
+/// Emits a class that is stored and returned. One with type parameters is refused.
+fn return_class(em: &mut Emitter, s: &StmtClassDef) -> Result<(), CodegenError>
+    ensures goes { Goes result (state em.new) (emission_of_value (class_def_tree s.now) (state em.old)) }
+    ensures same { Same result (rest em.new) (rest em.old) }
+{
+    match s.type_params.as_slice() {
+        [] => return_plain_class(em, s),
+        [_, ..] => refuse_ended(em, s.location),
+    }
+}
+
+/// Emits a class without type parameters, which is stored and returned.
+#[tactic(auto, using(crate::proofs::Steps::steps))]
+fn return_plain_class(em: &mut Emitter, s: &StmtClassDef) -> Result<(), CodegenError>
+    ensures goes { Goes result (state em.new) ((moving s.now.location ▸ decorated (values (all_emissions (exprs expr_tree s.now.decorator_list))) (class_emission s.now) ▸ stored_and_returned s.now.name) (state em.old)) }
+    ensures same { Same result (rest em.new) (rest em.old) }
+{
+    em.set_location(s.location);
+    classes::compile_decorated(em, s)?;
+    store_and_return(em, s.name.as_str())
+}
+
+/// Refuses a statement that does not compile yet, behind which a return of None would stand.
+#[tactic(auto, using(py_bytecode::proofs::View::views))]
+fn refuse_ended(em: &mut Emitter, location: SourceLocation) -> Result<(), CodegenError>
+    ensures goes { Goes result (state em.new) ((unbuilt location ▸ emit_constant Instruction.ReturnConst none) (state em.old)) }
+    ensures same { Same result (rest em.new) (rest em.old) }
+{
+    refuse_unbuilt(em, location)?;
+    em.return_const(ConstantData::None)
+}
+
+/// Emits what stores a value under a name and returns it.
+fn store_and_return(em: &mut Emitter, name: &str) -> Result<(), CodegenError>
+    ensures goes { Goes result (state em.new) (stored_and_returned name.now (state em.old)) }
+    ensures same { Same result (rest em.new) (rest em.old) }
+{
+    emit!(em, Instruction::Duplicate);
+    em.compile_name(NameUsage::Store, name)?;
+    emit!(em, Instruction::ReturnValue);
+    Ok(())
+}
