@@ -56,7 +56,7 @@ if ! python3 -c '' 2>/dev/null; then
     say "there is no python3 on the path, which makes the rows of $1"
     exit 127
 fi
-rows=$(python3 "$root/tools/rows.py" "$1")
+rows=$(python3 "$root/tools/rows.py" -- "$1")
 status=$?
 if [ "$status" -gt 1 ]; then
     say "the rows of $1 were not made: python3 ended with status $status"

@@ -360,13 +360,17 @@ def text_of(data):
     """The text of the bytes of a source, in the encoding that it names, UTF-8 if none."""
     try:
         encoding, _ = tokenize.detect_encoding(io.BytesIO(data).readline)
+    except (SyntaxError, LookupError) as error:
+        # Of a first line or second line that is not UTF-8 this tells no place.
+        encoding = "utf-8" if "invalid or missing" in str(error) else None
+        if encoding is None:
+            raise Fault("%s" % error, (1, 1)) from None
+    try:
         return data.decode(encoding)
     except UnicodeDecodeError as error:
         line = data.count(b"\n", 0, error.start) + 1
         column = error.start - (data.rfind(b"\n", 0, error.start) + 1)
         raise Fault("the source is not %s" % error.encoding, (line, column + 1)) from None
-    except (SyntaxError, LookupError) as error:
-        raise Fault("%s" % error, (1, 1)) from None
 
 
 def tree_of(text, mode):
@@ -412,8 +416,11 @@ def main():
         sys.exit("%s: %s" % (name, error.strerror))
     except Fault as fault:
         sys.exit(fault.line(name))
-    sys.stdout.buffer.write(text.encode("utf-8") + b"\n")
-    sys.stdout.buffer.flush()
+    try:
+        with open(1, "wb", closefd=False) as out:
+            out.write(text.encode("utf-8") + b"\n")
+    except OSError as error:
+        sys.exit("rows.py: standard output: %s" % error.strerror)
 
 
 if __name__ == "__main__":

@@ -4,11 +4,12 @@
 usage: speed.py [--program FILE] [--runs N] [--most N] [--library FOLDER]
 
 The program is crates/pyc/out/pyc, which pyc.sh builds. The trees are generated ones of 10^3 to 10^5 statements, and one
-of --most at most, and those files of the library of this Python, or of FOLDER, that pyc compiles. CPython gets the
-same rows, as text, to read, and the tree of the same source, which is parsed before, to compile and to show.
+of --most at most, and those files of the library of this Python, or of FOLDER, that pyc compiles, as one file. CPython
+gets the same rows, as text, to read, and the tree of the same source, which is parsed before, to compile and to show.
+"JSON" is the program on an object that holds the rows: it reads all of it, and then refuses it, since it is no array.
 
 Times are seconds of processor time, the least of N runs (3). Peaks are of resident memory, and no less than what the
-Python has that starts the run, some 10 MB. Standard output is a table, as README.md shows it.
+Python has that starts the run, some 16 MB. Standard output is a table, as README.md shows it.
 """
 import argparse
 import ast
@@ -20,6 +21,7 @@ import math
 import os
 import pathlib
 import platform
+import shutil
 import subprocess
 import sys
 import tempfile
@@ -28,6 +30,23 @@ import time
 TOOLS = pathlib.Path(__file__).resolve().parent
 PROGRAM = TOOLS.parent / "crates" / "pyc" / "out" / "pyc"
 SIZES = (1000, 3160, 10000, 31600, 100000)
+# The files of the library that are taken together have rows of so many bytes at most: pyc reads fewer than 2^26.
+LIBRARY_ROWS = 30000000
+HEADS = (
+    "Statements",
+    "Rows, MB",
+    "pyc",
+    "JSON",
+    "json.loads",
+    "compile",
+    "dis",
+    "pyc / JSON",
+    "pyc / json.loads",
+    "pyc / all three",
+    "Peak, MB",
+    "Peak / rows",
+    "Peak of CPython, MB",
+)
 
 # Ten statements, of which each kind compiles today.
 PARAGRAPH = '''\
@@ -88,10 +107,20 @@ class Bench:
             status, _, _ = timed([sys.executable, TOOLS / "rows.py"], source, out)
         return file if status == 0 else None
 
-    def pyc(self, rows):
-        """The least seconds of the program over rows and its peak, or None where it does not compile them."""
+    def pyc(self, rows, wanted=0):
+        """The least seconds of the program over rows and its peak, or None where it ends with another status."""
         runs = [timed([self.program, "exec", "0", "m.py"], rows) for _ in range(self.runs)]
-        return None if any(it[0] for it in runs) else (min(it[1] for it in runs), max(it[2] for it in runs))
+        return None if any(it[0] != wanted for it in runs) else (min(it[1] for it in runs), max(it[2] for it in runs))
+
+    def reading(self, rows):
+        """The least seconds in which the program reads the JSON of rows, and no more than that."""
+        file = self.folder / "object"
+        with open(rows, "rb") as it, open(file, "wb") as out:
+            out.write(b'{"":')
+            # Not as a whole, since the memory of this process counts as that of those that it starts.
+            shutil.copyfileobj(it, out)
+            out.write(b"}")
+        return self.pyc(file, 3)[0]
 
     def cpython(self, rows, source):
         """The least seconds of each of the three steps of CPython, and its peak."""
@@ -108,10 +137,17 @@ class Bench:
         ours = self.pyc(rows)
         if ours is None:
             return None
-        theirs, peak = self.cpython(rows, source)
-        cells = [name, "%.2f" % (rows.stat().st_size / 1e6), "%.3f" % ours[0], *("%.3f" % it for it in theirs)]
-        cells += ["%.2f" % (ours[0] / sum(theirs[:2])), "%.2f" % (ours[0] / sum(theirs)), "%.0f" % (ours[1] / 1e6), "%.0f" % (peak / 1e6)]
-        return "| %s |" % " | ".join(cells), ours[0]
+        (seconds, peak), reading, size = ours, self.reading(rows), rows.stat().st_size
+        theirs, their_peak = self.cpython(rows, source)
+        cells = [name, "%.2f" % (size / 1e6), *("%.3f" % it for it in (seconds, reading, *theirs))]
+        cells += ["%.2f" % (seconds / it) for it in (reading, theirs[0], sum(theirs))]
+        cells += ["%.0f" % (peak / 1e6), "%.0f" % (peak / size), "%.0f" % (their_peak / 1e6)]
+        return table_line(cells), seconds
+
+
+def table_line(cells):
+    """A line of the table."""
+    return "| %s |" % " | ".join(cells)
 
 
 def growth(points):
@@ -128,8 +164,12 @@ def gather(program, library, together):
     import rows
     import stdlib
 
-    files = [it for it in stdlib.library_files(pathlib.Path(library)) if stdlib.ending(program, it)[0] == "compiled"]
-    texts = [rows.text_of(it.read_bytes()) + "\n" for it in files]
+    texts, size = [], 0
+    for file in stdlib.library_files(pathlib.Path(library)):
+        found = stdlib.Found(program, file)
+        if found.how == "compiled" and size + found.size <= LIBRARY_ROWS:
+            size += found.size
+            texts.append(rows.text_of(file.read_bytes()) + "\n")
     # Encodings are named in the first two lines alone.
     pathlib.Path(together).write_text("\n\n" + "".join(texts), encoding="utf-8")
     print(len(texts))
@@ -155,9 +195,8 @@ def main():
     if not os.access(words.program, os.X_OK):
         sys.exit("speed.py: there is no program %s: sh pyc.sh builds it" % words.program)
     print("%s; %s; CPython %s\n" % (datetime.date.today(), machine(), platform.python_version()))
-    heads = "Statements|Rows, MB|pyc|json.loads|compile|dis|pyc / first two|pyc / all three|Peak of pyc, MB|Peak of CPython, MB"
-    print("| %s |" % heads.replace("|", " | "))
-    print("|" + "---|" * 10, flush=True)
+    print(table_line(HEADS))
+    print("|" + "---|" * len(HEADS), flush=True)
     points = []
     with tempfile.TemporaryDirectory() as folder:
         bench = Bench(words.program.resolve(), words.runs, folder)

@@ -5,8 +5,9 @@ usage: stdlib.py [--program FILE] [--files] [--kinds] [FOLDER]
 
 The program is crates/pyc/out/pyc, which pyc.sh builds. FOLDER takes the place of the library; installed packages
 (site-packages) are left out. With --files each file has a line of its own first: how it ended, and its path. The counts
-are by kind of fault: the line that is told, without its place. With --kinds the rows of the files that were read are
-counted by their kind too. The status is 1 where the rows of a file are refused as input: rows.py makes none that are.
+are by kind of fault: the line that is told, without its place; where a kind of node does not compile yet, with the kind.
+With --kinds the rows of the files that were read are counted by their kind too. The status is 1 where the rows of a file
+are refused as input: rows.py makes none that are.
 """
 import argparse
 import collections
@@ -22,30 +23,46 @@ import rows
 
 PROGRAM = pathlib.Path(__file__).resolve().parent.parent / "crates" / "pyc" / "out" / "pyc"
 
+# What the program tells of a kind that does not compile yet.
+NOT_YET = "RustPython does not implement this feature yet"
+
 
 def library_files(folder):
     """The files of Python of a folder, in order, without installed packages."""
     return (it for it in sorted(folder.glob("**/*.py")) if "site-packages" not in it.parts)
 
 
-def ending(program, file, kinds):
-    """How a file ends, and the seconds of rows and of the program. The kinds of rows that were read are counted."""
-    start = time.perf_counter()
-    try:
-        text = rows.rows_text(file.read_bytes())
-    except rows.Fault as fault:
-        return "no rows: " + str(fault), time.perf_counter() - start, 0.0
-    middle = time.perf_counter()
-    words = [str(program), "exec", "0", file.name]
-    ended = subprocess.run(words, input=text.encode("utf-8"), stdout=subprocess.DEVNULL, stderr=subprocess.PIPE)
-    took = middle - start, time.perf_counter() - middle
-    if ended.returncode in (0, 1) and kinds is not None:
-        kinds.update(row[0] for row in json.loads(text))
-    if ended.returncode == 0:
-        return "compiled", *took
-    told = ended.stderr.decode("utf-8").strip()
-    told = told.split(" ", 1)[-1] if ended.returncode == 1 else told
-    return "status %d: %s" % (ended.returncode, told), *took
+def kind_at(text, place):
+    """The kind of the outermost row at a place, as ROW:COL."""
+    here = [row[0] for row in json.loads(text) if ":".join(map(str, row[1:3])) == place]
+    return here[-1] if here else "no row"
+
+
+class Found:
+    """How a file ends, the bytes of its rows, and the seconds of rows and of the program."""
+
+    def __init__(self, program, file, kinds=None):
+        self.size, self.seconds = 0, (0.0, 0.0)
+        start = time.perf_counter()
+        try:
+            text = rows.rows_text(file.read_bytes())
+        except rows.Fault as fault:
+            self.how = "no rows: " + str(fault)
+            self.seconds = (time.perf_counter() - start, 0.0)
+            return
+        data = text.encode("utf-8")
+        middle = time.perf_counter()
+        words = [str(program), "exec", "0", file.name]
+        ended = subprocess.run(words, input=data, stdout=subprocess.DEVNULL, stderr=subprocess.PIPE)
+        self.size = len(data)
+        self.seconds = (middle - start, time.perf_counter() - middle)
+        if ended.returncode in (0, 1) and kinds is not None:
+            kinds.update(row[0] for row in json.loads(text))
+        told = ended.stderr.decode("utf-8").strip()
+        if ended.returncode == 1:
+            place, told = told.split(" ", 1)
+            told += ": " + kind_at(text, place) if told == NOT_YET else ""
+        self.how = "status %d: %s" % (ended.returncode, told) if ended.returncode else "compiled"
 
 
 def main():
@@ -60,11 +77,11 @@ def main():
     counts, seconds = collections.Counter(), [0.0, 0.0]
     kinds = collections.Counter() if words.kinds else None
     for file in library_files(words.folder):
-        how, *took = ending(words.program.resolve(), file, kinds)
+        found = Found(words.program.resolve(), file, kinds)
         if words.files:
-            print("%s  %s" % (how, file), flush=True)
-        counts[how] += 1
-        seconds = [sum(it) for it in zip(seconds, took)]
+            print("%s  %s" % (found.how, file), flush=True)
+        counts[found.how] += 1
+        seconds = [sum(it) for it in zip(seconds, found.seconds)]
     print("%d files of %s, by Python %s" % (sum(counts.values()), words.folder, platform.python_version()))
     for how, count in counts.most_common():
         print("%6d  %s" % (count, how))
