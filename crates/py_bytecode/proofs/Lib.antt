@@ -1,4 +1,5 @@
 pub mod Joining
+pub mod Quoted
 pub mod View
 pub mod Heads
 mod Samples

@@ -1,4 +1,4 @@
-ghost use Rattle.std.specs.Prelude.{◌≡◌, ◌<◌, [], ◌∷◌, ◌++◌, false, string_bytes, OnOk};
+ghost use Rattle.std.specs.Prelude.{◌≡◌, ◌<◌, [], ◌∷◌, ◌++◌, false, string_bytes, IsFalse, IsTrue, OnOk};
 ghost use Rattle.std.specs.Char.{encode_utf8};
 ghost use Rattle.std.specs.Fmt.{digit_glyph};
 ghost use Rattle.py_bytecode.specs.Quote.{hex_digits, quote, quote_byte, quote_bytes, quote_char};
@@ -12,15 +12,31 @@ pub fn push_text(out: &mut String, text: &str) -> Result<(), AllocError>
     out.push_str(text)
 }
 
-/// Appends the text in quotes, with what could not stand there escaped.
+/// Appends the text in quotes, with what could not stand there escaped. What stands for itself is appended a run at a
+/// time.
 pub fn push_quote(out: &mut String, text: &str) -> Result<(), AllocError>
     ensures { OnOk result (string_bytes out.new ≡ string_bytes out.old ++ quote text.now) }
 {
     out.push('\'')?;
-    for c in text.chars() {
-        push_quoted(out, c)?;
+    let bytes = text.as_bytes();
+    let mut start = 0;
+    for (at, byte) in bytes.iter().enumerate() {
+        if is_escaped(*byte) {
+            out.push_str(&text[start..at])?;
+            push_quoted(out, *byte as char)?;
+            start = at + 1;
+        }
     }
+    out.push_str(&text[start..])?;
     out.push('\'')
+}
+
+/// Whether a byte of a text is a character that does not stand for itself.
+fn is_escaped(byte: u8) -> bool
+    ensures character { IsTrue result → byte < 128 }
+    ensures itself { IsFalse result → byte < 128 → quote_char byte ≡ byte ∷ [] }
+{
+    matches!(byte, b'\'' | b'\\' | 0..=0x1f | 0x7f)
 }
 
 fn push_quoted(out: &mut String, c: char) -> Result<(), AllocError>

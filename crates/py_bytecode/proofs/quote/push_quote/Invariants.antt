@@ -1,7 +1,9 @@
-use Rattle.std.proofs.Common.{◌≡◌, ◌++◌, string_bytes}
-use Rattle.std.specs.List.{flat_map}
-use Rattle.py_bytecode.specs.Quote.{quote_char}
+use Rattle.std.proofs.Common.{◌≡◌, ◌++◌, ◌≤◌, string_bytes, slice_range, take, flat_map, IsCharBoundary}
+use Rattle.py_bytecode.proofs.Quoted.{quoted_byte}
 use Rattle.py_bytecode.proofs.quote.push_quote.Given as goal
 
-abbrev pub invariant-loop-c : goal.invariant-loop-c
-invariant-loop-c l = string_bytes l.out ≡ string_bytes l.initial.out ++ flat_map quote_char l.yielded
+abbrev pub invariant-loop-at : goal.invariant-loop-at
+invariant-loop-at l =
+    (l.start ≤ l.at)
+    × IsCharBoundary l.text l.start
+    × (string_bytes l.out ++ slice_range l.text l.start l.at ≡ string_bytes l.initial.out ++ flat_map quoted_byte (take l.at l.text))
