@@ -204,12 +204,12 @@ fn kind_of_three(word: &str) -> Option<Kind>
     ensures { result ≡ kind_of_three word.now }
 {
     match word {
-        "For" => Some(Kind::Stmt(StmtKind::For)),
-        "Try" => Some(Kind::Stmt(StmtKind::Try)),
-        "Set" => Some(Kind::Expr(ExprKind::Set)),
-        "int" => Some(Kind::Constant(ConstantKind::Int)),
         "str" => Some(Kind::Constant(ConstantKind::Str)),
         "Arg" => Some(Kind::Arg),
+        "int" => Some(Kind::Constant(ConstantKind::Int)),
+        "Try" => Some(Kind::Stmt(StmtKind::Try)),
+        "For" => Some(Kind::Stmt(StmtKind::For)),
+        "Set" => Some(Kind::Expr(ExprKind::Set)),
         _ => None,
     }
 }
@@ -218,15 +218,15 @@ fn kind_of_four(word: &str) -> Option<Kind>
     ensures { result ≡ kind_of_four word.now }
 {
     match word {
-        "With" => Some(Kind::Stmt(StmtKind::With)),
-        "Expr" => Some(Kind::Stmt(StmtKind::Expr)),
-        "Pass" => Some(Kind::Stmt(StmtKind::Pass)),
-        "Dict" => Some(Kind::Expr(ExprKind::Dict)),
-        "Call" => Some(Kind::Expr(ExprKind::Call)),
         "Name" => Some(Kind::Expr(ExprKind::Name)),
-        "List" => Some(Kind::Expr(ExprKind::List)),
+        "Call" => Some(Kind::Expr(ExprKind::Call)),
+        "Expr" => Some(Kind::Stmt(StmtKind::Expr)),
         "none" => Some(Kind::Constant(ConstantKind::None)),
         "true" => Some(Kind::Constant(ConstantKind::True)),
+        "List" => Some(Kind::Expr(ExprKind::List)),
+        "Pass" => Some(Kind::Stmt(StmtKind::Pass)),
+        "Dict" => Some(Kind::Expr(ExprKind::Dict)),
+        "With" => Some(Kind::Stmt(StmtKind::With)),
         _ => None,
     }
 }
@@ -235,20 +235,20 @@ fn kind_of_five(word: &str) -> Option<Kind>
     ensures { result ≡ kind_of_five word.now }
 {
     match word {
-        "While" => Some(Kind::Stmt(StmtKind::While)),
-        "Match" => Some(Kind::Stmt(StmtKind::Match)),
-        "Raise" => Some(Kind::Stmt(StmtKind::Raise)),
-        "Break" => Some(Kind::Stmt(StmtKind::Break)),
+        "Tuple" => Some(Kind::Expr(ExprKind::Tuple)),
         "BinOp" => Some(Kind::Expr(ExprKind::BinOp)),
+        "Raise" => Some(Kind::Stmt(StmtKind::Raise)),
+        "false" => Some(Kind::Constant(ConstantKind::False)),
+        "Alias" => Some(Kind::Alias),
+        "Slice" => Some(Kind::Expr(ExprKind::Slice)),
+        "bytes" => Some(Kind::Constant(ConstantKind::Bytes)),
+        "While" => Some(Kind::Stmt(StmtKind::While)),
+        "Break" => Some(Kind::Stmt(StmtKind::Break)),
+        "Yield" => Some(Kind::Expr(ExprKind::Yield)),
         "IfExp" => Some(Kind::Expr(ExprKind::IfExp)),
         "Await" => Some(Kind::Expr(ExprKind::Await)),
-        "Yield" => Some(Kind::Expr(ExprKind::Yield)),
-        "Tuple" => Some(Kind::Expr(ExprKind::Tuple)),
-        "Slice" => Some(Kind::Expr(ExprKind::Slice)),
-        "false" => Some(Kind::Constant(ConstantKind::False)),
-        "bytes" => Some(Kind::Constant(ConstantKind::Bytes)),
+        "Match" => Some(Kind::Stmt(StmtKind::Match)),
         "tuple" => Some(Kind::Constant(ConstantKind::Tuple)),
-        "Alias" => Some(Kind::Alias),
         _ => None,
     }
 }
@@ -257,15 +257,15 @@ fn kind_of_six(word: &str) -> Option<Kind>
     ensures { result ≡ kind_of_six word.now }
 {
     match word {
-        "Module" => Some(Kind::Mod(ModKind::Module)),
-        "Return" => Some(Kind::Stmt(StmtKind::Return)),
-        "Delete" => Some(Kind::Stmt(StmtKind::Delete)),
         "Assign" => Some(Kind::Stmt(StmtKind::Assign)),
-        "Assert" => Some(Kind::Stmt(StmtKind::Assert)),
-        "Import" => Some(Kind::Stmt(StmtKind::Import)),
-        "Global" => Some(Kind::Stmt(StmtKind::Global)),
+        "Return" => Some(Kind::Stmt(StmtKind::Return)),
         "BoolOp" => Some(Kind::Expr(ExprKind::BoolOp)),
+        "Import" => Some(Kind::Stmt(StmtKind::Import)),
+        "Delete" => Some(Kind::Stmt(StmtKind::Delete)),
+        "Assert" => Some(Kind::Stmt(StmtKind::Assert)),
         "Lambda" => Some(Kind::Expr(ExprKind::Lambda)),
+        "Module" => Some(Kind::Mod(ModKind::Module)),
+        "Global" => Some(Kind::Stmt(StmtKind::Global)),
         _ => None,
     }
 }
@@ -274,13 +274,13 @@ fn kind_of_seven(word: &str) -> Option<Kind>
     ensures { result ≡ kind_of_seven word.now }
 {
     match word {
-        "TryStar" => Some(Kind::Stmt(StmtKind::TryStar)),
-        "UnaryOp" => Some(Kind::Expr(ExprKind::UnaryOp)),
-        "SetComp" => Some(Kind::Expr(ExprKind::SetComp)),
         "Compare" => Some(Kind::Expr(ExprKind::Compare)),
+        "Keyword" => Some(Kind::Keyword),
+        "UnaryOp" => Some(Kind::Expr(ExprKind::UnaryOp)),
         "Starred" => Some(Kind::Expr(ExprKind::Starred)),
         "TypeVar" => Some(Kind::TypeParam(TypeParamKind::TypeVar)),
-        "Keyword" => Some(Kind::Keyword),
+        "SetComp" => Some(Kind::Expr(ExprKind::SetComp)),
+        "TryStar" => Some(Kind::Stmt(StmtKind::TryStar)),
         _ => None,
     }
 }
@@ -289,15 +289,15 @@ fn kind_of_eight(word: &str) -> Option<Kind>
     ensures { result ≡ kind_of_eight word.now }
 {
     match word {
+        "Constant" => Some(Kind::Expr(ExprKind::Constant)),
         "ClassDef" => Some(Kind::Stmt(StmtKind::ClassDef)),
-        "AsyncFor" => Some(Kind::Stmt(StmtKind::AsyncFor)),
-        "Nonlocal" => Some(Kind::Stmt(StmtKind::Nonlocal)),
+        "WithItem" => Some(Kind::WithItem),
         "Continue" => Some(Kind::Stmt(StmtKind::Continue)),
         "ListComp" => Some(Kind::Expr(ExprKind::ListComp)),
-        "DictComp" => Some(Kind::Expr(ExprKind::DictComp)),
-        "Constant" => Some(Kind::Expr(ExprKind::Constant)),
         "ellipsis" => Some(Kind::Constant(ConstantKind::Ellipsis)),
-        "WithItem" => Some(Kind::WithItem),
+        "DictComp" => Some(Kind::Expr(ExprKind::DictComp)),
+        "Nonlocal" => Some(Kind::Stmt(StmtKind::Nonlocal)),
+        "AsyncFor" => Some(Kind::Stmt(StmtKind::AsyncFor)),
         _ => None,
     }
 }
@@ -306,18 +306,18 @@ fn kind_of_nine(word: &str) -> Option<Kind>
     ensures { result ≡ kind_of_nine word.now }
 {
     match word {
-        "TypeAlias" => Some(Kind::Stmt(StmtKind::TypeAlias)),
-        "AugAssign" => Some(Kind::Stmt(StmtKind::AugAssign)),
-        "AnnAssign" => Some(Kind::Stmt(StmtKind::AnnAssign)),
-        "AsyncWith" => Some(Kind::Stmt(StmtKind::AsyncWith)),
-        "NamedExpr" => Some(Kind::Expr(ExprKind::NamedExpr)),
-        "YieldFrom" => Some(Kind::Expr(ExprKind::YieldFrom)),
-        "JoinedStr" => Some(Kind::Expr(ExprKind::JoinedStr)),
         "Attribute" => Some(Kind::Expr(ExprKind::Attribute)),
-        "Subscript" => Some(Kind::Expr(ExprKind::Subscript)),
-        "ParamSpec" => Some(Kind::TypeParam(TypeParamKind::ParamSpec)),
         "Arguments" => Some(Kind::Arguments),
+        "Subscript" => Some(Kind::Expr(ExprKind::Subscript)),
+        "JoinedStr" => Some(Kind::Expr(ExprKind::JoinedStr)),
+        "AugAssign" => Some(Kind::Stmt(StmtKind::AugAssign)),
+        "YieldFrom" => Some(Kind::Expr(ExprKind::YieldFrom)),
+        "NamedExpr" => Some(Kind::Expr(ExprKind::NamedExpr)),
         "MatchCase" => Some(Kind::MatchCase),
+        "TypeAlias" => Some(Kind::Stmt(StmtKind::TypeAlias)),
+        "AsyncWith" => Some(Kind::Stmt(StmtKind::AsyncWith)),
+        "AnnAssign" => Some(Kind::Stmt(StmtKind::AnnAssign)),
+        "ParamSpec" => Some(Kind::TypeParam(TypeParamKind::ParamSpec)),
         _ => None,
     }
 }
@@ -326,8 +326,8 @@ fn kind_of_ten(word: &str) -> Option<Kind>
     ensures { result ≡ kind_of_ten word.now }
 {
     match word {
-        "Expression" => Some(Kind::Mod(ModKind::Expression)),
         "ImportFrom" => Some(Kind::Stmt(StmtKind::ImportFrom)),
+        "Expression" => Some(Kind::Mod(ModKind::Expression)),
         _ => None,
     }
 }
@@ -336,8 +336,8 @@ fn kind_of_eleven(word: &str) -> Option<Kind>
     ensures { result ≡ kind_of_eleven word.now }
 {
     match word {
-        "Interactive" => Some(Kind::Mod(ModKind::Interactive)),
         "FunctionDef" => Some(Kind::Stmt(StmtKind::FunctionDef)),
+        "Interactive" => Some(Kind::Mod(ModKind::Interactive)),
         _ => None,
     }
 }
@@ -346,8 +346,8 @@ fn kind_of_twelve(word: &str) -> Option<Kind>
     ensures { result ≡ kind_of_twelve word.now }
 {
     match word {
-        "FunctionType" => Some(Kind::Mod(ModKind::FunctionType)),
         "GeneratorExp" => Some(Kind::Expr(ExprKind::GeneratorExp)),
+        "FunctionType" => Some(Kind::Mod(ModKind::FunctionType)),
         "TypeVarTuple" => Some(Kind::TypeParam(TypeParamKind::TypeVarTuple)),
         _ => None,
     }
@@ -367,8 +367,8 @@ fn kind_of_fourteen(word: &str) -> Option<Kind>
     ensures { result ≡ kind_of_fourteen word.now }
 {
     match word {
-        "FormattedValue" => Some(Kind::Expr(ExprKind::FormattedValue)),
         "ArgWithDefault" => Some(Kind::ArgWithDefault),
+        "FormattedValue" => Some(Kind::Expr(ExprKind::FormattedValue)),
         _ => None,
     }
 }
