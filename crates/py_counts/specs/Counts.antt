@@ -66,9 +66,9 @@ abbrev mutual
   pub scopes_in_defaults : (postponed : Bool) → tree.Arguments → ℕ
   scopes_in_defaults p (tree.arguments posonly args vararg kwonly kwarg) = scopes_in_args p posonly + (scopes_in_args p args + scopes_in_args p kwonly)
 
-  -- the annotation of a parameter
+  -- the annotation of a parameter, which may be postponed
   pub scopes_in_arg : (postponed : Bool) → tree.Arg → ℕ
-  scopes_in_arg p (tree.arg at name annotation) = scopes_in_opt p annotation
+  scopes_in_arg p (tree.arg at name annotation) = if p then 0 else scopes_in_opt p annotation
 
   -- that of a parameter that may be missing
   pub scopes_in_opt_arg : (postponed : Bool) → tree.OptArg → ℕ

@@ -26,9 +26,9 @@ level_within typ (naming.Class name path) s = refl
 -- what stands around in a scope within
 pub context_within : (x : Source) (around o : OpenScope) (n : Naming) (number : ℕ) → o.class ≡ (named_in n (context_of x around)).class → o.path ≡ (named_in n (context_of x around)).path → o.here ≡ number → o.context ≡ unlooped around.context → o.code.cellvar_cache ≡ cells_among (symbols_in x.scopes number) → o.code.freevar_cache ≡ frees_among (symbols_in x.scopes number) → context_of x o ≡ inside o.typ number (named_in n (context_of x around))
 unfolding inside with_path within_class
-context_within x around o naming.AsAround number c p h e v f = λ i. record { level = x.opts.optimize; source = x.path; class = c i; path = p i; postponed = (e i).future_annotations; over = (e i).future_over; typ = o.typ; scopes = x.scopes; here = h i; cells = v i; frees = f i }
-context_within x around o (naming.Function path) number c p h e v f = λ i. record { level = x.opts.optimize; source = x.path; class = c i; path = p i; postponed = (e i).future_annotations; over = (e i).future_over; typ = o.typ; scopes = x.scopes; here = h i; cells = v i; frees = f i }
-context_within x around o (naming.Class name path) number c p h e v f = λ i. record { level = x.opts.optimize; source = x.path; class = c i; path = p i; postponed = (e i).future_annotations; over = (e i).future_over; typ = o.typ; scopes = x.scopes; here = h i; cells = v i; frees = f i }
+context_within x around o naming.AsAround number c p h e v f = λ i. record { level = x.opts.optimize; source = x.path; class = c i; path = p i; postponed = (e i).future_annotations; typ = o.typ; scopes = x.scopes; here = h i; cells = v i; frees = f i }
+context_within x around o (naming.Function path) number c p h e v f = λ i. record { level = x.opts.optimize; source = x.path; class = c i; path = p i; postponed = (e i).future_annotations; typ = o.typ; scopes = x.scopes; here = h i; cells = v i; frees = f i }
+context_within x around o (naming.Class name path) number c p h e v f = λ i. record { level = x.opts.optimize; source = x.path; class = c i; path = p i; postponed = (e i).future_annotations; typ = o.typ; scopes = x.scopes; here = h i; cells = v i; frees = f i }
 
 -- and what its code object says of it
 pub head_within : (x : Source) (around : OpenScope) (n : Naming) (typ : SymbolTableType) (number : ℕ) (h : Shape) (at : SourceLocation) → head_in h x.path at.row (symbols_in x.scopes number) ≡ code_head (inside typ number (named_in n (context_of x around))) h at
@@ -40,7 +40,7 @@ head_within x around (naming.Class name path) typ number h at = refl
 -- the outermost scope
 pub context_outermost : (x : Source) (o : OpenScope) → o.class ≡ None → o.path ≡ [] → o.typ ≡ kind.Module → o.here ≡ 0 → o.context ≡ no_context → o.code.cellvar_cache ≡ cells_among (symbols_in x.scopes 0) → o.code.freevar_cache ≡ frees_among (symbols_in x.scopes 0) → context_of x o ≡ outermost x.opts.optimize x.path x.scopes
 unfolding inside
-context_outermost x o c p t h e v f = λ i. record { level = x.opts.optimize; source = x.path; class = c i; path = p i; postponed = (e i).future_annotations; over = (e i).future_over; typ = t i; scopes = x.scopes; here = h i; cells = v i; frees = f i }
+context_outermost x o c p t h e v f = λ i. record { level = x.opts.optimize; source = x.path; class = c i; path = p i; postponed = (e i).future_annotations; typ = t i; scopes = x.scopes; here = h i; cells = v i; frees = f i }
 
 pub head_outermost : (x : Source) → head_in module_shape x.path 1 (symbols_in x.scopes 0) ≡ module_head (outermost x.opts.optimize x.path x.scopes)
 unfolding inside

@@ -1,5 +1,5 @@
 -- What an emitter holds: what is emitted, and the rest, which steps of an emission leave as it is.
-use Rattle.std.specs.Prelude.{◌≡◌, ◌≢◌, ◌<◌, ℕ, List, [], ◌∷◌, ◌++◌, length, map, codes, false, Option, Some, None, Result, Ok, Err}
+use Rattle.std.specs.Prelude.{◌≡◌, ◌≢◌, ◌<◌, ℕ, List, [], ◌∷◌, ◌++◌, length, map, codes, Bool, false, Option, Some, None, Result, Ok, Err}
 use Rattle.py_base.specs.declared.location.SourceLocation.{SourceLocation}
 use Rattle.py_base.specs.declared.location.LocatedError.{LocatedError}
 use Rattle.py_bytecode.specs.View.{constant}
@@ -49,7 +49,6 @@ context_of x o = record {
   class = o.class;
   path = o.path;
   postponed = o.context.future_annotations;
-  over = o.context.future_over;
   typ = o.typ;
   scopes = x.scopes;
   here = o.here;
@@ -122,13 +121,16 @@ pub record IsFirst (code : FlatCode) (h : Head) : Type 0 where
   pub head : head_of code ≡ h
 
 abbrev pub no_context : EmitContext
-no_context = record { loop_blocks = None; future_over = false; future_annotations = false }
+no_context = record { loop_blocks = None; future_annotations = false }
 
 abbrev pub first_rest : CompileOpts → (path : List ℕ) → List ScopeEntry → Rest
 first_rest opts path scopes = record { opts = opts; context = no_context; path = path; scopes = scopes; head = module_head (outermost opts.optimize path scopes); outer = [] }
 
 abbrev pub looped : Option (BlockIdx × BlockIdx) → Rest → Rest
 looped loops r = record r { context = record r.context { loop_blocks = loops } }
+
+abbrev pub postponed_rest : (postponed : Bool) → Rest → Rest
+postponed_rest p r = record r { context = record r.context { future_annotations = p } }
 
 -- the code of a scope, which is a generator or not
 abbrev pub flagged : OpenScope → FlatCode

@@ -6,9 +6,9 @@ ghost use Rattle.py_ir.specs.Final.{IsFinal};
 ghost use Rattle.py_base.specs.declared.location.SourceLocation.{SourceLocation as Location};
 ghost use Rattle.py_steps.specs.Children.{code_head};
 ghost use Rattle.py_steps.specs.Context.{inside, outermost, symbols_in};
-ghost use Rattle.py_steps.specs.Emitting.{Begin, Done, Put, begun, emit as emission_of, emit_count, generating, jump as jumping, located, nothing, with_block, with_loops, with_step};
+ghost use Rattle.py_steps.specs.Emitting.{Begin, Done, Put, begun, emit as emission_of, emit_count, generating, jump as jumping, located, nothing, with_block, with_loops, with_postponed, with_step};
 ghost use Rattle.py_steps.specs.Sealed.{sealed};
-ghost use Rattle.py_emit.specs.States.{Goes, Same, IsFirst, IsStarved, IsUnrefused, entered, entered_rest, first_rest, head_in, head_of, info, left, left_rest, loop_blocks, looped, module_shape, named_in, placed_error, rest, shape_of, source_of, state, state_of, unlooped};
+ghost use Rattle.py_emit.specs.States.{Goes, Same, IsFirst, IsStarved, IsUnrefused, entered, entered_rest, first_rest, head_in, head_of, info, left, left_rest, loop_blocks, looped, module_shape, named_in, placed_error, postponed_rest, rest, shape_of, source_of, state, state_of, unlooped};
 ghost use Rattle.py_emit.specs.Steps.{IsOpen, step_of};
 
 use crate::context::{CompileOpts, EmitContext, Naming, ScopeHead};
@@ -110,6 +110,16 @@ impl Emitter {
         ensures rest { rest self.new ≡ looped loops (rest self.old) }
     {
         mem::replace(&mut self.scope.context.loop_blocks, loops)
+    }
+
+    /// Whether the annotations of what follows are postponed. Answers what was said before.
+    #[tactic(auto, unfolding(py_steps::specs::Emitting::with_postponed, crate::specs::States::rest))]
+    pub fn set_postponed(&mut self, postponed: bool) -> bool
+        ensures old { result ≡ (rest self.old).context.future_annotations }
+        ensures state { state self.new ≡ with_postponed postponed (state self.old) }
+        ensures rest { rest self.new ≡ postponed_rest postponed (rest self.old) }
+    {
+        mem::replace(&mut self.scope.context.future_annotations, postponed)
     }
 
     /// What follows stands there in the source.

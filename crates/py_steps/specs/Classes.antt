@@ -24,9 +24,13 @@ is_global scope.Cell = false
 abbrev pub class_path : Context → (name : List ℕ) → List ℕ
 class_path c name = if is_global (scope_of c (mangled c name)) then name else qualified c name
 
--- within a class of this name, which mangles the names within it
+-- within a class of this name and this qualified name, which mangles the names within it
+abbrev pub class_within : (path name : List ℕ) → Context → (number : ℕ) → Context
+class_within path name c n = inside kind.Class n (with_path path (within_class name c))
+
+-- where no hidden scope stands around it
 abbrev pub class_inside : (name : List ℕ) → Context → (number : ℕ) → Context
-class_inside name c n = inside kind.Class n (with_path (class_path c name) (within_class name c))
+class_inside name c n = class_within (class_path c name) name c n
 
 -- a class takes nothing, and its names are looked up where they stand
 abbrev pub class_shape : (name : List ℕ) → Shape

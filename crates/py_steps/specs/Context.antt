@@ -16,15 +16,14 @@ use Rattle.py_scope.specs.declared.table_type.SymbolTableType.TheVariants as kin
 use Rattle.py_forms.specs.Form.{Fixed, Resolved, FixedByName, FixedGlobal, FixedFast, Head}
 
 -- the level of optimization and the path of the source; the innermost class, which mangles names; the qualified name of what stands
--- around, which is empty at the outermost; whether annotations are postponed, and whether no future import may follow; what kind of
--- scope the node stands in; all scopes in preorder, and the number of the present one; its cells and its free names
+-- around, which is empty at the outermost; whether annotations are postponed; what kind of scope the node stands in; all scopes in
+-- preorder, and the number of the present one; its cells and its free names
 pub record Context : Type 0 where
   pub level : ℕ
   pub source : List ℕ
   pub class : Option (List ℕ)
   pub path : List ℕ
   pub postponed : Bool
-  pub over : Bool
   pub typ : SymbolTableType
   pub scopes : List ScopeEntry
   pub here : ℕ
@@ -84,7 +83,7 @@ inside typ n c = record c { typ = typ; here = n; cells = cells_among (symbols_in
 -- before anything; the outermost scope has the number 0
 abbrev pub outermost : (level : ℕ) → (source : List ℕ) → List ScopeEntry → Context
 outermost l source scopes =
-    inside kind.Module 0 (record { level = l; source = source; class = None; path = []; postponed = false; over = false; typ = kind.Module; scopes = scopes; here = 0; cells = []; frees = [] })
+    inside kind.Module 0 (record { level = l; source = source; class = None; path = []; postponed = false; typ = kind.Module; scopes = scopes; here = 0; cells = []; frees = [] })
 
 -- the class mangles the names within it
 unfoldable pub within_class : (name : List ℕ) → Context → Context

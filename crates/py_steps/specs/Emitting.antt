@@ -89,6 +89,9 @@ with_loops x s = record s { around = record s.around { loops = x } }
 unfoldable pub with_context : Context → State → State
 with_context c s = record s { around = record s.around { context = c } }
 
+unfoldable pub with_postponed : (postponed : Bool) → State → State
+with_postponed p s = record s { around = record s.around { context = record s.around.context { postponed = p } } }
+
 unfoldable pub refuse : CodegenErrorType → Emission
 refuse e s = Refused e (Some s.location)
 
@@ -156,6 +159,10 @@ by_loops a s = a s.around.loops s
 -- what is emitted within a loop with these blocks
 unfoldable pub in_loop : LoopBlocks → Emission → Emission
 in_loop x a s = go_on (a (with_loops (Some x) s)) (λ t. Done (with_loops s.around.loops t))
+
+-- what is emitted where annotations are postponed
+unfoldable pub postponing : Emission → Emission
+postponing a s = go_on (a (with_postponed true s)) (λ t. Done (with_postponed s.around.context.postponed t))
 
 -- before anything is emitted of a scope there is one block, and it stands in no loop
 abbrev pub begun : Context → SourceLocation → (next : ℕ) → State

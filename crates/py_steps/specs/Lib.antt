@@ -10,3 +10,4 @@ pub mod Children
 pub mod Comprehensions
 pub mod Everywhere
 pub mod Classes
+pub mod TypeParameters
