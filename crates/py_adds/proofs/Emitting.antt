@@ -1,10 +1,10 @@
 -- What emissions add, one after another: each adds items and so many blocks where it is done, and then a fact holds.
-use Rattle.std.proofs.Common.{◌≡◌, ℕ, ◌+◌, ◌<◌, ◌^◌, List, [], ◌++◌, Option, Some, refl, sym, ap, ◌∙◌, subst, arith, append-nil}
+use Rattle.std.proofs.Common.{◌≡◌, ℕ, ◌+◌, ◌<◌, ◌^◌, List, [], ◌++◌, true, Option, Some, refl, sym, ap, ◌∙◌, subst, arith, append-nil}
 use Rattle.py_base.specs.declared.location.SourceLocation.{SourceLocation}
 use Rattle.py_forms.specs.Form.{Scope}
 use Rattle.py_forms.specs.Code.{Item}
 use Rattle.py_forms.specs.declared.errors.CodegenErrorType.{CodegenErrorType}
-use Rattle.py_steps.specs.Emitting.{Around, State, Outcome, Done, TooWide, Refused, LoopBlocks, Emission, ◌▸◌, go_on, keep, with_block, with_loops, located, by_context, by_level, by_loops, in_loop, new_block, move, nothing, pass_over, refuse}
+use Rattle.py_steps.specs.Emitting.{Around, State, Outcome, Done, TooWide, Refused, LoopBlocks, Emission, ◌▸◌, go_on, keep, with_block, with_loops, with_postponed, located, by_context, by_level, by_loops, in_loop, new_block, move, nothing, pass_over, postponing, refuse}
 use Rattle.py_steps.specs.Context.{Context, room}
 use Rattle.py_adds.proofs.Settled.{Settled}
 use Rattle.py_adds.proofs.Adding.{Added, Adds, adds_as, adds_join, adds_nothing, adds_plain}
@@ -228,6 +228,31 @@ loop_gives {c = c} {v = v} {p = p} {m = m} {l = l} x h = record {
           counted = d.0.counted;
           cells = d.0.cells;
           added = record { names = y.names; names_are = y.names_are; varnames = y.varnames; varnames_are = y.varnames_are; constants = y.constants; constants_are = y.constants_are; codes = y.codes; blocks_are = y.blocks_are; steps = y.steps; steps_are = y.steps_are; reads = λ a q t w. y.reads a q t (record { names = w.names; names_are = w.names_are; varnames = w.varnames; varnames_are = w.varnames_are; constants = w.constants; constants_are = w.constants_are; cells_are = w.cells_are }); inside = y.inside; around_are = ap (λ (u : Around). record u { loops = s.around.loops }) y.around_are };
+        }),
+        d.1,
+      );
+}
+
+-- the same, where annotations are postponed
+abbrev pub postponed_around : Around → Around
+postponed_around c = record c { context = record c.context { postponed = true } }
+
+pub postponed_gives : {c : Around} {n k : ℕ} {v : Emission} {p : List (Item Scope)} {m l : ℕ} {P : Type 0} → Gives (postponed_around c) n k v p m l P → Gives c n k (postponing v) p m l P
+unfolding postponing with_postponed
+postponed_gives {c = c} {v = v} {p = p} {m = m} {l = l} h = record {
+  run = λ s r b f z e.
+      let inner : State = with_postponed true s in
+      let before = s.around.context.postponed in
+      let g = went_on (v inner) (λ t. Done (with_postponed before t)) r e in
+      let d = h.run inner g.0 b f (record { around = ap postponed_around z.around; settled = record { cells = z.settled.cells; frees = z.settled.frees }; roomy = z.roomy }) g.1 in
+      let y = d.0.added in
+      let back : with_postponed before g.0 ≡ r = done_is (with_postponed before g.0) r g.2 in (
+        subst (λ t. Adds s t p m l) back (record {
+          made = d.0.made;
+          next_is = d.0.next_is;
+          counted = d.0.counted;
+          cells = d.0.cells;
+          added = record { names = y.names; names_are = y.names_are; varnames = y.varnames; varnames_are = y.varnames_are; constants = y.constants; constants_are = y.constants_are; codes = y.codes; blocks_are = y.blocks_are; steps = y.steps; steps_are = y.steps_are; reads = λ a q t w. y.reads a q t (record { names = w.names; names_are = w.names_are; varnames = w.varnames; varnames_are = w.varnames_are; constants = w.constants; constants_are = w.constants_are; cells_are = w.cells_are }); inside = y.inside; around_are = ap (λ (u : Around). record u { context = record u.context { postponed = before } }) y.around_are };
         }),
         d.1,
       );

@@ -34,3 +34,4 @@ pub mod Pushed
 pub mod Defaults
 pub mod ComprehensionAdds
 pub mod ClassAdds
+pub mod TypeParameterAdds
