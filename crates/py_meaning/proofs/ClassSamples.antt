@@ -48,7 +48,7 @@ handed_on_forms : codes_of_object 9 handed_on_object ≡ codes_of_scope 9 (body 
 unfolding inside with_path within_class
 handed_on_forms = refl
 
-handed_on_faults : told (compile_faults 0 handed_on) ≡ []
+handed_on_faults : told (compile_faults Exec 0 handed_on) ≡ []
 handed_on_faults = refl
 
 -- a docstring, and a class within that is private:
@@ -73,7 +73,7 @@ documented_class_forms : codes_of_object 9 documented_class_object ≡ codes_of_
 unfolding inside with_path within_class
 documented_class_forms = refl
 
-documented_class_faults : told (compile_faults 0 documented_class) ≡ []
+documented_class_faults : told (compile_faults Exec 0 documented_class) ≡ []
 documented_class_faults = refl
 
 -- from level 2 on the docstring is None:
@@ -99,7 +99,7 @@ undocumented_class_forms : codes_of_object 9 undocumented_class_object ≡ codes
 unfolding inside with_path within_class
 undocumented_class_forms = refl
 
-undocumented_class_faults : told (compile_faults 2 undocumented_class) ≡ []
+undocumented_class_faults : told (compile_faults Exec 2 undocumented_class) ≡ []
 undocumented_class_faults = refl
 
 -- annotations, one of them within control:
@@ -125,7 +125,7 @@ annotated_class_forms : codes_of_object 9 annotated_class_object ≡ codes_of_sc
 unfolding inside with_path within_class
 annotated_class_forms = refl
 
-annotated_class_faults : told (compile_faults 0 annotated_class) ≡ []
+annotated_class_faults : told (compile_faults Exec 0 annotated_class) ≡ []
 annotated_class_faults = refl
 
 -- annotations in a class within and in a method make no room, nor do those of a handler:
@@ -153,7 +153,7 @@ not_annotated_forms : codes_of_object 9 not_annotated_object ≡ codes_of_scope 
 unfolding inside with_path within_class
 not_annotated_forms = refl
 
-not_annotated_faults : told (compile_faults 0 not_annotated) ≡ []
+not_annotated_faults : told (compile_faults Exec 0 not_annotated) ≡ []
 not_annotated_faults = refl
 
 -- bases and keywords, which come after the statements:
@@ -176,7 +176,7 @@ built_with_forms : codes_of_object 9 built_with_object ≡ codes_of_scope 9 (bod
 unfolding inside with_path within_class
 built_with_forms = refl
 
-built_with_faults : told (compile_faults 0 built_with) ≡ []
+built_with_faults : told (compile_faults Exec 0 built_with) ≡ []
 built_with_faults = refl
 
 -- a starred base, and keywords of a map:
@@ -199,7 +199,7 @@ built_starred_forms : codes_of_object 9 built_starred_object ≡ codes_of_scope 
 unfolding inside with_path within_class
 built_starred_forms = refl
 
-built_starred_faults : told (compile_faults 0 built_starred) ≡ []
+built_starred_faults : told (compile_faults Exec 0 built_starred) ≡ []
 built_starred_faults = refl
 
 -- two decorators, with scopes of their own before the class:
@@ -225,7 +225,7 @@ decorated_class_forms : codes_of_object 9 decorated_class_object ≡ codes_of_sc
 unfolding inside with_path within_class
 decorated_class_forms = refl
 
-decorated_class_faults : told (compile_faults 0 decorated_class) ≡ []
+decorated_class_faults : told (compile_faults Exec 0 decorated_class) ≡ []
 decorated_class_faults = refl
 
 -- a name that a method takes from the function around passes through the class, which binds it too:
@@ -253,7 +253,7 @@ passed_through_forms : codes_of_object 9 passed_through_object ≡ codes_of_scop
 unfolding inside with_path within_class
 passed_through_forms = refl
 
-passed_through_faults : told (compile_faults 0 passed_through) ≡ []
+passed_through_faults : told (compile_faults Exec 0 passed_through) ≡ []
 passed_through_faults = refl
 
 -- the qualified name of a class that is global begins anew, that of a function does not:
@@ -280,7 +280,7 @@ begins_anew_forms : codes_of_object 9 begins_anew_object ≡ codes_of_scope 9 (b
 unfolding inside with_path within_class
 begins_anew_forms = refl
 
-begins_anew_faults : told (compile_faults 0 begins_anew) ≡ []
+begins_anew_faults : told (compile_faults Exec 0 begins_anew) ≡ []
 begins_anew_faults = refl
 
 -- private names of attributes, parameters, names and imports:
@@ -308,7 +308,7 @@ private_names_forms : codes_of_object 9 private_names_object ≡ codes_of_scope 
 unfolding inside with_path within_class
 private_names_forms = refl
 
-private_names_faults : told (compile_faults 0 private_names) ≡ []
+private_names_faults : told (compile_faults Exec 0 private_names) ≡ []
 private_names_faults = refl
 
 -- the class of a method within a function within, and its name in a class within:
@@ -334,7 +334,7 @@ class_cell_forms : codes_of_object 9 class_cell_object ≡ codes_of_scope 9 (bod
 unfolding inside with_path within_class
 class_cell_forms = refl
 
-class_cell_faults : told (compile_faults 0 class_cell) ≡ []
+class_cell_faults : told (compile_faults Exec 0 class_cell) ≡ []
 class_cell_faults = refl
 
 -- a class returns nothing, nor does it yield:
@@ -354,7 +354,7 @@ returning_refused : emitted returning Exec (outermost 0 (codes "m.py") returning
 unfolding with_step with_block with_name with_varname with_constant with_loops located refuse emit jump begin new_block emit_count emit_name emit_varname emit_mangled add_varname add_constant emit_constant move generating pass_over by_context by_level by_loops in_loop accessed inside with_path within_class child lambda_value emission_of_def emission_of_class load_cell sealed as_element called_at_once
 returning_refused = refl
 
-returning_faults : told (compile_faults 0 returning) ≡ (((codes "'return' outside function"), Some (at 3 9)) ∷ ((codes "'yield' outside function"), Some (at 4 9)) ∷ ((codes "'break' outside loop"), Some (at 6 18)) ∷ [])
+returning_faults : told (compile_faults Exec 0 returning) ≡ (((codes "'return' outside function"), Some (at 3 9)) ∷ ((codes "'yield' outside function"), Some (at 4 9)) ∷ ((codes "'break' outside loop"), Some (at 6 18)) ∷ [])
 returning_faults = refl
 
 -- a keyword that is a constant comes behind the statements and the bases:
@@ -371,7 +371,7 @@ keyword_debug_refused : emitted keyword_debug Exec (outermost 0 (codes "m.py") k
 unfolding with_step with_block with_name with_varname with_constant with_loops located refuse emit jump begin new_block emit_count emit_name emit_varname emit_mangled add_varname add_constant emit_constant move generating pass_over by_context by_level by_loops in_loop accessed inside with_path within_class child lambda_value emission_of_def emission_of_class load_cell sealed as_element called_at_once
 keyword_debug_refused = refl
 
-keyword_debug_faults : told (compile_faults 0 keyword_debug) ≡ (((codes "'continue' outside loop"), Some (at 3 5)) ∷ ((codes "cannot assign to __debug__"), Some (at 2 16)) ∷ ((codes "cannot assign to __debug__"), Some (at 2 35)) ∷ [])
+keyword_debug_faults : told (compile_faults Exec 0 keyword_debug) ≡ (((codes "'continue' outside loop"), Some (at 3 5)) ∷ ((codes "cannot assign to __debug__"), Some (at 2 16)) ∷ ((codes "cannot assign to __debug__"), Some (at 2 35)) ∷ [])
 keyword_debug_faults = refl
 
 -- the name of a class is a constant where the class is stored:
@@ -389,5 +389,5 @@ named_debug_refused : emitted named_debug Exec (outermost 0 (codes "m.py") named
 unfolding with_step with_block with_name with_varname with_constant with_loops located refuse emit jump begin new_block emit_count emit_name emit_varname emit_mangled add_varname add_constant emit_constant move generating pass_over by_context by_level by_loops in_loop accessed inside with_path within_class child lambda_value emission_of_def emission_of_class load_cell sealed as_element called_at_once
 named_debug_refused = refl
 
-named_debug_faults : told (compile_faults 0 named_debug) ≡ (((codes "cannot assign to __debug__"), Some (at 3 22)) ∷ ((codes "cannot assign to __debug__"), Some (at 2 11)) ∷ [])
+named_debug_faults : told (compile_faults Exec 0 named_debug) ≡ (((codes "cannot assign to __debug__"), Some (at 3 22)) ∷ ((codes "cannot assign to __debug__"), Some (at 2 11)) ∷ [])
 named_debug_faults = refl

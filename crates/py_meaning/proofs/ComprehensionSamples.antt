@@ -48,7 +48,7 @@ displays_forms : codes_of_object 9 displays_object ≡ codes_of_scope 9 (body di
 unfolding inside with_path
 displays_forms = refl
 
-displays_faults : told (compile_faults 0 displays) ≡ []
+displays_faults : told (compile_faults Exec 0 displays) ≡ []
 displays_faults = refl
 
 -- a generator, whose iterable stands outside:
@@ -70,7 +70,7 @@ generator_forms : codes_of_object 9 generator_object ≡ codes_of_scope 9 (body 
 unfolding inside with_path
 generator_forms = refl
 
-generator_faults : told (compile_faults 0 generator) ≡ []
+generator_faults : told (compile_faults Exec 0 generator) ≡ []
 generator_faults = refl
 
 -- two clauses with conditions:
@@ -92,7 +92,7 @@ two_clauses_forms : codes_of_object 9 two_clauses_object ≡ codes_of_scope 9 (b
 unfolding inside with_path
 two_clauses_forms = refl
 
-two_clauses_faults : told (compile_faults 0 two_clauses) ≡ []
+two_clauses_faults : told (compile_faults Exec 0 two_clauses) ≡ []
 two_clauses_faults = refl
 
 -- a walrus binds in the function around:
@@ -114,7 +114,7 @@ walrus_within_forms : codes_of_object 9 walrus_within_object ≡ codes_of_scope 
 unfolding inside with_path
 walrus_within_forms = refl
 
-walrus_within_faults : told (compile_faults 0 walrus_within) ≡ []
+walrus_within_faults : told (compile_faults Exec 0 walrus_within) ≡ []
 walrus_within_faults = refl
 
 -- a walrus of a module, in a condition, and a lambda over its name:
@@ -136,7 +136,7 @@ walrus_of_module_forms : codes_of_object 9 walrus_of_module_object ≡ codes_of_
 unfolding inside with_path
 walrus_of_module_forms = refl
 
-walrus_of_module_faults : told (compile_faults 0 walrus_of_module) ≡ []
+walrus_of_module_faults : told (compile_faults Exec 0 walrus_of_module) ≡ []
 walrus_of_module_faults = refl
 
 -- the value of an assignment comes before its target:
@@ -158,7 +158,7 @@ stored_into_forms : codes_of_object 9 stored_into_object ≡ codes_of_scope 9 (b
 unfolding inside with_path
 stored_into_forms = refl
 
-stored_into_faults : told (compile_faults 0 stored_into) ≡ []
+stored_into_faults : told (compile_faults Exec 0 stored_into) ≡ []
 stored_into_faults = refl
 
 -- a comprehension in the element, and others in an iterable, a condition and a target:
@@ -181,7 +181,7 @@ nested_forms : codes_of_object 9 nested_object ≡ codes_of_scope 9 (body nested
 unfolding inside with_path
 nested_forms = refl
 
-nested_faults : told (compile_faults 0 nested) ≡ []
+nested_faults : told (compile_faults Exec 0 nested) ≡ []
 nested_faults = refl
 
 -- walruses in comprehensions within, of names that are global or of the function:
@@ -206,7 +206,7 @@ lifted_forms : codes_of_object 9 lifted_object ≡ codes_of_scope 9 (body lifted
 unfolding inside with_path
 lifted_forms = refl
 
-lifted_faults : told (compile_faults 0 lifted) ≡ []
+lifted_faults : told (compile_faults Exec 0 lifted) ≡ []
 lifted_faults = refl
 
 -- scopes in defaults, decorators, annotations and displays:
@@ -231,7 +231,7 @@ numbered_forms : codes_of_object 9 numbered_object ≡ codes_of_scope 9 (body nu
 unfolding inside with_path
 numbered_forms = refl
 
-numbered_faults : told (compile_faults 0 numbered) ≡ []
+numbered_faults : told (compile_faults Exec 0 numbered) ≡ []
 numbered_faults = refl
 
 -- a yield in a function is of its comprehension:
@@ -255,7 +255,7 @@ yields_forms : codes_of_object 9 yields_object ≡ codes_of_scope 9 (body yields
 unfolding inside with_path
 yields_forms = refl
 
-yields_faults : told (compile_faults 0 yields) ≡ []
+yields_faults : told (compile_faults Exec 0 yields) ≡ []
 yields_faults = refl
 
 -- stars in elements are told in other words, in parts of them too:
@@ -273,7 +273,7 @@ stars_refused : emitted stars Exec (outermost 0 (codes "m.py") stars_scopes) ≡
 unfolding with_step with_block with_name with_varname with_constant with_loops located refuse emit jump begin new_block emit_count emit_name emit_varname emit_mangled add_varname add_constant emit_constant move generating pass_over by_context by_level by_loops in_loop accessed inside with_path child lambda_value emission_of_def load_cell sealed as_element called_at_once
 stars_refused = refl
 
-stars_faults : told (compile_faults 0 stars) ≡ (((codes "iterable unpacking cannot be used in comprehension"), Some (at 1 6)) ∷ ((codes "iterable unpacking cannot be used in comprehension"), Some (at 2 16)) ∷ ((codes "iterable unpacking cannot be used in comprehension"), Some (at 3 7)) ∷ ((codes "iterable unpacking cannot be used in comprehension"), Some (at 3 11)) ∷ ((codes "iterable unpacking cannot be used in comprehension"), Some (at 3 23)) ∷ ((codes "cannot use starred expression here"), Some (at 4 2)) ∷ ((codes "cannot use starred expression here"), Some (at 4 17)) ∷ [])
+stars_faults : told (compile_faults Exec 0 stars) ≡ (((codes "iterable unpacking cannot be used in comprehension"), Some (at 1 6)) ∷ ((codes "iterable unpacking cannot be used in comprehension"), Some (at 2 16)) ∷ ((codes "iterable unpacking cannot be used in comprehension"), Some (at 3 7)) ∷ ((codes "iterable unpacking cannot be used in comprehension"), Some (at 3 11)) ∷ ((codes "iterable unpacking cannot be used in comprehension"), Some (at 3 23)) ∷ ((codes "cannot use starred expression here"), Some (at 4 2)) ∷ ((codes "cannot use starred expression here"), Some (at 4 17)) ∷ [])
 stars_faults = refl
 
 -- clauses that are async, and an element that awaits:
@@ -291,7 +291,7 @@ asynchronous_refused : emitted asynchronous Exec (outermost 0 (codes "m.py") asy
 unfolding with_step with_block with_name with_varname with_constant with_loops located refuse emit jump begin new_block emit_count emit_name emit_varname emit_mangled add_varname add_constant emit_constant move generating pass_over by_context by_level by_loops in_loop accessed inside with_path child lambda_value emission_of_def load_cell sealed as_element called_at_once
 asynchronous_refused = refl
 
-asynchronous_faults : told (compile_faults 0 asynchronous) ≡ (((codes "RustPython does not implement this feature yet"), Some (at 2 5)) ∷ ((codes "RustPython does not implement this feature yet"), Some (at 3 5)) ∷ ((codes "cannot use starred expression here"), Some (at 3 37)) ∷ ((codes "'await' outside async function"), Some (at 3 8)) ∷ ((codes "'await' outside async function"), Some (at 4 2)) ∷ [])
+asynchronous_faults : told (compile_faults Exec 0 asynchronous) ≡ (((codes "RustPython does not implement this feature yet"), Some (at 2 5)) ∷ ((codes "RustPython does not implement this feature yet"), Some (at 3 5)) ∷ ((codes "cannot use starred expression here"), Some (at 3 37)) ∷ ((codes "'await' outside async function"), Some (at 3 8)) ∷ ((codes "'await' outside async function"), Some (at 4 2)) ∷ [])
 asynchronous_faults = refl
 
 -- what an element awaits, and what it does not:
@@ -308,7 +308,7 @@ awaits_within_refused : emitted awaits_within Exec (outermost 0 (codes "m.py") a
 unfolding with_step with_block with_name with_varname with_constant with_loops located refuse emit jump begin new_block emit_count emit_name emit_varname emit_mangled add_varname add_constant emit_constant move generating pass_over by_context by_level by_loops in_loop accessed inside with_path child lambda_value emission_of_def load_cell sealed as_element called_at_once
 awaits_within_refused = refl
 
-awaits_within_faults : told (compile_faults 0 awaits_within) ≡ (((codes "RustPython does not implement this feature yet"), Some (at 1 5)) ∷ ((codes "'await' outside async function"), Some (at 1 15)) ∷ ((codes "'await' outside async function"), Some (at 2 16)) ∷ ((codes "RustPython does not implement this feature yet"), Some (at 3 5)) ∷ ((codes "'await' outside async function"), Some (at 3 18)) ∷ [])
+awaits_within_faults : told (compile_faults Exec 0 awaits_within) ≡ (((codes "RustPython does not implement this feature yet"), Some (at 1 5)) ∷ ((codes "'await' outside async function"), Some (at 1 15)) ∷ ((codes "'await' outside async function"), Some (at 2 16)) ∷ ((codes "RustPython does not implement this feature yet"), Some (at 3 5)) ∷ ((codes "'await' outside async function"), Some (at 3 18)) ∷ [])
 awaits_within_faults = refl
 
 -- a fault in the iterable of a further clause, in a condition and in targets:
@@ -324,7 +324,7 @@ further_refused : emitted further Exec (outermost 0 (codes "m.py") further_scope
 unfolding with_step with_block with_name with_varname with_constant with_loops located refuse emit jump begin new_block emit_count emit_name emit_varname emit_mangled add_varname add_constant emit_constant move generating pass_over by_context by_level by_loops in_loop accessed inside with_path child lambda_value emission_of_def load_cell sealed as_element called_at_once
 further_refused = refl
 
-further_faults : told (compile_faults 0 further) ≡ (((codes "cannot use starred expression here"), Some (at 1 43)) ∷ ((codes "cannot assign to __debug__"), Some (at 1 44)) ∷ ((codes "cannot use starred expression here"), Some (at 1 49)) ∷ ((codes "two starred expressions in assignment"), Some (at 2 35)) ∷ ((codes "cannot assign to __debug__"), Some (at 2 67)) ∷ ((codes "cannot use starred expression here"), Some (at 2 13)) ∷ [])
+further_faults : told (compile_faults Exec 0 further) ≡ (((codes "cannot use starred expression here"), Some (at 1 43)) ∷ ((codes "cannot assign to __debug__"), Some (at 1 44)) ∷ ((codes "cannot use starred expression here"), Some (at 1 49)) ∷ ((codes "two starred expressions in assignment"), Some (at 2 35)) ∷ ((codes "cannot assign to __debug__"), Some (at 2 67)) ∷ ((codes "cannot use starred expression here"), Some (at 2 13)) ∷ [])
 further_faults = refl
 
 -- the first iterable is no part of the function:
@@ -341,7 +341,7 @@ outside_refused : emitted outside Exec (outermost 0 (codes "m.py") outside_scope
 unfolding with_step with_block with_name with_varname with_constant with_loops located refuse emit jump begin new_block emit_count emit_name emit_varname emit_mangled add_varname add_constant emit_constant move generating pass_over by_context by_level by_loops in_loop accessed inside with_path child lambda_value emission_of_def load_cell sealed as_element called_at_once
 outside_refused = refl
 
-outside_faults : told (compile_faults 0 outside) ≡ (((codes "'yield' outside function"), Some (at 2 18)) ∷ ((codes "'yield from' outside function"), Some (at 3 17)) ∷ [])
+outside_faults : told (compile_faults Exec 0 outside) ≡ (((codes "'yield' outside function"), Some (at 2 18)) ∷ ((codes "'yield from' outside function"), Some (at 3 17)) ∷ [])
 outside_faults = refl
 
 -- a loop around goes on behind:
@@ -359,5 +359,5 @@ in_loops_refused : emitted in_loops Exec (outermost 0 (codes "m.py") in_loops_sc
 unfolding with_step with_block with_name with_varname with_constant with_loops located refuse emit jump begin new_block emit_count emit_name emit_varname emit_mangled add_varname add_constant emit_constant move generating pass_over by_context by_level by_loops in_loop accessed inside with_path child lambda_value emission_of_def load_cell sealed as_element called_at_once
 in_loops_refused = refl
 
-in_loops_faults : told (compile_faults 0 in_loops) ≡ (((codes "'continue' outside loop"), Some (at 4 1)) ∷ [])
+in_loops_faults : told (compile_faults Exec 0 in_loops) ≡ (((codes "'continue' outside loop"), Some (at 4 1)) ∷ [])
 in_loops_faults = refl

@@ -43,7 +43,7 @@ nested_lambda_forms : codes_of_object 9 nested_lambda_object ≡ codes_of_scope 
 unfolding inside with_path
 nested_lambda_forms = refl
 
-nested_lambda_faults : told (compile_faults 0 nested_lambda) ≡ []
+nested_lambda_faults : told (compile_faults Exec 0 nested_lambda) ≡ []
 nested_lambda_faults = refl
 
 -- a closure over two levels:
@@ -70,7 +70,7 @@ closures_forms : codes_of_object 9 closures_object ≡ codes_of_scope 9 (body cl
 unfolding inside with_path
 closures_forms = refl
 
-closures_faults : told (compile_faults 0 closures) ≡ []
+closures_faults : told (compile_faults Exec 0 closures) ≡ []
 closures_faults = refl
 
 -- a generator, which yields and delegates:
@@ -95,7 +95,7 @@ generator_forms : codes_of_object 9 generator_object ≡ codes_of_scope 9 (body 
 unfolding inside with_path
 generator_forms = refl
 
-generator_faults : told (compile_faults 0 generator) ≡ []
+generator_faults : told (compile_faults Exec 0 generator) ≡ []
 generator_faults = refl
 
 -- a name of the function around is changed:
@@ -123,7 +123,7 @@ counting_forms : codes_of_object 9 counting_object ≡ codes_of_scope 9 (body co
 unfolding inside with_path
 counting_forms = refl
 
-counting_faults : told (compile_faults 0 counting) ≡ []
+counting_faults : told (compile_faults Exec 0 counting) ≡ []
 counting_faults = refl
 
 -- two decorators, defaults of all sorts, annotations, and further arguments:
@@ -148,7 +148,7 @@ decorated_def_forms : codes_of_object 9 decorated_def_object ≡ codes_of_scope 
 unfolding inside with_path
 decorated_def_forms = refl
 
-decorated_def_faults : told (compile_faults 0 decorated_def) ≡ []
+decorated_def_faults : told (compile_faults Exec 0 decorated_def) ≡ []
 decorated_def_faults = refl
 
 -- a docstring, and an annotated assignment, which a function leaves alone:
@@ -173,7 +173,7 @@ documented_def_forms : codes_of_object 9 documented_def_object ≡ codes_of_scop
 unfolding inside with_path
 documented_def_forms = refl
 
-documented_def_faults : told (compile_faults 0 documented_def) ≡ []
+documented_def_faults : told (compile_faults Exec 0 documented_def) ≡ []
 documented_def_faults = refl
 
 -- above level 0 an assertion is left out with its scopes, and from level 2 on a docstring:
@@ -195,7 +195,7 @@ undocumented_emitted : object_emitted undocumented_scopes undocumented 2 ≡ Som
 unfolding with_step with_block with_name with_varname with_constant with_loops located refuse emit jump begin new_block emit_count emit_name emit_varname emit_mangled add_varname add_constant emit_constant move generating pass_over by_context by_level by_loops in_loop accessed inside with_path child lambda_value emission_of_def load_cell sealed
 undocumented_emitted = refl
 
-undocumented_faults : told (compile_faults 2 undocumented) ≡ []
+undocumented_faults : told (compile_faults Exec 2 undocumented) ≡ []
 undocumented_faults = refl
 
 -- a name that is global, in a loop, whose body a function is not:
@@ -224,7 +224,7 @@ global_def_forms : codes_of_object 9 global_def_object ≡ codes_of_scope 9 (bod
 unfolding inside with_path
 global_def_forms = refl
 
-global_def_faults : told (compile_faults 0 global_def) ≡ []
+global_def_faults : told (compile_faults Exec 0 global_def) ≡ []
 global_def_faults = refl
 
 -- annotations of functions may hold scopes, and annotated targets without a value too:
@@ -248,7 +248,7 @@ annotated_lambda_forms : codes_of_object 9 annotated_lambda_object ≡ codes_of_
 unfolding inside with_path
 annotated_lambda_forms = refl
 
-annotated_lambda_faults : told (compile_faults 0 annotated_lambda) ≡ []
+annotated_lambda_faults : told (compile_faults Exec 0 annotated_lambda) ≡ []
 annotated_lambda_faults = refl
 
 -- yield outside a function:
@@ -263,7 +263,7 @@ yields_outside_refused : emitted yields_outside Exec (outermost 0 (codes "m.py")
 unfolding with_step with_block with_name with_varname with_constant with_loops located refuse emit jump begin new_block emit_count emit_name emit_varname emit_mangled add_varname add_constant emit_constant move generating pass_over by_context by_level by_loops in_loop accessed inside with_path child lambda_value emission_of_def load_cell sealed
 yields_outside_refused = refl
 
-yields_outside_faults : told (compile_faults 0 yields_outside) ≡ (((codes "'yield' outside function"), Some (at 1 5)) ∷ [])
+yields_outside_faults : told (compile_faults Exec 0 yields_outside) ≡ (((codes "'yield' outside function"), Some (at 1 5)) ∷ [])
 yields_outside_faults = refl
 
 -- yield from outside a function:
@@ -279,7 +279,7 @@ yields_from_outside_refused : emitted yields_from_outside Exec (outermost 0 (cod
 unfolding with_step with_block with_name with_varname with_constant with_loops located refuse emit jump begin new_block emit_count emit_name emit_varname emit_mangled add_varname add_constant emit_constant move generating pass_over by_context by_level by_loops in_loop accessed inside with_path child lambda_value emission_of_def load_cell sealed
 yields_from_outside_refused = refl
 
-yields_from_outside_faults : told (compile_faults 0 yields_from_outside) ≡ (((codes "'yield from' outside function"), Some (at 2 10)) ∷ [])
+yields_from_outside_faults : told (compile_faults Exec 0 yields_from_outside) ≡ (((codes "'yield from' outside function"), Some (at 2 10)) ∷ [])
 yields_from_outside_faults = refl
 
 -- return outside a function:
@@ -296,7 +296,7 @@ returns_outside_refused : emitted returns_outside Exec (outermost 0 (codes "m.py
 unfolding with_step with_block with_name with_varname with_constant with_loops located refuse emit jump begin new_block emit_count emit_name emit_varname emit_mangled add_varname add_constant emit_constant move generating pass_over by_context by_level by_loops in_loop accessed inside with_path child lambda_value emission_of_def load_cell sealed
 returns_outside_refused = refl
 
-returns_outside_faults : told (compile_faults 0 returns_outside) ≡ (((codes "'return' outside function"), Some (at 3 5)) ∷ [])
+returns_outside_faults : told (compile_faults Exec 0 returns_outside) ≡ (((codes "'return' outside function"), Some (at 3 5)) ∷ [])
 returns_outside_faults = refl
 
 -- await, in a function whose parameter has a wrong name, and break in it:
@@ -313,5 +313,5 @@ awaits_refused : emitted awaits Exec (outermost 0 (codes "m.py") awaits_scopes) 
 unfolding with_step with_block with_name with_varname with_constant with_loops located refuse emit jump begin new_block emit_count emit_name emit_varname emit_mangled add_varname add_constant emit_constant move generating pass_over by_context by_level by_loops in_loop accessed inside with_path child lambda_value emission_of_def load_cell sealed
 awaits_refused = refl
 
-awaits_faults : told (compile_faults 0 awaits) ≡ (((codes "cannot assign to __debug__"), Some (at 2 13)) ∷ ((codes "cannot assign to __debug__"), Some (at 2 31)) ∷ ((codes "'break' outside loop"), Some (at 2 52)) ∷ ((codes "'await' outside async function"), Some (at 3 1)) ∷ [])
+awaits_faults : told (compile_faults Exec 0 awaits) ≡ (((codes "cannot assign to __debug__"), Some (at 2 13)) ∷ ((codes "cannot assign to __debug__"), Some (at 2 31)) ∷ ((codes "'break' outside loop"), Some (at 2 52)) ∷ ((codes "'await' outside async function"), Some (at 3 1)) ∷ [])
 awaits_faults = refl

@@ -46,7 +46,7 @@ modules_forms : codes_of_object 9 modules_object ≡ codes_of_scope 9 (body modu
 unfolding inside with_path
 modules_forms = refl
 
-modules_faults : told (compile_faults 0 modules) ≡ []
+modules_faults : told (compile_faults Exec 0 modules) ≡ []
 modules_faults = refl
 
 -- names of a module, of packages further out, and all names:
@@ -71,7 +71,7 @@ names_forms : codes_of_object 9 names_object ≡ codes_of_scope 9 (body names_sc
 unfolding inside with_path
 names_forms = refl
 
-names_faults : told (compile_faults 0 names) ≡ []
+names_faults : told (compile_faults Exec 0 names) ≡ []
 names_faults = refl
 
 -- in a function, where names are its own, cells or global:
@@ -98,7 +98,7 @@ within_forms : codes_of_object 9 within_object ≡ codes_of_scope 9 (body within
 unfolding inside with_path
 within_forms = refl
 
-within_faults : told (compile_faults 0 within) ≡ []
+within_faults : told (compile_faults Exec 0 within) ≡ []
 within_faults = refl
 
 -- a star among names takes all names alone, and none of the others is stored:
@@ -120,7 +120,7 @@ all_and_more_forms : codes_of_object 9 all_and_more_object ≡ codes_of_scope 9 
 unfolding inside with_path
 all_and_more_forms = refl
 
-all_and_more_faults : told (compile_faults 0 all_and_more) ≡ []
+all_and_more_faults : told (compile_faults Exec 0 all_and_more) ≡ []
 all_and_more_faults = refl
 
 -- what no program has: nothing is imported, and nothing is taken
@@ -141,7 +141,7 @@ no_names_forms : codes_of_object 9 no_names_object ≡ codes_of_scope 9 (body no
 unfolding inside with_path
 no_names_forms = refl
 
-no_names_faults : told (compile_faults 0 no_names) ≡ []
+no_names_faults : told (compile_faults Exec 0 no_names) ≡ []
 no_names_faults = refl
 
 -- no function takes all names:
@@ -159,7 +159,7 @@ star_in_function_refused : emitted star_in_function Exec (outermost 0 (codes "m.
 unfolding with_step with_block with_name with_varname with_constant with_loops located refuse emit jump begin new_block emit_count emit_name emit_varname emit_mangled add_varname add_constant emit_constant move generating pass_over by_context by_level by_loops in_loop accessed inside with_path child lambda_value emission_of_def load_cell sealed
 star_in_function_refused = refl
 
-star_in_function_faults : told (compile_faults 0 star_in_function) ≡ (((codes "import * only allowed at module level"), Some (at 3 5)) ∷ ((codes "import * only allowed at module level"), Some (at 4 5)) ∷ [])
+star_in_function_faults : told (compile_faults Exec 0 star_in_function) ≡ (((codes "import * only allowed at module level"), Some (at 3 5)) ∷ ((codes "import * only allowed at module level"), Some (at 4 5)) ∷ [])
 star_in_function_faults = refl
 
 -- `__debug__` is not stored, but loaded as an attribute:
@@ -175,7 +175,7 @@ first_segment_refused : emitted first_segment Exec (outermost 0 (codes "m.py") f
 unfolding with_step with_block with_name with_varname with_constant with_loops located refuse emit jump begin new_block emit_count emit_name emit_varname emit_mangled add_varname add_constant emit_constant move generating pass_over by_context by_level by_loops in_loop accessed inside with_path child lambda_value emission_of_def load_cell sealed
 first_segment_refused = refl
 
-first_segment_faults : told (compile_faults 0 first_segment) ≡ (((codes "cannot assign to __debug__"), Some (at 1 1)) ∷ ((codes "cannot assign to __debug__"), Some (at 1 1)) ∷ [])
+first_segment_faults : told (compile_faults Exec 0 first_segment) ≡ (((codes "cannot assign to __debug__"), Some (at 1 1)) ∷ ((codes "cannot assign to __debug__"), Some (at 1 1)) ∷ [])
 first_segment_faults = refl
 
 -- nor is it stored where it is taken:
@@ -190,5 +190,5 @@ taken_refused : emitted taken Exec (outermost 0 (codes "m.py") taken_scopes) ≡
 unfolding with_step with_block with_name with_varname with_constant with_loops located refuse emit jump begin new_block emit_count emit_name emit_varname emit_mangled add_varname add_constant emit_constant move generating pass_over by_context by_level by_loops in_loop accessed inside with_path child lambda_value emission_of_def load_cell sealed
 taken_refused = refl
 
-taken_faults : told (compile_faults 0 taken) ≡ (((codes "cannot assign to __debug__"), Some (at 1 1)) ∷ ((codes "cannot assign to __debug__"), Some (at 1 1)) ∷ [])
+taken_faults : told (compile_faults Exec 0 taken) ≡ (((codes "cannot assign to __debug__"), Some (at 1 1)) ∷ ((codes "cannot assign to __debug__"), Some (at 1 1)) ∷ [])
 taken_faults = refl

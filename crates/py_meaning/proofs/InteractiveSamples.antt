@@ -41,7 +41,7 @@ nothing_forms : codes_of_object 9 nothing_object ≡ codes_of_scope 9 (body noth
 unfolding inside with_path within_class
 nothing_forms = refl
 
-nothing_faults : told (compile_faults 0 nothing) ≡ []
+nothing_faults : told (compile_faults Single 0 nothing) ≡ []
 nothing_faults = refl
 
 -- each expression is printed, and the last is returned too:
@@ -65,7 +65,7 @@ two_printed_forms : codes_of_object 9 two_printed_object ≡ codes_of_scope 9 (b
 unfolding inside with_path within_class
 two_printed_forms = refl
 
-two_printed_faults : told (compile_faults 0 two_printed) ≡ []
+two_printed_faults : told (compile_faults Single 0 two_printed) ≡ []
 two_printed_faults = refl
 
 -- so is a constant, and no docstring is stored:
@@ -88,7 +88,7 @@ constant_printed_forms : codes_of_object 9 constant_printed_object ≡ codes_of_
 unfolding inside with_path within_class
 constant_printed_forms = refl
 
-constant_printed_faults : told (compile_faults 0 constant_printed) ≡ []
+constant_printed_faults : told (compile_faults Single 0 constant_printed) ≡ []
 constant_printed_faults = refl
 
 -- an expression that stands in another statement is not printed:
@@ -111,7 +111,7 @@ within_dropped_forms : codes_of_object 9 within_dropped_object ≡ codes_of_scop
 unfolding inside with_path within_class
 within_dropped_forms = refl
 
-within_dropped_faults : told (compile_faults 0 within_dropped) ≡ []
+within_dropped_faults : told (compile_faults Single 0 within_dropped) ≡ []
 within_dropped_faults = refl
 
 -- nothing of a function at a prompt is returned:
@@ -136,7 +136,7 @@ prompted_def_forms : codes_of_object 9 prompted_def_object ≡ codes_of_scope 9 
 unfolding inside with_path within_class
 prompted_def_forms = refl
 
-prompted_def_faults : told (compile_faults 0 prompted_def) ≡ []
+prompted_def_faults : told (compile_faults Single 0 prompted_def) ≡ []
 prompted_def_faults = refl
 
 -- a fault at a prompt:
@@ -154,7 +154,7 @@ prompted_faults_refused : emitted prompted_faults Single (outermost 0 (codes "m.
 unfolding with_step with_block with_name with_varname with_constant with_loops located refuse emit jump begin new_block emit_count emit_name emit_varname emit_mangled add_varname add_constant emit_constant move generating pass_over by_context by_level by_loops in_loop accessed inside with_path within_class child lambda_value emission_of_def emission_of_class load_cell sealed
 prompted_faults_refused = refl
 
-prompted_faults_faults : told (compile_faults 0 prompted_faults) ≡ (((codes "'break' outside loop"), Some (at 2 1)) ∷ ((codes "cannot use starred expression here"), Some (at 3 1)) ∷ ((codes "cannot assign to __debug__"), Some (at 4 13)) ∷ [])
+prompted_faults_faults : told (compile_faults Single 0 prompted_faults) ≡ (((codes "'break' outside loop"), Some (at 2 1)) ∷ ((codes "cannot use starred expression here"), Some (at 3 1)) ∷ ((codes "cannot assign to __debug__"), Some (at 4 13)) ∷ [])
 prompted_faults_faults = refl
 
 -- no statement in a block
@@ -175,7 +175,7 @@ empty_block_forms : codes_of_object 9 empty_block_object ≡ codes_of_scope 9 (b
 unfolding inside with_path within_class
 empty_block_forms = refl
 
-empty_block_faults : told (compile_faults 0 empty_block) ≡ []
+empty_block_faults : told (compile_faults BlockExpr 0 empty_block) ≡ []
 empty_block_faults = refl
 
 -- the last value of a block is returned:
@@ -199,7 +199,7 @@ last_value_forms : codes_of_object 9 last_value_object ≡ codes_of_scope 9 (bod
 unfolding inside with_path within_class
 last_value_forms = refl
 
-last_value_faults : told (compile_faults 0 last_value) ≡ []
+last_value_faults : told (compile_faults BlockExpr 0 last_value) ≡ []
 last_value_faults = refl
 
 -- a constant by one instruction:
@@ -222,7 +222,7 @@ last_constant_forms : codes_of_object 9 last_constant_object ≡ codes_of_scope 
 unfolding inside with_path within_class
 last_constant_forms = refl
 
-last_constant_faults : told (compile_faults 1 last_constant) ≡ []
+last_constant_faults : told (compile_faults BlockExpr 1 last_constant) ≡ []
 last_constant_faults = refl
 
 -- another last statement gives None:
@@ -245,7 +245,7 @@ last_statement_forms : codes_of_object 9 last_statement_object ≡ codes_of_scop
 unfolding inside with_path within_class
 last_statement_forms = refl
 
-last_statement_faults : told (compile_faults 0 last_statement) ≡ []
+last_statement_faults : told (compile_faults BlockExpr 0 last_statement) ≡ []
 last_statement_faults = refl
 
 -- a last function is stored and returned:
@@ -271,7 +271,7 @@ last_def_forms : codes_of_object 9 last_def_object ≡ codes_of_scope 9 (body la
 unfolding inside with_path within_class
 last_def_forms = refl
 
-last_def_faults : told (compile_faults 0 last_def) ≡ []
+last_def_faults : told (compile_faults BlockExpr 0 last_def) ≡ []
 last_def_faults = refl
 
 -- so is a last class:
@@ -296,7 +296,7 @@ last_class_forms : codes_of_object 9 last_class_object ≡ codes_of_scope 9 (bod
 unfolding inside with_path within_class
 last_class_forms = refl
 
-last_class_faults : told (compile_faults 0 last_class) ≡ []
+last_class_faults : told (compile_faults BlockExpr 0 last_class) ≡ []
 last_class_faults = refl
 
 -- a last function whose name is none:
@@ -312,5 +312,5 @@ last_faults_refused : emitted last_faults BlockExpr (outermost 0 (codes "m.py") 
 unfolding with_step with_block with_name with_varname with_constant with_loops located refuse emit jump begin new_block emit_count emit_name emit_varname emit_mangled add_varname add_constant emit_constant move generating pass_over by_context by_level by_loops in_loop accessed inside with_path within_class child lambda_value emission_of_def emission_of_class load_cell sealed
 last_faults_refused = refl
 
-last_faults_faults : told (compile_faults 0 last_faults) ≡ (((codes "'continue' outside loop"), Some (at 2 5)) ∷ ((codes "cannot assign to __debug__"), Some (at 2 5)) ∷ [])
+last_faults_faults : told (compile_faults BlockExpr 0 last_faults) ≡ (((codes "'continue' outside loop"), Some (at 2 5)) ∷ ((codes "cannot assign to __debug__"), Some (at 2 5)) ∷ [])
 last_faults_faults = refl

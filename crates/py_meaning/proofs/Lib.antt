@@ -12,5 +12,8 @@ mod OrderSamples
 mod FunctionSamples
 mod ComprehensionSamples
 mod ImportSamples
+mod FutureSamples
 mod InteractiveSamples
 mod ClassSamples
+mod TypeParameterSamples
+mod TypeParameterFaultSamples

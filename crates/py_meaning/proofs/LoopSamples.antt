@@ -22,7 +22,7 @@ raised_else_emitted : lines_in (emitted raised_else Exec (unscoped 0)) ≡ (told
 unfolding with_step with_block with_name with_constant with_loops located refuse emit jump begin new_block emit_count emit_name emit_mangled emit_constant move pass_over by_context by_level by_loops in_loop accessed inside
 raised_else_emitted = refl
 
-raised_else_faults : told (compile_faults 0 raised_else) ≡ []
+raised_else_faults : told (compile_faults Exec 0 raised_else) ≡ []
 raised_else_faults = refl
 
 -- a loop over an iterator with an else part and a break
@@ -33,7 +33,7 @@ each_emitted : lines_in (emitted each Exec (unscoped 0)) ≡ (told_as ((line op.
 unfolding with_step with_block with_name with_constant with_loops located refuse emit jump begin new_block emit_count emit_name emit_mangled emit_constant move pass_over by_context by_level by_loops in_loop accessed inside
 each_emitted = refl
 
-each_faults : told (compile_faults 0 each) ≡ []
+each_faults : told (compile_faults Exec 0 each) ≡ []
 each_faults = refl
 
 -- a continue within an inner loop whose target is a tuple
@@ -44,7 +44,7 @@ nested_emitted : lines_in (emitted nested Exec (unscoped 0)) ≡ (told_as ((line
 unfolding with_step with_block with_name with_constant with_loops located refuse emit jump begin new_block emit_count emit_name emit_mangled emit_constant move pass_over by_context by_level by_loops in_loop accessed inside
 nested_emitted = refl
 
-nested_faults : told (compile_faults 0 nested) ≡ []
+nested_faults : told (compile_faults Exec 0 nested) ≡ []
 nested_faults = refl
 
 -- an else part is no body of its loop
@@ -55,7 +55,7 @@ late_break_refused : emitted late_break Exec (unscoped 0) ≡ Refused error.Inva
 unfolding with_step with_block with_name with_constant with_loops located refuse emit jump begin new_block emit_count emit_name emit_mangled emit_constant move pass_over by_context by_level by_loops in_loop accessed inside
 late_break_refused = refl
 
-late_break_faults : told (compile_faults 0 late_break) ≡ (((codes "'break' outside loop"), Some (at 4 5)) ∷ [])
+late_break_faults : told (compile_faults Exec 0 late_break) ≡ (((codes "'break' outside loop"), Some (at 4 5)) ∷ [])
 late_break_faults = refl
 
 -- the iterator comes before the target, and that before the body
@@ -66,7 +66,7 @@ bad_target_refused : emitted bad_target Exec (unscoped 0) ≡ Refused (error.Syn
 unfolding with_step with_block with_name with_constant with_loops located refuse emit jump begin new_block emit_count emit_name emit_mangled emit_constant move pass_over by_context by_level by_loops in_loop accessed inside
 bad_target_refused = refl
 
-bad_target_faults : told (compile_faults 0 bad_target) ≡ (((codes "cannot assign to __debug__"), Some (at 1 19)) ∷ ((codes "'continue' outside loop"), Some (at 4 5)) ∷ [])
+bad_target_faults : told (compile_faults Exec 0 bad_target) ≡ (((codes "cannot assign to __debug__"), Some (at 1 19)) ∷ ((codes "'continue' outside loop"), Some (at 4 5)) ∷ [])
 bad_target_faults = refl
 
 -- annotations in bodies, not in handlers
@@ -77,7 +77,7 @@ annotating_emitted : lines_in (emitted annotating Exec (unscoped 0)) ≡ (told_a
 unfolding with_step with_block with_name with_constant with_loops located refuse emit jump begin new_block emit_count emit_name emit_mangled emit_constant move pass_over by_context by_level by_loops in_loop accessed inside
 annotating_emitted = refl
 
-annotating_faults : told (compile_faults 0 annotating) ≡ []
+annotating_faults : told (compile_faults Exec 0 annotating) ≡ []
 annotating_faults = refl
 
 -- nothing is asserted above level 0
@@ -88,7 +88,7 @@ unsure_emitted : lines_in (emitted unsure Exec (unscoped 1)) ≡ (told_as ((line
 unfolding with_step with_block with_name with_constant with_loops located refuse emit jump begin new_block emit_count emit_name emit_mangled emit_constant move pass_over by_context by_level by_loops in_loop accessed inside
 unsure_emitted = refl
 
-unsure_faults : told (compile_faults 1 unsure) ≡ []
+unsure_faults : told (compile_faults Exec 1 unsure) ≡ []
 unsure_faults = refl
 
 -- nor is what stands in it refused
@@ -99,7 +99,7 @@ scoped_emitted : lines_in (emitted scoped Exec (unscoped 1)) ≡ (told_as ((line
 unfolding with_step with_block with_name with_constant with_loops located refuse emit jump begin new_block emit_count emit_name emit_mangled emit_constant move pass_over by_context by_level by_loops in_loop accessed inside
 scoped_emitted = refl
 
-scoped_faults : told (compile_faults 1 scoped) ≡ []
+scoped_faults : told (compile_faults Exec 1 scoped) ≡ []
 scoped_faults = refl
 
 -- an assertion
@@ -110,7 +110,7 @@ sure_emitted : lines_in (emitted sure Exec (unscoped 0)) ≡ (told_as ((line op.
 unfolding with_step with_block with_name with_constant with_loops located refuse emit jump begin new_block emit_count emit_name emit_mangled emit_constant move pass_over by_context by_level by_loops in_loop accessed inside
 sure_emitted = refl
 
-sure_faults : told (compile_faults 0 sure) ≡ []
+sure_faults : told (compile_faults Exec 0 sure) ≡ []
 sure_faults = refl
 
 -- an assertion without a message, whose test is a negation
@@ -121,7 +121,7 @@ surely_emitted : lines_in (emitted surely Exec (unscoped 0)) ≡ (told_as ((line
 unfolding with_step with_block with_name with_constant with_loops located refuse emit jump begin new_block emit_count emit_name emit_mangled emit_constant move pass_over by_context by_level by_loops in_loop accessed inside
 surely_emitted = refl
 
-surely_faults : told (compile_faults 0 surely) ≡ []
+surely_faults : told (compile_faults Exec 0 surely) ≡ []
 surely_faults = refl
 
 -- an assertion with faults
@@ -132,5 +132,5 @@ starred_refused : emitted starred Exec (unscoped 0) ≡ Refused (error.SyntaxErr
 unfolding with_step with_block with_name with_constant with_loops located refuse emit jump begin new_block emit_count emit_name emit_mangled emit_constant move pass_over by_context by_level by_loops in_loop accessed inside
 starred_refused = refl
 
-starred_faults : told (compile_faults 0 starred) ≡ (((codes "cannot assign to __debug__"), Some (at 1 8)) ∷ ((codes "cannot assign to __debug__"), Some (at 1 24)) ∷ [])
+starred_faults : told (compile_faults Exec 0 starred) ≡ (((codes "cannot assign to __debug__"), Some (at 1 8)) ∷ ((codes "cannot assign to __debug__"), Some (at 1 24)) ∷ [])
 starred_faults = refl

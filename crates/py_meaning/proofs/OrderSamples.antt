@@ -120,7 +120,7 @@ wrong_entries_refused : emitted wrong_entries Exec (unscoped 0) ≡ Refused (err
 unfolding with_step with_block with_name with_constant with_loops located refuse emit jump begin new_block emit_count emit_name emit_mangled emit_constant move by_context by_level by_loops in_loop accessed inside
 wrong_entries_refused = refl
 
-wrong_entries_faults : told (compile_faults 0 wrong_entries) ≡ (((codes "cannot assign to __debug__"), Some (at 1 4)) ∷ ((codes "cannot assign to __debug__"), Some (at 1 20)) ∷ ((codes "cannot assign to __debug__"), Some (at 1 41)) ∷ [])
+wrong_entries_faults : told (compile_faults Exec 0 wrong_entries) ≡ (((codes "cannot assign to __debug__"), Some (at 1 4)) ∷ ((codes "cannot assign to __debug__"), Some (at 1 20)) ∷ ((codes "cannot assign to __debug__"), Some (at 1 41)) ∷ [])
 wrong_entries_faults = refl
 
 -- of a value before those of its format
@@ -131,7 +131,7 @@ wrong_format_refused : emitted wrong_format Exec (unscoped 0) ≡ Refused (error
 unfolding with_step with_block with_name with_constant with_loops located refuse emit jump begin new_block emit_count emit_name emit_mangled emit_constant move by_context by_level by_loops in_loop accessed inside
 wrong_format_refused = refl
 
-wrong_format_faults : told (compile_faults 0 wrong_format) ≡ (((codes "cannot assign to __debug__"), Some (at 1 4)) ∷ ((codes "cannot assign to __debug__"), Some (at 1 20)) ∷ [])
+wrong_format_faults : told (compile_faults Exec 0 wrong_format) ≡ (((codes "cannot assign to __debug__"), Some (at 1 4)) ∷ ((codes "cannot assign to __debug__"), Some (at 1 20)) ∷ [])
 wrong_format_faults = refl
 
 -- the format is where a formatted value leaves off
@@ -142,7 +142,7 @@ wrong_behind_refused : emitted wrong_behind Exec (unscoped 0) ≡ Refused (error
 unfolding with_step with_block with_name with_constant with_loops located refuse emit jump begin new_block emit_count emit_name emit_mangled emit_constant move by_context by_level by_loops in_loop accessed inside
 wrong_behind_refused = refl
 
-wrong_behind_faults : told (compile_faults 0 wrong_behind) ≡ (((codes "cannot assign to __debug__"), Some (at 1 21)) ∷ [])
+wrong_behind_faults : told (compile_faults Exec 0 wrong_behind) ≡ (((codes "cannot assign to __debug__"), Some (at 1 21)) ∷ [])
 wrong_behind_faults = refl
 
 -- and the last entry is where a display does
@@ -153,7 +153,7 @@ wrong_after_pair_refused : emitted wrong_after_pair Exec (unscoped 0) ≡ Refuse
 unfolding with_step with_block with_name with_constant with_loops located refuse emit jump begin new_block emit_count emit_name emit_mangled emit_constant move by_context by_level by_loops in_loop accessed inside
 wrong_after_pair_refused = refl
 
-wrong_after_pair_faults : told (compile_faults 0 wrong_after_pair) ≡ (((codes "cannot assign to __debug__"), Some (at 1 24)) ∷ [])
+wrong_after_pair_faults : told (compile_faults Exec 0 wrong_after_pair) ≡ (((codes "cannot assign to __debug__"), Some (at 1 24)) ∷ [])
 wrong_after_pair_faults = refl
 
 -- also where it is unpacked
@@ -164,5 +164,5 @@ wrong_after_map_refused : emitted wrong_after_map Exec (unscoped 0) ≡ Refused 
 unfolding with_step with_block with_name with_constant with_loops located refuse emit jump begin new_block emit_count emit_name emit_mangled emit_constant move by_context by_level by_loops in_loop accessed inside
 wrong_after_map_refused = refl
 
-wrong_after_map_faults : told (compile_faults 0 wrong_after_map) ≡ (((codes "cannot assign to __debug__"), Some (at 1 24)) ∷ [])
+wrong_after_map_faults : told (compile_faults Exec 0 wrong_after_map) ≡ (((codes "cannot assign to __debug__"), Some (at 1 24)) ∷ [])
 wrong_after_map_faults = refl

@@ -21,7 +21,7 @@ raises_emitted : lines_in (emitted raises Exec (unscoped 0)) ≡ (told_as ((line
 unfolding with_step with_block with_name with_constant with_loops located refuse emit jump begin new_block emit_count emit_name emit_mangled emit_constant move pass_over by_context by_level by_loops in_loop accessed inside
 raises_emitted = refl
 
-raises_faults : told (compile_faults 0 raises) ≡ []
+raises_faults : told (compile_faults Exec 0 raises) ≡ []
 raises_faults = refl
 
 -- a break through a last part
@@ -32,7 +32,7 @@ last_part_emitted : lines_in (emitted last_part Exec (unscoped 0)) ≡ (told_as 
 unfolding with_step with_block with_name with_constant with_loops located refuse emit jump begin new_block emit_count emit_name emit_mangled emit_constant move pass_over by_context by_level by_loops in_loop accessed inside
 last_part_emitted = refl
 
-last_part_faults : told (compile_faults 0 last_part) ≡ []
+last_part_faults : told (compile_faults Exec 0 last_part) ≡ []
 last_part_faults = refl
 
 -- a handler with a name and one without a type
@@ -43,7 +43,7 @@ tried_emitted : lines_in (emitted tried Exec (unscoped 0)) ≡ (told_as ((line o
 unfolding with_step with_block with_name with_constant with_loops located refuse emit jump begin new_block emit_count emit_name emit_mangled emit_constant move pass_over by_context by_level by_loops in_loop accessed inside
 tried_emitted = refl
 
-tried_faults : told (compile_faults 0 tried) ≡ []
+tried_faults : told (compile_faults Exec 0 tried) ≡ []
 tried_faults = refl
 
 -- a typed handler without a name, an else part and a last part
@@ -54,7 +54,7 @@ all_parts_emitted : lines_in (emitted all_parts Exec (unscoped 0)) ≡ (told_as 
 unfolding with_step with_block with_name with_constant with_loops located refuse emit jump begin new_block emit_count emit_name emit_mangled emit_constant move pass_over by_context by_level by_loops in_loop accessed inside
 all_parts_emitted = refl
 
-all_parts_faults : told (compile_faults 0 all_parts) ≡ []
+all_parts_faults : told (compile_faults Exec 0 all_parts) ≡ []
 all_parts_faults = refl
 
 -- a handler of a loop goes on with the loop
@@ -65,7 +65,7 @@ looped_emitted : lines_in (emitted looped Exec (unscoped 0)) ≡ (told_as ((line
 unfolding with_step with_block with_name with_constant with_loops located refuse emit jump begin new_block emit_count emit_name emit_mangled emit_constant move pass_over by_context by_level by_loops in_loop accessed inside
 looped_emitted = refl
 
-looped_faults : told (compile_faults 0 looped) ≡ []
+looped_faults : told (compile_faults Exec 0 looped) ≡ []
 looped_faults = refl
 
 -- faults of the body, of the handlers, of the else part and of the last part
@@ -76,7 +76,7 @@ wrong_name_refused : emitted wrong_name Exec (unscoped 0) ≡ Refused error.Inva
 unfolding with_step with_block with_name with_constant with_loops located refuse emit jump begin new_block emit_count emit_name emit_mangled emit_constant move pass_over by_context by_level by_loops in_loop accessed inside
 wrong_name_refused = refl
 
-wrong_name_faults : told (compile_faults 0 wrong_name) ≡ (((codes "'break' outside loop"), Some (at 2 5)) ∷ ((codes "cannot assign to __debug__"), Some (at 3 8)) ∷ ((codes "cannot assign to __debug__"), Some (at 3 20)) ∷ ((codes "'continue' outside loop"), Some (at 4 5)) ∷ ((codes "'break' outside loop"), Some (at 6 5)) ∷ ((codes "cannot delete __debug__"), Some (at 8 5)) ∷ ((codes "'continue' outside loop"), Some (at 10 5)) ∷ [])
+wrong_name_faults : told (compile_faults Exec 0 wrong_name) ≡ (((codes "'break' outside loop"), Some (at 2 5)) ∷ ((codes "cannot assign to __debug__"), Some (at 3 8)) ∷ ((codes "cannot assign to __debug__"), Some (at 3 20)) ∷ ((codes "'continue' outside loop"), Some (at 4 5)) ∷ ((codes "'break' outside loop"), Some (at 6 5)) ∷ ((codes "cannot delete __debug__"), Some (at 8 5)) ∷ ((codes "'continue' outside loop"), Some (at 10 5)) ∷ [])
 wrong_name_faults = refl
 
 -- the name stands where the type leaves off
@@ -87,7 +87,7 @@ named_debug_refused : emitted named_debug Exec (unscoped 0) ≡ Refused (error.S
 unfolding with_step with_block with_name with_constant with_loops located refuse emit jump begin new_block emit_count emit_name emit_mangled emit_constant move pass_over by_context by_level by_loops in_loop accessed inside
 named_debug_refused = refl
 
-named_debug_faults : told (compile_faults 0 named_debug) ≡ (((codes "cannot assign to __debug__"), Some (at 3 8)) ∷ ((codes "'break' outside loop"), Some (at 4 5)) ∷ [])
+named_debug_faults : told (compile_faults Exec 0 named_debug) ≡ (((codes "cannot assign to __debug__"), Some (at 3 8)) ∷ ((codes "'break' outside loop"), Some (at 4 5)) ∷ [])
 named_debug_faults = refl
 
 -- there is room for the annotations in a body, an else part and a last part
@@ -98,7 +98,7 @@ annotated_parts_emitted : lines_in (emitted annotated_parts Exec (unscoped 0)) �
 unfolding with_step with_block with_name with_constant with_loops located refuse emit jump begin new_block emit_count emit_name emit_mangled emit_constant move pass_over by_context by_level by_loops in_loop accessed inside
 annotated_parts_emitted = refl
 
-annotated_parts_faults : told (compile_faults 0 annotated_parts) ≡ []
+annotated_parts_faults : told (compile_faults Exec 0 annotated_parts) ≡ []
 annotated_parts_faults = refl
 
 -- in a last part alone
@@ -109,7 +109,7 @@ annotated_last_emitted : lines_in (emitted annotated_last Exec (unscoped 0)) ≡
 unfolding with_step with_block with_name with_constant with_loops located refuse emit jump begin new_block emit_count emit_name emit_mangled emit_constant move pass_over by_context by_level by_loops in_loop accessed inside
 annotated_last_emitted = refl
 
-annotated_last_faults : told (compile_faults 0 annotated_last) ≡ []
+annotated_last_faults : told (compile_faults Exec 0 annotated_last) ≡ []
 annotated_last_faults = refl
 
 -- but not in a handler
@@ -120,5 +120,5 @@ annotated_handler_emitted : lines_in (emitted annotated_handler Exec (unscoped 0
 unfolding with_step with_block with_name with_constant with_loops located refuse emit jump begin new_block emit_count emit_name emit_mangled emit_constant move pass_over by_context by_level by_loops in_loop accessed inside
 annotated_handler_emitted = refl
 
-annotated_handler_faults : told (compile_faults 0 annotated_handler) ≡ []
+annotated_handler_faults : told (compile_faults Exec 0 annotated_handler) ≡ []
 annotated_handler_faults = refl

@@ -41,17 +41,6 @@ def_refused : emitted (tree.Module (one (def_f (at 1)))) Exec (unscoped 0) ≡ R
 unfolding move refuse located by_level by_loops inside
 def_refused = refl
 
--- so is a future import, whatever it asks for
-abbrev future : SourceLocation → tree.Stmt
-future place = tree.ImportFrom place (Some (codes "__future__")) (record { name = codes "*"; asname = Some (codes "__debug__") } ∷ []) 1
-
-future_alone : faults (tree.Module (one (future (at 1)))) Exec 0 ≡ not_yet (at 1) ∷ []
-future_alone = refl
-
-future_refused : emitted (tree.Module (one (future (at 1)))) Exec (unscoped 0) ≡ Refused error.NotImplementedYet (Some (at 1))
-unfolding move refuse located by_level by_loops inside
-future_refused = refl
-
 -- what is at fault before it comes first
 break_before : faults (tree.Module (tree.more_stmts (tree.Break (at 1)) (one (def_f (at 8))))) Exec 0 ≡ fault_at error.InvalidBreak (at 1) ∷ not_yet (at 8) ∷ []
 break_before = refl

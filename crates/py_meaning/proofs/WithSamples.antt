@@ -21,7 +21,7 @@ one_item_emitted : lines_in (emitted one_item Exec (unscoped 0)) ≡ (told_as ((
 unfolding with_step with_block with_name with_constant with_loops located refuse emit jump begin new_block emit_count emit_name emit_mangled emit_constant move pass_over by_context by_level by_loops in_loop accessed inside
 one_item_emitted = refl
 
-one_item_faults : told (compile_faults 0 one_item) ≡ []
+one_item_faults : told (compile_faults Exec 0 one_item) ≡ []
 one_item_faults = refl
 
 -- two items, of which one has no target, and another after them
@@ -32,7 +32,7 @@ two_items_emitted : lines_in (emitted two_items Exec (unscoped 0)) ≡ (told_as 
 unfolding with_step with_block with_name with_constant with_loops located refuse emit jump begin new_block emit_count emit_name emit_mangled emit_constant move pass_over by_context by_level by_loops in_loop accessed inside
 two_items_emitted = refl
 
-two_items_faults : told (compile_faults 0 two_items) ≡ []
+two_items_faults : told (compile_faults Exec 0 two_items) ≡ []
 two_items_faults = refl
 
 -- an item without a target before one that is subscripted
@@ -43,7 +43,7 @@ last_item_emitted : lines_in (emitted last_item Exec (unscoped 0)) ≡ (told_as 
 unfolding with_step with_block with_name with_constant with_loops located refuse emit jump begin new_block emit_count emit_name emit_mangled emit_constant move pass_over by_context by_level by_loops in_loop accessed inside
 last_item_emitted = refl
 
-last_item_faults : told (compile_faults 0 last_item) ≡ []
+last_item_faults : told (compile_faults Exec 0 last_item) ≡ []
 last_item_faults = refl
 
 -- no items
@@ -54,7 +54,7 @@ no_items_refused : emitted no_items Exec (unscoped 0) ≡ Refused error.EmptyWit
 unfolding with_step with_block with_name with_constant with_loops located refuse emit jump begin new_block emit_count emit_name emit_mangled emit_constant move pass_over by_context by_level by_loops in_loop accessed inside
 no_items_refused = refl
 
-no_items_faults : told (compile_faults 0 no_items) ≡ (((codes "empty items on With"), Some (at 1 1)) ∷ [])
+no_items_faults : told (compile_faults Exec 0 no_items) ≡ (((codes "empty items on With"), Some (at 1 1)) ∷ [])
 no_items_faults = refl
 
 -- no body stands where the last target leaves off
@@ -65,7 +65,7 @@ no_body_refused : emitted no_body Exec (unscoped 0) ≡ Refused error.EmptyWithB
 unfolding with_step with_block with_name with_constant with_loops located refuse emit jump begin new_block emit_count emit_name emit_mangled emit_constant move pass_over by_context by_level by_loops in_loop accessed inside
 no_body_refused = refl
 
-no_body_faults : told (compile_faults 0 no_body) ≡ (((codes "empty body on With"), Some (at 1 21)) ∷ [])
+no_body_faults : told (compile_faults Exec 0 no_body) ≡ (((codes "empty body on With"), Some (at 1 21)) ∷ [])
 no_body_faults = refl
 
 -- or at the statement, where the last item has no target
@@ -76,7 +76,7 @@ no_body_untold_refused : emitted no_body_untold Exec (unscoped 0) ≡ Refused er
 unfolding with_step with_block with_name with_constant with_loops located refuse emit jump begin new_block emit_count emit_name emit_mangled emit_constant move pass_over by_context by_level by_loops in_loop accessed inside
 no_body_untold_refused = refl
 
-no_body_untold_faults : told (compile_faults 0 no_body_untold) ≡ (((codes "empty body on With"), Some (at 1 1)) ∷ [])
+no_body_untold_faults : told (compile_faults Exec 0 no_body_untold) ≡ (((codes "empty body on With"), Some (at 1 1)) ∷ [])
 no_body_untold_faults = refl
 
 -- the target of an item is entered before it is stored to
@@ -87,7 +87,7 @@ wrong_target_refused : emitted wrong_target Exec (unscoped 0) ≡ Refused (error
 unfolding with_step with_block with_name with_constant with_loops located refuse emit jump begin new_block emit_count emit_name emit_mangled emit_constant move pass_over by_context by_level by_loops in_loop accessed inside
 wrong_target_refused = refl
 
-wrong_target_faults : told (compile_faults 0 wrong_target) ≡ (((codes "cannot assign to __debug__"), Some (at 1 11)) ∷ ((codes "cannot assign to __debug__"), Some (at 1 22)) ∷ ((codes "'break' outside loop"), Some (at 2 5)) ∷ [])
+wrong_target_faults : told (compile_faults Exec 0 wrong_target) ≡ (((codes "cannot assign to __debug__"), Some (at 1 11)) ∷ ((codes "cannot assign to __debug__"), Some (at 1 22)) ∷ ((codes "'break' outside loop"), Some (at 2 5)) ∷ [])
 wrong_target_faults = refl
 
 -- there is room for the annotations in a body
@@ -98,5 +98,5 @@ annotated_body_emitted : lines_in (emitted annotated_body Exec (unscoped 0)) ≡
 unfolding with_step with_block with_name with_constant with_loops located refuse emit jump begin new_block emit_count emit_name emit_mangled emit_constant move pass_over by_context by_level by_loops in_loop accessed inside
 annotated_body_emitted = refl
 
-annotated_body_faults : told (compile_faults 0 annotated_body) ≡ []
+annotated_body_faults : told (compile_faults Exec 0 annotated_body) ≡ []
 annotated_body_faults = refl

@@ -11,12 +11,12 @@ use Rattle.py_bytecode.specs.declared.instruction.Instruction.TheVariants as op
 use Rattle.py_bytecode.specs.Objects as const
 use Rattle.py_forms.specs.declared.errors.CodegenErrorType.{CodegenErrorType}
 use Rattle.py_forms.specs.declared.errors.CodegenErrorType.TheVariants as error
-use Rattle.py_counts.specs.Counts.{scopes_in, scopes_in_opt}
+use Rattle.py_counts.specs.Counts.{scopes_in, scopes_in_annotation, scopes_in_opt}
 use Rattle.py_emission.specs.Texts.{after_doc, stmt_text}
 use Rattle.py_steps.specs.TableParts.{binary_case}
 use Rattle.py_meaning.specs.Imports.{from_future}
 use Rattle.py_meaning.specs.ControlEmissions.{any_match, asserted, caught, for_each, handler, managed, named_body, raise_again, try_body, typed_match}
-use Rattle.py_meaning.specs.EmissionDefs.{emission_of_class, emission_of_def, emission_of_end}
+use Rattle.py_meaning.specs.EmissionDefs.{emission_of_alias, emission_of_built, emission_of_end, emission_of_function, emission_of_note}
 use Rattle.py_meaning.specs.EmissionImports.{emission_of_from, emission_of_import}
 use Rattle.py_meaning.specs.StmtParts.{but_doc, message_count, none}
 use Rattle.py_steps.specs.Children.{decorated}
@@ -57,7 +57,7 @@ emission_of_annotation other = emit op.Pop 0
 
 -- a function does nothing with the annotations of its names, which are only scanned
 abbrev pub emission_of_annotated : (target annotation : tree.Expr) → Emission
-emission_of_annotated target annotation = by_context (λ c. if is_function c.typ then pass_scopes (λ postponed. scopes_in postponed annotation) else emission annotation ▸ emission_of_annotation target)
+emission_of_annotated target annotation = by_context (λ c. if is_function c.typ then pass_scopes (λ postponed. scopes_in_annotation postponed annotation) else emission_of_note annotation ▸ emission_of_annotation target)
 
 -- what is returned, or None
 abbrev pub emission_of_returned : tree.OptExpr → Emission
@@ -99,9 +99,9 @@ emission_of_assert t msg level =
     if nat_eq level 0 then asserted (emission_of_test t) (emission_of_message msg) (message_count msg)
     else pass_scopes (λ postponed. scopes_in postponed t + scopes_in_opt postponed msg)
 
--- a future import is not compiled yet
+-- a future import stands before all else, and is emitted there
 abbrev pub emission_of_import_from : (path : Option (List ℕ)) → List Alias → (level : ℕ) → Emission
-emission_of_import_from path names level = if from_future path then refuse error.NotImplementedYet else emission_of_from path names level
+emission_of_import_from path names level = if from_future path then refuse error.InvalidFuturePlacement else emission_of_from path names level
 
 -- the last part of a `try`, where there is one
 abbrev pub emission_of_last : tree.Stmts → Emission → Emission
@@ -110,13 +110,14 @@ emission_of_last (tree.more_stmts s ss) last = last ▸ emit op.EndFinally 0
 
 abbrev mutual
   pub emission_of_stmt : tree.Stmt → Emission
-  emission_of_stmt (tree.FunctionDef at name params body decorators returns tree.no_type_params) =
-      move at ▸ decorated (values (all_emissions decorators)) (emission_of_def name params body returns (emission_of_rest body ▸ emission_of_end (after_doc body))) ▸ emission_of_stored name
-  emission_of_stmt (tree.ClassDef at name bases keywords body decorators tree.no_type_params) =
-      move at ▸ decorated (values (all_emissions decorators)) (emission_of_class name bases keywords body (emission_of_rest body)) ▸ emission_of_stored name
+  emission_of_stmt (tree.FunctionDef at name params body decorators returns generic) =
+      move at ▸ decorated (values (all_emissions decorators)) (emission_of_function name params body returns generic (emission_of_rest body ▸ emission_of_end (after_doc body))) ▸ emission_of_stored name
+  emission_of_stmt (tree.ClassDef at name bases keywords body decorators generic) =
+      move at ▸ decorated (values (all_emissions decorators)) (emission_of_built name bases keywords body generic (emission_of_rest body)) ▸ emission_of_stored name
   emission_of_stmt (tree.Return at value) = move at ▸ only_in_function error.InvalidReturn (emission_of_returned value)
   emission_of_stmt (tree.Delete at targets) = move at ▸ emission_of_deletes targets
   emission_of_stmt (tree.Assign at targets value) = move at ▸ emission value ▸ emission_of_assign targets
+  emission_of_stmt (tree.TypeAlias at name generic value) = move at ▸ emission_of_alias name generic value
   emission_of_stmt (tree.AugAssign at target o value) = move at ▸ emission_of_augment target o (emission value)
   emission_of_stmt (tree.AnnAssign at target annotation value simple) = move at ▸ emission_of_declared target value ▸ emission_of_annotated target annotation
   emission_of_stmt (tree.If at t body orelse) =

@@ -5,11 +5,14 @@ use Rattle.py_limits.specs.Nesting.{nesting}
 use Rattle.py_limits.specs.Size.{size_of}
 use Rattle.py_shapes.specs.Valid.{shapes}
 use Rattle.py_tree.specs.declared.modules.Mode.{Mode}
+use Rattle.py_tree.specs.declared.modules.Mode.TheVariants as mode
+use Rattle.py_texts.specs.Annotation.{annotation}
 use Rattle.py_base.specs.declared.shapes.Malformed.{Malformed}
 use Rattle.py_base.specs.declared.limits.TreeLimit.TheVariants as limit
 use Rattle.py_steps.specs.EmissionParts.{no_assignment}
-use Rattle.py_meaning.specs.Ends.{ends_of, expr_end, items_end, last_of}
-use Rattle.py_meaning.specs.StmtEnds.{Setting, default_ends, rest_end, scope_setting, stmt_end}
+use Rattle.py_tree.specs.PythonName.{python_name}
+use Rattle.py_meaning.specs.Ends.{ends_of, expr_end, items_end, last_of, opt_end, some_of}
+use Rattle.py_meaning.specs.StmtEnds.{Setting, declared_end, function_start, param_end, param_ends, rest_end, scope_setting, stmt_end}
 use Rattle.py_meaning.specs.StmtParts.{but_doc, none}
 use Rattle.py_emission.specs.Parameters.{parameters}
 use Rattle.py_emission.specs.Texts.{after_doc, stmt_text}
@@ -18,6 +21,7 @@ use Rattle.py_forms.specs.declared.errors.CodegenErrorType.{CodegenErrorType}
 use Rattle.py_base.specs.declared.location.SourceLocation.{SourceLocation}
 use Rattle.py_tree.specs.declared.statements.Alias.{Alias}
 use Rattle.py_meaning.specs.Imports.{from_future, import_name, taken_name, takes_all}
+use Rattle.py_meaning.specs.Futures.{Future, future_of, is_feature, postpones}
 use Rattle.py_meaning.specs.EmissionStmts.{itemless}
 use Rattle.py_meaning.specs.Scanned.{scan_faults}
 use Rattle.py_meaning.specs.ExprFaults.{Fault, all_faults, assign_faults, augment_faults, debug_faults, declared_faults, default_faults, deletes_faults, elements, expr_faults, exprs_faults, fault_at, faults_to, in_order, keyword_faults, keyword_values, opt_expr_faults, parameter_faults, unbuilt, when}
@@ -79,60 +83,122 @@ abbrev pub taken_faults : SourceLocation → List Alias → List Fault
 taken_faults p [] = []
 taken_faults p (a ∷ rest) = debug_faults no_assignment p (taken_name a) ++ taken_faults p rest
 
--- no function takes all names of a module; a future import is not compiled yet
+-- no function takes all names of a module
+abbrev pub names_faults : (in_function : Bool) → SourceLocation → List Alias → List Fault
+names_faults b p names = if takes_all names then when b (fault_at error.FunctionImportStar p) else taken_faults p names
+
+-- what cannot be taken from the future
+abbrev pub feature_faults : SourceLocation → List Alias → List Fault
+feature_faults p [] = []
+feature_faults p (a ∷ rest) = when (not (is_feature a.name)) (fault_at (error.InvalidFutureFeature a.name) p) ++ feature_faults p rest
+
+-- no future import stands among other statements
+abbrev pub placement_faults : (future : Bool) → SourceLocation → List Alias → List Fault
+placement_faults false p names = []
+placement_faults true p names = fault_at error.InvalidFuturePlacement p ∷ feature_faults p names
+
+-- an import among other statements
 abbrev pub from_faults : (in_function : Bool) → SourceLocation → (path : Option (List ℕ)) → List Alias → List Fault
-from_faults b p path names = if from_future path then unbuilt p else if takes_all names then when b (fault_at error.FunctionImportStar p) else taken_faults p names
+from_faults b p path names = placement_faults (from_future path) p names ++ names_faults b p names
+
+-- a future import before all else
+abbrev pub future_faults : (in_function : Bool) → Future → List Fault
+future_faults b f = feature_faults f.at f.names ++ names_faults b f.at f.names
+
+-- an f-string has no text
+abbrev pub text_faults : SourceLocation → Option (List ℕ) → List Fault
+text_faults p None = unbuilt p
+text_faults p (Some text) = []
+
+-- an annotation, before which the code leaves off there
+abbrev pub note_faults : (postponed in_function : Bool) → SourceLocation → tree.Expr → List Fault
+note_faults postponed b p e = if postponed then text_faults p (annotation e) else expr_faults b e
 
 -- a function does nothing with annotations of its names
-abbrev pub annotated_faults : (in_function : Bool) → tree.Expr → List Fault
-annotated_faults b e = if b then [] else expr_faults b e
+abbrev pub annotated_faults : (postponed in_function : Bool) → SourceLocation → tree.Expr → List Fault
+annotated_faults postponed b p e = if b then [] else note_faults postponed b p e
+
+-- an annotation that may be missing
+abbrev pub opt_note_faults : (postponed in_function : Bool) → SourceLocation → tree.OptExpr → List Fault
+opt_note_faults postponed b p tree.no_expr = []
+opt_note_faults postponed b p (tree.some_expr e) = note_faults postponed b p e
 
 -- the annotation of a parameter
-abbrev pub arg_note_faults : (in_function : Bool) → tree.Arg → List Fault
-arg_note_faults b (tree.arg at name annotation) = opt_expr_faults b annotation
+abbrev pub arg_note_faults : (postponed in_function : Bool) → SourceLocation → tree.Arg → List Fault
+arg_note_faults postponed b p (tree.arg at name annotation) = opt_note_faults postponed b p annotation
 
 -- that of a parameter that may be missing
-abbrev pub opt_arg_note_faults : (in_function : Bool) → tree.OptArg → List Fault
-opt_arg_note_faults b tree.no_arg = []
-opt_arg_note_faults b (tree.some_arg a) = arg_note_faults b a
+abbrev pub opt_arg_note_faults : (postponed in_function : Bool) → SourceLocation → tree.OptArg → List Fault
+opt_arg_note_faults postponed b p tree.no_arg = []
+opt_arg_note_faults postponed b p (tree.some_arg a) = arg_note_faults postponed b p a
 
 -- those of some parameters
-abbrev pub args_note_faults : (in_function : Bool) → tree.Args → List Fault
-args_note_faults b tree.no_args = []
-args_note_faults b (tree.more_args a default rest) = arg_note_faults b a ++ args_note_faults b rest
+abbrev pub args_note_faults : (postponed in_function : Bool) → SourceLocation → tree.Args → List Fault
+args_note_faults postponed b p tree.no_args = []
+args_note_faults postponed b p (tree.more_args a default rest) = arg_note_faults postponed b p a ++ args_note_faults postponed b p rest
 
--- the annotations of a function, that of what it returns first
-abbrev pub notes_faults : (in_function : Bool) → tree.Arguments → (returns : tree.OptExpr) → List Fault
-notes_faults b (tree.arguments posonly args vararg kwonly kwarg) returns =
-    opt_expr_faults b returns ++ (args_note_faults b posonly ++ (args_note_faults b args ++ (args_note_faults b kwonly ++ (opt_arg_note_faults b vararg ++ opt_arg_note_faults b kwarg))))
+-- the annotations of a function whose statements leave off there, that of what it returns first; none that is postponed moves on from there
+abbrev pub notes_faults : (postponed in_function : Bool) → SourceLocation → tree.Arguments → (returns : tree.OptExpr) → List Fault
+notes_faults postponed b p (tree.arguments posonly args vararg kwonly kwarg) returns =
+    opt_note_faults postponed b p returns
+    ++ (args_note_faults postponed b p posonly ++ (args_note_faults postponed b p args ++ (args_note_faults postponed b p kwonly ++ (opt_arg_note_faults postponed b p vararg ++ opt_arg_note_faults postponed b p kwarg))))
 
--- a function whose decorators leave off there, and what is wrong in its statements: defaults and parameters come before them, and annotations after them
-abbrev pub def_faults : (in_function : Bool) → SourceLocation → tree.Arguments → (returns : tree.OptExpr) → (body : List Fault) → List Fault
-def_faults b p params returns body = default_faults b params ++ (parameter_faults (last_of p (default_ends params)) (parameters params) ++ (body ++ notes_faults b params returns))
+-- a type parameter, which stands in a hidden scope: its bound, and the name that it is stored under
+abbrev pub param_faults : SourceLocation → tree.TypeParam → List Fault
+param_faults p (tree.TypeVar at name bound) = opt_expr_faults true bound ++ debug_faults no_assignment (last_of p (some_of (opt_end bound))) name
+param_faults p other = unbuilt (tree.type_param_location other)
+
+-- type parameters, before which the code leaves off there
+abbrev pub params_faults : SourceLocation → tree.TypeParams → List Fault
+params_faults p tree.no_type_params = []
+params_faults p (tree.more_type_params t ts) = param_faults p t ++ params_faults (last_of p (param_end t)) ts
+
+-- within a hidden scope all is in a function
+abbrev pub within_params : (in_function : Bool) → tree.TypeParams → Bool
+within_params b tree.no_type_params = b
+within_params b (tree.more_type_params t ts) = true
+
+-- a function whose decorators and whose statements leave off there, and what is wrong in its statements: what comes before them, its parameters, and annotations
+-- after them; with type parameters its defaults come last
+abbrev pub def_faults : (postponed in_function : Bool) → (decorated ended : SourceLocation) → tree.Arguments → (returns : tree.OptExpr) → tree.TypeParams → (body : List Fault) → List Fault
+def_faults postponed b p q params returns tree.no_type_params body =
+    default_faults b params ++ (parameter_faults (function_start p params tree.no_type_params) (parameters params) ++ (body ++ notes_faults postponed b q params returns))
+def_faults postponed b p q params returns (tree.more_type_params t ts) body =
+    (params_faults p (tree.more_type_params t ts) ++ (parameter_faults (function_start p params (tree.more_type_params t ts)) (parameters params) ++ (body ++ notes_faults postponed true q params returns))) ++ default_faults b params
+
+-- only a name is an alias; a target of another kind decides alone
+abbrev pub alias_faults : (in_function : Bool) → SourceLocation → (target : tree.Expr) → tree.TypeParams → (value : tree.Expr) → List Fault
+alias_faults b p (tree.Name at id) generic e = params_faults p generic ++ (expr_faults (within_params b generic) e ++ debug_faults no_assignment (expr_end e) id)
+alias_faults b p other generic e = fault_at (error.Assign (python_name other)) p ∷ []
 
 -- the bases and keywords of a class, whose statements leave off there
 abbrev pub base_faults : (in_function : Bool) → SourceLocation → (bases : tree.Exprs) → tree.Keywords → List Fault
 base_faults b p bases keywords = in_order (elements (all_faults b bases)) ++ (keyword_faults (last_of p (ends_of bases)) keywords ++ in_order (keyword_values b keywords))
 
+-- a class whose decorators leave off there, and whose statements leave off there, and what is wrong in these
+abbrev pub class_faults : (in_function : Bool) → (start end : SourceLocation) → (bases : tree.Exprs) → tree.Keywords → tree.TypeParams → (body : List Fault) → List Fault
+class_faults b p q bases keywords generic body = params_faults p generic ++ (body ++ base_faults (within_params b generic) q bases keywords)
+
 -- what is wrong in the parts of a statement, in the order in which they are compiled: also a break or continue with no loop body of its
 -- own scope around it; a loop's else part is not its body
 abbrev mutual
   pub stmt_faults : Setting → (in_loop : Bool) → tree.Stmt → List Fault
-  stmt_faults c b (tree.FunctionDef at name params body decorators returns tree.no_type_params) =
-      exprs_faults c.in_function decorators
-      ++ (def_faults c.in_function (last_of at (ends_of decorators)) params returns (rest_faults (scope_setting true c) body)
-      ++ debug_faults no_assignment (stmt_end c (tree.FunctionDef at name params body decorators returns tree.no_type_params)) name)
-  stmt_faults c b (tree.ClassDef at name bases keywords body decorators tree.no_type_params) =
+  stmt_faults c b (tree.FunctionDef at name params body decorators returns generic) =
       let p = last_of at (ends_of decorators) in
       exprs_faults c.in_function decorators
-      ++ (rest_faults (scope_setting false c) body
-      ++ (base_faults c.in_function (rest_end (scope_setting false c) p body) bases keywords
-      ++ debug_faults no_assignment (stmt_end c (tree.ClassDef at name bases keywords body decorators tree.no_type_params)) name))
+      ++ (def_faults c.postponed c.in_function p (rest_end (scope_setting true c) (function_start p params generic) body) params returns generic (rest_faults (scope_setting true c) body)
+      ++ debug_faults no_assignment (stmt_end c (tree.FunctionDef at name params body decorators returns generic)) name)
+  stmt_faults c b (tree.ClassDef at name bases keywords body decorators generic) =
+      let p = last_of at (ends_of decorators) in
+      exprs_faults c.in_function decorators
+      ++ (class_faults c.in_function p (rest_end (scope_setting false c) (last_of p (param_ends generic)) body) bases keywords generic (rest_faults (scope_setting false c) body)
+      ++ debug_faults no_assignment (stmt_end c (tree.ClassDef at name bases keywords body decorators generic)) name)
+  stmt_faults c b (tree.TypeAlias at name generic value) = alias_faults c.in_function at name generic value
   stmt_faults c b (tree.Return at value) = when (not c.in_function) (fault_at error.InvalidReturn at) ++ opt_expr_faults c.in_function value
   stmt_faults c b (tree.Delete at targets) = deletes_faults c.in_function at targets
   stmt_faults c b (tree.Assign at targets value) = expr_faults c.in_function value ++ assign_faults c.in_function (expr_end value) targets
   stmt_faults c b (tree.AugAssign at target o value) = augment_faults c.in_function at target value
-  stmt_faults c b (tree.AnnAssign at target annotation value simple) = declared_faults c.in_function target value ++ annotated_faults c.in_function annotation
+  stmt_faults c b (tree.AnnAssign at target annotation value simple) = declared_faults c.in_function target value ++ annotated_faults c.postponed c.in_function (declared_end at target value) annotation
   stmt_faults c b (tree.If at t body orelse) = expr_faults c.in_function t ++ stmts_faults c b body ++ stmts_faults c b orelse
   stmt_faults c b (tree.While at t body orelse) = expr_faults c.in_function t ++ stmts_faults c true body ++ stmts_faults c b orelse
   stmt_faults c b (tree.For at target iter body orelse) =
@@ -166,16 +232,41 @@ abbrev mutual
   handlers_faults c b tree.no_handlers = []
   handlers_faults c b (tree.more_handlers type name body rest) = match_faults c.in_function type name ++ stmts_faults c b body ++ handlers_faults c b rest
 
--- the outermost scope is no function
+-- the outermost scope is no function, and before any future import no annotation is postponed
 abbrev pub first_setting : (level : ℕ) → Setting
-first_setting l = record { level = l; in_function = false }
+first_setting l = record { level = l; in_function = false; postponed = false }
 
--- what is wrong with the nodes that are compiled, in whatever mode; what is entered at a prompt has no docstring
-abbrev pub compile_faults : (level : ℕ) → tree.Mod → List Fault
-compile_faults l (tree.Module body) = stmts_faults (first_setting l) false (after_doc body)
-compile_faults l (tree.Interactive body) = stmts_faults (first_setting l) false body
-compile_faults l (tree.Expression value) = expr_faults false value
-compile_faults l other = unbuilt_tree ∷ []
+-- how the statements behind a future import are read
+abbrev pub setting_after : Future → Setting → Setting
+setting_after f c = if postpones f then record c { postponed = true } else c
+
+-- future imports, and the statements behind them
+abbrev pub faults_behind : Setting → tree.Stmts → List Fault
+faults_behind c tree.no_stmts = []
+faults_behind c (tree.more_stmts s ss) = elim (future_of s) [
+  | None ↦ stmts_faults c false (tree.more_stmts s ss)
+  | Some f ↦ future_faults c.in_function f ++ faults_behind (setting_after f c) ss
+]
+
+-- at a prompt expressions may stand before them
+abbrev pub prompt_faults : Setting → tree.Stmts → List Fault
+prompt_faults c tree.no_stmts = []
+prompt_faults c (tree.more_stmts (tree.StmtExpr at value) ss) = expr_faults c.in_function value ++ prompt_faults c ss
+prompt_faults c (tree.more_stmts s ss) = elim (future_of s) [
+  | None ↦ stmts_faults c false (tree.more_stmts s ss)
+  | Some f ↦ future_faults c.in_function f ++ prompt_faults (setting_after f c) ss
+]
+
+abbrev pub interactive_faults : Mode → Setting → tree.Stmts → List Fault
+interactive_faults mode.Single c ss = prompt_faults c ss
+interactive_faults other c ss = faults_behind c ss
+
+-- what is wrong with the nodes that are compiled; what is entered at a prompt has no docstring
+abbrev pub compile_faults : Mode → (level : ℕ) → tree.Mod → List Fault
+compile_faults m l (tree.Module body) = faults_behind (first_setting l) (after_doc body)
+compile_faults m l (tree.Interactive body) = interactive_faults m (first_setting l) body
+compile_faults m l (tree.Expression value) = expr_faults false value
+compile_faults m l other = unbuilt_tree ∷ []
 
 -- a shape that no tree of a program has
 abbrev pub malformed : List Malformed → List Fault
@@ -185,4 +276,4 @@ malformed (m ∷ ms) = record { error = error.MalformedTree m; location = None }
 -- nesting, then size, then shapes, then what is wrong with names and scopes, then with the nodes that are compiled
 abbrev pub faults : tree.Mod → Mode → (level : ℕ) → List Fault
 faults t mode level =
-    whole too_deep (2 ^ 10) (nesting t) ++ whole too_large (2 ^ 22) (size_of t) ++ malformed (shapes t mode) ++ scan_faults t ++ compile_faults level t
+    whole too_deep (2 ^ 10) (nesting t) ++ whole too_large (2 ^ 22) (size_of t) ++ malformed (shapes t mode) ++ scan_faults t ++ compile_faults mode level t

@@ -1,5 +1,5 @@
 -- What form statements are that are entered at a prompt, and those of a file whose last value is given.
-use Rattle.std.specs.Prelude.{ℕ, Bool, true, false, None}
+use Rattle.std.specs.Prelude.{ℕ, Bool, true, false, Some, None}
 use Rattle.py_tree.specs.Tree as tree
 use Rattle.py_tree.specs.declared.modules.Mode.{Mode}
 use Rattle.py_tree.specs.declared.modules.Mode.TheVariants as mode
@@ -8,6 +8,7 @@ use Rattle.py_bytecode.specs.Objects as const
 use Rattle.py_bytecode.specs.Values.{operation, Bare}
 use Rattle.py_steps.specs.Context.{Context}
 use Rattle.py_forms.specs.Form.{VForm, VConst, VKeep, VNone, Target, GPut, SForm, SThen, SInto, SReturn, SAt}
+use Rattle.py_meaning.specs.Futures.{after_future, behind_futures, future_form, future_of}
 use Rattle.py_meaning.specs.StmtParts.{after_stmt, none}
 use Rattle.py_meaning.specs.Table.{after, expr_form}
 use Rattle.py_meaning.specs.TableStmts.{stmt_form}
@@ -21,11 +22,20 @@ abbrev pub printed : (last : Bool) → VForm → (rest : SForm) → SForm
 printed true f rest = SReturn (VKeep f None printing)
 printed false f rest = SThen (SInto f printing) rest
 
--- statements at a prompt; only an expression that stands there itself is printed
+-- statements at a prompt behind others; only an expression that stands there itself is printed
 abbrev pub single_form : Context → (next : ℕ) → tree.Stmts → SForm
 single_form c n tree.no_stmts = SReturn (VConst const.none)
 single_form c n (tree.more_stmts (tree.StmtExpr at value) ss) = printed (none ss) (expr_form c n value) (single_form c (after c n value) ss)
 single_form c n (tree.more_stmts s ss) = SThen (stmt_form c n s) (single_form c (after_stmt c n s) ss)
+
+-- statements at a prompt; future imports stand before all but expressions
+abbrev pub prompt_form : Context → (next : ℕ) → tree.Stmts → SForm
+prompt_form c n tree.no_stmts = SReturn (VConst const.none)
+prompt_form c n (tree.more_stmts (tree.StmtExpr at value) ss) = printed (none ss) (expr_form c n value) (prompt_form c (after c n value) ss)
+prompt_form c n (tree.more_stmts s ss) = elim (future_of s) [
+  | None ↦ single_form c n (tree.more_stmts s ss)
+  | Some f ↦ SThen (future_form c f) (prompt_form (after_future f c) n ss)
+]
 
 -- what a definition stores is returned too
 abbrev pub returned : SForm → SForm
@@ -39,7 +49,7 @@ last_form c n (tree.FunctionDef at name params body decorators returns generic) 
 last_form c n (tree.ClassDef at name bases keywords body decorators generic) = returned (stmt_form c n (tree.ClassDef at name bases keywords body decorators generic))
 last_form c n other = SThen (stmt_form c n other) (SReturn (VConst const.none))
 
--- a file whose last value is given
+-- statements whose last value is given
 abbrev pub block_form : Context → (next : ℕ) → tree.Stmts → SForm
 block_form c n tree.no_stmts = SReturn (VConst const.none)
 block_form c n (tree.more_stmts s tree.no_stmts) = last_form c n s
@@ -47,5 +57,5 @@ block_form c n (tree.more_stmts s (tree.more_stmts t ts)) = SThen (stmt_form c n
 
 -- what is entered at a prompt, and a file whose last value is given; in the other modes there is no such tree
 abbrev pub interactive_form : Mode → Context → tree.Stmts → SForm
-interactive_form mode.Single c ss = single_form c 1 ss
-interactive_form other c ss = block_form c 1 ss
+interactive_form mode.Single c ss = prompt_form c 1 ss
+interactive_form other c ss = behind_futures (λ d. block_form d 1) c ss

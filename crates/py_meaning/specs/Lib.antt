@@ -4,7 +4,9 @@ pub mod TableScopes
 pub mod Table
 pub mod TableNotes
 pub mod StmtParts
+pub mod TableParams
 pub mod Imports
+pub mod Futures
 pub mod TableStmts
 pub mod StmtEnds
 pub mod Interactive
@@ -12,6 +14,7 @@ pub mod Meaning
 pub mod ControlEmissions
 pub mod EmissionDefs
 pub mod EmissionImports
+pub mod EmissionFutures
 pub mod EmissionStmts
 pub mod EmissionMods
 pub mod ExprFaults

@@ -1,7 +1,7 @@
--- How many scopes stand in each statement, as they are scanned. No annotation that is compiled is postponed yet, so those of functions and of assignments count.
+-- How many scopes stand in each statement, as they are scanned; none in annotations that are postponed.
 use Rattle.std.specs.Prelude.{ℕ, suc, ◌+◌, Bool}
 use Rattle.py_tree.specs.Tree as tree
-use Rattle.py_counts.specs.Counts.{scopes_in, scopes_in_all, scopes_in_defaults, scopes_in_keywords, scopes_in_notes, scopes_in_opt, scopes_in_opt_arg}
+use Rattle.py_counts.specs.Counts.{scopes_in, scopes_in_all, scopes_in_annotation, scopes_in_defaults, scopes_in_keywords, scopes_in_notes, scopes_in_opt, scopes_in_opt_arg, scopes_in_returns}
 
 -- the annotations of all parameters
 abbrev pub scopes_in_all_notes : (postponed : Bool) → tree.Arguments → ℕ
@@ -37,7 +37,7 @@ scopes_in_raise p (tree.some_expr e) cause = scopes_in p e + scopes_in_opt p cau
 abbrev mutual
   pub scopes_in_stmt : (postponed : Bool) → tree.Stmt → ℕ
   scopes_in_stmt p (tree.FunctionDef at name params body decorators returns generic) =
-      scopes_in_all p decorators + (hidden_scope generic + (scopes_in_params p generic + (scopes_in_defaults p params + suc (scopes_in_stmts p body + (scopes_in_opt p returns + scopes_in_all_notes p params)))))
+      scopes_in_all p decorators + (hidden_scope generic + (scopes_in_params p generic + (scopes_in_defaults p params + suc (scopes_in_stmts p body + (scopes_in_returns p returns + scopes_in_all_notes p params)))))
   scopes_in_stmt p (tree.AsyncFunctionDef at name params body decorators returns generic) = 0
   scopes_in_stmt p (tree.ClassDef at name bases keywords body decorators generic) =
       scopes_in_all p decorators + (hidden_scope generic + (scopes_in_params p generic + suc (scopes_in_stmts p body + (scopes_in_all p bases + scopes_in_keywords p keywords))))
@@ -46,7 +46,7 @@ abbrev mutual
   scopes_in_stmt p (tree.Assign at targets value) = scopes_in p value + scopes_in_all p targets
   scopes_in_stmt p (tree.TypeAlias at name generic value) = hidden_scope generic + (scopes_in_params p generic + (scopes_in p value + scopes_in p name))
   scopes_in_stmt p (tree.AugAssign at target o value) = scopes_in p target + scopes_in p value
-  scopes_in_stmt p (tree.AnnAssign at target annotation value simple) = scopes_in_opt p value + (scopes_in p target + scopes_in p annotation)
+  scopes_in_stmt p (tree.AnnAssign at target annotation value simple) = scopes_in_opt p value + (scopes_in p target + scopes_in_annotation p annotation)
   scopes_in_stmt p (tree.For at target iter body orelse) = scopes_in p iter + (scopes_in p target + (scopes_in_stmts p body + scopes_in_stmts p orelse))
   scopes_in_stmt p (tree.AsyncFor at target iter body orelse) = 0
   scopes_in_stmt p (tree.While at t body orelse) = scopes_in p t + (scopes_in_stmts p body + scopes_in_stmts p orelse)

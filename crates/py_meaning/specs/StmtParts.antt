@@ -6,16 +6,16 @@ use Rattle.py_bytecode.specs.declared.instruction.Instruction.TheVariants as op
 use Rattle.py_bytecode.specs.Objects as const
 use Rattle.py_bytecode.specs.Values.{operation, Bare, Number}
 use Rattle.py_steps.specs.Children.{function_inside}
-use Rattle.py_steps.specs.Classes.{behind_name, class_inside}
+use Rattle.py_steps.specs.Classes.{behind_name, class_within}
 use Rattle.py_steps.specs.Context.{Context, head_of, is_function, mangled, qualified}
 use Rattle.py_steps.specs.Elements.{Function}
 use Rattle.py_emission.specs.Texts.{after_doc, doc_of}
 use Rattle.py_forms.specs.Form.{VForm, VConst, VLoad, VOp, VMake, VKeep, VForms, VNone, VMore, TNot, Resolved, FixedByName, FixedGlobal, Target, GDrop, GStore, GPut, SForm, SSkip, SThen, SDo, SInto, SRemove, SIf, SReturn, SReraise, SAugment, SAugmentTwo, SFinally, SWith, MkScope}
 use Rattle.py_steps.specs.TableParts.{built, call_form, counted, elements, inplace, name_form, named}
 use Rattle.py_meaning.specs.StmtCounts.{scopes_in_stmt, scopes_in_stmts}
-use Rattle.py_meaning.specs.Table.{after, after_all, after_defaults, after_opt, all_forms, default_forms, expr_form, keyword_forms, target_form, test_form}
-use Rattle.py_meaning.specs.TableNotes.{note_forms}
-use Rattle.py_meaning.specs.TableScopes.{build_class, class_form, default_flags, default_parts, function_form}
+use Rattle.py_meaning.specs.Table.{after, after_all, after_opt, all_forms, expr_form, keyword_forms, target_form, test_form}
+use Rattle.py_meaning.specs.TableNotes.{note_form, note_forms}
+use Rattle.py_meaning.specs.TableScopes.{build_class, class_form, function_form}
 
 -- what is deleted, a list or a tuple element by element
 abbrev mutual
@@ -63,7 +63,7 @@ annotation_target c other = GDrop
 
 -- a function does nothing with the annotations of its names
 abbrev pub annotated_form : Context → (next : ℕ) → (target annotation : tree.Expr) → SForm
-annotated_form c n target annotation = if is_function c.typ then SSkip else SInto (expr_form c n annotation) (annotation_target c target)
+annotated_form c n target annotation = if is_function c.typ then SSkip else SInto (note_form c n annotation) (annotation_target c target)
 
 -- whether an annotated assignment stands among the statements, or in those within them; handlers are left out
 abbrev mutual
@@ -120,22 +120,21 @@ assertion c n msg = VOp (counted op.CallFunctionPositional (message_count msg)) 
 abbrev pub assert_form : Context → (next : ℕ) → (test : tree.Expr) → (msg : tree.OptExpr) → SForm
 assert_form c n t msg = if nat_eq c.level 0 then SIf (TNot (test_form c n t)) (SDo (operation op.Raise (Number 0)) true (VMore (assertion c (after c n t) msg) VNone)) else SSkip
 
--- a function whose decorators leave off at this number, and what its statements are; defaults come before its own scope, and annotations after it
-abbrev pub defined : Context → (next : ℕ) → (name : List ℕ) → tree.Arguments → tree.Stmts → (returns : tree.OptExpr) → SForm → VForm
-defined c n name params body returns f =
-    let d = default_forms c n params in let m = after_defaults c n params in
-    function_form (default_flags d) (default_parts d VNone) (MkScope (head_of (function_inside name c m)) f) (qualified c name) (note_forms c (suc m + scopes_in_stmts c.postponed body) params returns) (doc_of c.level body)
+-- a function of these flags and parts, whose own scope has this number, and what its statements are; annotations come after its own scope
+abbrev pub function_value : Context → (number flags : ℕ) → VForms → (name : List ℕ) → tree.Arguments → tree.Stmts → (returns : tree.OptExpr) → SForm → VForm
+function_value c n flags parts name params body returns f =
+    function_form flags parts (MkScope (head_of (function_inside name c n)) f) (qualified c name) (note_forms c (suc n + scopes_in_stmts c.postponed body) params returns) (doc_of c.level body)
 
--- the function of a class whose own scope has this number, and what its statements are
-abbrev pub class_function : Context → (number : ℕ) → (name : List ℕ) → tree.Stmts → SForm → VForm
-class_function c n name body f =
-    let i = class_inside name c n in VMake 0 VNone (MkScope (head_of i) (class_form i.path (doc_of c.level body) (annotated (after_doc body)) f)) name VNone
+-- the function of a class with this qualified name, whose own scope has this number, and what its statements are
+abbrev pub class_function : Context → (path : List ℕ) → (number flags : ℕ) → VForms → (name : List ℕ) → tree.Stmts → SForm → VForm
+class_function c path n flags parts name body f =
+    VMake flags parts (MkScope (head_of (class_within path name c n)) (class_form path (doc_of c.level body) (annotated (after_doc body)) f)) name VNone
 
 -- a class is what its function, its name, its bases and its keywords build; these come after its own scope
-abbrev pub class_value : Context → (number : ℕ) → (name : List ℕ) → (bases : tree.Exprs) → tree.Keywords → tree.Stmts → SForm → VForm
-class_value c n name bases keywords body f =
+abbrev pub class_value : Context → (path : List ℕ) → (number flags : ℕ) → VForms → (name : List ℕ) → (bases : tree.Exprs) → tree.Keywords → tree.Stmts → SForm → VForm
+class_value c path n flags parts name bases keywords body f =
     let m = suc n + scopes_in_stmts c.postponed body in
-    call_form (Function build_class) (behind_name (built op.BuildTuple) (class_function c n name body f) (VConst (const.str name)) (elements (all_forms c m bases))) (keyword_forms c (after_all c m bases) keywords)
+    call_form (Function build_class) (behind_name (built op.BuildTuple) (class_function c path n flags parts name body f) (VConst (const.str name)) (elements (all_forms c m bases))) (keyword_forms c (after_all c m bases) keywords)
 
 -- on every way out of its body the name of a handler is set to None and deleted
 abbrev pub named_form : Context → Option (List ℕ) → (body : SForm) → SForm

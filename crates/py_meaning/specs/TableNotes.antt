@@ -1,15 +1,26 @@
--- The forms of the annotations of functions.
-use Rattle.std.specs.Prelude.{ℕ, ◌+◌, ◌++◌, List, [], ◌∷◌, codes}
+-- The forms of annotations, and of those of functions.
+use Rattle.std.specs.Prelude.{ℕ, ◌+◌, ◌++◌, List, [], ◌∷◌, Option, Some, None, codes, if◌then◌else◌}
 use Rattle.py_tree.specs.Tree as tree
-use Rattle.py_counts.specs.Counts.{scopes_in_arg, scopes_in_notes, scopes_in_opt_arg}
+use Rattle.py_counts.specs.Counts.{scopes_in_arg, scopes_in_notes, scopes_in_opt_arg, scopes_in_returns}
+use Rattle.py_bytecode.specs.Objects as const
 use Rattle.py_steps.specs.Context.{Context, mangled}
-use Rattle.py_forms.specs.Form.{VForm}
-use Rattle.py_meaning.specs.Table.{after_opt, expr_form}
+use Rattle.py_texts.specs.Annotation.{annotation}
+use Rattle.py_forms.specs.Form.{VForm, VConst}
+use Rattle.py_meaning.specs.Table.{expr_form}
+
+-- the text of an annotation that is postponed; nothing stands for one that has none, which is not compiled
+abbrev pub text_form : Option (List ℕ) → VForm
+text_form None = VConst const.none
+text_form (Some text) = VConst (const.str text)
+
+-- an annotation, or its text where annotations are postponed
+abbrev pub note_form : Context → (next : ℕ) → tree.Expr → VForm
+note_form c n e = if c.postponed then text_form (annotation e) else expr_form c n e
 
 -- an annotation by its name, where there is one
 abbrev pub opt_note : Context → (next : ℕ) → (name : List ℕ) → tree.OptExpr → List (List ℕ × VForm)
 opt_note c n name tree.no_expr = []
-opt_note c n name (tree.some_expr e) = (name, expr_form c n e) ∷ []
+opt_note c n name (tree.some_expr e) = (name, note_form c n e) ∷ []
 
 -- the annotation of a parameter, under its mangled name
 abbrev pub arg_note : Context → (next : ℕ) → tree.Arg → List (List ℕ × VForm)
@@ -41,4 +52,4 @@ param_notes c n (tree.arguments posonly args vararg kwonly kwarg) =
 
 -- the annotations of a function by name, that of what it returns first
 abbrev pub note_forms : Context → (next : ℕ) → tree.Arguments → (returns : tree.OptExpr) → List (List ℕ × VForm)
-note_forms c n params returns = opt_note c n (codes "return") returns ++ param_notes c (after_opt c n returns) params
+note_forms c n params returns = opt_note c n (codes "return") returns ++ param_notes c (n + scopes_in_returns c.postponed returns) params

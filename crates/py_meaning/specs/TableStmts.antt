@@ -3,29 +3,32 @@ use Rattle.std.specs.Prelude.{ℕ, suc, ◌+◌, List, Option, Some, None, codes
 use Rattle.py_tree.specs.Tree as tree
 use Rattle.py_bytecode.specs.Objects as const
 use Rattle.py_steps.specs.Children.{function_inside}
-use Rattle.py_steps.specs.Classes.{class_inside}
+use Rattle.py_steps.specs.Classes.{class_path, class_within}
 use Rattle.py_steps.specs.Context.{Context, mangled}
 use Rattle.py_emission.specs.Texts.{after_doc, doc_of, stmt_text}
 use Rattle.py_forms.specs.Form.{VConst, Resolved, FixedGlobal, GDrop, GStore, SForm, SSkip, SThen, SInto, SIf, SIfElse, SWhile, SFor, SBreak, SContinue, SReturn, STry, STryFinal, SAt, Handlers, HNone, HAny, HTyped}
 use Rattle.py_steps.specs.TableParts.{values}
 use Rattle.py_meaning.specs.Imports.{from_form, import_form}
+use Rattle.py_meaning.specs.Futures.{behind_futures}
 use Rattle.py_meaning.specs.StmtCounts.{scopes_in_handlers, scopes_in_items}
-use Rattle.py_meaning.specs.StmtParts.{after_stmt, after_stmts, annotated, annotated_form, assert_form, assign_form, augment_form, but_doc, class_value, declared_form, defined, handler_target, is_last_return, named_form, raise_form, removals, return_form, unless_last, with_form}
-use Rattle.py_meaning.specs.Table.{after, after_all, after_defaults, after_opt, all_forms, expr_form, target_form, test_form}
+use Rattle.py_meaning.specs.StmtParts.{after_stmt, after_stmts, annotated, annotated_form, assert_form, assign_form, augment_form, but_doc, declared_form, handler_target, is_last_return, named_form, raise_form, removals, return_form, unless_last, with_form}
+use Rattle.py_meaning.specs.TableParams.{alias_form, around_own, built_value, defined, function_number, own_number}
+use Rattle.py_meaning.specs.Table.{after, after_all, after_opt, all_forms, expr_form, target_form, test_form}
 use Rattle.py_meaning.specs.TableScopes.{decorated, iterator, setup_form}
 
 -- an expression statement drops its value; nothing stands for a statement that is not compiled yet
 abbrev mutual
   pub stmt_form : Context → (next : ℕ) → tree.Stmt → SForm
-  stmt_form c n (tree.FunctionDef at name params body decorators returns tree.no_type_params) =
-      let m = after_all c n decorators in let k = after_defaults c m params in
-      SAt at (SInto (decorated (values (all_forms c n decorators)) (defined c m name params body returns (function_body (function_inside name c k) (suc k) body))) (GStore Resolved (mangled c name)))
-  stmt_form c n (tree.ClassDef at name bases keywords body decorators tree.no_type_params) =
-      let m = after_all c n decorators in
-      SAt at (SInto (decorated (values (all_forms c n decorators)) (class_value c m name bases keywords body (rest_form (class_inside name c m) (suc m) body))) (GStore Resolved (mangled c name)))
+  stmt_form c n (tree.FunctionDef at name params body decorators returns generic) =
+      let m = after_all c n decorators in let k = function_number c m params generic in
+      SAt at (SInto (decorated (values (all_forms c n decorators)) (defined c m name params body returns generic (function_body (function_inside name (around_own c m generic) k) (suc k) body))) (GStore Resolved (mangled c name)))
+  stmt_form c n (tree.ClassDef at name bases keywords body decorators generic) =
+      let m = after_all c n decorators in let k = own_number c m generic in
+      SAt at (SInto (decorated (values (all_forms c n decorators)) (built_value c m name bases keywords body generic (rest_form (class_within (class_path c name) name (around_own c m generic) k) (suc k) body))) (GStore Resolved (mangled c name)))
   stmt_form c n (tree.Return at value) = SAt at (return_form c n value)
   stmt_form c n (tree.Delete at targets) = SAt at (removals c n targets)
   stmt_form c n (tree.Assign at targets value) = SAt at (assign_form c (after c n value) (expr_form c n value) targets)
+  stmt_form c n (tree.TypeAlias at name generic value) = SAt at (alias_form c n name generic value)
   stmt_form c n (tree.AugAssign at target o value) = SAt at (augment_form c n target o value)
   stmt_form c n (tree.AnnAssign at target annotation value simple) = SAt at (SThen (declared_form c n target value) (annotated_form c (after c (after_opt c n value) target) target annotation))
   stmt_form c n (tree.For at target iter body orelse) =
@@ -88,6 +91,6 @@ abbrev pub doc_form : Option (List ℕ) → SForm
 doc_form None = SSkip
 doc_form (Some text) = SInto (VConst (const.str text)) (GStore FixedGlobal (codes "__doc__"))
 
--- the docstring that is kept, room for annotations where there are any, what follows, and a return of None
+-- the docstring that is kept, room for annotations where there are any, future imports and what follows, and a return of None
 abbrev pub program_form : Context → tree.Stmts → SForm
-program_form c body = SThen (doc_form (doc_of c.level body)) (SThen (setup_form (annotated (after_doc body))) (SThen (stmts_form c 1 (after_doc body)) (SReturn (VConst const.none))))
+program_form c body = SThen (doc_form (doc_of c.level body)) (SThen (setup_form (annotated (after_doc body))) (SThen (behind_futures (λ d. stmts_form d 1) c (after_doc body)) (SReturn (VConst const.none))))
