@@ -6,7 +6,7 @@ use Rattle.py_tree.specs.Tree as tree
 use Rattle.py_base.specs.declared.operators.Operator.{Operator}
 use Rattle.py_base.specs.declared.shapes.Malformed.TheVariants as shape
 use Rattle.py_limits.specs.Size.{expr_size, exprs_size, opt_expr_size}
-use Rattle.py_counts.specs.Counts.{scopes_in, scopes_in_all, scopes_in_opt}
+use Rattle.py_counts.specs.Counts.{scopes_in, scopes_in_all, scopes_in_annotation, scopes_in_opt}
 use Rattle.py_bytecode.specs.declared.instruction.Instruction.TheVariants as op
 use Rattle.py_bytecode.specs.Objects as const
 use Rattle.py_bytecode.specs.Values.{Operation, Delete, Store, operation, Bare}
@@ -22,6 +22,8 @@ use Rattle.py_meaning.specs.StmtParts.{removal, removals, assigned, assign_form,
 use Rattle.py_steps.specs.Emitting.{Around, Emission, ◌▸◌, refuse, by_context, emit, emit_mangled, emit_name, emit_constant, pass_over}
 use Rattle.py_steps.specs.EmissionParts.{unless_debug, no_assignment, no_deletion, pass_scopes}
 use Rattle.py_emission.specs.Emission.{deletion_name, emission, emission_of_store, emission_of_delete, emission_of_deletes}
+use Rattle.py_meaning.specs.EmissionDefs.{emission_of_note}
+use Rattle.py_meaning.specs.TableNotes.{note_form}
 use Rattle.py_meaning.specs.EmissionStmts.{emission_of_assign, emission_of_augment, emission_of_declared, emission_of_annotated, emission_of_annotation}
 use Rattle.py_forms.specs.declared.errors.CodegenErrorType.{CodegenErrorType}
 use Rattle.py_forms.specs.declared.errors.CodegenErrorType.TheVariants as error
@@ -33,6 +35,7 @@ use Rattle.py_adds.proofs.AccessAdds.{accessed_adds, mangled_adds}
 use Rattle.py_adds.proofs.FormAdds.{ValueAdds, PartsAdd, unless_debug_gives, one_part, two_parts, two_add}
 use Rattle.py_adds.proofs.TargetAdds.{TargetAdds, drop_adds, put_adds, keep_adds}
 use Rattle.py_agree.proofs.ExprAdds.{expr_adds, name_value_adds, target_adds}
+use Rattle.py_agree.proofs.NoteAdds.{note_value_adds}
 use Rattle.py_agree.proofs.Told.{outer, told}
 
 -- a statement that leaves no loop is added
@@ -159,17 +162,18 @@ module _ (c : Around) where
   annotation_adds k other n = drop_adds within c k n
 
   -- a function does nothing with an annotation
-  annotate_if : (b : Bool) (k : ℕ) (t annotation : tree.Expr) → expr_size annotation < 2 ^ 22 → ActAdds within c k (many annotation) (if b then pass_scopes (λ p. scopes_in p annotation) else emission annotation ▸ emission_of_annotation t) (if b then SSkip else SInto (expr_form (told c) k annotation) (annotation_target (told c) t))
-  annotate_if true k t annotation few b n = passed_adds (λ p. scopes_in p annotation)
+  annotate_if : (b : Bool) (k : ℕ) (t annotation : tree.Expr) → expr_size annotation < 2 ^ 22 → ActAdds within c k (scopes_in_annotation c.context.postponed annotation) (if b then pass_scopes (λ p. scopes_in_annotation p annotation) else emission_of_note annotation ▸ emission_of_annotation t) (if b then SSkip else SInto (note_form (told c) k annotation) (annotation_target (told c) t))
+  annotate_if true k t annotation few b n = passed_adds (λ p. scopes_in_annotation p annotation)
   annotate_if false k t annotation few b n =
-      scopes_as (omega arith) (into_adds within c k (many annotation) 0 (emission annotation) (emission_of_annotation t) (expr_form (told c) k annotation) (annotation_target (told c) t) (value_adds k annotation few) (annotation_adds (k + many annotation) t) b n)
+      let l = scopes_in_annotation c.context.postponed annotation in
+      scopes_as (omega arith) (into_adds within c k l 0 (emission_of_note annotation) (emission_of_annotation t) (note_form (told c) k annotation) (annotation_target (told c) t) (note_value_adds c k annotation few) (annotation_adds (k + l) t) b n)
 
-  annotate_adds : (k : ℕ) (t annotation : tree.Expr) → expr_size annotation < 2 ^ 22 → ActAdds within c k (many annotation) (emission_of_annotated t annotation) (annotated_form (told c) k t annotation)
-  annotate_adds k t annotation few b n = context_gives (λ d. if is_function d.typ then pass_scopes (λ p. scopes_in p annotation) else emission annotation ▸ emission_of_annotation t) (annotate_if (is_function c.context.typ) k t annotation few b n)
+  annotate_adds : (k : ℕ) (t annotation : tree.Expr) → expr_size annotation < 2 ^ 22 → ActAdds within c k (scopes_in_annotation c.context.postponed annotation) (emission_of_annotated t annotation) (annotated_form (told c) k t annotation)
+  annotate_adds k t annotation few b n = context_gives (λ d. if is_function d.typ then pass_scopes (λ p. scopes_in_annotation p annotation) else emission_of_note annotation ▸ emission_of_annotation t) (annotate_if (is_function c.context.typ) k t annotation few b n)
 
-  pub annotated_adds : (k : ℕ) (t annotation : tree.Expr) (value : tree.OptExpr) → expr_size t + expr_size annotation + opt_expr_size value < 2 ^ 22 → ActAdds within c k (scopes_in_opt c.context.postponed value + (many t + many annotation)) (emission_of_declared t value ▸ emission_of_annotated t annotation) (SThen (declared_form (told c) k t value) (annotated_form (told c) (k + scopes_in_opt c.context.postponed value + many t) t annotation))
+  pub annotated_adds : (k : ℕ) (t annotation : tree.Expr) (value : tree.OptExpr) → expr_size t + expr_size annotation + opt_expr_size value < 2 ^ 22 → ActAdds within c k (scopes_in_opt c.context.postponed value + (many t + scopes_in_annotation c.context.postponed annotation)) (emission_of_declared t value ▸ emission_of_annotated t annotation) (SThen (declared_form (told c) k t value) (annotated_form (told c) (k + scopes_in_opt c.context.postponed value + many t) t annotation))
   annotated_adds k t annotation value few b n =
       let o = scopes_in_opt c.context.postponed value in
       let e : k + o + many t ≡ k + (o + many t) = omega arith in
-      scopes_as (omega arith) (both_act within c k (o + many t) (many annotation) (emission_of_declared t value) (emission_of_annotated t annotation) (declared_form (told c) k t value) (annotated_form (told c) (k + o + many t) t annotation)
+      scopes_as (omega arith) (both_act within c k (o + many t) (scopes_in_annotation c.context.postponed annotation) (emission_of_declared t value) (emission_of_annotated t annotation) (declared_form (told c) k t value) (annotated_form (told c) (k + o + many t) t annotation)
       (declared_adds k t value (omega (arith, few))) (λ b n. next_as e (annotate_adds (k + o + many t) t annotation (omega (arith, few)) b n)) b n)

@@ -11,21 +11,23 @@ use Rattle.py_bytecode.specs.Objects as const
 use Rattle.py_bytecode.specs.Objects.{Object}
 use Rattle.py_bytecode.specs.Values.{operation, Bare}
 use Rattle.py_bytecode.specs.Machine.{Operate}
-use Rattle.py_forms.specs.Form.{Scope, MkScope, SForm, VConst, VMake, VNone}
+use Rattle.py_forms.specs.Form.{Scope, MkScope, SForm, VForm, VForms, VConst, VMake, VNone}
 use Rattle.py_forms.specs.Fit.{Loops}
 use Rattle.py_forms.specs.Code.{Item, body_code, class_code, code, labels}
+use Rattle.py_forms.specs.Code.{count as count_parts}
 use Rattle.py_forms.specs.Looped.{Looped}
 use Rattle.py_forms.specs.Agree.{cells_of, form_of}
 use Rattle.py_scope.specs.declared.table_type.SymbolTableType.TheVariants as kind
-use Rattle.py_steps.specs.Classes.{behind_name, class_end, class_inside, class_names, class_path, class_shape}
+use Rattle.py_steps.specs.Classes.{behind_name, class_end, class_names, class_path, class_shape, class_within}
 use Rattle.py_steps.specs.Context.{Context, cell_place, class_cells, head_of, inside, room, with_path, within_class}
 use Rattle.py_steps.specs.Elements.{Function}
 use Rattle.py_steps.specs.Emitting.{Around, Emission, State, ◌▸◌, begun, by_level, emit, emit_constant}
+use Rattle.py_steps.specs.TableParts.{call_form}
 use Rattle.py_steps.specs.EmissionParts as emitting
 use Rattle.py_steps.specs.TableParts as table
 use Rattle.py_emission.specs.Emission.{all_emissions, keyword_emissions}
 use Rattle.py_emission.specs.Texts.{after_doc, doc_of}
-use Rattle.py_meaning.specs.EmissionDefs.{class_function, class_scope, emission_of_class, emission_of_setup}
+use Rattle.py_meaning.specs.EmissionDefs.{class_call, class_function, class_scope, emission_of_class, emission_of_setup}
 use Rattle.py_meaning.specs.StmtCounts.{scopes_in_stmts}
 use Rattle.py_meaning.specs.StmtParts.{annotated, class_value}
 use Rattle.py_meaning.specs.Table.{all_forms, keyword_forms}
@@ -36,13 +38,14 @@ use Rattle.py_adds.proofs.Burden.{cells_in, cells-append}
 use Rattle.py_adds.proofs.CallAdds.{NamedAdds, call_form_adds}
 use Rattle.py_adds.proofs.ClassAdds.{behind_adds, end_adds, names_code, names_yield}
 use Rattle.py_adds.proofs.Codes.{Counted}
-use Rattle.py_adds.proofs.Emitting.{Gives, Yields, after_these, both, grouped, keep_yields, level_gives, next_as, outside, scopes_as, still, then_yields}
-use Rattle.py_adds.proofs.FormAdds.{ValueAdds, all_elements_add}
-use Rattle.py_adds.proofs.Functions.{Makes, made_alone_adds}
+use Rattle.py_adds.proofs.Emitting.{Gives, Yields, after_these, both, context_gives, grouped, keep_yields, level_gives, next_as, outside, scopes_as, still, then_yields}
+use Rattle.py_adds.proofs.FormAdds.{PartsAdd, ValueAdds, all_elements_add}
+use Rattle.py_adds.proofs.Functions.{Flagged, Makes, made_alone_adds}
 use Rattle.py_adds.proofs.Instructions.{constant_adds}
 use Rattle.py_adds.proofs.Settled.{inside_settled}
 use Rattle.py_adds.proofs.Steps.{emit_adds}
 use Rattle.py_adds.proofs.Threaded.{AlikeElement, threaded_as}
+use Rattle.py_adds.proofs.TypeParameterAdds.{made_behind_adds}
 use Rattle.py_adds.proofs.Within.{Completing, completed_makes}
 use Rattle.py_sizes.proofs.ProgramSizes.{class_body_small}
 use Rattle.py_agree.proofs.ExprAdds.{exprs_add, keywords_add}
@@ -71,18 +74,18 @@ end_cells c = go (list_any (text_eq (codes "__class__")) c.cells)
     go false = omega arith
 
 -- the context of a class does not see the path of the source
-pathless_within : (name : List ℕ) (c : Context) (k : ℕ) → pathless (class_inside name c k) ≡ class_inside name (pathless c) k
+pathless_within : (path name : List ℕ) (c : Context) (k : ℕ) → pathless (class_within path name c k) ≡ class_within path name (pathless c) k
 unfolding inside with_path within_class
-pathless_within name c k = refl
+pathless_within path name c k = refl
 
 -- other items and another count that are the same
 added_so : (s t : State) (is js : List (Item Scope)) (m n : ℕ) (ps : List (Object × Scope)) → is ≡ js → m ≡ n → Added s t is m ps → Added s t js n ps
 added_so s t is js m n ps e f a = subst (λ xs. Added s t xs n ps) e (subst (λ j. Added s t is j ps) f a)
 
-module _ (c : Around) (k : ℕ) (name : List ℕ) (body : tree.Stmts) where
+module _ (c : Around) (k : ℕ) (path name : List ℕ) (body : tree.Stmts) where
   -- the context in the class
   abbrev pub inner : Context
-  inner = class_inside name c.context k
+  inner = class_within path name c.context k
 
   -- how many scopes stand in it
   abbrev count : ℕ
@@ -165,33 +168,51 @@ module _ (c : Around) (k : ℕ) (name : List ℕ) (body : tree.Stmts) where
     makes : ((n : ℕ) → room c.context.scopes n < 2 ^ 26) → stmts_size body < 2 ^ 22 → Makes c.context inner (class_shape name) (class_scope body v) k count class_of
     unfolding inside with_path within_class
     makes roomy few =
-        completed_makes c.context inner (class_shape name) (class_scope body v) k count class_of refl refl refl refl (inside_settled kind.Class k (with_path (class_path c.context name) (within_class name c.context))) roomy
+        completed_makes c.context inner (class_shape name) (class_scope body v) k count class_of refl refl refl refl (inside_settled kind.Class k (with_path path (within_class name c.context))) roomy
         (λ d. class_body_small d (pathless inner) inner.path doc (annotated (after_doc body)) (suc k) body few) completing
 
     -- and the function is made of it
-    function_add : stmts_size body < 2 ^ 22 → ValueAdds (outer c) c k (suc count) (class_function name body v) (VMake 0 VNone class_of name VNone)
+    pub function_add : stmts_size body < 2 ^ 22 → ValueAdds (outer c) c k (suc count) (class_function path 0 name body v) (VMake 0 VNone class_of name VNone)
     unfolding inside with_path within_class
-    function_add few n = roomily (λ roomy. made_alone_adds (outer c) c (class_inside name) (class_shape name) (class_scope body v) name class_of k count (makes roomy few) refl refl n)
+    function_add few n = roomily (λ roomy. made_alone_adds (outer c) c (class_within path name) (class_shape name) (class_scope body v) name class_of k count (makes roomy few) refl refl n)
 
-    -- a class, with its name, its bases and its keywords
-    pub class_adds : (bases : tree.Exprs) (keywords : tree.Keywords) → stmts_size body < 2 ^ 22 → exprs_size bases < 2 ^ 22 → keywords_size keywords < 2 ^ 22 → ValueAdds (outer c) c k (suc count + scopes_in_all c.context.postponed bases + scopes_in_keywords c.context.postponed keywords) (emission_of_class name bases keywords body v) (class_value (told c) k name bases keywords body (rest_form (class_inside name (told c) k) (suc k) body))
-    unfolding emission_of_class inside with_path within_class
-    class_adds bases keywords few less least n =
-        let p = c.context.postponed in
-        let y = scopes_in_all p bases in
-        let z = scopes_in_keywords p keywords in
-        let m = suc k + count in
-        let text : Emission = emit_constant op.LoadConst (const.str name) in
-        let es = emitting.elements (all_emissions bases) in
-        let fs = table.elements (all_forms (told c) m bases) in
-        let build : ValueAdds (outer c) c k 0 (emit op.LoadBuildClass 0) build_class = λ j. emit_adds op.LoadBuildClass 0 (Operate (operation op.LoadBuildClass Bare) 0 (Some 1)) (refl, refl) (λ d t. refl) c j k in
-        let own = function_add few in
-        let named : ValueAdds (outer c) c (k + 0 + suc count) 0 text (VConst (const.str name)) = λ j. constant_adds (const.str name) refl c j (k + 0 + suc count) in
-        let more = all_elements_add (outer c) c m y (all_emissions bases) (all_forms (told c) m bases) (exprs_add c m bases less) in
-        let R = AlikeElement (ValueAdds (outer c) c) (ValueAdds (outer c) c) in
-        let elements = behind_adds (outer c) c (k + 0) (suc count) y (class_function name body v) text (VMake 0 VNone class_of name VNone) (VConst (const.str name)) es fs (λ j. next_as (omega arith) (own j)) named (threaded_as R m (k + 0 + suc count) y y es fs (omega arith) refl more) in
-        let ks = keyword_emissions keywords in
-        let js = keyword_forms (told c) (m + y) keywords in
-        let words = threaded_as (AlikeElement (NamedAdds (outer c) c) (ValueAdds (outer c) c)) (m + y) (k + 0 + (suc count + y)) z z ks js (omega arith) refl (keywords_add c (m + y) keywords least) in
-        scopes_as (omega arith)
-        (call_form_adds (outer c) c k 0 (suc count + y) z (Function (emit op.LoadBuildClass 0)) (Function build_class) (behind_name (emitting.built op.BuildTuple) (class_function name body v) text es) (behind_name (table.built op.BuildTuple) (VMake 0 VNone class_of name VNone) (VConst (const.str name)) fs) ks js build elements words n)
+    -- also behind the parts that it is made of
+    pub function_after : stmts_size body < 2 ^ 22 → (j a flags : ℕ) (p : Emission) (fs : VForms) → j + a ≡ k → PartsAdd (outer c) c j a p fs → Flagged flags (count_parts fs) → ValueAdds (outer c) c j (a + suc count) (p ▸ class_function path flags name body v) (VMake flags fs class_of name VNone)
+    unfolding inside with_path within_class
+    function_after few j a flags p fs here h flagged n =
+        roomily (λ roomy. made_behind_adds (outer c) c j a count flags p fs (class_within path name) (class_shape name) (class_scope body v) name class_of h
+        (subst (λ m. Makes c.context (class_within path name c.context m) (class_shape name) (class_scope body v) m count class_of) (sym here) (makes roomy few)) refl (ap (λ m. cells_of (cell_place c.context) (class_within path name c.context m).frees) (sym here)) flagged n)
+
+-- what builds a class is called with a function, behind whose scopes this number is the next, the name, the bases and the keywords
+module _ (c : Around) (k l j : ℕ) (behind : k + l ≡ j) (name : List ℕ) (function : Emission) (form : VForm) (bases : tree.Exprs) (keywords : tree.Keywords) where
+  abbrev called : VForm
+  called = call_form (Function build_class) (behind_name (table.built op.BuildTuple) form (VConst (const.str name)) (table.elements (all_forms (told c) j bases))) (keyword_forms (told c) (j + scopes_in_all c.context.postponed bases) keywords)
+
+  pub class_call_adds : ValueAdds (outer c) c k l function form → exprs_size bases < 2 ^ 22 → keywords_size keywords < 2 ^ 22 → ValueAdds (outer c) c k (l + scopes_in_all c.context.postponed bases + scopes_in_keywords c.context.postponed keywords) (class_call name function bases keywords) called
+  class_call_adds own less least n =
+      let p = c.context.postponed in
+      let y = scopes_in_all p bases in
+      let z = scopes_in_keywords p keywords in
+      let text : Emission = emit_constant op.LoadConst (const.str name) in
+      let es = emitting.elements (all_emissions bases) in
+      let fs = table.elements (all_forms (told c) j bases) in
+      let build : ValueAdds (outer c) c k 0 (emit op.LoadBuildClass 0) build_class = λ m. emit_adds op.LoadBuildClass 0 (Operate (operation op.LoadBuildClass Bare) 0 (Some 1)) (refl, refl) (λ d t. refl) c m k in
+      let named : ValueAdds (outer c) c (k + 0 + l) 0 text (VConst (const.str name)) = λ m. constant_adds (const.str name) refl c m (k + 0 + l) in
+      let more = all_elements_add (outer c) c j y (all_emissions bases) (all_forms (told c) j bases) (exprs_add c j bases less) in
+      let R = AlikeElement (ValueAdds (outer c) c) (ValueAdds (outer c) c) in
+      let elements = behind_adds (outer c) c (k + 0) l y function text form (VConst (const.str name)) es fs (λ m. next_as (omega arith) (own m)) named (threaded_as R j (k + 0 + l) y y es fs (omega (arith, behind)) refl more) in
+      let ks = keyword_emissions keywords in
+      let js = keyword_forms (told c) (j + y) keywords in
+      let words = threaded_as (AlikeElement (NamedAdds (outer c) c) (ValueAdds (outer c) c)) (j + y) (k + 0 + (l + y)) z z ks js (omega (arith, behind)) refl (keywords_add c (j + y) keywords least) in
+      scopes_as (omega arith)
+      (call_form_adds (outer c) c k 0 (l + y) z (Function (emit op.LoadBuildClass 0)) (Function build_class) (behind_name (emitting.built op.BuildTuple) function text es) (behind_name (table.built op.BuildTuple) form (VConst (const.str name)) fs) ks js build elements words n)
+
+-- a class without type parameters
+module _ (c : Around) (k : ℕ) (name : List ℕ) (body : tree.Stmts) (v : Emission) (adds : BodyAdds c k (class_path c.context name) name body v) where
+  pub class_adds : (bases : tree.Exprs) (keywords : tree.Keywords) → stmts_size body < 2 ^ 22 → exprs_size bases < 2 ^ 22 → keywords_size keywords < 2 ^ 22 → ValueAdds (outer c) c k (suc (scopes_in_stmts c.context.postponed body) + scopes_in_all c.context.postponed bases + scopes_in_keywords c.context.postponed keywords) (emission_of_class name bases keywords body v) (class_value (told c) (class_path c.context name) k 0 VNone name bases keywords body (rest_form (class_within (class_path c.context name) name (told c) k) (suc k) body))
+  unfolding emission_of_class inside with_path within_class
+  class_adds bases keywords few less least n =
+      let path = class_path c.context name in
+      let count = scopes_in_stmts c.context.postponed body in
+      context_gives (λ d. class_call name (class_function (class_path d name) 0 name body v) bases keywords)
+      (class_call_adds c k (suc count) (suc k + count) (omega arith) name (class_function path 0 name body v) (VMake 0 VNone (class_of c k path name body) name VNone) bases keywords (function_add c k path name body v adds few) less least n)

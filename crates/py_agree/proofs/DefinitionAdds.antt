@@ -3,44 +3,52 @@ use Rattle.std.proofs.Common.{◌≡◌, ℕ, suc, ◌+◌, ◌<◌, ◌^◌, Li
 use Rattle.std.specs.Prelude.{if◌then◌else◌}
 use Rattle.py_tree.specs.Tree as tree
 use Rattle.py_base.specs.declared.location.SourceLocation.{SourceLocation}
-use Rattle.py_limits.specs.Size.{class_head_size, head_size, stmts_size}
-use Rattle.py_counts.specs.Counts.{scopes_in_all, scopes_in_defaults, scopes_in_keywords, scopes_in_opt}
+use Rattle.py_limits.specs.Size.{arguments_size, class_head_size, expr_size, exprs_size, head_size, keywords_size, opt_expr_size, stmts_size, type_params_size}
+use Rattle.py_counts.specs.Counts.{scopes_in, scopes_in_all, scopes_in_defaults, scopes_in_keywords, scopes_in_returns}
 use Rattle.py_bytecode.specs.declared.instruction.Instruction.TheVariants as op
 use Rattle.py_bytecode.specs.Objects as const
 use Rattle.py_bytecode.specs.Values.{Store}
 use Rattle.py_forms.specs.Form.{MkScope, VForm, VConst, Target, SForm, SThen, SInto, SReturn, GStore, Resolved}
 use Rattle.py_forms.specs.Fit.{Loops}
 use Rattle.py_forms.specs.Code.{Item, closes, closing, labels, code}
-use Rattle.py_steps.specs.Context.{Context, head_of, mangled}
+use Rattle.py_steps.specs.Context.{Context, head_of, inside, mangled, with_path, within_class}
 use Rattle.py_steps.specs.Accesses.{emission_of_stored}
 use Rattle.py_steps.specs.Children.{decorated, function_inside}
-use Rattle.py_steps.specs.Classes.{class_inside}
+use Rattle.py_steps.specs.Classes.{class_path, class_within}
 use Rattle.py_steps.specs.TableParts as table
 use Rattle.py_steps.specs.EmissionParts as emitting
 use Rattle.py_emission.specs.Texts.{after_doc, stmt_text, unless_text}
-use Rattle.py_meaning.specs.StmtCounts.{scopes_in_all_notes, scopes_in_stmt, scopes_in_stmts}
-use Rattle.py_meaning.specs.Table.{all_forms}
+use Rattle.py_meaning.specs.StmtCounts.{hidden_scope, scopes_in_all_notes, scopes_in_params, scopes_in_stmt, scopes_in_stmts}
+use Rattle.py_meaning.specs.Table.{all_forms, expr_form}
 use Rattle.py_meaning.specs.TableScopes.{iterator}
 use Rattle.py_meaning.specs.TableScopes as forms
-use Rattle.py_meaning.specs.EmissionDefs.{emission_of_class, emission_of_def, emission_of_end}
+use Rattle.py_meaning.specs.EmissionDefs as emitting_defs
+use Rattle.py_meaning.specs.EmissionDefs.{emission_of_built, emission_of_end, emission_of_function}
+use Rattle.py_meaning.specs.TableParams.{alias_value, around_own, built_value, defined, function_number, own_number}
 use Rattle.py_meaning.specs.TableStmts.{ended_form, function_body, rest_form, stmt_form, stmts_form}
-use Rattle.py_meaning.specs.StmtParts.{after_stmt, but_doc, class_value, defined, is_return, unless_last}
+use Rattle.py_meaning.specs.StmtParts.{after_stmt, but_doc, is_return, unless_last}
 use Rattle.py_steps.specs.Emitting.{Around, Emission, ◌▸◌, emit_constant, keep, move}
 use Rattle.py_steps.specs.EmissionParts.{no_assignment, only_in_function, pass_scopes}
-use Rattle.py_emission.specs.Emission.{all_emissions}
+use Rattle.py_emission.specs.Emission.{all_emissions, emission}
+use Rattle.py_tree.specs.PythonName.{python_name}
+use Rattle.py_forms.specs.declared.errors.CodegenErrorType.TheVariants as error
 use Rattle.py_meaning.specs.EmissionStmts.{emission_of_rest, emission_of_stmt, emission_of_stmts}
-use Rattle.py_adds.proofs.Emitting.{gives_as, outside, scopes_as, then_gives, then_keep, ungroup}
+use Rattle.py_adds.proofs.Emitting.{gives_as, moved_refused, outside, scopes_as, then_gives, then_keep, ungroup}
+use Rattle.py_adds.proofs.TypeParameterAdds.{plain_alias_adds}
+use Rattle.py_sizes.proofs.ProgramSizes.{hidden_alias_small, hidden_class_small, hidden_function_small}
 use Rattle.py_adds.proofs.Instructions.{return_adds}
 use Rattle.py_adds.proofs.AccessAdds.{accessed_adds}
 use Rattle.py_adds.proofs.FormAdds.{ValueAdds, all_values_add, unless_debug_gives}
 use Rattle.py_adds.proofs.TargetAdds.{TargetAdds}
 use Rattle.py_adds.proofs.Within.{Whole}
-use Rattle.py_agree.proofs.ExprAdds.{exprs_add}
+use Rattle.py_agree.proofs.ExprAdds.{expr_adds, exprs_add}
 use Rattle.py_agree.proofs.Scopeless.{text_scopeless}
 use Rattle.py_agree.proofs.Told.{outer, pathless, told}
 use Rattle.py_agree.proofs.AssignAdds.{into_adds}
 use Rattle.py_agree.proofs.ClassAdds.{class_adds, unlooped_labels}
 use Rattle.py_agree.proofs.FunctionAdds.{decorated_adds, def_adds}
+use Rattle.py_agree.proofs.GenericAdds.{generic_alias_adds_here, generic_class_adds, generic_def_adds, own_here}
+use Rattle.py_agree.proofs.TypeParams.{name_stored, within}
 use Rattle.py_agree.proofs.Controls.{Controls, InLoop, StmtAdds, StmtsAdd, act_gives, in_more}
 
 -- the statements of a function: where the last is no return, None is returned
@@ -115,15 +123,11 @@ whole_gives inner k body h =
     gives_as (closed (code (outer (outside inner)) f none 1) (closes f) (body_closes (pathless inner) k body)) refl refl (h (outside inner) k none 1 tt)
 
 -- the value of a function, with its decorators
-abbrev pub function_value : Around → (next : ℕ) → (name : List ℕ) → tree.Arguments → tree.Stmts → (decorators : tree.Exprs) → (returns : tree.OptExpr) → VForm
-function_value c k name params body decorators returns =
+abbrev pub decorated_function : Around → (next : ℕ) → (name : List ℕ) → tree.Arguments → tree.Stmts → (decorators : tree.Exprs) → (returns : tree.OptExpr) → tree.TypeParams → VForm
+decorated_function c k name params body decorators returns generic =
     let m = k + scopes_in_all c.context.postponed decorators in
-    let j = m + scopes_in_defaults c.context.postponed params in
-    forms.decorated (table.values (all_forms (told c) k decorators)) (defined (told c) m name params body returns (function_body (function_inside name (told c) j) (suc j) body))
-
--- a name that is stored
-pub name_stored : (c : Around) (name : List ℕ) (k : ℕ) → TargetAdds (outer c) c k 0 (emission_of_stored name) (GStore Resolved (mangled (told c) name))
-name_stored c name k i = unless_debug_gives no_assignment name (accessed_adds Store name c i k)
+    let j = function_number (told c) m params generic in
+    forms.decorated (table.values (all_forms (told c) k decorators)) (defined (told c) m name params body returns generic (function_body (function_inside name (around_own (told c) m generic) j) (suc j) body))
 
 -- a value is stored under its name
 stored_gives : {v : Emission} (f : VForm) (c : Around) (b : Loops) (n k l : ℕ) (at : SourceLocation) (name : List ℕ) → ValueAdds (outer c) c k l v f → Controls c b n k l (move at ▸ v ▸ emission_of_stored name) (SInto f (GStore Resolved (mangled (told c) name)))
@@ -131,25 +135,32 @@ stored_gives {v = v} f c b n k l at name h =
     let t : Target = GStore Resolved (mangled (told c) name) in
     scopes_as (omega arith) (act_gives c b n k (l + 0) at (v ▸ emission_of_stored name) (SInto f t) (into_adds (outer c) c k l 0 v (emission_of_stored name) f t h (name_stored c name (k + l))) (λ z. tt))
 
--- a function, with its decorators
-pub def_value_adds : (at : SourceLocation) (name : List ℕ) (params : tree.Arguments) (body : tree.Stmts) (decorators : tree.Exprs) (returns : tree.OptExpr) → head_size params decorators returns tree.no_type_params + stmts_size body < 2 ^ 22 → RestAdd body → (c : Around) (k : ℕ) → ValueAdds (outer c) c k (scopes_in_stmt c.context.postponed (tree.FunctionDef at name params body decorators returns tree.no_type_params)) (decorated (emitting.values (all_emissions decorators)) (emission_of_def name params body returns (emission_of_rest body ▸ emission_of_end (after_doc body)))) (function_value c k name params body decorators returns)
-def_value_adds at name params body decorators returns few h c k n =
-    let p = c.context.postponed in
-    let x = scopes_in_all p decorators in
-    let m = k + x in
-    let j = m + scopes_in_defaults p params in
-    let l = scopes_in_defaults p params + suc (scopes_in_stmts p body + (scopes_in_opt p returns + scopes_in_all_notes p params)) in
-    let v : Emission = emission_of_rest body ▸ emission_of_end (after_doc body) in
-    let ds = emitting.values (all_emissions decorators) in
-    let fs = table.values (all_forms (told c) k decorators) in
-    let form : VForm = defined (told c) m name params body returns (function_body (function_inside name (told c) j) (suc j) body) in
-    let inner : Context = function_inside name c.context j in
-    let own = def_adds c m name params body returns (omega (arith, few)) (omega (arith, few)) v (whole_gives inner (suc j) body h) in
-    scopes_as (omega arith) (decorated_adds (outer c) c k x l ds fs (emission_of_def name params body returns v) form (all_values_add (outer c) c k x (all_emissions decorators) (all_forms (told c) k decorators) (exprs_add c k decorators (omega (arith, few)))) own n)
+-- how many scopes a function has but for its decorators
+abbrev function_scopes : (postponed : Bool) → tree.Arguments → tree.Stmts → (returns : tree.OptExpr) → tree.TypeParams → ℕ
+function_scopes p params body returns generic =
+    hidden_scope generic + (scopes_in_params p generic + (scopes_in_defaults p params + suc (scopes_in_stmts p body + (scopes_in_returns p returns + scopes_in_all_notes p params))))
+
+-- a function, with type parameters or without
+function_adds : (name : List ℕ) (params : tree.Arguments) (body : tree.Stmts) (returns : tree.OptExpr) (generic : tree.TypeParams) → arguments_size params + opt_expr_size returns + type_params_size generic + stmts_size body < 2 ^ 22 → RestAdd body → (c : Around) (k : ℕ) → ValueAdds (outer c) c k (function_scopes c.context.postponed params body returns generic) (emission_of_function name params body returns generic (emission_of_rest body ▸ emission_of_end (after_doc body))) (defined (told c) k name params body returns generic (function_body (function_inside name (around_own (told c) k generic) (function_number (told c) k params generic)) (suc (function_number (told c) k params generic)) body))
+unfolding inside with_path
+function_adds name params body returns tree.no_type_params few h c k n =
+    let j = k + scopes_in_defaults c.context.postponed params in
+    scopes_as (omega arith) (def_adds c k name params body returns (omega (arith, few)) (omega (arith, few)) (emission_of_rest body ▸ emission_of_end (after_doc body)) (whole_gives (function_inside name c.context j) (suc j) body h) n)
+function_adds name params body returns (tree.more_type_params t ts) few h c k n =
+    let generic = tree.more_type_params t ts in
+    let j = own_here c k generic (omega (arith, few)) in
+    scopes_as (omega arith) (generic_def_adds c k generic (omega (arith, few)) name params body returns (omega (arith, few)) (omega (arith, few)) (emission_of_rest body ▸ emission_of_end (after_doc body)) (whole_gives (function_inside name (within c k).context j) (suc j) body h)
+    (λ d. hidden_function_small _ _ d _ _ _ _ generic name params body returns _ (omega (arith, few))) n)
+
+-- with its decorators
+pub def_value_adds : (at : SourceLocation) (name : List ℕ) (params : tree.Arguments) (body : tree.Stmts) (decorators : tree.Exprs) (returns : tree.OptExpr) (generic : tree.TypeParams) → head_size params decorators returns generic + stmts_size body < 2 ^ 22 → RestAdd body → (c : Around) (k : ℕ) → ValueAdds (outer c) c k (scopes_in_stmt c.context.postponed (tree.FunctionDef at name params body decorators returns generic)) (decorated (emitting.values (all_emissions decorators)) (emission_of_function name params body returns generic (emission_of_rest body ▸ emission_of_end (after_doc body)))) (decorated_function c k name params body decorators returns generic)
+def_value_adds at name params body decorators returns generic few h c k n =
+    let x = scopes_in_all c.context.postponed decorators in
+    scopes_as (omega arith) (decorated_adds (outer c) c k x _ _ _ _ _ (all_values_add (outer c) c k x (all_emissions decorators) (all_forms (told c) k decorators) (exprs_add c k decorators (omega (arith, few)))) (function_adds name params body returns generic (omega (arith, few)) h c (k + x)) n)
 
 -- is stored
-pub def_gives : (at : SourceLocation) (name : List ℕ) (params : tree.Arguments) (body : tree.Stmts) (decorators : tree.Exprs) (returns : tree.OptExpr) → head_size params decorators returns tree.no_type_params + stmts_size body < 2 ^ 22 → RestAdd body → StmtAdds (tree.FunctionDef at name params body decorators returns tree.no_type_params)
-def_gives at name params body decorators returns few h c k b n w = stored_gives (function_value c k name params body decorators returns) c b n k _ at name (def_value_adds at name params body decorators returns few h c k)
+pub def_gives : (at : SourceLocation) (name : List ℕ) (params : tree.Arguments) (body : tree.Stmts) (decorators : tree.Exprs) (returns : tree.OptExpr) (generic : tree.TypeParams) → head_size params decorators returns generic + stmts_size body < 2 ^ 22 → RestAdd body → StmtAdds (tree.FunctionDef at name params body decorators returns generic)
+def_gives at name params body decorators returns generic few h c k b n w = stored_gives (decorated_function c k name params body decorators returns generic) c b n k _ at name (def_value_adds at name params body decorators returns generic few h c k)
 
 -- the statements of a class, but a docstring
 abbrev pub ClassRestAdd : tree.Stmts → Type 0
@@ -163,26 +174,42 @@ class_rest_more s ss h g c k b n w = go (stmt_text s) refl
     go (Some text) e = scopes_as (let z = doc_scopeless c.context.postponed s text e in omega (arith, z)) (g c k b n w)
 
 -- the value of a class, with its decorators
-abbrev pub built_value : Around → (next : ℕ) → (name : List ℕ) → (bases : tree.Exprs) → tree.Keywords → tree.Stmts → (decorators : tree.Exprs) → VForm
-built_value c k name bases keywords body decorators =
+abbrev pub decorated_class : Around → (next : ℕ) → (name : List ℕ) → (bases : tree.Exprs) → tree.Keywords → tree.Stmts → (decorators : tree.Exprs) → tree.TypeParams → VForm
+decorated_class c k name bases keywords body decorators generic =
     let m = k + scopes_in_all c.context.postponed decorators in
-    forms.decorated (table.values (all_forms (told c) k decorators)) (class_value (told c) m name bases keywords body (rest_form (class_inside name (told c) m) (suc m) body))
+    let j = own_number (told c) m generic in
+    forms.decorated (table.values (all_forms (told c) k decorators)) (built_value (told c) m name bases keywords body generic (rest_form (class_within (class_path (told c) name) name (around_own (told c) m generic) j) (suc j) body))
 
--- a class, with its decorators
-pub class_value_adds : (at : SourceLocation) (name : List ℕ) (bases : tree.Exprs) (keywords : tree.Keywords) (body : tree.Stmts) (decorators : tree.Exprs) → class_head_size bases keywords decorators tree.no_type_params + stmts_size body < 2 ^ 22 → ClassRestAdd body → (c : Around) (k : ℕ) → ValueAdds (outer c) c k (scopes_in_stmt c.context.postponed (tree.ClassDef at name bases keywords body decorators tree.no_type_params)) (decorated (emitting.values (all_emissions decorators)) (emission_of_class name bases keywords body (emission_of_rest body))) (built_value c k name bases keywords body decorators)
-class_value_adds at name bases keywords body decorators few h c k n =
-    let p = c.context.postponed in
-    let x = scopes_in_all p decorators in
-    let m = k + x in
-    let l = suc (scopes_in_stmts p body) + scopes_in_all p bases + scopes_in_keywords p keywords in
-    let v : Emission = emission_of_rest body in
-    let ds = emitting.values (all_emissions decorators) in
-    let fs = table.values (all_forms (told c) k decorators) in
-    let class : Emission = emission_of_class name bases keywords body v in
-    let form : VForm = class_value (told c) m name bases keywords body (rest_form (class_inside name (told c) m) (suc m) body) in
-    let own = class_adds c m name body v (λ i. h (outside (class_inside name c.context m)) (suc m) unlooped_labels i tt) bases keywords (omega (arith, few)) (omega (arith, few)) (omega (arith, few)) in
-    scopes_as (omega arith) (decorated_adds (outer c) c k x l ds fs class form (all_values_add (outer c) c k x (all_emissions decorators) (all_forms (told c) k decorators) (exprs_add c k decorators (omega (arith, few)))) own n)
+-- a class, with type parameters or without
+class_adds_any : (name : List ℕ) (bases : tree.Exprs) (keywords : tree.Keywords) (body : tree.Stmts) (generic : tree.TypeParams) → exprs_size bases + keywords_size keywords + type_params_size generic + stmts_size body < 2 ^ 22 → ClassRestAdd body → (c : Around) (k : ℕ) → ValueAdds (outer c) c k (hidden_scope generic + (scopes_in_params c.context.postponed generic + suc (scopes_in_stmts c.context.postponed body + (scopes_in_all c.context.postponed bases + scopes_in_keywords c.context.postponed keywords)))) (emission_of_built name bases keywords body generic (emission_of_rest body)) (built_value (told c) k name bases keywords body generic (rest_form (class_within (class_path (told c) name) name (around_own (told c) k generic) (own_number (told c) k generic)) (suc (own_number (told c) k generic)) body))
+unfolding inside with_path within_class
+class_adds_any name bases keywords body tree.no_type_params few h c k n =
+    scopes_as (omega arith) (class_adds c k name body (emission_of_rest body) (λ i. h (outside (class_within (class_path c.context name) name c.context k)) (suc k) unlooped_labels i tt) bases keywords (omega (arith, few)) (omega (arith, few)) (omega (arith, few)) n)
+class_adds_any name bases keywords body (tree.more_type_params t ts) few h c k n =
+    let generic = tree.more_type_params t ts in
+    let j = own_here c k generic (omega (arith, few)) in
+    scopes_as (omega arith) (generic_class_adds c k generic (omega (arith, few)) name body bases keywords (emission_of_rest body) (λ i. h (outside (class_within (class_path c.context name) name (within c k).context j)) (suc j) unlooped_labels i tt) (omega (arith, few)) (omega (arith, few)) (omega (arith, few))
+    (λ d. hidden_class_small d _ _ _ _ _ generic name bases keywords body _ (omega (arith, few))) n)
+
+-- with its decorators
+pub class_value_adds : (at : SourceLocation) (name : List ℕ) (bases : tree.Exprs) (keywords : tree.Keywords) (body : tree.Stmts) (decorators : tree.Exprs) (generic : tree.TypeParams) → class_head_size bases keywords decorators generic + stmts_size body < 2 ^ 22 → ClassRestAdd body → (c : Around) (k : ℕ) → ValueAdds (outer c) c k (scopes_in_stmt c.context.postponed (tree.ClassDef at name bases keywords body decorators generic)) (decorated (emitting.values (all_emissions decorators)) (emission_of_built name bases keywords body generic (emission_of_rest body))) (decorated_class c k name bases keywords body decorators generic)
+class_value_adds at name bases keywords body decorators generic few h c k n =
+    let x = scopes_in_all c.context.postponed decorators in
+    scopes_as (omega arith) (decorated_adds (outer c) c k x _ _ _ _ _ (all_values_add (outer c) c k x (all_emissions decorators) (all_forms (told c) k decorators) (exprs_add c k decorators (omega (arith, few)))) (class_adds_any name bases keywords body generic (omega (arith, few)) h c (k + x)) n)
 
 -- is stored
-pub class_gives : (at : SourceLocation) (name : List ℕ) (bases : tree.Exprs) (keywords : tree.Keywords) (body : tree.Stmts) (decorators : tree.Exprs) → class_head_size bases keywords decorators tree.no_type_params + stmts_size body < 2 ^ 22 → ClassRestAdd body → StmtAdds (tree.ClassDef at name bases keywords body decorators tree.no_type_params)
-class_gives at name bases keywords body decorators few h c k b n w = stored_gives (built_value c k name bases keywords body decorators) c b n k _ at name (class_value_adds at name bases keywords body decorators few h c k)
+pub class_gives : (at : SourceLocation) (name : List ℕ) (bases : tree.Exprs) (keywords : tree.Keywords) (body : tree.Stmts) (decorators : tree.Exprs) (generic : tree.TypeParams) → class_head_size bases keywords decorators generic + stmts_size body < 2 ^ 22 → ClassRestAdd body → StmtAdds (tree.ClassDef at name bases keywords body decorators generic)
+class_gives at name bases keywords body decorators generic few h c k b n w = stored_gives (decorated_class c k name bases keywords body decorators generic) c b n k _ at name (class_value_adds at name bases keywords body decorators generic few h c k)
+
+-- an alias, with type parameters or without
+alias_adds : (name : List ℕ) (generic : tree.TypeParams) (value : tree.Expr) → type_params_size generic + expr_size value < 2 ^ 22 → (c : Around) (k : ℕ) → ValueAdds (outer c) c k (hidden_scope generic + (scopes_in_params c.context.postponed generic + scopes_in c.context.postponed value)) (emitting_defs.alias_value name generic value) (alias_value (told c) k name generic value)
+unfolding inside
+alias_adds name tree.no_type_params value few c k n = scopes_as (omega arith) (plain_alias_adds (outer c) c k (scopes_in c.context.postponed value) name (emission value) (expr_form (told c) k value) (expr_adds c k value (omega (arith, few))).value n)
+alias_adds name (tree.more_type_params t ts) value few c k n =
+    let generic = tree.more_type_params t ts in
+    scopes_as (omega arith) (generic_alias_adds_here c k generic (omega (arith, few)) name value (omega (arith, few)) (λ d. hidden_alias_small d _ _ _ generic name value (omega (arith, few))) n)
+
+-- it is stored where its target is a name
+pub alias_gives : (at : SourceLocation) (target : tree.Expr) (generic : tree.TypeParams) (value : tree.Expr) → type_params_size generic + expr_size value < 2 ^ 22 → StmtAdds (tree.TypeAlias at target generic value)
+alias_gives at (tree.Name place id) generic value few c k b n w = scopes_as (omega arith) (stored_gives (alias_value (told c) k id generic value) c b n k _ at id (alias_adds id generic value few c k))
+alias_gives at other generic value few c k b n w = moved_refused at (error.Assign (python_name other))

@@ -296,7 +296,7 @@ mutual
       (slice_adds (outer c) c k x y w (opt_emission lower) (opt_emission upper) (opt_emission step) (opt_form (told c) k lower) (opt_form (told c) (k + x) upper) (opt_form (told c) (k + x + y) step) (opt_adds c k lower (omega (arith, z))) (opt_adds c (k + x) upper (omega (arith, z))) (opt_adds c (k + x + y) step (omega (arith, z))))
 
   -- positional defaults first, and then those by names
-  defaults_match : (c : Around) (k : ℕ) (params : tree.Arguments) → arguments_size params < 2 ^ 22 → Defaulted c k params
+  pub defaults_match : (c : Around) (k : ℕ) (params : tree.Arguments) → arguments_size params < 2 ^ 22 → Defaulted c k params
   defaults_match c k (tree.arguments posonly args vararg kwonly kwarg) x =
       let p = c.context.postponed in
       let a = scopes_in_args p posonly in

@@ -1,10 +1,10 @@
 -- What a function adds: its decorators, its defaults, its own scope, its annotations and its docstring.
-use Rattle.std.proofs.Common.{◌≡◌, ℕ, suc, ◌+◌, ◌*◌, ◌<◌, ◌^◌, List, [], ◌∷◌, ◌++◌, length, Option, Some, None, refl, sym, ap, ◌∙◌, subst, arith, append-nil}
+use Rattle.std.proofs.Common.{◌≡◌, ℕ, suc, ◌+◌, ◌*◌, ◌<◌, ◌^◌, List, [], ◌∷◌, ◌++◌, length, Bool, true, false, Option, Some, None, refl, sym, ap, ◌∙◌, subst, arith, append-nil}
 use Rattle.std.specs.Prelude.{codes}
 use Rattle.py_tree.specs.Tree as tree
 use Rattle.py_base.specs.Mangle.{mangled_in}
 use Rattle.py_limits.specs.Size.{arg_size, args_size, arguments_size, opt_arg_size, opt_expr_size, stmts_size}
-use Rattle.py_counts.specs.Counts.{scopes_in, scopes_in_arg, scopes_in_args, scopes_in_defaults, scopes_in_notes, scopes_in_opt, scopes_in_opt_arg}
+use Rattle.py_counts.specs.Counts.{scopes_in_annotation, scopes_in_arg, scopes_in_args, scopes_in_defaults, scopes_in_notes, scopes_in_opt_arg, scopes_in_returns}
 use Rattle.py_bytecode.specs.declared.instruction.Instruction.TheVariants as op
 use Rattle.py_bytecode.specs.Objects as const
 use Rattle.py_bytecode.specs.Objects.{Object}
@@ -23,12 +23,12 @@ use Rattle.py_emission.specs.Emission.{default_emissions, emission, keyword_only
 use Rattle.py_emission.specs.Parameters.{function_shape, parameters}
 use Rattle.py_emission.specs.Texts.{doc_of}
 use Rattle.py_meaning.specs.EmissionDefs as emitting
-use Rattle.py_meaning.specs.EmissionDefs.{emission_of_def, notes}
+use Rattle.py_meaning.specs.EmissionDefs.{emission_of_def, emission_of_note, notes}
 use Rattle.py_meaning.specs.StmtCounts.{scopes_in_all_notes, scopes_in_stmts}
-use Rattle.py_meaning.specs.StmtParts.{defined}
-use Rattle.py_meaning.specs.Table.{default_forms, expr_form, keyword_defaults, positional_defaults}
+use Rattle.py_meaning.specs.StmtParts.{function_value}
+use Rattle.py_meaning.specs.Table.{default_forms, keyword_defaults, positional_defaults}
 use Rattle.py_meaning.specs.TableNotes as notes_of
-use Rattle.py_meaning.specs.TableNotes.{note_forms}
+use Rattle.py_meaning.specs.TableNotes.{note_form, note_forms}
 use Rattle.py_meaning.specs.TableScopes.{default_flags, default_parts}
 use Rattle.py_meaning.specs.TableScopes as forms
 use Rattle.py_meaning.specs.TableStmts.{function_body}
@@ -41,7 +41,8 @@ use Rattle.py_adds.proofs.Steps.{StepAdds}
 use Rattle.py_adds.proofs.Threaded.{Relation, Threaded, same_length, threaded_as, threaded_join}
 use Rattle.py_adds.proofs.Within.{Whole, scope_makes}
 use Rattle.py_sizes.proofs.ProgramSizes.{function_small}
-use Rattle.py_agree.proofs.ExprAdds.{defaults_add, expr_adds}
+use Rattle.py_agree.proofs.ExprAdds.{defaults_add}
+use Rattle.py_agree.proofs.NoteAdds.{note_value_adds}
 use Rattle.py_agree.proofs.Told.{outer, pathless, roomily, told}
 
 -- what runs alike adds the same
@@ -146,13 +147,20 @@ return_stays None = refl
 return_stays (Some class) = refl
 
 module _ (c : Around) where
+  -- no annotation has no scope, postponed or not
+  no_scopes : (p : Bool) → scopes_in_returns p tree.no_expr ≡ 0
+  no_scopes true = refl
+  no_scopes false = refl
+
   -- annotations by their names
   abbrev Notes : (k l : ℕ) → List Emission → List (List ℕ × VForm) → Type 0
   Notes = Threaded (NoteAdds (outer c) c)
 
-  opt_note_adds : (k : ℕ) (name text : List ℕ) (e : tree.OptExpr) → mangled c.context name ≡ text → opt_expr_size e < 2 ^ 22 → Notes k (scopes_in_opt c.context.postponed e) (emitting.opt_note name e) (notes_of.opt_note (told c) k text e)
-  opt_note_adds k name text tree.no_expr same few = refl
-  opt_note_adds k name text (tree.some_expr e) same few = (scopes_in c.context.postponed e, 0, omega arith, note_adds (outer c) c k (scopes_in c.context.postponed e) name text (emission e) (expr_form (told c) k e) same (expr_adds c k e few).value, refl)
+  opt_note_adds : (k : ℕ) (name text : List ℕ) (e : tree.OptExpr) → mangled c.context name ≡ text → opt_expr_size e < 2 ^ 22 → Notes k (scopes_in_returns c.context.postponed e) (emitting.opt_note name e) (notes_of.opt_note (told c) k text e)
+  opt_note_adds k name text tree.no_expr same few = no_scopes c.context.postponed
+  opt_note_adds k name text (tree.some_expr e) same few =
+      let l = scopes_in_annotation c.context.postponed e in
+      (l, 0, omega arith, note_adds (outer c) c k l name text (emission_of_note e) (note_form (told c) k e) same (note_value_adds c k e few), refl)
 
   arg_note_adds : (k : ℕ) (a : tree.Arg) → arg_size a < 2 ^ 22 → Notes k (scopes_in_arg c.context.postponed a) (emitting.arg_note a) (notes_of.arg_note (told c) k a)
   arg_note_adds k (tree.arg at name annotation) few = opt_note_adds k name (mangled (told c) name) annotation refl (omega (arith, few))
@@ -168,11 +176,11 @@ module _ (c : Around) where
       threaded_join (NoteAdds (outer c) c) k x (scopes_in_notes c.context.postponed rest) (emitting.arg_note a) (emitting.arg_notes rest) (notes_of.arg_note (told c) k a) (notes_of.arg_notes (told c) (k + x) rest) (arg_note_adds k a (omega (arith, few))) (arg_notes_add (k + x) rest (omega (arith, few)))
 
   -- the annotations of all parameters, and before them that of what the function returns
-  all_notes_add : (k : ℕ) (params : tree.Arguments) (returns : tree.OptExpr) → arguments_size params + opt_expr_size returns < 2 ^ 22 → Notes k (scopes_in_opt c.context.postponed returns + scopes_in_all_notes c.context.postponed params) (notes params returns) (note_forms (told c) k params returns)
+  all_notes_add : (k : ℕ) (params : tree.Arguments) (returns : tree.OptExpr) → arguments_size params + opt_expr_size returns < 2 ^ 22 → Notes k (scopes_in_returns c.context.postponed returns + scopes_in_all_notes c.context.postponed params) (notes params returns) (note_forms (told c) k params returns)
   all_notes_add k (tree.arguments posonly args vararg kwonly kwarg) returns few =
       let p = c.context.postponed in
       let R = NoteAdds (outer c) c in
-      let j = k + scopes_in_opt p returns in
+      let j = k + scopes_in_returns p returns in
       let x = j + scopes_in_notes p posonly in
       let y = x + scopes_in_notes p args in
       let z = y + scopes_in_notes p kwonly in
@@ -200,7 +208,7 @@ keyword_flag c flag k (tree.more_args a tree.no_expr rest) = keyword_flag c flag
 keyword_flag c flag k (tree.more_args (tree.arg at name annotation) (tree.some_expr e) rest) = refl
 
 -- so the flags of the defaults are the same
-same_flags : (c : Context) (k : ℕ) (params : tree.Arguments) → flags_of_defaults (default_emissions params) ≡ default_flags (default_forms c k params)
+pub same_flags : (c : Context) (k : ℕ) (params : tree.Arguments) → flags_of_defaults (default_emissions params) ≡ default_flags (default_forms c k params)
 same_flags c k (tree.arguments posonly args vararg kwonly kwarg) =
     let j = k + scopes_in_args c.postponed posonly in
     let e = positionals_flag c 0x08 k j posonly args in
@@ -223,7 +231,7 @@ module _ (c : Around) (k : ℕ) (name : List ℕ) where
   inner = function_inside name c.context k
 
   -- the scope of a function of these statements
-  abbrev function_of : tree.Stmts → Scope
+  abbrev pub function_of : tree.Stmts → Scope
   function_of body = MkScope (head_of (pathless inner)) (function_body (pathless inner) (suc k) body)
 
   -- is made from what they add
@@ -233,94 +241,97 @@ module _ (c : Around) (k : ℕ) (name : List ℕ) where
       scope_makes c.context inner h (function_scope params v) k (scopes_in_stmts c.context.postponed body) (function_of body) refl refl refl refl (record { cells = refl; frees = refl }) roomy (λ d. function_small d (pathless inner) (suc k) body few) (scope_gives params v whole)
 
 module _ (c : Around) (k : ℕ) (name : List ℕ) (params : tree.Arguments) (body : tree.Stmts) (returns : tree.OptExpr) where
-  -- the number of the function's scope
-  abbrev scope_here : ℕ
-  scope_here = k + scopes_in_defaults c.context.postponed params
-
-  -- that scope
+  -- the scope of the function, which has this number
   abbrev own_scope : Scope
-  own_scope = function_of c scope_here name body
+  own_scope = function_of c k name body
 
   -- how many scopes stand in it, and how many in the annotations
   abbrev own_count : ℕ
   own_count = scopes_in_stmts c.context.postponed body
 
   abbrev note_count : ℕ
-  note_count = scopes_in_opt c.context.postponed returns + scopes_in_all_notes c.context.postponed params
+  note_count = scopes_in_returns c.context.postponed returns + scopes_in_all_notes c.context.postponed params
 
   -- the annotations, and what emits their map
-  abbrev note_values : List (List ℕ × VForm)
-  note_values = note_forms (told c) (suc scope_here + own_count) params returns
+  abbrev pub note_values : List (List ℕ × VForm)
+  note_values = note_forms (told c) (suc k + own_count) params returns
 
   abbrev note_map : Emission
   note_map = some_emitted (built op.BuildMap) (notes params returns)
 
-  -- the parts after the scope, and those before it
+  -- the parts after the scope
   abbrev others : VForms
   others = some_built map_of note_values VNone
 
-  abbrev parts : VForms
-  parts = default_parts (default_forms (told c) k params) VNone
-
-  -- the flags of the form, and those that are emitted
-  abbrev flags : ℕ
-  flags = default_flags (default_forms (told c) k params) + some_flag 0x02 note_values
-
-  abbrev early : ℕ
-  early = flags_of_defaults (default_emissions params) + some_flag 0x02 (notes params returns)
-
-  -- the name and what makes the function after further parts
   abbrev text : List ℕ
   text = qualified c.context name
 
-  abbrev made_after : Emission → Object → Emission
-  made_after v o = v ▸ by_context (λ d. made early (qualified d name) o)
+  -- flags and parts before the scope, where the same flags are emitted
+  module _ (early flags : ℕ) (parts : VForms) where
+    abbrev pub all_flags : ℕ
+    all_flags = flags + some_flag 0x02 note_values
 
-  flagged : Flagged flags (count parts + count others)
-  flagged =
-      let d = default_forms (told c) k params in
-      let a = parts_count (table.built op.BuildTuple) map_of d.positional d.keyword in
-      let b = part_count map_of note_values in
-      subst (Flagged flags) (omega (arith, a, b)) (flags_say d.positional d.keyword note_values)
+    abbrev all_early : ℕ
+    all_early = early + some_flag 0x02 (notes params returns)
 
-  module _ (few : arguments_size params + opt_expr_size returns < 2 ^ 22) where
-    threaded : Notes c (scope_here + suc own_count) note_count (notes params returns) note_values
-    threaded = threaded_as (NoteAdds (outer c) c) (suc scope_here + own_count) (scope_here + suc own_count) note_count note_count (notes params returns) note_values (omega arith) refl (all_notes_add c (suc scope_here + own_count) params returns few)
+    -- what makes the function after its annotations
+    abbrev made_after : Emission → Object → Emission
+    made_after v o = v ▸ by_context (λ d. made all_early (qualified d name) o)
 
-    flags_are : early ≡ flags
-    flags_are =
-        let a = same_flags (told c) k params in
-        let b = same_flag (NoteAdds (outer c) c) 0x02 (scope_here + suc own_count) note_count (notes params returns) note_values threaded in
-        omega (arith, a, b)
+    module _ (same : early ≡ flags) (flagged : Flagged all_flags (count parts + count others)) (few : arguments_size params + opt_expr_size returns < 2 ^ 22) where
+      threaded : Notes c (k + suc own_count) note_count (notes params returns) note_values
+      threaded = threaded_as (NoteAdds (outer c) c) (suc k + own_count) (k + suc own_count) note_count note_count (notes params returns) note_values (omega arith) refl (all_notes_add c (suc k + own_count) params returns few)
 
-    -- the annotations leave the context as it is
-    goes : (o : Object) (s r : State) → Stands c s → made_after note_map o s ≡ Done r → (note_map ▸ made flags text o) s ≡ Done r
-    goes o s r z e =
-        let g : Context → Emission = λ d. made early (qualified d name) o in
-        let h = both note_map (by_context g) s r e in
-        let a = (notes_add (outer c) c s.next note_count (notes params returns) (note_forms (told c) s.next params returns) (all_notes_add c s.next params returns few) s.blocks).run s h.0 refl refl z h.1 in
-        let there = in_context g h.0 r c (a.0.added.around_are ∙ sym z.around) h.2 in
-        ap (λ q. go_on q (made flags text o)) h.1 ∙ subst (λ f. made f text o h.0 ≡ Done r) flags_are there
+      flags_are : all_early ≡ all_flags
+      flags_are = let b = same_flag (NoteAdds (outer c) c) 0x02 (k + suc own_count) note_count (notes params returns) note_values threaded in omega (arith, same, b)
 
-    module _ (less : stmts_size body < 2 ^ 22) (v : Emission) (whole : Whole (inner c scope_here name) v (suc scope_here) (scopes_in_stmts (inner c scope_here name).postponed body) own_scope) where
-      -- what emits the function's scope, its annotations and the function
-      abbrev own : Emission
-      own = child (function_inside name) (function_shape params name) (function_scope (parameters params) v) (λ o. function_made (flags_of_defaults (default_emissions params)) (notes params returns) name o)
+      -- the annotations leave the context as it is
+      goes : (o : Object) (s r : State) → Stands c s → made_after note_map o s ≡ Done r → (note_map ▸ made all_flags text o) s ≡ Done r
+      goes o s r z e =
+          let g : Context → Emission = λ d. made all_early (qualified d name) o in
+          let h = both note_map (by_context g) s r e in
+          let a = (notes_add (outer c) c s.next note_count (notes params returns) (note_forms (told c) s.next params returns) (all_notes_add c s.next params returns few) s.blocks).run s h.0 refl refl z h.1 in
+          let there = in_context g h.0 r c (a.0.added.around_are ∙ sym z.around) h.2 in
+          ap (λ q. go_on q (made all_flags text o)) h.1 ∙ subst (λ f. made f text o h.0 ≡ Done r) flags_are there
 
-      own_adds : (n : ℕ) → Yields c n scope_here own (code_vs (outer c) others n ++ make_code flags (cells_of (cell_place c.context) (inner c scope_here name).frees) (count parts + count others) (Child own_scope) text) (labels_vs others) (suc own_count + note_count)
-      own_adds n =
-          roomily (λ roomy. function_adds (outer c) c (function_inside name) (function_shape params name) (function_scope (parameters params) v) note_map flags (count parts + count others) made_after text others own_scope scope_here own_count note_count
-          (function_makes c scope_here name (function_shape params name) (parameters params) v body roomy less whole)
-          (notes_add (outer c) c (scope_here + suc own_count) note_count (notes params returns) note_values threaded) flagged goes n)
+      module _ (less : stmts_size body < 2 ^ 22) (v : Emission) (whole : Whole (inner c k name) v (suc k) (scopes_in_stmts (inner c k name).postponed body) own_scope) where
+        -- what emits the function's scope, its annotations and the function
+        abbrev own : Emission
+        own = child (function_inside name) (function_shape params name) (function_scope (parameters params) v) (λ o. function_made early (notes params returns) name o)
 
-      made_adds : ValueAdds (outer c) c k (scopes_in_defaults c.context.postponed params + (suc own_count + note_count)) (emission_of_defaults (default_emissions params) ▸ own) (VMake flags parts own_scope text others)
-      made_adds n = then_yields (defaults_add c k params (omega (arith, few)) n) (own_adds (n + labels_vs parts))
+        own_adds : (n : ℕ) → Yields c n k own (code_vs (outer c) others n ++ make_code all_flags (cells_of (cell_place c.context) (inner c k name).frees) (count parts + count others) (Child own_scope) text) (labels_vs others) (suc own_count + note_count)
+        own_adds n =
+            roomily (λ roomy. function_adds (outer c) c (function_inside name) (function_shape params name) (function_scope (parameters params) v) note_map all_flags (count parts + count others) made_after text others own_scope k own_count note_count
+            (function_makes c k name (function_shape params name) (parameters params) v body roomy less whole)
+            (notes_add (outer c) c (k + suc own_count) note_count (notes params returns) note_values threaded) flagged goes n)
 
-      -- a function and its docstring
-      pub def_adds : ValueAdds (outer c) c k (scopes_in_defaults c.context.postponed params + suc (own_count + note_count)) (emission_of_def name params body returns v) (defined (told c) k name params body returns (function_body (function_inside name (told c) scope_here) (suc scope_here) body))
-      unfolding emission_of_def
-      def_adds n =
-          let doc : ℕ → Option (List ℕ) = λ l. doc_of l body in
-          let all = documented_adds (outer c) c k _ (emission_of_defaults (default_emissions params) ▸ own) (VMake flags parts own_scope text others) doc made_adds in
-          subst (λ d. Yields c n k (emission_of_def name params body returns v) (code_v (outer c) (forms.documented (doc c.context.level) (VMake flags parts (MkScope (head_of d) (function_body d (suc scope_here) body)) text others)) n) (labels_v (forms.documented (doc c.context.level) (VMake flags parts (MkScope (head_of d) (function_body d (suc scope_here) body)) text others))) (scopes_in_defaults c.context.postponed params + suc (own_count + note_count))) (pathless_within name c.context scope_here)
-          (scopes_as (omega arith) (regroup (emission_of_defaults (default_emissions params)) own (by_level (λ l. documented (doc l))) (all n)))
+        -- the function behind its parts, and its docstring
+        pub function_value_adds : (j a : ℕ) (p : Emission) → j + a ≡ k → PartsAdd (outer c) c j a p parts → ValueAdds (outer c) c j (a + suc (own_count + note_count)) (p ▸ emitting.function_value early name params body returns v) (function_value (told c) k flags parts name params body returns (function_body (function_inside name (told c) k) (suc k) body))
+        function_value_adds j a p here h n =
+            let doc : ℕ → Option (List ℕ) = λ l. doc_of l body in
+            let made_adds : ValueAdds (outer c) c j (a + (suc own_count + note_count)) (p ▸ own) (VMake all_flags parts own_scope text others) = λ m. then_yields (h m) (next_as (sym here) (own_adds (m + labels_vs parts))) in
+            let all = documented_adds (outer c) c j _ (p ▸ own) (VMake all_flags parts own_scope text others) doc made_adds in
+            subst (λ d. Yields c n j (p ▸ emitting.function_value early name params body returns v) (code_v (outer c) (forms.documented (doc c.context.level) (VMake all_flags parts (MkScope (head_of d) (function_body d (suc k) body)) text others)) n) (labels_v (forms.documented (doc c.context.level) (VMake all_flags parts (MkScope (head_of d) (function_body d (suc k) body)) text others))) (a + suc (own_count + note_count))) (pathless_within name c.context k)
+            (scopes_as (omega arith) (regroup p own (by_level (λ l. documented (doc l))) (all n)))
+
+module _ (c : Around) (k : ℕ) (name : List ℕ) (params : tree.Arguments) (body : tree.Stmts) (returns : tree.OptExpr) where
+  -- the number of the function's scope, before which its defaults come
+  abbrev scope_here : ℕ
+  scope_here = k + scopes_in_defaults c.context.postponed params
+
+  abbrev defaults : forms.Defaults
+  defaults = default_forms (told c) k params
+
+  flagged_by_defaults : Flagged (all_flags c scope_here name params body returns (flags_of_defaults (default_emissions params)) (default_flags defaults) (default_parts defaults VNone)) (count (default_parts defaults VNone) + count (some_built map_of (note_values c scope_here name params body returns) VNone))
+  flagged_by_defaults =
+      let zs = note_values c scope_here name params body returns in
+      let a = parts_count (table.built op.BuildTuple) map_of defaults.positional defaults.keyword in
+      let b = part_count map_of zs in
+      subst (Flagged (default_flags defaults + some_flag 0x02 zs)) (omega (arith, a, b)) (flags_say defaults.positional defaults.keyword zs)
+
+  -- a function without type parameters
+  pub def_adds : arguments_size params + opt_expr_size returns < 2 ^ 22 → stmts_size body < 2 ^ 22 → (v : Emission) → Whole (inner c scope_here name) v (suc scope_here) (scopes_in_stmts (inner c scope_here name).postponed body) (function_of c scope_here name body) → ValueAdds (outer c) c k (scopes_in_defaults c.context.postponed params + suc (scopes_in_stmts c.context.postponed body + (scopes_in_returns c.context.postponed returns + scopes_in_all_notes c.context.postponed params))) (emission_of_def name params body returns v) (function_value (told c) scope_here (default_flags defaults) (default_parts defaults VNone) name params body returns (function_body (function_inside name (told c) scope_here) (suc scope_here) body))
+  unfolding emission_of_def
+  def_adds few less v whole n =
+      function_value_adds c scope_here name params body returns (flags_of_defaults (default_emissions params)) (default_flags defaults) (default_parts defaults VNone) (same_flags (told c) k params) flagged_by_defaults few less v whole k (scopes_in_defaults c.context.postponed params) (emission_of_defaults (default_emissions params)) refl
+      (defaults_add c k params (omega (arith, few))) n

@@ -112,10 +112,13 @@ module _ (c : Around) where
   all_or true k path names level = star_adds k path level
   all_or false k path names level = names_add k 0 (emission_of_module path level (asked names)) (import_value (told c) path level (asked names)) names (module_adds k path level (asked names) refl)
 
+  pub present_adds : (k : ℕ) (path : Option (List ℕ)) (names : List Alias) (level : ℕ) → ActAdds within c k 0 (emission_of_from path names level) (from_form (told c) path names level)
+  present_adds k path names level b n = all_or (takes_all names) k path names level b n
+
   -- a future import is refused
-  future_or : (z : Bool) (k : ℕ) (path : Option (List ℕ)) (names : List Alias) (level : ℕ) → ActAdds within c k 0 (if z then refuse error.NotImplementedYet else emission_of_from path names level) (from_form (told c) path names level)
-  future_or true k path names level b n = refused_gives error.NotImplementedYet
-  future_or false k path names level b n = all_or (takes_all names) k path names level b n
+  future_or : (z : Bool) (k : ℕ) (path : Option (List ℕ)) (names : List Alias) (level : ℕ) → ActAdds within c k 0 (if z then refuse error.InvalidFuturePlacement else emission_of_from path names level) (from_form (told c) path names level)
+  future_or true k path names level b n = refused_gives error.InvalidFuturePlacement
+  future_or false k path names level b n = present_adds k path names level b n
 
   pub from_adds : (k : ℕ) (path : Option (List ℕ)) (names : List Alias) (level : ℕ) → ActAdds within c k 0 (emission_of_import_from path names level) (from_form (told c) path names level)
   from_adds k path names level = future_or (from_future path) k path names level

@@ -22,7 +22,8 @@ use Rattle.py_meaning.specs.StmtCounts.{scopes_in_stmts}
 use Rattle.py_meaning.specs.StmtParts.{annotated}
 use Rattle.py_meaning.specs.Table.{expr_form}
 use Rattle.py_meaning.specs.TableScopes.{setup_form}
-use Rattle.py_meaning.specs.TableStmts.{doc_form, program_form}
+use Rattle.py_meaning.specs.EmissionStmts.{emission_of_stmts}
+use Rattle.py_meaning.specs.TableStmts.{doc_form, program_form, stmts_form}
 use Rattle.py_adds.proofs.Adding.{adds_as, completed}
 use Rattle.py_adds.proofs.Burden.{burden}
 use Rattle.py_adds.proofs.Emitting.{Gives, Yields, after_these, and_yields, gives_as, keep_yields, level_gives, outside, so, then_yields}
@@ -32,6 +33,7 @@ use Rattle.py_adds.proofs.Within.{Emitted}
 use Rattle.py_agree.proofs.ClassAdds.{setup_adds, setup_looped, unlooped_labels}
 use Rattle.py_agree.proofs.ExprAdds.{expr_adds}
 use Rattle.py_agree.proofs.DefinitionAdds.{closed}
+use Rattle.py_agree.proofs.FutureAdds.{behind_gives}
 use Rattle.py_agree.proofs.InteractiveAdds.{interactive_closes, interactive_gives}
 use Rattle.py_agree.proofs.Told.{outer, pathless}
 use Rattle.py_agree.proofs.StmtAdds.{stmts_add}
@@ -53,26 +55,29 @@ unless_less None ss = omega arith
 unless_less (Some text) tree.no_stmts = omega arith
 unless_less (Some text) (tree.more_stmts s ss) = omega arith
 
-program_gives : (x : Context) (stmts : tree.Stmts) → stmts_size stmts < 2 ^ 22 → Gives (outside x) 1 1 (emission_of_program stmts) (body_code (outer (outside x)) (program_form (pathless x) stmts)) (labels (program_form (pathless x) stmts)) (scopes_in_stmts x.postponed (after_doc stmts)) (Looped false (program_form (pathless x) stmts))
+program_gives : (x : Context) (stmts : tree.Stmts) → stmts_size stmts < 2 ^ 22 → (l : ℕ) × Gives (outside x) 1 1 (emission_of_program stmts) (body_code (outer (outside x)) (program_form (pathless x) stmts)) (labels (program_form (pathless x) stmts)) l (Looped false (program_form (pathless x) stmts))
 program_gives x stmts z =
     let c = outside x in
     let others = after_doc stmts in
-    let l = scopes_in_stmts x.postponed others in
     let doc = doc_form (doc_of x.level stmts) in
     let setup = setup_form (annotated others) in
     let m = 1 + labels doc in
     let k = m + labels setup in
     let less = unless_less (first_text stmts) stmts in
-    gives_as (sym (append-nil _)) refl (let e : 0 + (0 + (l + 0)) ≡ l = omega arith in e) (so (λ h. (doc_looped (doc_of x.level stmts), (setup_looped (annotated others), (h, tt))))
-    (then_yields (level_gives (λ n. emission_of_doc (doc_of n stmts)) (doc_adds c (doc_of x.level stmts) 1 1))
-    (then_yields (setup_adds c (annotated others) m (1 + 0))
-    (and_yields (stmts_add c (1 + 0 + 0) others (omega (arith, z, less)) unlooped_labels k tt) (return_adds const.none refl c _ _)))))
+    let behind = behind_gives emission_of_stmts (λ d. stmts_form d 1) (λ us few d b i w. (scopes_in_stmts d.context.postponed us, stmts_add d 1 us few b i w)) others (omega (arith, z, less)) c unlooped_labels k tt in (
+      behind.0,
+      gives_as (sym (append-nil _)) refl (let e : 0 + (0 + (behind.0 + 0)) ≡ behind.0 = omega arith in e) (so (λ h. (doc_looped (doc_of x.level stmts), (setup_looped (annotated others), (h, tt))))
+          (then_yields (level_gives (λ n. emission_of_doc (doc_of n stmts)) (doc_adds c (doc_of x.level stmts) 1 1))
+          (then_yields (setup_adds c (annotated others) m (1 + 0))
+          (and_yields behind.1 (return_adds const.none refl c _ _))))),
+    )
 
 -- what is entered at a prompt
-interactive_whole : (x : Context) (m : Mode) (stmts : tree.Stmts) → stmts_size stmts < 2 ^ 22 → Gives (outside x) 1 1 (emission_of_interactive m stmts) (body_code (outer (outside x)) (interactive_form m (pathless x) stmts)) (labels (interactive_form m (pathless x) stmts)) (scopes_in_stmts x.postponed stmts) (Looped false (interactive_form m (pathless x) stmts))
+interactive_whole : (x : Context) (m : Mode) (stmts : tree.Stmts) → stmts_size stmts < 2 ^ 22 → (l : ℕ) × Gives (outside x) 1 1 (emission_of_interactive m stmts) (body_code (outer (outside x)) (interactive_form m (pathless x) stmts)) (labels (interactive_form m (pathless x) stmts)) l (Looped false (interactive_form m (pathless x) stmts))
 interactive_whole x m stmts z =
     let f = interactive_form m (pathless x) stmts in
-    gives_as (closed (code (outer (outside x)) f unlooped_labels 1) (closes f) (interactive_closes m (pathless x) stmts)) refl refl (interactive_gives m stmts z (outside x) unlooped_labels 1 tt)
+    let a = interactive_gives m stmts z (outside x) unlooped_labels 1 tt in
+    (a.0, gives_as (closed (code (outer (outside x)) f unlooped_labels 1) (closes f) (interactive_closes m (pathless x) stmts)) refl refl a.1)
 
 -- the scope of a tree, of which the context of its emission says all but what it is compiled from
 abbrev scope_in : Context → tree.Mod → Mode → Scope
@@ -85,11 +90,13 @@ first_place = record { row = 1; column = 1 }
 module _ (x : Context) (settled : Settled x) (roomy : (n : ℕ) → room x.scopes n < 2 ^ 26) where
   mod_adds : (t : tree.Mod) (m : Mode) → size_of t < 2 ^ 22 → ((d : Scope → Object) → burden (body_code (exactly d (scope_in x t m)) (form_of (scope_in x t m))) < 2 ^ 27) → (o : State) → emitted t m x ≡ Done o → Emitted x first_place 1 (scope_in x t m) o
   mod_adds (tree.Module stmts) m z small o e =
-      let a = (program_gives x stmts (omega (arith, z))).run (nothing x) o refl refl (record { around = refl; settled = settled; roomy = roomy }) e in
-      record { count = scopes_in_stmts x.postponed (after_doc stmts); adds = completed (nothing x) o _ _ _ a.0; looped = a.1; small = small; roomy = roomy }
+      let g = program_gives x stmts (omega (arith, z)) in
+      let a = g.1.run (nothing x) o refl refl (record { around = refl; settled = settled; roomy = roomy }) e in
+      record { count = g.0; adds = completed (nothing x) o _ _ _ a.0; looped = a.1; small = small; roomy = roomy }
   mod_adds (tree.Interactive stmts) m z small o e =
-      let a = (interactive_whole x m stmts (omega (arith, z))).run (nothing x) o refl refl (record { around = refl; settled = settled; roomy = roomy }) e in
-      record { count = scopes_in_stmts x.postponed stmts; adds = completed (nothing x) o _ _ _ a.0; looped = a.1; small = small; roomy = roomy }
+      let g = interactive_whole x m stmts (omega (arith, z)) in
+      let a = g.1.run (nothing x) o refl refl (record { around = refl; settled = settled; roomy = roomy }) e in
+      record { count = g.0; adds = completed (nothing x) o _ _ _ a.0; looped = a.1; small = small; roomy = roomy }
   mod_adds (tree.Expression e) m z small o h =
       let c = outside x in
       let f = expr_form (pathless x) 1 e in

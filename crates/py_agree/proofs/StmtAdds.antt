@@ -41,7 +41,7 @@ use Rattle.py_agree.proofs.AssignAdds.{ActAdds, into_adds, deletes_add, assign_a
 use Rattle.py_agree.proofs.ImportAdds.{from_adds, import_adds}
 use Rattle.py_agree.proofs.Unlooped.{Unlooped, annotated_unlooped, removals_unlooped, assign_unlooped, augment_unlooped, declared_unlooped, either_unlooped, from_unlooped, import_unlooped, return_unlooped}
 use Rattle.py_agree.proofs.Controls.{Controls, InLoop, StmtAdds, StmtsAdd, act_gives, held, in_more, labels_in}
-use Rattle.py_agree.proofs.DefinitionAdds.{ClassRestAdd, EndedAdd, RestAdd, class_gives, class_rest_more, def_gives, ended_more, rest_more}
+use Rattle.py_agree.proofs.DefinitionAdds.{alias_gives, ClassRestAdd, EndedAdd, RestAdd, class_gives, class_rest_more, def_gives, ended_more, rest_more}
 
 break_gives : (c : Around) (n k : ℕ) (x : Option LoopBlocks) (b : Loops) (e : CodegenErrorType) → InLoop x b n → Gives c n k (leave_loop op.Break (λ y. y.on_break) e x) (Do (Break b.on_break) ∷ []) 0 0 (Looped (held x) SBreak)
 break_gives c n k None b e h = refused_gives e
@@ -252,8 +252,9 @@ mutual
   stmt_gives (tree.Break at) few c k b n w = moved_gives at (loops_give (leave_loop op.Break (λ y. y.on_break) error.InvalidBreak) (break_gives c n k c.loops b error.InvalidBreak w))
   stmt_gives (tree.Continue at) few c k b n w = moved_gives at (loops_give (leave_loop op.Continue (λ y. y.on_continue) error.InvalidContinue) (continue_gives c n k c.loops b error.InvalidContinue w))
   stmt_gives (tree.Pass at) few c k b n w = move_yields at
-  stmt_gives (tree.FunctionDef at name params body decorators returns tree.no_type_params) few c k b n w = def_gives at name params body decorators returns few (rest_give body (omega (arith, few))) c k b n w
-  stmt_gives (tree.ClassDef at name bases keywords body decorators tree.no_type_params) few c k b n w = class_gives at name bases keywords body decorators few (class_rest_give body (omega (arith, few))) c k b n w
+  stmt_gives (tree.FunctionDef at name params body decorators returns generic) few c k b n w = def_gives at name params body decorators returns generic few (rest_give body (omega (arith, few))) c k b n w
+  stmt_gives (tree.ClassDef at name bases keywords body decorators generic) few c k b n w = class_gives at name bases keywords body decorators generic few (class_rest_give body (omega (arith, few))) c k b n w
+  stmt_gives (tree.TypeAlias at name generic value) few c k b n w = alias_gives at name generic value (omega (arith, few)) c k b n w
   stmt_gives other few c k b n w = moved_refused (tree.stmt_location other) error.NotImplementedYet
 
   stmts_give : (ts : tree.Stmts) → stmts_size ts < 2 ^ 22 → StmtsAdd ts

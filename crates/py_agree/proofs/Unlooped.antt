@@ -7,7 +7,8 @@ use Rattle.py_base.specs.declared.operators.Operator.{Operator}
 use Rattle.py_forms.specs.Form.{VForm, VKeep, Target, SForm, SInto, SSkip}
 use Rattle.py_forms.specs.Looped.{Looped}
 use Rattle.py_steps.specs.Context.{Context, is_function}
-use Rattle.py_meaning.specs.Table.{after, expr_form, target_form}
+use Rattle.py_meaning.specs.Table.{after, target_form}
+use Rattle.py_meaning.specs.TableNotes.{note_form}
 use Rattle.py_meaning.specs.Imports.{from_form, import_form, takes_all}
 use Rattle.py_meaning.specs.StmtParts.{removal, removals, assigned, assign_form, augment_form, annotated_form, annotation_target, declared_form, return_form}
 
@@ -50,7 +51,7 @@ module _ (c : Context) where
   declared_unlooped k t (tree.some_expr e) b = tt
 
   pub annotated_unlooped : (k : ℕ) (t annotation : tree.Expr) → Unlooped (annotated_form c k t annotation)
-  annotated_unlooped k t annotation = either_unlooped (is_function c.typ) SSkip (SInto (expr_form c k annotation) (annotation_target c t)) (λ b. tt) (λ b. tt)
+  annotated_unlooped k t annotation = either_unlooped (is_function c.typ) SSkip (SInto (note_form c k annotation) (annotation_target c t)) (λ b. tt) (λ b. tt)
 
   pub return_unlooped : (k : ℕ) (value : tree.OptExpr) → Unlooped (return_form c k value)
   return_unlooped k tree.no_expr b = tt

@@ -1,37 +1,31 @@
 -- Classes end as the faults of their statements, bases and keywords say.
-use Rattle.std.proofs.Common.{◌≡◌, ℕ, List, [], ◌∷◌, ◌++◌, Bool, true, false, Option, refl, ◌∙◌, codes, append-nil, append_assoc}
+use Rattle.std.proofs.Common.{◌≡◌, ℕ, List, [], ◌∷◌, ◌++◌, Bool, true, false, Option, ◌∙◌, codes, append-nil, append_assoc}
 use Rattle.std.specs.Prelude.{if◌then◌else◌}
 use Rattle.py_tree.specs.Tree as tree
 use Rattle.py_shapes.specs.Valid.{exprs_shapes, keywords_shapes}
 use Rattle.py_base.specs.declared.location.SourceLocation.{SourceLocation}
 use Rattle.py_bytecode.specs.declared.instruction.Instruction.TheVariants as op
 use Rattle.py_bytecode.specs.Objects as const
-use Rattle.py_meaning.specs.EmissionDefs.{class_function, class_scope, emission_of_class, emission_of_setup}
+use Rattle.py_meaning.specs.EmissionDefs.{class_call, class_function, class_scope, emission_of_class, emission_of_setup}
 use Rattle.py_meaning.specs.Ends.{ends_of, keyword_ends, last_of}
-use Rattle.py_meaning.specs.StmtEnds.{scope_setting, setting_of}
 use Rattle.py_meaning.specs.StmtParts.{annotated}
 use Rattle.py_meaning.specs.ExprFaults.{Fault, all_faults, in_order, keyword_faults, keyword_values}
 use Rattle.py_meaning.specs.ExprFaults as fault
-use Rattle.py_meaning.specs.Faults.{base_faults}
+use Rattle.py_meaning.specs.Faults.{base_faults, class_faults}
 use Rattle.py_emission.specs.Emission.{all_emissions}
 use Rattle.py_emission.specs.Texts.{after_doc, doc_of}
 use Rattle.py_steps.specs.Children.{made}
-use Rattle.py_steps.specs.Classes.{behind_name, cell_returned, class_end, class_inside, class_names, class_shape, doc_const}
-use Rattle.py_steps.specs.Context.{Context, class_cells, inside, with_path, within_class}
+use Rattle.py_steps.specs.Classes.{behind_name, cell_returned, class_end, class_inside, class_names, class_path, class_shape, class_within, doc_const}
+use Rattle.py_steps.specs.Context.{class_cells}
 use Rattle.py_steps.specs.Elements.{Function, Single, Spread, starred}
 use Rattle.py_steps.specs.Emitting.{Around, Emission, emit, emit_constant}
 use Rattle.py_steps.specs.EmissionParts.{built, elements}
-use Rattle.py_refusing.proofs.Refusing.{EndsAs, Passes, cell_passes, child_ends, constant_passes, context_ends, count_passes, emit_passes, ends_so, in_function, last_ends, level_ends, name_passes, nothing_passes, outside, then_ends}
+use Rattle.py_refusing.proofs.Refusing.{EndsAs, Passes, cell_passes, child_ends, constant_passes, context_ends, count_passes, emit_passes, ends_so, in_function, last_ends, level_ends, name_passes, nothing_passes, outside, own_context_ends, then_ends}
 use Rattle.py_refusing.proofs.RefusingCalls.{ArgsEnd, any_call_ends}
 use Rattle.py_refusing.proofs.RefusingDefaults.{made_passes}
 use Rattle.py_refusing.proofs.RefusingDisplays.{bare_ends, groups_end, tuples_end}
 use Rattle.py_refusing.proofs.RefusingExprs.{exprs_end, keywords_end}
 use Rattle.py_refusing.proofs.RefusingTests.{AllEnding}
-
--- a class's statements are read in no function, at the same level
-pub class_setting : (name : List ℕ) (k : Context) (n : ℕ) → scope_setting false (setting_of k) ≡ setting_of (class_inside name k n)
-unfolding inside with_path within_class
-class_setting name k n = refl
 
 -- room for annotations
 pub setup_passes : {c : Around} {p : SourceLocation} (b : Bool) → Passes c (emission_of_setup b) p
@@ -73,18 +67,24 @@ module _ (c : Around) where
   behind_ends es y z all = before_ends (starred (elements (all_emissions es))) es y z all
 
   -- the function of a class ends as its statements do
-  class_function_ends : {body : Emission} {p q : SourceLocation} {fs : List Fault} (name : List ℕ) (stmts : tree.Stmts) → ((n : ℕ) → EndsAs (outside (class_inside name c.context n)) body p q fs) → EndsAs c (class_function name stmts body) p q fs
-  class_function_ends {body = body} {fs = fs} name stmts x =
-      ends_so (append-nil fs) (child_ends (class_inside name) (class_shape name) (class_scope stmts body) (made 0 name) (λ n. class_scope_ends stmts (x n)) (λ o. made_passes 0 name o))
+  pub class_function_ends : {body : Emission} {p q : SourceLocation} {fs : List Fault} (path : List ℕ) (flags : ℕ) (name : List ℕ) (stmts : tree.Stmts) → ((n : ℕ) → EndsAs (outside (class_within path name c.context n)) body p q fs) → EndsAs c (class_function path flags name stmts body) p q fs
+  class_function_ends {body = body} {fs = fs} path flags name stmts x =
+      ends_so (append-nil fs) (child_ends (class_within path name) (class_shape name) (class_scope stmts body) (made flags name) (λ n. class_scope_ends stmts (x n)) (λ o. made_passes flags name o))
 
 module _ (class : Option (List ℕ)) (c : Around) where
-  -- a class whose statements end so, in any scope of theirs
-  pub class_ends : {body : Emission} {q : SourceLocation} {fs : List Fault} (p : SourceLocation) (name : List ℕ) (bases : tree.Exprs) (keywords : tree.Keywords) (stmts : tree.Stmts) → exprs_shapes class bases ≡ [] → keywords_shapes class keywords ≡ [] → ((n : ℕ) → EndsAs (outside (class_inside name c.context n)) body p q fs) → EndsAs c (emission_of_class name bases keywords stmts body) p (last_of (last_of q (ends_of bases)) (keyword_ends keywords)) (fs ++ base_faults (in_function c) q bases keywords)
-  unfolding emission_of_class
-  class_ends {body = body} {q = q} {fs = fs} p name bases keywords stmts h g x =
+  -- a class whose function ends so
+  pub class_call_ends : {f : Emission} {p q : SourceLocation} {fs : List Fault} (name : List ℕ) (bases : tree.Exprs) (keywords : tree.Keywords) → exprs_shapes class bases ≡ [] → keywords_shapes class keywords ≡ [] → EndsAs c f p q fs → EndsAs c (class_call name f bases keywords) p (last_of (last_of q (ends_of bases)) (keyword_ends keywords)) (fs ++ base_faults (in_function c) q bases keywords)
+  class_call_ends {q = q} {fs = fs} name bases keywords h g x =
       let es = in_order (fault.elements (all_faults (in_function c) bases)) in
       let ks = keyword_faults (last_of q (ends_of bases)) keywords in
       let vs = in_order (keyword_values (in_function c) keywords) in
-      let args = behind_ends c bases (class_function_ends c name stmts x) (constant_passes op.LoadConst (const.str name)) (exprs_end class c bases h) in
+      let args = behind_ends c bases x (constant_passes op.LoadConst (const.str name)) (exprs_end class c bases h) in
       ends_so (append_assoc (fs ++ es) ks vs ∙ append_assoc fs es (ks ++ vs))
       (any_call_ends c (Function (emit op.LoadBuildClass 0)) [] _ keywords (emit_passes op.LoadBuildClass 0) args (keywords_end class c keywords g))
+
+  -- one without type parameters, whose statements end so in any scope of theirs
+  pub class_ends : {body : Emission} {q : SourceLocation} {fs : List Fault} (p : SourceLocation) (name : List ℕ) (bases : tree.Exprs) (keywords : tree.Keywords) (stmts : tree.Stmts) → exprs_shapes class bases ≡ [] → keywords_shapes class keywords ≡ [] → ((n : ℕ) → EndsAs (outside (class_inside name c.context n)) body p q fs) → EndsAs c (emission_of_class name bases keywords stmts body) p (last_of (last_of q (ends_of bases)) (keyword_ends keywords)) (class_faults (in_function c) p q bases keywords tree.no_type_params fs)
+  unfolding emission_of_class
+  class_ends {body = body} p name bases keywords stmts h g x =
+      own_context_ends (λ k. class_call name (class_function (class_path k name) 0 name stmts body) bases keywords)
+      (class_call_ends name bases keywords h g (class_function_ends c (class_path c.context name) 0 name stmts x))

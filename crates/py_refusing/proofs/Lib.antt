@@ -7,11 +7,14 @@ pub mod RefusingTargets
 pub mod RefusingDefaults
 pub mod RefusingComprehensions
 pub mod RefusingExprs
+pub mod NoteEnds
 pub mod RefusingChanges
 pub mod ControlEnds
 pub mod DefEnds
 pub mod ClassEnds
+pub mod GenericEnds
 pub mod RefusingImports
 pub mod RefusingStmts
+pub mod FutureEnds
 pub mod InteractiveEnds
 pub mod Ending

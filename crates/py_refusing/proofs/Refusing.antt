@@ -18,7 +18,7 @@ use Rattle.py_steps.specs.Accesses.{access_by, accessed}
 use Rattle.py_steps.specs.TableParts.{is_debug}
 use Rattle.py_forms.specs.declared.errors.CodegenErrorType.{CodegenErrorType}
 use Rattle.py_forms.specs.declared.errors.CodegenErrorType.TheVariants as error
-use Rattle.py_steps.specs.Emitting.{State, Outcome, Done, TooWide, Refused, Around, Emission, LoopBlocks, ◌▸◌, add_constant, add_varname, begun, go_on, keep, Put, with_step, with_block, with_name, with_varname, with_constant, with_loops, place_in, located, refuse, emit, emit_count, emit_name, emit_varname, emit_mangled, emit_constant, generating, jump, begin, new_block, nothing, move, by_context, by_level, by_loops, in_loop, pass_over}
+use Rattle.py_steps.specs.Emitting.{State, Outcome, Done, TooWide, Refused, Around, Emission, LoopBlocks, ◌▸◌, add_constant, add_varname, begun, go_on, keep, Put, with_step, with_block, with_name, with_varname, with_constant, with_loops, with_postponed, place_in, located, refuse, emit, emit_count, emit_name, emit_varname, emit_mangled, emit_constant, generating, jump, begin, new_block, nothing, move, by_context, by_level, by_loops, in_loop, pass_over, postponing}
 use Rattle.py_steps.specs.EmissionParts.{only_in_function, pass_scopes, unless_debug, emission_of_comparison, emission_of_link}
 use Rattle.py_steps.specs.Sealed.{Head, sealed}
 
@@ -41,6 +41,10 @@ outside k = (nothing k).around
 -- the same, in another loop
 abbrev pub looping : LoopBlocks → Around → Around
 looping x c = record c { loops = Some x }
+
+-- the same, where annotations are postponed
+abbrev pub postponed_around : Around → Around
+postponed_around c = record c { context = record c.context { postponed = true } }
 
 -- whether it stands in a function
 abbrev pub in_function : Around → Bool
@@ -232,6 +236,18 @@ loop_ends {c = c} {a = a} {q = q} {fs = fs} x h = record {
       subst (λ l. Ends c l q (go_on (a inner) back)) (append-nil fs) (ends_then (looping x c) c back fs [] q q (a inner) (h.ends inner l (ap (looping x) z)) last);
 }
 
+-- what stands where annotations are postponed, after which the context is the one before
+pub postponed_ends : {c : Around} {a : Emission} {p q : SourceLocation} {fs : List Fault} → EndsAs (postponed_around c) a p q fs → EndsAs c (postponing a) p q fs
+unfolding postponing with_postponed
+postponed_ends {c = c} {a = a} {q = q} {fs = fs} h = record {
+  ends = λ s l z.
+      let inner : State = with_postponed true s in
+      let before = s.around.context.postponed in
+      let back : Emission = λ t. Done (with_postponed before t) in
+      let last : (r : State) → r.location ≡ q → r.around ≡ postponed_around c → Ends c [] q (back r) = λ r m y. GoesOn (with_postponed before r) m (ap (λ (u : Around). record u { context = record u.context { postponed = before } }) y ∙ ap (λ (u : Around). record c { context = record c.context { postponed = u.context.postponed } }) z) refl refl in
+      subst (λ l. Ends c l q (go_on (a inner) back)) (append-nil fs) (ends_then (postponed_around c) c back fs [] q q (a inner) (h.ends inner l (ap postponed_around z)) last);
+}
+
 -- one of two
 pub if_ends : {c : Around} {v w : Emission} {p q : SourceLocation} {fs : List Fault} (b : Bool) → EndsAs c v p q fs → EndsAs c w p q fs → EndsAs c (if b then v else w) p q fs
 if_ends true x y = x
@@ -242,7 +258,7 @@ pub guarded_ends : {c : Around} {v : Emission} {p q : SourceLocation} {fs : List
 guarded_ends {fs = fs} true e x = refusal_ends e fs
 guarded_ends false e x = x
 
-function_or : {c : Around} {v : Emission} {p q : SourceLocation} {fs : List Fault} (b : Bool) (e : CodegenErrorType) → EndsAs c v p q fs → EndsAs c (if b then v else refuse e) p q (when (not b) (fault_at e p) ++ fs)
+pub function_or : {c : Around} {v : Emission} {p q : SourceLocation} {fs : List Fault} (b : Bool) (e : CodegenErrorType) → EndsAs c v p q fs → EndsAs c (if b then v else refuse e) p q (when (not b) (fault_at e p) ++ fs)
 function_or true e x = x
 function_or {fs = fs} false e x = refusal_ends e fs
 

@@ -9,9 +9,9 @@ use Rattle.py_base.specs.declared.shapes.Malformed.TheVariants as shape
 use Rattle.py_bytecode.specs.declared.instruction.Instruction.TheVariants as op
 use Rattle.py_bytecode.specs.Objects as const
 use Rattle.py_meaning.specs.Ends.{expr_end, store_end, stores_end, delete_end, deletes_end}
-use Rattle.py_meaning.specs.StmtEnds.{annotation_end, declared_end}
+use Rattle.py_meaning.specs.StmtEnds.{annotation_end, declared_end, setting_of}
 use Rattle.py_meaning.specs.Faults.{annotated_faults}
-use Rattle.py_counts.specs.Counts.{scopes_in}
+use Rattle.py_counts.specs.Counts.{scopes_in, scopes_in_annotation}
 use Rattle.py_meaning.specs.ExprFaults.{Fault, expr_faults, delete_faults, deletes_faults, assign_faults, augment_faults, declared_faults}
 use Rattle.py_steps.specs.TableParts.{binary_case}
 use Rattle.py_forms.specs.declared.errors.CodegenErrorType.TheVariants as error
@@ -20,8 +20,10 @@ use Rattle.py_bytecode.specs.Values.{Store, Delete}
 use Rattle.py_steps.specs.Context.{is_function, mangled}
 use Rattle.py_steps.specs.EmissionParts.{no_assignment, no_deletion, pass_scopes}
 use Rattle.py_emission.specs.Emission.{emission, emission_of_delete, emission_of_deletes, deletion_name}
+use Rattle.py_meaning.specs.EmissionDefs.{emission_of_note}
 use Rattle.py_meaning.specs.EmissionStmts.{emission_of_assign, emission_of_augment, emission_of_declared, emission_of_annotated, emission_of_annotation, emission_of_operand}
 use Rattle.py_refusing.proofs.Refusing.{EndsAs, Passes, in_function, own_context_ends, scopes_passed, then_ends, three_end, last_ends, alone_ends, ends_so, nothing_passes, emit_passes, name_passes, mangled_passes, accessed_passes, context_ends, constant_passes, refusal_ends, unless_debug_ends, unless_debug_last}
+use Rattle.py_refusing.proofs.NoteEnds.{note_end_so}
 use Rattle.py_refusing.proofs.RefusingExprs.{both_none, name_load_passes, no_target, expr_ends, store_ends}
 
 -- one of two, of which the first does nothing
@@ -90,10 +92,10 @@ module _ (class : Option (List ℕ)) (c : Around) where
   declared_ends p target (tree.some_expr e) h v = then_ends (value_ends p e v) (store_ends class c (expr_end e) target h).alone
 
   -- its annotation, which a function does nothing with
-  noted_ends : (p : SourceLocation) (target annotation : tree.Expr) → expr_shapes class annotation ≡ [] → EndsAs c (emission_of_annotated target annotation) p (annotation_end (in_function c) p annotation) (annotated_faults (in_function c) annotation)
+  noted_ends : (p : SourceLocation) (target annotation : tree.Expr) → expr_shapes class annotation ≡ [] → EndsAs c (emission_of_annotated target annotation) p (annotation_end (setting_of c.context) p annotation) (annotated_faults c.context.postponed (in_function c) p annotation)
   noted_ends p target annotation a =
-      own_context_ends (λ k. if is_function k.typ then pass_scopes (λ postponed. scopes_in postponed annotation) else emission annotation ▸ emission_of_annotation target)
-      (passed_or (in_function c) (scopes_passed (λ postponed. scopes_in postponed annotation)) (last_ends (value_ends p annotation a) (annotation_passes target)))
+      own_context_ends (λ k. if is_function k.typ then pass_scopes (λ postponed. scopes_in_annotation postponed annotation) else emission_of_note annotation ▸ emission_of_annotation target)
+      (passed_or (in_function c) (scopes_passed (λ postponed. scopes_in_annotation postponed annotation)) (last_ends (note_end_so class c p annotation a) (annotation_passes target)))
 
-  pub annotated_ends : (p : SourceLocation) (target annotation : tree.Expr) (value : tree.OptExpr) → expr_shapes class target ≡ [] → expr_shapes class annotation ≡ [] → opt_expr_shapes class value ≡ [] → EndsAs c (emission_of_declared target value ▸ emission_of_annotated target annotation) p (annotation_end (in_function c) (declared_end p target value) annotation) (declared_faults (in_function c) target value ++ annotated_faults (in_function c) annotation)
+  pub annotated_ends : (p : SourceLocation) (target annotation : tree.Expr) (value : tree.OptExpr) → expr_shapes class target ≡ [] → expr_shapes class annotation ≡ [] → opt_expr_shapes class value ≡ [] → EndsAs c (emission_of_declared target value ▸ emission_of_annotated target annotation) p (annotation_end (setting_of c.context) (declared_end p target value) annotation) (declared_faults (in_function c) target value ++ annotated_faults c.context.postponed (in_function c) (declared_end p target value) annotation)
   annotated_ends p target annotation value h a v = then_ends (declared_ends p target value h v) (noted_ends (declared_end p target value) target annotation a)

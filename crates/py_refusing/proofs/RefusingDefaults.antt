@@ -34,7 +34,7 @@ pub one_turn : {c : Around} {v : Emission} {q : SourceLocation} {fs : List Fault
 one_turn x = record { ends = λ p. last_ends (x p) nothing_passes }
 
 -- values after those before them
-turn_append : (vs ws : List Emission) → in_turn (vs ++ ws) ≡ (in_turn vs ▸ in_turn ws)
+pub turn_append : (vs ws : List Emission) → in_turn (vs ++ ws) ≡ (in_turn vs ▸ in_turn ws)
 turn_append [] ws = refl
 turn_append (v ∷ vs) ws = ap {B = Emission} (λ (f : Emission). v ▸ f) (turn_append vs ws) ∙ (λ i s. grouped_on (v s) (in_turn vs) (in_turn ws) i)
 

@@ -1,5 +1,5 @@
 -- An import ends as the faults of the names say that it stores, where it stands.
-use Rattle.std.proofs.Common.{ℕ, List, [], ◌∷◌, Bool, true, false, Option, Some, None, pos}
+use Rattle.std.proofs.Common.{ℕ, List, [], ◌∷◌, ◌++◌, Bool, true, false, Option, Some, None, pos}
 use Rattle.std.specs.Prelude.{if◌then◌else◌}
 use Rattle.py_tree.specs.declared.statements.Alias.{Alias}
 use Rattle.py_base.specs.declared.location.SourceLocation.{SourceLocation}
@@ -12,8 +12,8 @@ use Rattle.py_steps.specs.Accesses.{emission_of_stored}
 use Rattle.py_steps.specs.Context.{is_function}
 use Rattle.py_steps.specs.Emitting.{Around, ◌▸◌, emit, refuse}
 use Rattle.py_steps.specs.EmissionParts.{no_assignment}
-use Rattle.py_meaning.specs.ExprFaults.{debug_faults, fault_at, unbuilt, when}
-use Rattle.py_meaning.specs.Faults.{from_faults, import_faults, taken_faults}
+use Rattle.py_meaning.specs.ExprFaults.{debug_faults, fault_at, when}
+use Rattle.py_meaning.specs.Faults.{feature_faults, from_faults, import_faults, names_faults, placement_faults, taken_faults}
 use Rattle.py_meaning.specs.Imports.{asked, asked_all, from_future, further_segments, import_name, taken_name, takes_all}
 use Rattle.py_meaning.specs.EmissionImports.{emission_of_alias, emission_of_attributes, emission_of_from, emission_of_import, emission_of_imported, emission_of_module, emission_of_names, emission_of_star, import_step}
 use Rattle.py_meaning.specs.EmissionStmts.{emission_of_import_from}
@@ -62,10 +62,13 @@ module _ (c : Around) (p : SourceLocation) where
   all_or true path names level = star_ends path level
   all_or false path names level = then_ends (module_passes path level (asked names)) (names_end names)
 
+  pub all_end : (path : Option (List ℕ)) (names : List Alias) (level : ℕ) → EndsAs c (emission_of_from path names level) p p (names_faults (in_function c) p names)
+  all_end path names level = all_or (takes_all names) path names level
+
   -- a future import is refused
-  future_or : (b : Bool) (path : Option (List ℕ)) (names : List Alias) (level : ℕ) → EndsAs c (if b then refuse error.NotImplementedYet else emission_of_from path names level) p p (if b then unbuilt p else if takes_all names then when (in_function c) (fault_at error.FunctionImportStar p) else taken_faults p names)
-  future_or true path names level = refusal_ends error.NotImplementedYet []
-  future_or false path names level = all_or (takes_all names) path names level
+  future_or : (b : Bool) (path : Option (List ℕ)) (names : List Alias) (level : ℕ) → EndsAs c (if b then refuse error.InvalidFuturePlacement else emission_of_from path names level) p p (placement_faults b p names ++ names_faults (in_function c) p names)
+  future_or true path names level = refusal_ends error.InvalidFuturePlacement (feature_faults p names ++ names_faults (in_function c) p names)
+  future_or false path names level = all_end path names level
 
   pub from_ends : (path : Option (List ℕ)) (names : List Alias) (level : ℕ) → EndsAs c (emission_of_import_from path names level) p p (from_faults (in_function c) p path names)
   from_ends path names level = future_or (from_future path) path names level

@@ -1,21 +1,21 @@
 -- A statement of the right shapes ends as its faults say, where the code of its parts leaves off.
-use Rattle.std.proofs.Common.{◌≡◌, ℕ, List, [], ◌++◌, Bool, true, false, Option, Some, None, sym, subst, ap, ◌∙◌, append_assoc}
+use Rattle.std.proofs.Common.{◌≡◌, ℕ, List, [], ◌++◌, Bool, true, false, Option, Some, None, sym, subst, append_assoc}
 use Rattle.std.specs.Prelude.{nat_eq, not, ◌&&◌, if◌then◌else◌}
 use Rattle.py_tree.specs.Tree as tree
-use Rattle.py_shapes.specs.Valid.{when, arguments_shapes, count, expr_shapes, exprs_shapes, handler_own_shapes, handlers_shapes, keywords_shapes, name_shapes, opt_expr_shapes, stmt_shapes, stmts_shapes, with_items_shapes}
+use Rattle.py_shapes.specs.Valid.{when, arguments_shapes, count, expr_shapes, exprs_shapes, handler_own_shapes, handlers_shapes, keywords_shapes, name_shapes, opt_expr_shapes, stmt_shapes, stmts_shapes, type_params_shapes, with_items_shapes}
 use Rattle.py_shapes.specs.Parameters.{is_given}
 use Rattle.py_base.specs.declared.location.SourceLocation.{SourceLocation}
 use Rattle.py_base.specs.declared.shapes.Malformed.TheVariants as shape
 use Rattle.py_bytecode.specs.declared.instruction.Instruction.{Instruction}
 use Rattle.py_bytecode.specs.declared.instruction.Instruction.TheVariants as op
 use Rattle.py_bytecode.specs.Objects as const
-use Rattle.py_meaning.specs.EmissionDefs.{emission_of_class, emission_of_def, emission_of_end}
+use Rattle.py_meaning.specs.EmissionDefs.{emission_of_built, emission_of_end, emission_of_function}
 use Rattle.py_meaning.specs.EmissionStmts.{emission_of_handlers, emission_of_last, emission_of_rest, emission_of_returned, emission_of_stmt, emission_of_stmts, leave_loop}
 use Rattle.py_meaning.specs.Ends.{last_of, expr_end, ends_of, items_end, opt_end, some_of, store_end}
 use Rattle.py_meaning.specs.ExprFaults.{Fault, debug_faults, fault_at, exprs_faults, opt_expr_faults}
 use Rattle.py_meaning.specs.ExprFaults as fault
-use Rattle.py_meaning.specs.Faults.{base_faults, def_faults, only_in_loop, handlers_faults, items_faults, rest_faults, stmt_faults, stmts_faults}
-use Rattle.py_meaning.specs.StmtEnds.{Setting, default_ends, handlers_end, rest_end, scope_setting, setting_of, stmt_end, stmts_end}
+use Rattle.py_meaning.specs.Faults.{class_faults, def_faults, only_in_loop, handlers_faults, items_faults, rest_faults, stmt_faults, stmts_faults}
+use Rattle.py_meaning.specs.StmtEnds.{Setting, function_start, handlers_end, param_ends, rest_end, scope_setting, setting_of, stmt_end, stmts_end}
 use Rattle.py_meaning.specs.StmtParts.{but_doc, none}
 use Rattle.py_emission.specs.Emission.{all_emissions}
 use Rattle.py_emission.specs.Texts.{after_doc, stmt_text}
@@ -23,8 +23,7 @@ use Rattle.py_forms.specs.declared.errors.CodegenErrorType.{CodegenErrorType}
 use Rattle.py_forms.specs.declared.errors.CodegenErrorType.TheVariants as error
 use Rattle.py_bytecode.specs.Values.{Store}
 use Rattle.py_steps.specs.Accesses.{emission_of_stored}
-use Rattle.py_steps.specs.Children.{decorated, function_inside}
-use Rattle.py_steps.specs.Classes.{class_inside}
+use Rattle.py_steps.specs.Children.{decorated}
 use Rattle.py_steps.specs.Context.{Context}
 use Rattle.py_steps.specs.Emitting.{Around, Emission, LoopBlocks, ◌▸◌, begin, move, refuse}
 use Rattle.py_steps.specs.EmissionParts.{values, no_assignment, only, choice}
@@ -34,8 +33,8 @@ use Rattle.py_refusing.proofs.RefusingExprs.{both_none, expr_ends, exprs_end, st
 use Rattle.py_refusing.proofs.RefusingChanges.{deletions_end, assign_ends, augment_ends, annotated_ends}
 use Rattle.py_refusing.proofs.ControlEnds.{assert_ends, for_ends, handler_ends, items_end_so, match_ends, named_body_ends, raise_ends, try_ends, while_ends}
 use Rattle.py_refusing.proofs.RefusingImports.{from_ends, import_ends}
-use Rattle.py_refusing.proofs.ClassEnds.{class_ends, class_setting}
-use Rattle.py_refusing.proofs.DefEnds.{decorated_ends, def_ends, function_setting, returning_passes}
+use Rattle.py_refusing.proofs.DefEnds.{decorated_ends, returning_passes}
+use Rattle.py_refusing.proofs.GenericEnds.{Reads, alias_ends, built_ends_so, function_ends_so}
 
 -- whether there is a loop
 abbrev pub held : Option LoopBlocks → Bool
@@ -89,52 +88,53 @@ RestEnds class ts = (k : Context) (p : SourceLocation) → stmts_shapes class ts
 
 module _ (class : Option (List ℕ)) (c : Around) (at : SourceLocation) (name : List ℕ) where
   -- a function with its decorators, before it is stored
-  pub def_value_ends : (params : tree.Arguments) (body : tree.Stmts) (decorators : tree.Exprs) (returns : tree.OptExpr) → stmt_shapes class (tree.FunctionDef at name params body decorators returns tree.no_type_params) ≡ [] → RestEnds class body → EndsAs c (decorated (values (all_emissions decorators)) (emission_of_def name params body returns (emission_of_rest body ▸ emission_of_end (after_doc body)))) at (stmt_end (setting_of c.context) (tree.FunctionDef at name params body decorators returns tree.no_type_params)) (exprs_faults (in_function c) decorators ++ def_faults (in_function c) (last_of at (ends_of decorators)) params returns (rest_faults (scope_setting true (setting_of c.context)) body))
-  def_value_ends params body decorators returns h y =
-      let s = both_none (name_shapes name ++ arguments_shapes class params ++ stmts_shapes class body ++ exprs_shapes class decorators ++ opt_expr_shapes class returns) [] h in
+  pub def_value_ends : (params : tree.Arguments) (body : tree.Stmts) (decorators : tree.Exprs) (returns : tree.OptExpr) (generic : tree.TypeParams) → stmt_shapes class (tree.FunctionDef at name params body decorators returns generic) ≡ [] → RestEnds class body → EndsAs c (decorated (values (all_emissions decorators)) (emission_of_function name params body returns generic (emission_of_rest body ▸ emission_of_end (after_doc body)))) at (stmt_end (setting_of c.context) (tree.FunctionDef at name params body decorators returns generic)) (exprs_faults (in_function c) decorators ++ def_faults c.context.postponed (in_function c) (last_of at (ends_of decorators)) (rest_end (scope_setting true (setting_of c.context)) (function_start (last_of at (ends_of decorators)) params generic) body) params returns generic (rest_faults (scope_setting true (setting_of c.context)) body))
+  def_value_ends params body decorators returns generic h y =
+      let s = both_none (name_shapes name ++ arguments_shapes class params ++ stmts_shapes class body ++ exprs_shapes class decorators ++ opt_expr_shapes class returns) (type_params_shapes class generic) h in
       let t = both_none (name_shapes name ++ arguments_shapes class params ++ stmts_shapes class body ++ exprs_shapes class decorators) (opt_expr_shapes class returns) s.0 in
       let u = both_none (name_shapes name ++ arguments_shapes class params ++ stmts_shapes class body) (exprs_shapes class decorators) t.0 in
       let v = both_none (name_shapes name ++ arguments_shapes class params) (stmts_shapes class body) u.0 in
       let w = both_none (name_shapes name) (arguments_shapes class params) v.0 in
       let own = scope_setting true (setting_of c.context) in
       let m = last_of at (ends_of decorators) in
-      let n = last_of m (default_ends params) in
+      let n = function_start m params generic in
       let all : Emission = emission_of_rest body ▸ emission_of_end (after_doc body) in
-      let within : (k : ℕ) → EndsAs (outside (function_inside name c.context k)) all n (rest_end own n body) (rest_faults own body) = λ k.
-      subst (λ (x : Setting). EndsAs (outside (function_inside name c.context k)) all n (rest_end x n body) (rest_faults x body)) (sym (function_setting name c.context k))
-      (last_ends (y (function_inside name c.context k) n v.1) (returning_passes (after_doc body))) in
-      decorated_ends (values (all_emissions decorators)) (turn_ends c at decorators (exprs_end class c decorators u.1)) (def_ends class c m name params body returns w.1 t.1 within)
+      let within : (k : Context) → Reads true c.context k → EndsAs (outside k) all n (rest_end own n body) (rest_faults own body) = λ k e.
+      subst (λ (x : Setting). EndsAs (outside k) all n (rest_end x n body) (rest_faults x body)) (sym e) (last_ends (y k n v.1) (returning_passes (after_doc body))) in
+      decorated_ends (values (all_emissions decorators)) (turn_ends c at decorators (exprs_end class c decorators u.1)) (function_ends_so class c m name params body returns generic w.1 t.1 s.1 within)
 
   -- a class with its decorators, before it is stored
-  pub class_value_ends : (bases : tree.Exprs) (keywords : tree.Keywords) (body : tree.Stmts) (decorators : tree.Exprs) → stmt_shapes class (tree.ClassDef at name bases keywords body decorators tree.no_type_params) ≡ [] → RestEnds (Some name) body → EndsAs c (decorated (values (all_emissions decorators)) (emission_of_class name bases keywords body (emission_of_rest body))) at (stmt_end (setting_of c.context) (tree.ClassDef at name bases keywords body decorators tree.no_type_params)) (exprs_faults (in_function c) decorators ++ (rest_faults (scope_setting false (setting_of c.context)) body ++ base_faults (in_function c) (rest_end (scope_setting false (setting_of c.context)) (last_of at (ends_of decorators)) body) bases keywords))
-  class_value_ends bases keywords body decorators h y =
-      let s = both_none (name_shapes name ++ exprs_shapes class bases ++ keywords_shapes class keywords ++ stmts_shapes (Some name) body ++ exprs_shapes class decorators) [] h in
+  pub class_value_ends : (bases : tree.Exprs) (keywords : tree.Keywords) (body : tree.Stmts) (decorators : tree.Exprs) (generic : tree.TypeParams) → stmt_shapes class (tree.ClassDef at name bases keywords body decorators generic) ≡ [] → RestEnds (Some name) body → EndsAs c (decorated (values (all_emissions decorators)) (emission_of_built name bases keywords body generic (emission_of_rest body))) at (stmt_end (setting_of c.context) (tree.ClassDef at name bases keywords body decorators generic)) (exprs_faults (in_function c) decorators ++ class_faults (in_function c) (last_of at (ends_of decorators)) (rest_end (scope_setting false (setting_of c.context)) (last_of (last_of at (ends_of decorators)) (param_ends generic)) body) bases keywords generic (rest_faults (scope_setting false (setting_of c.context)) body))
+  class_value_ends bases keywords body decorators generic h y =
+      let s = both_none (name_shapes name ++ exprs_shapes class bases ++ keywords_shapes class keywords ++ stmts_shapes (Some name) body ++ exprs_shapes class decorators) (type_params_shapes class generic) h in
       let t = both_none (name_shapes name ++ exprs_shapes class bases ++ keywords_shapes class keywords ++ stmts_shapes (Some name) body) (exprs_shapes class decorators) s.0 in
       let u = both_none (name_shapes name ++ exprs_shapes class bases ++ keywords_shapes class keywords) (stmts_shapes (Some name) body) t.0 in
       let v = both_none (name_shapes name ++ exprs_shapes class bases) (keywords_shapes class keywords) u.0 in
       let w = both_none (name_shapes name) (exprs_shapes class bases) v.0 in
       let own = scope_setting false (setting_of c.context) in
       let m = last_of at (ends_of decorators) in
-      let within : (k : ℕ) → EndsAs (outside (class_inside name c.context k)) (emission_of_rest body) m (rest_end own m body) (rest_faults own body) = λ k.
-      subst (λ (x : Setting). EndsAs (outside (class_inside name c.context k)) (emission_of_rest body) m (rest_end x m body) (rest_faults x body)) (sym (class_setting name c.context k)) (y (class_inside name c.context k) m u.1) in
-      decorated_ends (values (all_emissions decorators)) (turn_ends c at decorators (exprs_end class c decorators t.1)) (class_ends class c m name bases keywords body w.1 v.1 within)
+      let n = last_of m (param_ends generic) in
+      let within : (k : Context) → Reads false c.context k → EndsAs (outside k) (emission_of_rest body) n (rest_end own n body) (rest_faults own body) = λ k e.
+      subst (λ (x : Setting). EndsAs (outside k) (emission_of_rest body) n (rest_end x n body) (rest_faults x body)) (sym e) (y k n u.1) in
+      decorated_ends (values (all_emissions decorators)) (turn_ends c at decorators (exprs_end class c decorators t.1)) (built_ends_so class c m name bases keywords body generic w.1 v.1 s.1 within)
 
   -- either is stored, as what ends so at this name
-  pub def_ends_so : {p q : SourceLocation} {v store : Emission} {hs : List Fault} (fs gs : List Fault) → EndsAs c v at q (fs ++ gs) → EndsAs c store q q hs → EndsAs c (move at ▸ v ▸ store) p q (fs ++ (gs ++ hs))
-  def_ends_so {hs = hs} fs gs x y = moved_ends at (ends_so (append_assoc fs gs hs) (then_ends x y))
-
-  pub class_ends_so : {p q : SourceLocation} {v store : Emission} {is : List Fault} (fs gs hs : List Fault) → EndsAs c v at q (fs ++ (gs ++ hs)) → EndsAs c store q q is → EndsAs c (move at ▸ v ▸ store) p q (fs ++ (gs ++ (hs ++ is)))
-  class_ends_so {is = is} fs gs hs x y = moved_ends at (ends_so (append_assoc fs (gs ++ hs) is ∙ ap (λ l. fs ++ l) (append_assoc gs hs is)) (then_ends x y))
+  pub value_then_ends : {p q : SourceLocation} {v store : Emission} {hs : List Fault} (fs gs : List Fault) → EndsAs c v at q (fs ++ gs) → EndsAs c store q q hs → EndsAs c (move at ▸ v ▸ store) p q (fs ++ (gs ++ hs))
+  value_then_ends {hs = hs} fs gs x y = moved_ends at (ends_so (append_assoc fs gs hs) (then_ends x y))
 
   stored_ends : (q : SourceLocation) → EndsAs c (emission_of_stored name) q q (debug_faults no_assignment q name)
   stored_ends q = unless_debug_last no_assignment name (accessed_passes Store name)
 
 mutual
   pub stmt_ends : (class : Option (List ℕ)) (c : Around) (p : SourceLocation) (t : tree.Stmt) → stmt_shapes class t ≡ [] → EndsAs c (emission_of_stmt t) p (stmt_end (setting_of c.context) t) (stmt_faults (setting_of c.context) (held c.loops) t)
-  stmt_ends class c p (tree.FunctionDef at name params body decorators returns tree.no_type_params) h =
-      def_ends_so class c at name (exprs_faults (in_function c) decorators) _ (def_value_ends class c at name params body decorators returns h (λ k q z. rest_ends class k q body z)) (stored_ends class c at name _)
-  stmt_ends class c p (tree.ClassDef at name bases keywords body decorators tree.no_type_params) h =
-      class_ends_so class c at name (exprs_faults (in_function c) decorators) (rest_faults (scope_setting false (setting_of c.context)) body) _ (class_value_ends class c at name bases keywords body decorators h (λ k q z. rest_ends (Some name) k q body z)) (stored_ends class c at name _)
+  stmt_ends class c p (tree.FunctionDef at name params body decorators returns generic) h =
+      value_then_ends class c at name (exprs_faults (in_function c) decorators) _ (def_value_ends class c at name params body decorators returns generic h (λ k q z. rest_ends class k q body z)) (stored_ends class c at name _)
+  stmt_ends class c p (tree.ClassDef at name bases keywords body decorators generic) h =
+      value_then_ends class c at name (exprs_faults (in_function c) decorators) _ (class_value_ends class c at name bases keywords body decorators generic h (λ k q z. rest_ends (Some name) k q body z)) (stored_ends class c at name _)
+  stmt_ends class c p (tree.TypeAlias at target generic value) h =
+      let s = both_none (expr_shapes class target ++ type_params_shapes class generic) (expr_shapes class value) h in
+      let t = both_none (expr_shapes class target) (type_params_shapes class generic) s.0 in
+      moved_ends at (alias_ends class c at target generic value t.1 s.1)
   stmt_ends class c p (tree.Return at value) h = moved_ends at (function_ends error.InvalidReturn (returned_ends class c at value h))
   stmt_ends class c p (tree.Delete at targets) h = moved_ends at (deletions_end class c at targets h)
   stmt_ends class c p (tree.Assign at targets value) h =

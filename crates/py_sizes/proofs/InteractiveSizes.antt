@@ -1,5 +1,5 @@
 -- What the code of statements at a prompt weighs, and of a block whose last value is given: at most sixteen for each unit of size, and three more for what ends it.
-use Rattle.std.proofs.Common.{ℕ, suc, ◌+◌, ◌*◌, ◌≤◌, arith}
+use Rattle.std.proofs.Common.{ℕ, suc, ◌+◌, ◌*◌, ◌≤◌, refl, arith}
 use Rattle.py_tree.specs.Tree as tree
 use Rattle.py_tree.specs.declared.modules.Mode.{Mode}
 use Rattle.py_tree.specs.declared.modules.Mode.TheVariants as mode
@@ -10,17 +10,19 @@ use Rattle.py_forms.specs.Form.{Interp, VConst, SForm, SThen, SReturn}
 use Rattle.py_forms.specs.Fit.{Loops}
 use Rattle.py_forms.specs.Code.{labels, labels_v, code, code_v}
 use Rattle.py_steps.specs.Children.{function_inside}
-use Rattle.py_steps.specs.Classes.{class_inside}
+use Rattle.py_steps.specs.Classes.{class_path, class_within}
 use Rattle.py_steps.specs.Context.{Context}
-use Rattle.py_meaning.specs.Interactive.{block_form, interactive_form, last_form, single_form}
+use Rattle.py_meaning.specs.Interactive.{block_form, interactive_form, last_form, prompt_form, single_form}
+use Rattle.py_meaning.specs.Futures.{after_future, future_of}
 use Rattle.py_meaning.specs.StmtParts.{after_stmt}
-use Rattle.py_meaning.specs.Table.{after, after_all, after_defaults, expr_form}
+use Rattle.py_meaning.specs.Table.{after, after_all, expr_form}
+use Rattle.py_meaning.specs.TableParams.{around_own, function_number, own_number}
 use Rattle.py_meaning.specs.TableStmts.{function_body, rest_form, stmt_form}
 use Rattle.py_adds.proofs.Burden.{burden, burden-append}
+use Rattle.py_sizes.proofs.FutureSizes.{behind_small, future_or}
 use Rattle.py_sizes.proofs.Sizes.{expr_small}
 use Rattle.py_sizes.proofs.SmallAssigns.{CodeSmall}
-use Rattle.py_sizes.proofs.SmallClasses.{class_small}
-use Rattle.py_sizes.proofs.SmallNotes.{def_small}
+use Rattle.py_sizes.proofs.SmallTypeParameters.{class_small, def_small}
 use Rattle.py_sizes.proofs.SmallStmts.{return_small, stmt_small}
 
 module _ (i : Interp Object) (c : Context) where
@@ -57,14 +59,15 @@ module _ (i : Interp Object) (c : Context) where
       let p = (expr_small i c k value).value n in
       let q = return_small i (expr_form c k value) n (burden (code_v i (expr_form c k value) n)) (omega arith) in
       omega (arith, p, q)
-  last_small k (tree.FunctionDef at name params body decorators returns tree.no_type_params) x n =
+  last_small k (tree.FunctionDef at name params body decorators returns generic) x n =
       let m = after_all c k decorators in
-      let j = after_defaults c m params in
-      let p = def_small i c k name params body decorators returns (function_body (function_inside name c j) (suc j) body) n in
+      let j = function_number c m params generic in
+      let p = def_small i c k name params body decorators returns generic (function_body (function_inside name (around_own c m generic) j) (suc j) body) n in
       simp burden-append (omega (arith, p))
-  last_small k (tree.ClassDef at name bases keywords body decorators tree.no_type_params) x n =
+  last_small k (tree.ClassDef at name bases keywords body decorators generic) x n =
       let m = after_all c k decorators in
-      let p = class_small i c k name bases keywords body decorators (rest_form (class_inside name c m) (suc m) body) n in
+      let j = own_number c m generic in
+      let p = class_small i c k name bases keywords body decorators generic (rest_form (class_within (class_path c name) name (around_own c m generic) j) (suc j) body) n in
       simp burden-append (omega (arith, p))
   last_small k other x n = let p = then_shown (stmt_form c k other) (SReturn (VConst const.none)) (stmt_size other) 0 (stmt_small i c k other) nothing_shown x n in omega (arith, p)
 
@@ -74,7 +77,19 @@ module _ (i : Interp Object) (c : Context) where
   block_small k (tree.more_stmts s (tree.more_stmts t ts)) x n =
       then_shown (stmt_form c k s) (block_form c (after_stmt c k s) (tree.more_stmts t ts)) (stmt_size s) (stmts_size (tree.more_stmts t ts)) (stmt_small i c k s) (block_small (after_stmt c k s) (tree.more_stmts t ts)) x n
 
+module _ (i : Interp Object) where
+  prompt_small : (c : Context) (k : ℕ) (ss : tree.Stmts) → ShownSmall i c (prompt_form c k ss) (stmts_size ss)
+  prompt_small c k tree.no_stmts x n = omega arith
+  prompt_small c k (tree.more_stmts (tree.StmtExpr at value) tree.no_stmts) x n =
+      let p = (expr_small i c k value).value n in
+      simp burden-append (omega (arith, p))
+  prompt_small c k (tree.more_stmts (tree.StmtExpr at value) (tree.more_stmts t ts)) x n =
+      let p = (expr_small i c k value).value n in
+      let q = prompt_small c (after c k value) (tree.more_stmts t ts) x (n + (labels_v (expr_form c k value) + 0)) in
+      simp burden-append (omega (arith, p, q))
+  prompt_small c k (tree.more_stmts s ss) x n = future_or i 3 c s ss (single_form c k (tree.more_stmts s ss)) (λ f. prompt_form (after_future f c) k ss) (future_of s) refl (single_small i c k (tree.more_stmts s ss)) (λ f. prompt_small (after_future f c) k ss) x n
+
   -- in each mode
-  pub interactive_small : (m : Mode) (ss : tree.Stmts) → ShownSmall (interactive_form m c ss) (stmts_size ss)
-  interactive_small mode.Single ss = single_small 1 ss
-  interactive_small other ss = block_small 1 ss
+  pub interactive_small : (c : Context) (m : Mode) (ss : tree.Stmts) → ShownSmall i c (interactive_form m c ss) (stmts_size ss)
+  interactive_small c mode.Single ss = prompt_small c 1 ss
+  interactive_small c other ss = behind_small i 3 (λ d. block_form d 1) (λ d. block_small i d 1) c ss

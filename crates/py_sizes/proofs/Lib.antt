@@ -11,7 +11,9 @@ pub mod Sizes
 pub mod SmallAssigns
 pub mod SmallNotes
 pub mod SmallClasses
+pub mod SmallTypeParameters
 pub mod SmallImports
 pub mod SmallStmts
+pub mod FutureSizes
 pub mod InteractiveSizes
 pub mod ProgramSizes

@@ -1,33 +1,38 @@
--- What the whole code of a scope weighs, of a program, of a lambda, of a function and of a class: at most sixteen for each unit of size, two more for what ends a function, and fourteen more for what begins and ends a class.
+-- What the whole code of a scope weighs, of a program, of a lambda, of a function, of a class, and of a hidden scope of type parameters: at most sixteen for each unit of size, two more for what ends a function, and fourteen more for what begins and ends a class.
 use Rattle.std.proofs.Common.{ℕ, ◌+◌, ◌*◌, ◌^◌, ◌<◌, ◌≤◌, ◌≡◌, List, [], ◌∷◌, Bool, true, false, Option, Some, None, refl, arith, append-nil}
 use Rattle.std.specs.Prelude.{codes, nat_lt, if◌then◌else◌}
 use Rattle.py_tree.specs.Tree as tree
-use Rattle.py_limits.specs.Size.{expr_size, exprs_size, generators_size, stmt_size, stmts_size, size_of}
+use Rattle.py_limits.specs.Size.{arguments_size, expr_size, exprs_size, generators_size, keywords_size, opt_expr_size, stmt_size, stmts_size, size_of, type_params_size}
 use Rattle.py_tree.specs.declared.modules.Mode.{Mode}
 use Rattle.py_bytecode.specs.declared.instruction.Instruction.{Instruction}
 use Rattle.py_bytecode.specs.declared.instruction.Instruction.TheVariants as op
+use Rattle.py_bytecode.specs.Objects as const
 use Rattle.py_bytecode.specs.Objects.{Object}
-use Rattle.py_bytecode.specs.Values.{Cell}
-use Rattle.py_forms.specs.Form.{Interp, VLoad, VNone, VMore, FixedFast, SForm, SThen, SReturn, Scope, MkScope}
+use Rattle.py_bytecode.specs.Values.{Bare, Cell, operation}
+use Rattle.py_forms.specs.Form.{Interp, VForm, VConst, VLoad, VSwap, VNone, VMore, FixedFast, SForm, SThen, SReturn, Scope, MkScope}
 use Rattle.py_forms.specs.Fit.{Loops}
 use Rattle.py_forms.specs.Agree.{exactly, form_of}
 use Rattle.py_forms.specs.Code.{class_code, closes, closing, labels, labels_v, code, code_v, body_code}
 use Rattle.py_scope.specs.declared.flat.ScopeEntry.{ScopeEntry}
 use Rattle.py_steps.specs.Context.{Context, head_of, outermost}
+use Rattle.py_steps.specs.TypeParameters.{handed, handed_parts}
 use Rattle.py_emission.specs.Texts.{after_doc, doc_of, first_text, stmt_text, unless_text}
 use Rattle.py_meaning.specs.Interactive.{interactive_form}
 use Rattle.py_meaning.specs.Meaning.{body, mod_form}
-use Rattle.py_meaning.specs.StmtParts.{after_stmt, annotated, but_doc, is_last_return, unless_last}
+use Rattle.py_meaning.specs.StmtParts.{after_stmt, annotated, but_doc, class_value, function_value, is_last_return, unless_last}
 use Rattle.py_meaning.specs.Table.{after, after_all, clause_forms, expr_form, expr_forms, filter_forms, further_forms, target_forms}
+use Rattle.py_meaning.specs.TableParams.{params_form}
 use Rattle.py_meaning.specs.TableScopes.{class_form, gathered, generated, iterator, setup_form}
 use Rattle.py_meaning.specs.TableStmts.{doc_form, ended_form, function_body, rest_form, stmt_form, stmts_form}
 use Rattle.py_adds.proofs.Burden.{burden, burden-append}
+use Rattle.py_sizes.proofs.FutureSizes.{behind_small}
 use Rattle.py_sizes.proofs.InteractiveSizes.{interactive_small}
 use Rattle.py_sizes.proofs.Sizes.{expr_small, target_small}
 use Rattle.py_sizes.proofs.SmallAssigns.{CodeSmall}
 use Rattle.py_sizes.proofs.SmallComprehensions.{ClausesSmall, FiltersSmall, each_small, gathered_small, generated_small, handed_small, iterator_small, more_filter_small, no_clause_small, no_filter_small}
-use Rattle.py_sizes.proofs.SmallFunctions.{PartsWithin}
+use Rattle.py_sizes.proofs.SmallFunctions.{PartsWithin, ValueWithin}
 use Rattle.py_sizes.proofs.SmallStmts.{return_small, stmt_small, stmts_small}
+use Rattle.py_sizes.proofs.SmallTypeParameters.{generic_alias_small, generic_class_small, generic_function_small}
 
 -- no statement is without a size
 stmt_some : (t : tree.Stmt) → 1 ≤ stmt_size t
@@ -65,7 +70,7 @@ mod_small i c (tree.Module stmts) m =
     let begun = 1 + labels (doc_form (doc_of c.level stmts)) in
     let setup = setup_form (annotated (after_doc stmts)) in
     let q = setup_small i (annotated (after_doc stmts)) unlooped begun in
-    let r = stmts_small i c 1 (after_doc stmts) unlooped (begun + labels setup) in
+    let r = behind_small i 0 (λ d. stmts_form d 1) (λ d ts x n. let u = stmts_small i d 1 ts x n in omega (arith, u)) c (after_doc stmts) unlooped (begun + labels setup) in
     simp burden-append (omega (arith, p, q, r))
 mod_small i c (tree.Interactive stmts) m =
     let f = interactive_form m c stmts in
@@ -165,6 +170,40 @@ function_small d c n stmts small =
 pub class_body_small : (d : Scope → Object) (c : Context) (path : List ℕ) (doc : Option (List ℕ)) (b : Bool) (n : ℕ) (stmts : tree.Stmts) → stmts_size stmts < 2 ^ 22 → burden (body_code (exactly d (MkScope (head_of c) (class_form path doc b (rest_form c n stmts)))) (class_form path doc b (rest_form c n stmts))) < 2 ^ 27
 class_body_small d c path doc b n stmts small =
     let p = class_run_small (exactly d (MkScope (head_of c) (class_form path doc b (rest_form c n stmts)))) c path doc b n stmts in
+    omega (arith, p, small)
+
+-- the code of a hidden scope, which returns what is made in it
+made_small : (i : Interp Object) (f : VForm) (m : ℕ) → ValueWithin i f m → burden (body_code i (SReturn f)) ≤ m + 1
+made_small i f m x =
+    let p = return_small i f 1 m (x 1) in
+    simp append-nil (omega (arith, p))
+
+-- over any children, the code of this scope is small
+abbrev pub Light : (d : Scope → Object) → Context → SForm → Type 0
+Light d c f = burden (body_code (exactly d (MkScope (head_of c) f)) f) < 2 ^ 27
+
+-- of a function, whatever defaults it is handed
+pub hidden_function_small : {A B : Type 0} (ps : List A) (ks : List B) (d : Scope → Object) (c : Context) (n m flags : ℕ) (generic : tree.TypeParams) (name : List ℕ) (params : tree.Arguments) (body : tree.Stmts) (returns : tree.OptExpr) (f : SForm) → arguments_size params + opt_expr_size returns + type_params_size generic < 2 ^ 22 → Light d c (SReturn (function_value c m flags (handed_parts (handed ps ks) (VMore (params_form c n generic) VNone)) name params body returns f))
+hidden_function_small ps ks d c n m flags generic name params body returns f small =
+    let value = function_value c m flags (handed_parts (handed ps ks) (VMore (params_form c n generic) VNone)) name params body returns f in
+    let i = exactly d (MkScope (head_of c) (SReturn value)) in
+    let p = made_small i value (16 * (arguments_size params + opt_expr_size returns + type_params_size generic) + 6) (generic_function_small i c ps ks n m flags generic name params body returns f) in
+    omega (arith, p, small)
+
+-- of a class
+pub hidden_class_small : (d : Scope → Object) (c : Context) (path : List ℕ) (n m flags : ℕ) (generic : tree.TypeParams) (name : List ℕ) (bases : tree.Exprs) (keywords : tree.Keywords) (body : tree.Stmts) (f : SForm) → exprs_size bases + keywords_size keywords + type_params_size generic < 2 ^ 22 → Light d c (SReturn (class_value c path m flags (VMore (params_form c n generic) VNone) name bases keywords body f))
+hidden_class_small d c path n m flags generic name bases keywords body f small =
+    let value = class_value c path m flags (VMore (params_form c n generic) VNone) name bases keywords body f in
+    let i = exactly d (MkScope (head_of c) (SReturn value)) in
+    let p = made_small i value (16 * (exprs_size bases + keywords_size keywords + type_params_size generic) + 30) (generic_class_small i c path n m flags generic name bases keywords body f) in
+    omega (arith, p, small)
+
+-- and of an alias
+pub hidden_alias_small : (d : Scope → Object) (c : Context) (n m : ℕ) (generic : tree.TypeParams) (name : List ℕ) (e : tree.Expr) → type_params_size generic + expr_size e < 2 ^ 22 → Light d c (SReturn (VSwap (operation op.TypeAlias Bare) (params_form c n generic) (expr_form c m e) (VMore (VConst (const.str name)) VNone)))
+hidden_alias_small d c n m generic name e small =
+    let value = VSwap (operation op.TypeAlias Bare) (params_form c n generic) (expr_form c m e) (VMore (VConst (const.str name)) VNone) in
+    let i = exactly d (MkScope (head_of c) (SReturn value)) in
+    let p = made_small i value (16 * (type_params_size generic + expr_size e) + 7) (generic_alias_small i c n m generic name e) in
     omega (arith, p, small)
 
 module _ (i : Interp Object) (c : Context) where

@@ -1,5 +1,5 @@
 -- What assignments and deletions weigh.
-use Rattle.std.proofs.Common.{ℕ, ◌+◌, ◌*◌, ◌≤◌, Bool, true, false, None, arith}
+use Rattle.std.proofs.Common.{ℕ, ◌+◌, ◌*◌, ◌≤◌, List, Bool, true, false, Option, Some, None, arith}
 use Rattle.std.specs.Prelude.{if◌then◌else◌}
 use Rattle.py_tree.specs.Tree as tree
 use Rattle.py_limits.specs.Size.{expr_size, exprs_size, opt_expr_size}
@@ -7,15 +7,17 @@ use Rattle.py_base.specs.declared.operators.Operator.{Operator}
 use Rattle.py_bytecode.specs.Objects.{Object}
 use Rattle.py_forms.specs.Form.{Interp, VForm, VKeep, Target, SForm, SSkip, SThen, SInto}
 use Rattle.py_forms.specs.Fit.{Loops}
-use Rattle.py_forms.specs.Code.{labels, labels_v, code}
+use Rattle.py_forms.specs.Code.{labels, labels_v, code, code_v}
 use Rattle.py_steps.specs.TableParts.{name_form, is_debug}
 use Rattle.py_steps.specs.Context.{Context, is_function, mangled}
 use Rattle.py_meaning.specs.StmtParts.{removal, removals, assigned, assign_form, augment_form, declared_form, annotation_target, annotated_form}
 use Rattle.py_meaning.specs.Table.{after, after_opt, expr_form, target_form}
+use Rattle.py_meaning.specs.TableNotes.{note_form, text_form}
+use Rattle.py_texts.specs.Annotation.{annotation}
 use Rattle.py_adds.proofs.Burden.{burden, burden-append}
 use Rattle.py_sizes.proofs.Small.{FormSmall, TargetSmall}
 use Rattle.py_sizes.proofs.SmallTargets.{keep_small}
-use Rattle.py_sizes.proofs.Sizes.{expr_small, target_small, named_small}
+use Rattle.py_sizes.proofs.Sizes.{expr_some, expr_small, target_small, named_small}
 
 module _ (i : Interp Object) (c : Context) where
   -- wherever it stands
@@ -74,13 +76,25 @@ module _ (i : Interp Object) (c : Context) where
       simp burden-append (omega (arith, u, v, w))
   augment_small k other o e x n = omega arith
 
+  -- an annotation, or its text
+  text_small : (text : Option (List ℕ)) (n : ℕ) → burden (code_v i (text_form text) n) ≤ 2
+  text_small None n = omega arith
+  text_small (Some text) n = omega arith
+
+  told_or : (b : Bool) (k : ℕ) (e : tree.Expr) (n : ℕ) → burden (code_v i (if b then text_form (annotation e) else expr_form c k e) n) + 2 ≤ 16 * expr_size e
+  told_or true k e n = let p = text_small (annotation e) n in let q = expr_some e in omega (arith, p, q)
+  told_or false k e n = (expr_small i c k e).value n
+
+  pub note_value_small : (k : ℕ) (e : tree.Expr) (n : ℕ) → burden (code_v i (note_form c k e) n) + 2 ≤ 16 * expr_size e
+  note_value_small k e n = told_or c.postponed k e n
+
   -- an annotation, and where it is kept
-  noted_small : (k : ℕ) (t e : tree.Expr) (x : Loops) (n : ℕ) → burden (code i (SInto (expr_form c k e) (annotation_target c t)) x n) ≤ 16 * expr_size e + 5
-  noted_small k (tree.Name at id) e x n = let u = (expr_small i c k e).value n in simp burden-append (omega (arith, u))
-  noted_small k other e x n = let u = (expr_small i c k e).value n in simp burden-append (omega (arith, u))
+  noted_small : (k : ℕ) (t e : tree.Expr) (x : Loops) (n : ℕ) → burden (code i (SInto (note_form c k e) (annotation_target c t)) x n) ≤ 16 * expr_size e + 5
+  noted_small k (tree.Name at id) e x n = let u = note_value_small k e n in simp burden-append (omega (arith, u))
+  noted_small k other e x n = let u = note_value_small k e n in simp burden-append (omega (arith, u))
 
   -- where there is one
-  annotated_if : (b : Bool) (k : ℕ) (t e : tree.Expr) (x : Loops) (n : ℕ) → burden (code i (if b then SSkip else SInto (expr_form c k e) (annotation_target c t)) x n) ≤ 16 * expr_size e + 5
+  annotated_if : (b : Bool) (k : ℕ) (t e : tree.Expr) (x : Loops) (n : ℕ) → burden (code i (if b then SSkip else SInto (note_form c k e) (annotation_target c t)) x n) ≤ 16 * expr_size e + 5
   annotated_if true k t e x n = omega arith
   annotated_if false k t e x n = noted_small k t e x n
 

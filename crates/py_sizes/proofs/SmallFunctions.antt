@@ -47,7 +47,7 @@ module _ (i : Interp Object) where
   noted_map_small : (ps : List (List ℕ × VForm)) (s : ℕ) → Together NotedSmall ps s → ValueWithin (map_of ps) (16 * s + 2)
   noted_map_small ps s h n = let a = notes_small ps s h n in simp burden-append (omega (arith, a))
 
-  built_tuple_small : (fs : List VForm) (s : ℕ) → Together (FormSmall i) fs s → ValueWithin (built op.BuildTuple fs) (16 * s + 2)
+  pub built_tuple_small : (fs : List VForm) (s : ℕ) → Together (FormSmall i) fs s → ValueWithin (built op.BuildTuple fs) (16 * s + 2)
   built_tuple_small fs s h n = let a = parts_small i fs s h n in simp burden-append (omega (arith, a))
 
   -- one value, and then others

@@ -11,19 +11,19 @@ use Rattle.py_forms.specs.Form.{Interp, VForm, VConst, VLoad, VOp, VMake, VMore,
 use Rattle.py_forms.specs.Fit.{Loops}
 use Rattle.py_forms.specs.Code.{Do, labels, labels_v, labels_g, labels_h, labels_t, code_v, code_vs, code_g, code_h, tail_code, return_code}
 use Rattle.py_steps.specs.Children.{function_inside}
-use Rattle.py_steps.specs.Classes.{class_inside}
+use Rattle.py_steps.specs.Classes.{class_path, class_within}
 use Rattle.py_steps.specs.Context.{Context}
 use Rattle.py_meaning.specs.StmtCounts.{scopes_in_handlers, scopes_in_items}
 use Rattle.py_meaning.specs.StmtParts.{after_stmt, after_stmts, assertion, handler_target, item_target, message_parts, named_form, raise_form, return_form, with_form}
-use Rattle.py_meaning.specs.Table.{after, after_all, after_defaults, after_opt, expr_form, target_form, test_form}
+use Rattle.py_meaning.specs.Table.{after, after_all, after_opt, expr_form, target_form, test_form}
+use Rattle.py_meaning.specs.TableParams.{around_own, function_number, own_number}
 use Rattle.py_meaning.specs.TableScopes.{iterator}
 use Rattle.py_meaning.specs.TableStmts.{function_body, handler_forms, rest_form, stmt_form, stmts_form}
 use Rattle.py_adds.proofs.Burden.{burden, burden-append}
 use Rattle.py_sizes.proofs.Sizes.{expr_small, target_small}
 use Rattle.py_sizes.proofs.SmallAssigns.{CodeSmall, removals_small, assign_small, augment_small, declare_small}
-use Rattle.py_sizes.proofs.SmallClasses.{class_small}
 use Rattle.py_sizes.proofs.SmallImports.{from_small, import_small}
-use Rattle.py_sizes.proofs.SmallNotes.{def_small}
+use Rattle.py_sizes.proofs.SmallTypeParameters.{alias_small, class_small, def_small}
 
 -- what returns a value is one instruction more at most
 pub return_small : (i : Interp Object) (f : VForm) (n m : ℕ) → burden (code_v i f n) ≤ m → burden (return_code i f n) ≤ suc m
@@ -114,22 +114,24 @@ module _ (i : Interp Object) (c : Context) where
 
   mutual
     pub stmt_small : (k : ℕ) (t : tree.Stmt) → CodeSmall i c (stmt_form c k t) (stmt_size t)
-    stmt_small k (tree.FunctionDef at name params body decorators returns tree.no_type_params) x n =
+    stmt_small k (tree.FunctionDef at name params body decorators returns generic) x n =
         let m = after_all c k decorators in
-        let j = after_defaults c m params in
-        let f = function_body (function_inside name c j) (suc j) body in
-        let p = def_small i c k name params body decorators returns f n in
+        let j = function_number c m params generic in
+        let f = function_body (function_inside name (around_own c m generic) j) (suc j) body in
+        let p = def_small i c k name params body decorators returns generic f n in
         simp burden-append (omega (arith, p))
-    stmt_small k (tree.ClassDef at name bases keywords body decorators tree.no_type_params) x n =
+    stmt_small k (tree.ClassDef at name bases keywords body decorators generic) x n =
         let m = after_all c k decorators in
-        let f = rest_form (class_inside name c m) (suc m) body in
-        let p = class_small i c k name bases keywords body decorators f n in
+        let j = own_number c m generic in
+        let f = rest_form (class_within (class_path c name) name (around_own c m generic) j) (suc j) body in
+        let p = class_small i c k name bases keywords body decorators generic f n in
         simp burden-append (omega (arith, p))
     stmt_small k (tree.Return at value) x n = returned_small k value x n
     stmt_small k (tree.Delete at targets) x n = let p = removals_small i c k targets x n in omega (arith, p)
     stmt_small k (tree.Assign at targets value) x n =
         let p = assign_small i c (after c k value) (expr_form c k value) targets (expr_size value) (expr_small i c k value).value x n in
         omega (arith, p)
+    stmt_small k (tree.TypeAlias at name generic value) x n = alias_small i c k name generic value x n
     stmt_small k (tree.AugAssign at target o value) x n = augment_small i c k target o value x n
     stmt_small k (tree.AnnAssign at target annotation value simple) x n = declare_small i c k target annotation value x n
     stmt_small k (tree.For at target iter body orelse) x n =
