@@ -13,13 +13,12 @@ use Rattle.py_steps.specs.Children.{noted, some_emitted, some_flag}
 use Rattle.py_steps.specs.Context.{mangled}
 use Rattle.py_steps.specs.Emitting.{Emission, ◌▸◌, by_context, emit_constant}
 use Rattle.py_steps.specs.EmissionParts.{built, in_turn}
-use Rattle.py_emission.specs.Emission.{emission}
-use Rattle.py_meaning.specs.EmissionDefs.{arg_notes, notes, opt_arg_note, opt_note}
+use Rattle.py_meaning.specs.EmissionDefs.{arg_notes, emission_of_note, notes, opt_arg_note, opt_note}
 use Rattle.py_emit.proofs.Joined.{keep_last, turn_append}
 use Rattle.py_expr.specs.Functions.{closed_by, flag_if, is_some}
 
-pub one_note : (name : List ℕ) (e : tree.Expr) → in_turn (opt_note name (tree.some_expr e)) ≡ by_context (λ c. emit_constant op.LoadConst (const.str (mangled c name))) ▸ emission e
-one_note name e = keep_last (noted name (emission e))
+pub one_note : (name : List ℕ) (e : tree.Expr) → in_turn (opt_note name (tree.some_expr e)) ≡ by_context (λ c. emit_constant op.LoadConst (const.str (mangled c name))) ▸ emission_of_note e
+one_note name e = keep_last (noted name (emission_of_note e))
 
 many_both : {A : Type 0} (xs ys : List A) → length (xs ++ ys) ≡ length xs + length ys
 many_both [] ys = omega arith

@@ -1,19 +1,26 @@
 -- The call that builds a class: its function and its name come before the bases, in their places or in a tuple of their own.
-use Rattle.std.proofs.Common.{◌≡◌, ℕ, zero, suc, ◌+◌, List, [], ◌∷◌, length, Bool, true, false, refl, sym, ap, ◌∙◌, arith}
+use Rattle.std.proofs.Common.{◌≡◌, ◌≤◌, ℕ, zero, suc, ◌+◌, List, [], ◌∷◌, length, Bool, true, false, refl, sym, ap, ◌∙◌, arith}
 use Rattle.std.specs.Prelude.{◌||◌, if◌then◌else◌}
 use Rattle.py_tree.specs.Tree as tree
+use Rattle.py_tree.specs.View.{expr_tree, exprs, keywords, type_params}
+use Rattle.py_tree.specs.declared.statements.Stmt.{Stmt}
+use Rattle.py_tree.specs.declared.statements.StmtClassDefOf.{StmtClassDefOf}
+use Rattle.py_tree.specs.declared.statements.TypeParam.{TypeParam}
 use Rattle.py_bytecode.specs.declared.instruction.Instruction.TheVariants as op
 use Rattle.py_bytecode.specs.Objects as const
-use Rattle.py_steps.specs.Classes.{behind_name}
+use Rattle.py_steps.specs.Classes.{behind_name, class_path}
 use Rattle.py_steps.specs.Elements.{Element, Function, Single, Spread, bare, groups, starred}
-use Rattle.py_steps.specs.Emitting.{Emission, ◌▸◌, emit, emit_constant, emit_count, keep}
+use Rattle.py_steps.specs.Emitting.{Emission, ◌▸◌, by_context, emit, emit_constant, emit_count, keep}
 use Rattle.py_steps.specs.EmissionParts.{Keywords, built, checked, elements, in_turn}
+use Rattle.py_steps.specs.TypeParameters.{hidden, no_defaults}
 use Rattle.py_emission.specs.Emission.{all_emissions, keyword_emissions}
-use Rattle.py_meaning.specs.EmissionDefs.{class_function, emission_of_class}
+use Rattle.py_meaning.specs.EmissionDefs.{class_call as emission_of_class_call, emission_of_built, emission_of_class, emission_of_generic_class}
+use Rattle.py_meaning.specs.EmissionStmts.{emission_of_rest}
 use Rattle.py_emit.proofs.Joined.{joined}
 use Rattle.py_expr.specs.Calling.{argument_tuple, arguments, calling, keyworded, positional, taken, type_of}
 use Rattle.py_expr.proofs.Calling.{call_is}
-use Rattle.py_stmt.specs.Classes.{class_built}
+use Rattle.py_stmt.specs.Classes.{built_emission, built_of, class_body, class_built, class_emission, class_params, function_emission, generic_emission, placed}
+use Rattle.py_stmt.specs.Generics.{params_flag, some_params}
 
 -- what a call of a tuple takes does not depend on the number of values
 packed_type : (m n k : ℕ) → type_of true m k ≡ type_of true n k
@@ -99,11 +106,39 @@ module _ (f x : Emission) where
     pub class_call : emit op.LoadBuildClass 0 ▸ arguments 0 (behind_name (built op.BuildTuple) f x es) ks ▸ calling false (taken 0 (behind_name (built op.BuildTuple) f x es) ks) ≡ class_built f x es ks
     class_call = ap (λ w. emit op.LoadBuildClass 0 ▸ w) (by_star (starred es) refl)
 
--- a class, as its parts are emitted
-pub class_is : (name : List ℕ) (bases : tree.Exprs) (ks : tree.Keywords) (body : tree.Stmts) (v : Emission) → emission_of_class name bases ks body v ≡ class_built (class_function name body v) (emit_constant op.LoadConst (const.str name)) (elements (all_emissions bases)) (keyword_emissions ks)
-unfolding emission_of_class
-class_is name bases ks body v =
-    let f = class_function name body v in
+-- a class of this function, as its parts are emitted
+built_is : (name : List ℕ) (f : Emission) (bases : tree.Exprs) (ks : tree.Keywords) → emission_of_class_call name f bases ks ≡ built_of name f bases ks
+built_is name f bases ks =
     let x = emit_constant op.LoadConst (const.str name) in
     let es = elements (all_emissions bases) in
     call_is (Function (emit op.LoadBuildClass 0)) (behind_name (built op.BuildTuple) f x es) (keyword_emissions ks) ∙ class_call f x es (keyword_emissions ks)
+
+-- a class with type parameters or without, whose qualified name is that of the scope in which it stands
+module _ (s : StmtClassDefOf Stmt) where
+  abbrev bases : tree.Exprs
+  bases = exprs expr_tree s.bases
+
+  abbrev ks : tree.Keywords
+  ks = keywords expr_tree s.keywords
+
+  abbrev part : (path : List ℕ) → tree.TypeParams → Emission
+  part path ts = some_params ts ▸ function_emission path (params_flag ts) s.name (class_body s)
+
+  at_path : (ts : tree.TypeParams) → class_params s ≡ ts → (path : List ℕ) → emission_of_class_call s.name (part path ts) bases ks ≡ built_emission path s
+  at_path ts e path = built_is s.name (part path ts) bases ks ∙ ap (λ us. built_of s.name (part path us) bases ks) (sym e)
+
+  by_params : (ts : tree.TypeParams) → class_params s ≡ ts → emission_of_built s.name bases ks (class_body s) ts (emission_of_rest (class_body s)) ≡ by_context (λ c. placed (class_path c s.name) s ts)
+  unfolding emission_of_class emission_of_generic_class
+  by_params tree.no_type_params e = λ i. by_context (λ c. at_path tree.no_type_params e (class_path c s.name) i)
+  by_params (tree.more_type_params t ts) e = λ i. by_context (λ c. hidden s.name no_defaults (at_path (tree.more_type_params t ts) e (class_path c s.name) i))
+
+  pub class_is : class_emission s ≡ by_context (λ c. placed (class_path c s.name) s (class_params s))
+  class_is = by_params (class_params s) refl
+
+  -- one that has some
+  pub some_params_placed : (path : List ℕ) → 1 ≤ length s.type_params → placed path s (class_params s) ≡ generic_emission path s
+  some_params_placed path h = go s.type_params h
+    where
+      go : (xs : List TypeParam) → 1 ≤ length xs → placed path s (type_params xs) ≡ generic_emission path s
+      go [] h = absurd (omega (arith, h))
+      go (x ∷ xs) h = refl

@@ -3,25 +3,18 @@ use Rattle.std.proofs.Common.{◌≡◌, ℕ, ◌^◌, List, Bool, Option, refl,
 use Rattle.std.specs.Prelude.{codes, nat_lt}
 use Rattle.std.specs.List.{list_any}
 use Rattle.py_base.specs.declared.location.SourceLocation.{SourceLocation}
-use Rattle.py_tree.specs.Tree as tree
 use Rattle.py_bytecode.specs.declared.instruction.Instruction.{Instruction}
 use Rattle.py_bytecode.specs.declared.instruction.Instruction.TheVariants as op
 use Rattle.py_bytecode.specs.Equality.{text_eq}
 use Rattle.py_bytecode.specs.Objects as const
-use Rattle.py_bytecode.specs.Objects.{Object}
 use Rattle.py_scope.specs.declared.table_type.SymbolTableType.TheVariants as kind
-use Rattle.py_steps.specs.Classes.{cell_returned, class_end, class_inside, class_names, class_path, class_shape, doc_const}
-use Rattle.py_steps.specs.Context.{inside, with_path, within_class}
+use Rattle.py_steps.specs.Classes.{cell_returned, class_end, class_names, doc_const}
+use Rattle.py_steps.specs.Context.{inside, with_path}
 use Rattle.py_steps.specs.Emitting.{Around, Done, Emission, State, ◌▸◌, begun, by_context, emit, emit_constant, emit_name, go_on, with_name, with_step}
 use Rattle.py_emit.specs.States.{entered}
 use Rattle.py_emit.specs.declared.context.Naming.TheVariants as naming
 use Rattle.py_emit.proofs.Joined.{between, chosen_done, joined, went}
-use Rattle.py_expr.proofs.Scopes.{child_as}
-use Rattle.py_stmt.specs.Classes.{cells_kept, class_within, copied, own_emission, own_scope, stored_as}
-
--- its scope stands where its qualified name says
-pub class_scope_as : (name path : List ℕ) (body : tree.Stmts) (k : Object → Emission) (r : State) → path ≡ class_path r.around.context name → own_scope (class_inside name) name body k r ≡ own_scope (class_within name path) name body k r
-class_scope_as name path body k r e = child_as (class_inside name) (class_within name path) (class_shape name) (own_emission body) k r (ap (λ p. inside kind.Class r.next (with_path p (within_class name r.around.context))) (sym e))
+use Rattle.py_stmt.specs.Classes.{cells_kept, copied, stored_as}
 
 -- around the names within it stands that path
 pub entered_path : (name path : List ℕ) (s : State) (at : SourceLocation) (n : ℕ) → (begun (entered kind.Class (naming.Class name path) s) at n).around.context.path ≡ path

@@ -1,6 +1,6 @@
 -- What is emitted of functions keeps a block from beginning.
 use Rattle.std.proofs.Common.{ℕ, ◌+◌, List, [], ◌∷◌, Option, Some, None}
-use Rattle.std.specs.Prelude.{codes}
+use Rattle.std.specs.Prelude.{codes, if◌then◌else◌}
 use Rattle.py_tree.specs.Tree as tree
 use Rattle.py_bytecode.specs.declared.instruction.Instruction.TheVariants as op
 use Rattle.py_bytecode.specs.Objects as const
@@ -9,19 +9,20 @@ use Rattle.py_steps.specs.Children.{decorated, decorations, documented, emission
 use Rattle.py_steps.specs.Context.{mangled, qualified}
 use Rattle.py_steps.specs.Emitting.{Emission, by_context, emit, emit_constant, emit_count, emit_name}
 use Rattle.py_steps.specs.EmissionParts.{built, in_turn}
-use Rattle.py_emission.specs.Emission.{default_emissions, emission}
+use Rattle.py_emission.specs.Emission.{default_emissions}
 use Rattle.py_emission.specs.Texts.{doc_of}
-use Rattle.py_meaning.specs.EmissionDefs.{arg_note, arg_notes, emission_of_def, notes, opt_arg_note, opt_note}
+use Rattle.py_meaning.specs.EmissionDefs.{arg_note, arg_notes, emission_of_def, emission_of_note, notes, opt_arg_note, opt_note}
 use Rattle.py_expr.proofs.Keeping.{Keeps, constant_keeps, context_keeps, count_keeps, emit_keeps, idle_keeps, level_keeps, name_keeps, then_keeps}
 use Rattle.py_expr.proofs.KeptParts.{TurnsKeep, turn_keeps}
 use Rattle.py_expr.proofs.KeptDisplays.{append_keep, built_keeps}
 use Rattle.py_expr.proofs.KeptScopes.{child_keeps, defaults_keep, made_keeps}
-use Rattle.py_expr.proofs.Opening.{defaults_each, expr_keeps}
+use Rattle.py_expr.proofs.Opening.{defaults_each}
+use Rattle.py_stmt.proofs.KeptNotes.{note_keeps}
 
 opt_note_keeps : (name : List ℕ) (t : tree.OptExpr) → TurnsKeep (opt_note name t)
 opt_note_keeps name tree.no_expr = tt
 opt_note_keeps name (tree.some_expr e) =
-    (then_keeps (by_context (λ c. emit_constant op.LoadConst (const.str (mangled c name)))) (emission e) (context_keeps (λ c. emit_constant op.LoadConst (const.str (mangled c name))) (λ c. constant_keeps op.LoadConst (const.str (mangled c name)))) (expr_keeps e).value, tt)
+    (then_keeps (by_context (λ c. emit_constant op.LoadConst (const.str (mangled c name)))) (emission_of_note e) (context_keeps (λ c. emit_constant op.LoadConst (const.str (mangled c name))) (λ c. constant_keeps op.LoadConst (const.str (mangled c name)))) (note_keeps e), tt)
 
 arg_note_keeps : (a : tree.Arg) → TurnsKeep (arg_note a)
 arg_note_keeps (tree.arg at name annotation) = opt_note_keeps name annotation

@@ -66,4 +66,4 @@ some_keep path names level =
     either_keeps (takes_all names) (emission_of_star path level) (whole ▸ emission_of_names names) (star_keeps path level) (then_keeps whole (emission_of_names names) (module_keeps path level (asked names)) (names_keep names))
 
 pub from_keeps : (path : Option (List ℕ)) (names : List Alias) (level : ℕ) → Keeps (emission_of_import_from path names level)
-from_keeps path names level = either_keeps (from_future path) (refuse error.NotImplementedYet) (emission_of_from path names level) (refuse_keeps error.NotImplementedYet) (some_keep path names level)
+from_keeps path names level = either_keeps (from_future path) (refuse error.InvalidFuturePlacement) (emission_of_from path names level) (refuse_keeps error.InvalidFuturePlacement) (some_keep path names level)

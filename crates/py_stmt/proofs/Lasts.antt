@@ -1,14 +1,11 @@
 -- Statements at a prompt, and a block, as all statements but the last, and the last.
-use Rattle.std.proofs.Common.{◌≡◌, ◌≤◌, ℕ, zero, suc, List, [], ◌∷◌, length, take, get_or, refl, sym, ap, ◌∙◌, arith}
+use Rattle.std.proofs.Common.{◌≡◌, ℕ, zero, suc, List, [], ◌∷◌, length, take, get_or, refl, sym, ap, ◌∙◌, arith}
 use Rattle.py_tree.specs.Tree as tree
-use Rattle.py_tree.specs.View.{stmt_tree, stmts, type_params}
+use Rattle.py_tree.specs.View.{stmt_tree, stmts}
 use Rattle.py_tree.specs.declared.statements.Stmt.{Stmt}
-use Rattle.py_tree.specs.declared.statements.TypeParam.{TypeParam}
-use Rattle.py_base.specs.declared.location.SourceLocation.{SourceLocation}
 use Rattle.py_bytecode.specs.declared.instruction.Instruction.TheVariants as op
-use Rattle.py_bytecode.specs.Objects as const
-use Rattle.py_steps.specs.Emitting.{Emission, ◌▸◌, emit, emit_constant, keep}
-use Rattle.py_emission.specs.Emission.{emission, unbuilt}
+use Rattle.py_steps.specs.Emitting.{Emission, ◌▸◌, emit, keep}
+use Rattle.py_emission.specs.Emission.{emission}
 use Rattle.py_meaning.specs.EmissionMods.{emission_of_block, emission_of_single, emission_of_value}
 use Rattle.py_meaning.specs.EmissionStmts.{emission_of_stmt, emission_of_stmts}
 use Rattle.py_emit.proofs.Joined.{joined}
@@ -45,12 +42,3 @@ block_parts (y ∷ z ∷ xs) zero d x e is = absurd (omega (arith, e))
 block_parts (y ∷ z ∷ xs) (suc n) d x e is =
     ap (λ v. emission_of_stmt (stmt_tree y) ▸ v) (block_parts (z ∷ xs) n d x (omega (arith, e)) is)
     ∙ sym (joined (emission_of_stmt (stmt_tree y)) (emission_of_stmts (stmts stmt_tree (take n (z ∷ xs)))) (emission_of_value (stmt_tree x)))
-
--- a definition with type parameters
-pub generic_function : (at : SourceLocation) (name : List ℕ) (params : tree.Arguments) (body : tree.Stmts) (decorators : tree.Exprs) (returns : tree.OptExpr) (ps : List TypeParam) → 1 ≤ length ps → emission_of_value (tree.FunctionDef at name params body decorators returns (type_params ps)) ≡ unbuilt at ▸ emit_constant op.ReturnConst const.none
-generic_function at name params body decorators returns [] h = absurd (omega (arith, h))
-generic_function at name params body decorators returns (p ∷ ps) h = refl
-
-pub generic_class : (at : SourceLocation) (name : List ℕ) (bases : tree.Exprs) (keywords : tree.Keywords) (body : tree.Stmts) (decorators : tree.Exprs) (ps : List TypeParam) → 1 ≤ length ps → emission_of_value (tree.ClassDef at name bases keywords body decorators (type_params ps)) ≡ unbuilt at ▸ emit_constant op.ReturnConst const.none
-generic_class at name bases words body decorators [] h = absurd (omega (arith, h))
-generic_class at name bases words body decorators (p ∷ ps) h = refl

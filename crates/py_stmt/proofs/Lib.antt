@@ -6,8 +6,13 @@ pub mod Parts
 pub mod Managing
 pub mod LastReturn
 pub mod Annotating
+pub mod KeptNotes
+pub mod Leading
+pub mod Prompting
 pub mod KeptFunctions
 pub mod KeptImports
+pub mod KeptGenerics
+pub mod Handing
 pub mod Segments
 pub mod Building
 pub mod ClassParts

@@ -19,8 +19,8 @@ use Rattle.py_steps.specs.Context.{is_function, mangled}
 use Rattle.py_steps.specs.EmissionParts.{choice, no_assignment, only, pass_scopes, values}
 use Rattle.py_emission.specs.Emission.{all_emissions, emission, emission_of_test, emissions, stores}
 use Rattle.py_emission.specs.Texts.{after_doc}
-use Rattle.py_counts.specs.Counts.{scopes_in, scopes_in_opt}
-use Rattle.py_meaning.specs.EmissionDefs.{emission_of_end}
+use Rattle.py_counts.specs.Counts.{scopes_in, scopes_in_annotation, scopes_in_opt}
+use Rattle.py_meaning.specs.EmissionDefs.{emission_of_end, emission_of_note}
 use Rattle.py_meaning.specs.ControlEmissions.{any_match, asserted, before_last, caught, named_body, to_last, typed_match}
 use Rattle.py_meaning.specs.EmissionStmts.{emission_of_annotated, emission_of_annotation, emission_of_rest, emission_of_returned, emission_of_assert, emission_of_assign, emission_of_augment, emission_of_declared, emission_of_handlers, emission_of_item, emission_of_items, emission_of_last, emission_of_message, emission_of_operand, emission_of_raise, emission_of_stmt, emission_of_stmts, itemless, leave_loop}
 use Rattle.py_meaning.specs.StmtParts.{message_count, none}
@@ -32,9 +32,10 @@ use Rattle.py_expr.proofs.KeptTargets.{debug_keeps}
 use Rattle.py_expr.proofs.Opening.{deletes_keep, expr_keeps, exprs_keep, named_keeps, store_keeps, unbuilt_keeps}
 use Rattle.py_stmt.specs.Managing.{entered, full_body}
 use Rattle.py_stmt.specs.Parts.{each_begun, each_ended, each_turn, emission_of_caught, emission_of_match, guarded, handled, unguarded}
-use Rattle.py_stmt.proofs.KeptClasses.{class_keeps}
-use Rattle.py_stmt.proofs.KeptFunctions.{decorated_keeps, def_keeps}
+use Rattle.py_stmt.proofs.KeptFunctions.{decorated_keeps}
+use Rattle.py_stmt.proofs.KeptGenerics.{alias_keeps, built_class_keeps, function_keeps as def_keeps}
 use Rattle.py_stmt.proofs.KeptImports.{from_keeps, import_keeps}
+use Rattle.py_stmt.proofs.KeptNotes.{note_keeps}
 use Rattle.py_stmt.proofs.KeptControl.{asserted_keeps, before_keeps, each_keeps, entered_keeps, handler_keeps, managed_keeps, match_keeps, named_body_keeps, to_last_keeps, try_keeps}
 
 assign_keeps : (ts : tree.Exprs) → Keeps (emission_of_assign ts)
@@ -67,9 +68,9 @@ annotation_keeps t = emit_keeps op.Pop 0
 
 annotated_keeps : (t note : tree.Expr) → Keeps (emission_of_annotated t note)
 annotated_keeps t note =
-    context_keeps (λ c. if is_function c.typ then pass_scopes (λ postponed. scopes_in postponed note) else emission note ▸ emission_of_annotation t)
-    (λ c. either_keeps (is_function c.typ) (pass_scopes (λ postponed. scopes_in postponed note)) (emission note ▸ emission_of_annotation t) (pass_keeps (λ postponed. scopes_in postponed note))
-    (then_keeps (emissions note).value (emission_of_annotation t) (expr_keeps note).value (annotation_keeps t)))
+    context_keeps (λ c. if is_function c.typ then pass_scopes (λ postponed. scopes_in_annotation postponed note) else emission_of_note note ▸ emission_of_annotation t)
+    (λ c. either_keeps (is_function c.typ) (pass_scopes (λ postponed. scopes_in_annotation postponed note)) (emission_of_note note ▸ emission_of_annotation t) (pass_keeps (λ postponed. scopes_in_annotation postponed note))
+    (then_keeps (emission_of_note note) (emission_of_annotation t) (note_keeps note) (annotation_keeps t)))
 
 returned_keeps : (t : tree.OptExpr) → Keeps (emission_of_returned t)
 returned_keeps tree.no_expr = constant_keeps op.ReturnConst const.none
@@ -121,15 +122,16 @@ full_keeps ts h = either_keeps (none ts) (refuse error.EmptyWithBody) (emission_
 
 mutual
   pub stmt_keeps : (t : tree.Stmt) → Keeps (emission_of_stmt t)
-  stmt_keeps (tree.FunctionDef at name params body decorators returns tree.no_type_params) =
-      moved_keeps at _ (then_keeps _ (emission_of_stored name) (decorated_keeps (values (all_emissions decorators)) _ (values_keep (all_emissions decorators) (exprs_keep decorators)) (def_keeps name params body returns (emission_of_rest body ▸ emission_of_end (after_doc body))))
+  stmt_keeps (tree.FunctionDef at name params body decorators returns generic) =
+      moved_keeps at _ (then_keeps _ (emission_of_stored name) (decorated_keeps (values (all_emissions decorators)) _ (values_keep (all_emissions decorators) (exprs_keep decorators)) (def_keeps name params body returns generic (emission_of_rest body ▸ emission_of_end (after_doc body))))
       (debug_keeps no_assignment name (accessed Store name) (accessed_keeps Store name)))
-  stmt_keeps (tree.ClassDef at name bases ks body decorators tree.no_type_params) =
-      moved_keeps at _ (then_keeps _ (emission_of_stored name) (decorated_keeps (values (all_emissions decorators)) _ (values_keep (all_emissions decorators) (exprs_keep decorators)) (class_keeps name bases ks body (emission_of_rest body)))
+  stmt_keeps (tree.ClassDef at name bases ks body decorators generic) =
+      moved_keeps at _ (then_keeps _ (emission_of_stored name) (decorated_keeps (values (all_emissions decorators)) _ (values_keep (all_emissions decorators) (exprs_keep decorators)) (built_class_keeps name bases ks body generic (emission_of_rest body)))
       (debug_keeps no_assignment name (accessed Store name) (accessed_keeps Store name)))
   stmt_keeps (tree.Return at value) = moved_keeps at _ (function_keeps error.InvalidReturn (emission_of_returned value) (returned_keeps value))
   stmt_keeps (tree.Delete at targets) = moved_keeps at _ (deletes_keep targets)
   stmt_keeps (tree.Assign at targets v) = moved_keeps at _ (then_keeps (emissions v).value (emission_of_assign targets) (expr_keeps v).value (assign_keeps targets))
+  stmt_keeps (tree.TypeAlias at name generic value) = moved_keeps at _ (alias_keeps name generic value)
   stmt_keeps (tree.AugAssign at target d v) = moved_keeps at _ (augment_keeps target d (emission v) (expr_keeps v).value)
   stmt_keeps (tree.AnnAssign at target note v simple) =
       moved_keeps at _ (then_keeps (emission_of_declared target v) (emission_of_annotated target note) (declared_keeps target v) (annotated_keeps target note))

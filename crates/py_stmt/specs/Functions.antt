@@ -1,21 +1,23 @@
 -- What is emitted of a function.
-use Rattle.std.specs.Prelude.{ℕ, List}
-use Rattle.py_tree.specs.View.{arguments, expr_tree, opt_box, stmt_tree, stmts}
+use Rattle.std.specs.Prelude.{ℕ, List, length, true}
+use Rattle.py_tree.specs.View.{arguments, expr_tree, opt_box, stmt_tree, stmts, type_params}
 use Rattle.py_tree.specs.declared.statements.Stmt.{Stmt}
 use Rattle.py_tree.specs.declared.statements.StmtFunctionDefOf.{StmtFunctionDefOf}
 use Rattle.py_tree.specs.Tree as tree
 use Rattle.py_bytecode.specs.Objects.{Object}
-use Rattle.py_steps.specs.Children.{child, flags_of_defaults, function_made, function_scope}
+use Rattle.py_steps.specs.Children.{child, function_made, function_scope}
 use Rattle.py_steps.specs.Context.{Context, inside}
 use Rattle.py_scope.specs.declared.table_type.SymbolTableType.TheVariants as kind
 use Rattle.py_emit.specs.declared.context.Naming.TheVariants as naming
 use Rattle.py_emit.specs.States.{named_in}
 use Rattle.py_steps.specs.Emitting.{Emission, ◌▸◌}
-use Rattle.py_emission.specs.Emission.{default_emissions}
+use Rattle.py_steps.specs.TypeParameters.{load_handed}
 use Rattle.py_emission.specs.Parameters.{function_shape, parameters}
 use Rattle.py_emission.specs.Texts.{after_doc}
-use Rattle.py_meaning.specs.EmissionDefs.{emission_of_def, emission_of_end, notes}
+use Rattle.py_meaning.specs.EmissionDefs.{emission_of_def, emission_of_end, emission_of_function, emission_of_generic_def, emission_of_params, function_value, notes}
 use Rattle.py_meaning.specs.EmissionStmts.{emission_of_rest}
+use Rattle.py_expr.specs.declared.functions.Defaults.{Defaults}
+use Rattle.py_stmt.specs.Generics.{given_flags, handed_by, hidden_made}
 
 -- the statements of a function but its docstring, and a return of None where no return ends them
 abbrev pub body_emission : tree.Stmts → Emission
@@ -29,7 +31,27 @@ body_of s = stmts stmt_tree s.body
 
 -- a function without its decorators
 abbrev pub def_emission : StmtFunctionDefOf Stmt → Emission
-def_emission s = emission_of_def s.name (params_of s) (body_of s) (opt_box expr_tree s.returns) (body_emission (body_of s))
+def_emission s = emission_of_function s.name (params_of s) (body_of s) (opt_box expr_tree s.returns) (type_params s.type_params) (body_emission (body_of s))
+
+-- one without type parameters
+abbrev pub plain_emission : StmtFunctionDefOf Stmt → Emission
+plain_emission s = emission_of_def s.name (params_of s) (body_of s) (opt_box expr_tree s.returns) (body_emission (body_of s))
+
+-- one with type parameters
+abbrev pub generic_emission : StmtFunctionDefOf Stmt → Emission
+generic_emission s = emission_of_generic_def s.name (params_of s) (body_of s) (opt_box expr_tree s.returns) (type_params s.type_params) (body_emission (body_of s))
+
+-- behind its defaults, where it is made with these flags
+abbrev pub value_emission : (flags : ℕ) → StmtFunctionDefOf Stmt → Emission
+value_emission flags s = function_value flags s.name (params_of s) (body_of s) (opt_box expr_tree s.returns) (body_emission (body_of s))
+
+-- in its hidden scope, which is handed these defaults
+abbrev pub hidden_value : Defaults → StmtFunctionDefOf Stmt → Emission
+hidden_value d s = load_handed (handed_by d) ▸ emission_of_params (type_params s.type_params) ▸ value_emission (given_flags d true) s
+
+-- and what is made of this scope
+abbrev pub hidden_function : Defaults → StmtFunctionDefOf Stmt → Emission
+hidden_function d s = hidden_made (length (handed_by d)) s.name (hidden_value d s)
 
 -- what is emitted in the function's own scope
 abbrev pub inner_emission : StmtFunctionDefOf Stmt → Emission
@@ -47,6 +69,6 @@ within_path path c n = inside kind.Function n (named_in (naming.Function path) c
 abbrev pub notes_of : StmtFunctionDefOf Stmt → List Emission
 notes_of s = notes (params_of s) (opt_box expr_tree s.returns)
 
--- the function that is made of a code object
-abbrev pub made_emission : StmtFunctionDefOf Stmt → Object → Emission
-made_emission s o = function_made (flags_of_defaults (default_emissions (params_of s))) (notes_of s) s.name o
+-- the function that is made of a code object with these flags
+abbrev pub made_emission : (flags : ℕ) → StmtFunctionDefOf Stmt → Object → Emission
+made_emission flags s o = function_made flags (notes_of s) s.name o

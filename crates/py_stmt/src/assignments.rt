@@ -10,7 +10,8 @@ ghost use Rattle.py_meaning.specs.EmissionStmts.{emission_of_annotated, emission
 ghost use Rattle.py_emit.specs.States.{Goes, Same, rest, state};
 ghost use Rattle.py_stmt.specs.Assigning.{assigned_to};
 
-use crate::passed::pass_expression;
+use crate::notes::compile_noted;
+use crate::passed::{pass_annotation, pass_expression};
 use py_bytecode::{ConstantData, Instruction};
 use py_emit::{Emitter, NameUsage, emit, is_debug, refuse};
 use py_expr::{
@@ -162,9 +163,9 @@ fn compile_annotated(em: &mut Emitter, s: &StmtAnnAssign) -> Result<(), CodegenE
     ensures same { Same result (rest em.new) (rest em.old) }
 {
     if is_function(em.scope_type()) {
-        return pass_expression(em, &s.annotation);
+        return pass_annotation(em, &s.annotation);
     }
-    compile_expression(em, &s.annotation)?;
+    compile_noted(em, &s.annotation)?;
     compile_annotation(em, &s.target)
 }
 

@@ -3,10 +3,9 @@ ghost use Rattle.std.specs.Prelude.{◌≡◌, ◌≤◌, drop, length, suc, IfE
 ghost use Rattle.py_tree.specs.View.{class_def_tree, expr_tree, exprs, keywords as keyword_trees, stmt_tree, stmts};
 ghost use Rattle.py_bytecode.specs.Objects.{str};
 ghost use Rattle.py_bytecode.specs.View.{constant, object};
-ghost use Rattle.py_steps.specs.Accesses.{emission_of_stored};
 ghost use Rattle.py_steps.specs.Children.{code_head, decorated, made};
-ghost use Rattle.py_steps.specs.Classes.{cell_returned, class_end, class_names, class_shape, doc_const};
-ghost use Rattle.py_steps.specs.Emitting.{◌▸◌, begun, by_level, emit_constant, move as moving};
+ghost use Rattle.py_steps.specs.Classes.{cell_returned, class_end, class_names, class_shape, class_within, doc_const};
+ghost use Rattle.py_steps.specs.Emitting.{begun, by_level};
 ghost use Rattle.py_steps.specs.EmissionParts.{values};
 ghost use Rattle.py_emission.specs.Emission.{all_emissions};
 ghost use Rattle.py_emission.specs.Texts.{after_doc, doc_of};
@@ -14,36 +13,26 @@ ghost use Rattle.py_meaning.specs.EmissionDefs.{emission_of_setup};
 ghost use Rattle.py_meaning.specs.EmissionStmts.{emission_of_stmt};
 ghost use Rattle.py_emit.specs.States.{AreMade, Goes, IsStarved, Same, entered, entered_rest, rest, state};
 ghost use Rattle.py_expr.specs.Functions.{Gives};
-ghost use Rattle.py_stmt.specs.Classes.{builder_called, built_emission, cell_kept, cells_kept, class_emission, class_within, copied, function_emission, own_emission, own_scope, stored_as};
+ghost use Rattle.py_stmt.specs.Classes.{builder_called, built_emission, cell_kept, cells_kept, class_emission, class_params, copied, function_emission, generic_emission, own_emission, own_scope, part_emission, placed, stored_as};
+ghost use Rattle.py_stmt.specs.Generics.{hidden_made, hidden_scope, returned};
 
 use crate::annotations::find_ann;
 use crate::docs::split_doc;
 use crate::functions::{call_decorators, compile_rest};
+use crate::generics::{compile_some_params, enter_hidden, load_text, make_hidden, params_flag};
 use bitflags::Flags;
 use py_bytecode::{CodeFlags, CodeObject, ConstantData, Instruction, MakeFunctionFlags};
 use py_emit::{Emitter, NameUsage, Naming, ScopeHead, emit, refuse};
-use py_expr::{compile_call_inner, compile_expressions, emit_call, refuse_unbuilt};
+use py_expr::{compile_call_inner, compile_expressions, emit_call};
 use py_forms::{CodegenError, CodegenErrorType};
 use py_scope::SymbolTableType;
 use py_tree::{Exprs, Keyword, List, StmtClassDef, Stmts, Text};
 
-/// Emits the definition of a class. One with type parameters is refused.
-#[cycle(code)]
-pub(crate) fn compile_class_def(em: &mut Emitter, s: &StmtClassDef) -> Result<(), CodegenError>
-    ensures goes { Goes result (state em.new) (emission_of_stmt (class_def_tree s.now) (state em.old)) }
-    ensures same { Same result (rest em.new) (rest em.old) }
-{
-    match s.type_params.as_slice() {
-        [] => compile_plain_class(em, s),
-        [_, ..] => refuse_unbuilt(em, s.location),
-    }
-}
-
 /// Emits the definition of a class, and what stores it under its name.
 #[cycle(code)]
 #[tactic(auto, using(crate::proofs::Steps::steps))]
-fn compile_plain_class(em: &mut Emitter, s: &StmtClassDef) -> Result<(), CodegenError>
-    ensures goes { Goes result (state em.new) ((moving s.now.location ▸ decorated (values (all_emissions (exprs expr_tree s.now.decorator_list))) (class_emission s.now) ▸ emission_of_stored s.now.name) (state em.old)) }
+pub(crate) fn compile_class_def(em: &mut Emitter, s: &StmtClassDef) -> Result<(), CodegenError>
+    ensures goes { Goes result (state em.new) (emission_of_stmt (class_def_tree s.now) (state em.old)) }
     ensures same { Same result (rest em.new) (rest em.old) }
 {
     em.set_location(s.location);
@@ -63,30 +52,95 @@ pub(crate) fn compile_decorated(em: &mut Emitter, s: &StmtClassDef) -> Result<()
     call_decorators(em, s.decorator_list.as_slice())
 }
 
-/// Emits a class.
+/// Emits a class. Its qualified name is that of the scope in which the statement stands.
 #[cycle(code)]
 fn compile_class(em: &mut Emitter, s: &StmtClassDef) -> Result<(), CodegenError>
     ensures goes { Goes result (state em.new) (class_emission s.now (state em.old)) }
     ensures same { Same result (rest em.new) (rest em.old) }
 {
-    compile_built(em, s.name.as_str(), &s.body, &s.bases, &s.keywords)
+    let path = em.class_path(s.name.as_str())?;
+    compile_placed(em, s, path)
+}
+
+/// Emits a class with this qualified name. One with type parameters is built in a hidden scope (language reference,
+/// "Generic classes").
+#[cycle(code)]
+fn compile_placed(em: &mut Emitter, s: &StmtClassDef, path: Text) -> Result<(), CodegenError>
+    ensures goes { Goes result (state em.new) (placed path s.now (class_params s.now) (state em.old)) }
+    ensures same { Same result (rest em.new) (rest em.old) }
+{
+    match s.type_params.as_slice() {
+        [] => compile_built(em, s, path),
+        [_, ..] => compile_generic(em, s, path),
+    }
+}
+
+/// Emits the function of a hidden scope, in which the class is built, and its call.
+#[cycle(code)]
+fn compile_generic(em: &mut Emitter, s: &StmtClassDef, path: Text) -> Result<(), CodegenError>
+    ensures goes { Goes result (state em.new) (generic_emission path s.now (state em.old)) }
+    ensures same { Same result (rest em.new) (rest em.old) }
+{
+    make_around(em, s, path)?;
+    em.emit_count(Instruction::CallFunctionPositional, 0)
+}
+
+/// Emits the function of a hidden scope, in which a class is built.
+#[cycle(code)]
+fn make_around(em: &mut Emitter, s: &StmtClassDef, path: Text) -> Result<(), CodegenError>
+    ensures goes { Goes result (state em.new) (hidden_made 0 s.now.name (built_emission path s.now) (state em.old)) }
+    ensures same { Same result (rest em.new) (rest em.old) }
+{
+    let code = compile_hidden_scope(em, s, path)?;
+    make_hidden(em, s.name.as_str(), code)
+}
+
+/// Emits the hidden scope of a class, and lays its code out.
+#[cycle(code)]
+fn compile_hidden_scope(
+    em: &mut Emitter,
+    s: &StmtClassDef,
+    path: Text,
+) -> Result<CodeObject, CodegenError>
+    ensures goes { Gives result (state em.new) (λ k. hidden_scope 0 s.now.name (built_emission path s.now) k (state em.old)) }
+    ensures same { Same result (rest em.new) (rest em.old) }
+{
+    enter_hidden(em, s.name.as_str(), 0)?;
+    return_built(em, s, path)?;
+    em.leave_scope()
+}
+
+/// Emits what a hidden scope holds: the class and its return.
+#[cycle(code)]
+fn return_built(em: &mut Emitter, s: &StmtClassDef, path: Text) -> Result<(), CodegenError>
+    ensures goes { Goes result (state em.new) (returned (built_emission path s.now) (state em.old)) }
+    ensures same { Same result (rest em.new) (rest em.old) }
+{
+    compile_built(em, s, path)?;
+    emit!(em, Instruction::ReturnValue);
+    Ok(())
 }
 
 /// Emits what builds a class, the function of the class, and the call with that, the name, the bases and the keywords.
 #[cycle(code)]
-fn compile_built(
-    em: &mut Emitter,
-    name: &str,
-    body: &Stmts,
-    bases: &Exprs,
-    keywords: &List<Keyword>,
-) -> Result<(), CodegenError>
-    ensures goes { Goes result (state em.new) (built_emission name.now (stmts stmt_tree body.now) (exprs expr_tree bases.now) (keyword_trees expr_tree keywords.now) (state em.old)) }
+fn compile_built(em: &mut Emitter, s: &StmtClassDef, path: Text) -> Result<(), CodegenError>
+    ensures goes { Goes result (state em.new) (built_emission path s.now (state em.old)) }
     ensures same { Same result (rest em.new) (rest em.old) }
 {
     emit!(em, Instruction::LoadBuildClass);
-    compile_class_function(em, name, body)?;
-    call_builder(em, name, bases, keywords)
+    compile_part(em, s, path)?;
+    call_builder(em, s.name.as_str(), &s.bases, &s.keywords)
+}
+
+/// Emits the type parameters of a class, where it has some, and its function.
+#[cycle(code)]
+fn compile_part(em: &mut Emitter, s: &StmtClassDef, path: Text) -> Result<(), CodegenError>
+    ensures goes { Goes result (state em.new) (part_emission path s.now (state em.old)) }
+    ensures same { Same result (rest em.new) (rest em.old) }
+{
+    compile_some_params(em, s.type_params.as_slice())?;
+    let flags = params_flag(s.type_params.as_slice());
+    compile_class_function(em, s.name.as_str(), &s.body, path, flags)
 }
 
 /// Emits the call of what builds a class, behind which the function of the class lies: the name of the class and its bases
@@ -105,34 +159,34 @@ fn call_builder(
     emit_call(em, false, call)
 }
 
-/// Loads a text.
-#[tactic(auto, using(py_bytecode::proofs::View::views))]
-fn load_text(em: &mut Emitter, text: &str) -> Result<(), CodegenError>
-    ensures goes { Goes result (state em.new) (emit_constant Instruction.LoadConst (str text.now) (state em.old)) }
-    ensures same { Same result (rest em.new) (rest em.old) }
-{
-    let value = em.text(text)?;
-    em.load_const(ConstantData::Str { value })
-}
-
 /// Emits the function of a class: the class's own scope, and what makes a function of it under the name of the class.
 #[cycle(code)]
-fn compile_class_function(em: &mut Emitter, name: &str, body: &Stmts) -> Result<(), CodegenError>
-    ensures goes { Goes result (state em.new) (function_emission name.now (stmts stmt_tree body.now) (state em.old)) }
+fn compile_class_function(
+    em: &mut Emitter,
+    name: &str,
+    body: &Stmts,
+    path: Text,
+    flags: MakeFunctionFlags,
+) -> Result<(), CodegenError>
+    ensures goes { Goes result (state em.new) (function_emission path flags.0 name.now (stmts stmt_tree body.now) (state em.old)) }
     ensures same { Same result (rest em.new) (rest em.old) }
 {
-    let path = em.class_path(name)?;
     let code = compile_class_scope(em, name, body, path)?;
-    make_class(em, name, code)
+    make_class(em, name, flags, code)
 }
 
 /// Emits what makes a function of the code of a class, under the name of the class.
-fn make_class(em: &mut Emitter, name: &str, code: CodeObject) -> Result<(), CodegenError>
-    ensures goes { Goes result (state em.new) (made 0 name.now (object code) (state em.old)) }
+fn make_class(
+    em: &mut Emitter,
+    name: &str,
+    flags: MakeFunctionFlags,
+    code: CodeObject,
+) -> Result<(), CodegenError>
+    ensures goes { Goes result (state em.new) (made flags.0 name.now (object code) (state em.old)) }
     ensures same { Same result (rest em.new) (rest em.old) }
 {
     let name = em.text(name)?;
-    em.make_function(MakeFunctionFlags::from_bits_retain(0), name, code)
+    em.make_function(flags, name, code)
 }
 
 /// Emits a class's own scope, around whose names this path stands, and lays its code out.
@@ -143,7 +197,7 @@ fn compile_class_scope(
     body: &Stmts,
     path: Text,
 ) -> Result<CodeObject, CodegenError>
-    ensures goes { Gives result (state em.new) (λ k. own_scope (class_within name.now path) name.now (stmts stmt_tree body.now) k (state em.old)) }
+    ensures goes { Gives result (state em.new) (λ k. own_scope (class_within path name.now) name.now (stmts stmt_tree body.now) k (state em.old)) }
     ensures same { Same result (rest em.new) (rest em.old) }
 {
     let full = em.text(path.as_str())?;

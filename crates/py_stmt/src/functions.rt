@@ -1,53 +1,42 @@
 //! Definitions of functions.
-ghost use Rattle.std.specs.Prelude.{◌≡◌, ◌≤◌, ◌+◌, drop, length};
+ghost use Rattle.std.specs.Prelude.{◌≡◌, ◌≤◌, drop, length};
 ghost use Rattle.py_tree.specs.View.{expr_tree, exprs, function_def_tree, stmt_tree, stmts};
 ghost use Rattle.py_bytecode.specs.View.{object};
 ghost use Rattle.py_steps.specs.Context.{qualified};
-ghost use Rattle.py_steps.specs.Accesses.{emission_of_stored};
-ghost use Rattle.py_steps.specs.Children.{decorated, decorations, documented, flags_of_defaults, function_inside, made};
-ghost use Rattle.py_steps.specs.Emitting.{◌▸◌, by_context, by_level, move as moving};
+ghost use Rattle.py_steps.specs.Children.{decorated, decorations, documented, function_inside, made};
+ghost use Rattle.py_steps.specs.Emitting.{by_context, by_level};
 ghost use Rattle.py_steps.specs.EmissionParts.{values};
-ghost use Rattle.py_emission.specs.Emission.{all_emissions, default_emissions};
+ghost use Rattle.py_emission.specs.Emission.{all_emissions};
 ghost use Rattle.py_emission.specs.Texts.{doc_of};
 ghost use Rattle.py_meaning.specs.EmissionDefs.{emission_of_end, ends_in_return};
 ghost use Rattle.py_meaning.specs.StmtParts.{is_return};
 ghost use Rattle.py_meaning.specs.EmissionStmts.{emission_of_stmt, emission_of_stmts};
 ghost use Rattle.py_emit.specs.States.{AreMade, Goes, Same, rest, state};
-ghost use Rattle.py_expr.specs.Functions.{Gives, flag_if};
-ghost use Rattle.py_stmt.specs.Functions.{body_emission, def_emission, inner_emission, made_emission, params_of, scope_emission, within_path};
+ghost use Rattle.py_expr.specs.Functions.{Gives};
+ghost use Rattle.py_stmt.specs.Functions.{body_emission, def_emission, generic_emission, hidden_function, hidden_value, inner_emission, made_emission, plain_emission, scope_emission, value_emission, within_path};
+ghost use Rattle.py_stmt.specs.Generics.{given_flags, handed_by, hidden_scope, returned};
 
 use crate::docs::{split_doc, statements_from};
+use crate::generics::{
+    call_hidden, compile_type_params, enter_hidden, given_defaults, handed_count, load_defaults,
+    made_flags, make_hidden,
+};
 use crate::notes::compile_notes;
 use crate::statements::compile_statement;
 use py_bytecode::{CodeObject, ConstantData, Instruction, MakeFunctionFlags};
 use py_emit::{Emitter, NameUsage, Naming, emit, refuse};
-use py_expr::{
-    Defaults, begin_function, compile_defaults, compile_expressions, enter_function,
-    function_flags, refuse_unbuilt,
-};
+use py_expr::{Defaults, begin_function, compile_defaults, compile_expressions, enter_function};
 use py_forms::{CodegenError, CodegenErrorType};
 use py_tree::{Expr, Stmt, StmtFunctionDef, Stmts, Text};
 
-/// Emits the definition of a function. One with type parameters is refused.
+/// Emits the definition of a function, and what stores it under its name.
 #[cycle(code)]
+#[tactic(auto, using(crate::proofs::Steps::steps))]
 pub(crate) fn compile_function_def(
     em: &mut Emitter,
     s: &StmtFunctionDef,
 ) -> Result<(), CodegenError>
     ensures goes { Goes result (state em.new) (emission_of_stmt (function_def_tree s.now) (state em.old)) }
-    ensures same { Same result (rest em.new) (rest em.old) }
-{
-    match s.type_params.as_slice() {
-        [] => compile_plain_def(em, s),
-        [_, ..] => refuse_unbuilt(em, s.location),
-    }
-}
-
-/// Emits the definition of a function, and what stores it under its name.
-#[cycle(code)]
-#[tactic(auto, using(crate::proofs::Steps::steps))]
-fn compile_plain_def(em: &mut Emitter, s: &StmtFunctionDef) -> Result<(), CodegenError>
-    ensures goes { Goes result (state em.new) ((moving s.now.location ▸ decorated (values (all_emissions (exprs expr_tree s.now.decorator_list))) (def_emission s.now) ▸ emission_of_stored s.now.name) (state em.old)) }
     ensures same { Same result (rest em.new) (rest em.old) }
 {
     em.set_location(s.location);
@@ -77,15 +66,112 @@ pub(crate) fn call_decorators(em: &mut Emitter, items: &[Expr]) -> Result<(), Co
     Ok(())
 }
 
-/// Emits a function: its defaults, its own scope, what makes it, and what stores its docstring.
+/// Emits a function. One with type parameters is made in a hidden scope (language reference, "Generic functions").
 #[cycle(code)]
-#[tactic(auto, unfolding(py_meaning::specs::EmissionDefs::emission_of_def))]
 fn compile_function(em: &mut Emitter, s: &StmtFunctionDef) -> Result<(), CodegenError>
     ensures goes { Goes result (state em.new) (def_emission s.now (state em.old)) }
     ensures same { Same result (rest em.new) (rest em.old) }
 {
+    match s.type_params.as_slice() {
+        [] => compile_plain(em, s),
+        [_, ..] => compile_generic(em, s),
+    }
+}
+
+/// Emits a function without type parameters behind its defaults.
+#[cycle(code)]
+fn compile_plain(em: &mut Emitter, s: &StmtFunctionDef) -> Result<(), CodegenError>
+    ensures goes { Goes result (state em.new) (plain_emission s.now (state em.old)) }
+    ensures same { Same result (rest em.new) (rest em.old) }
+{
     let defaults = compile_defaults(em, &s.args)?;
-    compile_made(em, s, defaults)?;
+    compile_value(em, s, defaults, false)
+}
+
+/// Emits the function of a hidden scope, in which the function is made, and its call with the defaults, which are evaluated
+/// outside it.
+#[cycle(code)]
+fn compile_generic(em: &mut Emitter, s: &StmtFunctionDef) -> Result<(), CodegenError>
+    ensures goes { Goes result (state em.new) (generic_emission s.now (state em.old)) }
+    ensures same { Same result (rest em.new) (rest em.old) }
+{
+    let defaults = given_defaults(&s.args);
+    make_around(em, s, defaults)?;
+    call_hidden(em, &s.args, handed_count(defaults))
+}
+
+/// Emits the function of a hidden scope, in which a function is made.
+#[cycle(code)]
+fn make_around(
+    em: &mut Emitter,
+    s: &StmtFunctionDef,
+    defaults: Defaults,
+) -> Result<(), CodegenError>
+    ensures goes { Goes result (state em.new) (hidden_function defaults s.now (state em.old)) }
+    ensures same { Same result (rest em.new) (rest em.old) }
+{
+    let code = compile_hidden_scope(em, s, defaults)?;
+    make_hidden(em, s.name.as_str(), code)
+}
+
+/// Emits the hidden scope of a function, which is handed these defaults, and lays its code out.
+#[cycle(code)]
+fn compile_hidden_scope(
+    em: &mut Emitter,
+    s: &StmtFunctionDef,
+    defaults: Defaults,
+) -> Result<CodeObject, CodegenError>
+    ensures goes { Gives result (state em.new) (λ k. hidden_scope (length (handed_by defaults)) s.now.name (hidden_value defaults s.now) k (state em.old)) }
+    ensures same { Same result (rest em.new) (rest em.old) }
+{
+    enter_hidden(em, s.name.as_str(), handed_count(defaults))?;
+    return_value(em, s, defaults)?;
+    em.leave_scope()
+}
+
+/// Emits what a hidden scope holds: the function and its return.
+#[cycle(code)]
+fn return_value(
+    em: &mut Emitter,
+    s: &StmtFunctionDef,
+    defaults: Defaults,
+) -> Result<(), CodegenError>
+    ensures goes { Goes result (state em.new) (returned (hidden_value defaults s.now) (state em.old)) }
+    ensures same { Same result (rest em.new) (rest em.old) }
+{
+    compile_within(em, s, defaults)?;
+    emit!(em, Instruction::ReturnValue);
+    Ok(())
+}
+
+/// Emits a function behind the defaults that its hidden scope is handed and behind its type parameters.
+#[cycle(code)]
+fn compile_within(
+    em: &mut Emitter,
+    s: &StmtFunctionDef,
+    defaults: Defaults,
+) -> Result<(), CodegenError>
+    ensures goes { Goes result (state em.new) (hidden_value defaults s.now (state em.old)) }
+    ensures same { Same result (rest em.new) (rest em.old) }
+{
+    load_defaults(em, defaults)?;
+    compile_type_params(em, s.type_params.as_slice())?;
+    compile_value(em, s, defaults, true)
+}
+
+/// Emits a function behind its defaults and its type parameters: its own scope, what makes it, and what stores its
+/// docstring.
+#[cycle(code)]
+fn compile_value(
+    em: &mut Emitter,
+    s: &StmtFunctionDef,
+    defaults: Defaults,
+    generic: bool,
+) -> Result<(), CodegenError>
+    ensures goes { Goes result (state em.new) (value_emission (given_flags defaults generic) s.now (state em.old)) }
+    ensures same { Same result (rest em.new) (rest em.old) }
+{
+    compile_made(em, s, defaults, generic)?;
     store_doc(em, &s.body)
 }
 
@@ -95,15 +181,15 @@ fn compile_made(
     em: &mut Emitter,
     s: &StmtFunctionDef,
     defaults: Defaults,
+    generic: bool,
 ) -> Result<(), CodegenError>
-    requires flags { flags_of_defaults (default_emissions (params_of s.now)) ≡ flag_if 0x08 defaults.positional + flag_if 0x04 defaults.keyword }
-    ensures goes { Goes result (state em.new) (scope_emission (function_inside s.now.name) s.now.name s.now (made_emission s.now) (state em.old)) }
+    ensures goes { Goes result (state em.new) (scope_emission (function_inside s.now.name) s.now.name s.now (made_emission (given_flags defaults generic) s.now) (state em.old)) }
     ensures same { Same result (rest em.new) (rest em.old) }
 {
     let name = em.text(s.name.as_str())?;
     let path = em.function_path(s.name.as_str())?;
     let code = compile_function_scope(em, s, name, path)?;
-    make_noted(em, s, defaults, code)
+    make_noted(em, s, defaults, generic, code)
 }
 
 /// Emits a function's own scope, and lays its code out under this name.
@@ -197,19 +283,15 @@ fn make_noted(
     em: &mut Emitter,
     s: &StmtFunctionDef,
     defaults: Defaults,
+    generic: bool,
     code: CodeObject,
 ) -> Result<(), CodegenError>
-    requires flags { flags_of_defaults (default_emissions (params_of s.now)) ≡ flag_if 0x08 defaults.positional + flag_if 0x04 defaults.keyword }
-    ensures goes { Goes result (state em.new) (made_emission s.now (object code) (state em.old)) }
+    ensures goes { Goes result (state em.new) (made_emission (given_flags defaults generic) s.now (object code) (state em.old)) }
     ensures same { Same result (rest em.new) (rest em.old) }
 {
     let annotated = compile_notes(em, &s.args, &s.returns)?;
-    make_named(
-        em,
-        s.name.as_str(),
-        function_flags(defaults, annotated),
-        code,
-    )
+    let flags = made_flags(defaults, annotated, generic);
+    make_named(em, s.name.as_str(), flags, code)
 }
 
 /// Emits what makes a function of its code, under its qualified name.

@@ -181,20 +181,20 @@ pub(crate) fn compile_import_from(em: &mut Emitter, s: &StmtImportFrom) -> Resul
     import_present(em, s)
 }
 
-/// Emits the import of names from a module, and refuses those from the future, which are not compiled yet.
+/// Emits the import of names from a module, and refuses one from the future, which stands before all other statements.
 #[tactic(auto, using(crate::proofs::Steps::steps))]
 fn import_present(em: &mut Emitter, s: &StmtImportFrom) -> Result<(), CodegenError>
     ensures goes { Goes result (state em.new) (emission_of_import_from s.now.«module» s.now.names s.now.level (state em.old)) }
     ensures same { Same result (rest em.new) (rest em.old) }
 {
     if is_future(&s.module) {
-        refuse!(em, CodegenErrorType::NotImplementedYet);
+        refuse!(em, CodegenErrorType::InvalidFuturePlacement);
     }
     import_from(em, s)
 }
 
 /// Whether a module is the future.
-fn is_future(path: &Option<Text>) -> bool
+pub(crate) fn is_future(path: &Option<Text>) -> bool
     ensures { result ≡ from_future path.now }
 {
     match path {
@@ -204,7 +204,7 @@ fn is_future(path: &Option<Text>) -> bool
 }
 
 /// Emits the import of all names of a module, or of some.
-fn import_from(em: &mut Emitter, s: &StmtImportFrom) -> Result<(), CodegenError>
+pub(crate) fn import_from(em: &mut Emitter, s: &StmtImportFrom) -> Result<(), CodegenError>
     ensures goes { Goes result (state em.new) (emission_of_from s.now.«module» s.now.names s.now.level (state em.old)) }
     ensures same { Same result (rest em.new) (rest em.old) }
 {

@@ -1,33 +1,29 @@
 //! Statements at a prompt, and blocks whose last value is given.
 ghost use Rattle.std.specs.Prelude.{◌≡◌};
-ghost use Rattle.py_tree.specs.View.{class_def_tree, expr_tree, exprs, function_def_tree, stmt_tree, stmts};
+ghost use Rattle.py_tree.specs.View.{class_def_tree, expr_tree, function_def_tree, stmt_tree, stmts};
 ghost use Rattle.py_bytecode.specs.Objects.{none};
-ghost use Rattle.py_steps.specs.Children.{decorated};
-ghost use Rattle.py_steps.specs.Emitting.{◌▸◌, emit as emitting, emit_constant, move as moving};
-ghost use Rattle.py_steps.specs.EmissionParts.{values};
-ghost use Rattle.py_emission.specs.Emission.{all_emissions, emission, unbuilt};
+ghost use Rattle.py_steps.specs.Emitting.{◌▸◌, emit as emitting, emit_constant};
+ghost use Rattle.py_emission.specs.Emission.{emission};
 ghost use Rattle.py_meaning.specs.EmissionMods.{emission_of_block, emission_of_single, emission_of_value, stored_and_returned};
 ghost use Rattle.py_meaning.specs.EmissionStmts.{emission_of_stmt, emission_of_stmts};
 ghost use Rattle.py_emit.specs.States.{AreMade, Goes, Same, rest, state};
-ghost use Rattle.py_stmt.specs.Classes.{class_emission};
-ghost use Rattle.py_stmt.specs.Functions.{def_emission};
 ghost use Rattle.py_stmt.specs.Interactive.{all_prompted, prompted, shown};
 
 use crate::statements::{compile_statement, compile_statements};
 use crate::{classes, functions};
 use py_bytecode::{ConstantData, Instruction};
 use py_emit::{Emitter, NameUsage, emit};
-use py_expr::{compile_expression, compile_return, refuse_unbuilt};
+use py_expr::{compile_expression, compile_return};
 use py_forms::CodegenError;
-use py_tree::{Expr, SourceLocation, Stmt, StmtClassDef, StmtFunctionDef};
+use py_tree::{Expr, Stmt, StmtClassDef, StmtFunctionDef};
 
-/// Emits statements at a prompt: an expression that stands there itself is printed, and the last is returned too; after
+/// Emits statements at a prompt behind others: an expression that stands there itself is printed, and the last is returned too; after
 /// another last statement None is returned.
 ///
 /// # Errors
 /// The first compile fault of the statements, or OutOfMemory.
 #[tactic(auto, using(py_bytecode::proofs::View::views))]
-pub fn compile_single(em: &mut Emitter, body: &[Stmt]) -> Result<(), CodegenError>
+pub(crate) fn compile_single(em: &mut Emitter, body: &[Stmt]) -> Result<(), CodegenError>
     requires loops { AreMade (rest em.old).context.loop_blocks }
     ensures goes { Goes result (state em.new) (emission_of_single (stmts stmt_tree body.now) (state em.old)) }
     ensures same { Same result (rest em.new) (rest em.old) }
@@ -56,14 +52,14 @@ fn compile_prompted(em: &mut Emitter, body: &[Stmt]) -> Result<(), CodegenError>
     ensures same { Same result (rest em.new) (rest em.old) }
 {
     for statement in body {
-        compile_prompt(em, statement)?;
+        compile_prompted_one(em, statement)?;
     }
     Ok(())
 }
 
 /// Emits a statement at a prompt that others follow.
 #[tactic(auto, using(py_tree::proofs::View::trees))]
-fn compile_prompt(em: &mut Emitter, statement: &Stmt) -> Result<(), CodegenError>
+fn compile_prompted_one(em: &mut Emitter, statement: &Stmt) -> Result<(), CodegenError>
     requires loops { AreMade (rest em.old).context.loop_blocks }
     ensures goes { Goes result (state em.new) (prompted (stmt_tree statement.now) (state em.old)) }
     ensures same { Same result (rest em.new) (rest em.old) }
@@ -75,7 +71,7 @@ fn compile_prompt(em: &mut Emitter, statement: &Stmt) -> Result<(), CodegenError
 }
 
 /// Emits a value and what prints it.
-fn print_value(em: &mut Emitter, value: &Expr) -> Result<(), CodegenError>
+pub(crate) fn print_value(em: &mut Emitter, value: &Expr) -> Result<(), CodegenError>
     ensures goes { Goes result (state em.new) ((emission (expr_tree value.now) ▸ emitting Instruction.PrintExpr 0) (state em.old)) }
     ensures same { Same result (rest em.new) (rest em.old) }
 {
@@ -126,7 +122,7 @@ fn compile_ended(em: &mut Emitter, statement: &Stmt) -> Result<(), CodegenError>
 /// # Errors
 /// The first compile fault of the statements, or OutOfMemory.
 #[tactic(auto, using(py_bytecode::proofs::View::views))]
-pub fn compile_block(em: &mut Emitter, body: &[Stmt]) -> Result<(), CodegenError>
+pub(crate) fn compile_block(em: &mut Emitter, body: &[Stmt]) -> Result<(), CodegenError>
     requires loops { AreMade (rest em.old).context.loop_blocks }
     ensures goes { Goes result (state em.new) (emission_of_block (stmts stmt_tree body.now) (state em.old)) }
     ensures same { Same result (rest em.new) (rest em.old) }
@@ -166,21 +162,10 @@ fn compile_value(em: &mut Emitter, statement: &Stmt) -> Result<(), CodegenError>
     }
 }
 
-/// Emits a function that is stored and returned. One with type parameters is refused.
+/// Emits a function that is stored and returned.
+#[tactic(auto, using(crate::proofs::Steps::steps))]
 fn return_function(em: &mut Emitter, s: &StmtFunctionDef) -> Result<(), CodegenError>
     ensures goes { Goes result (state em.new) (emission_of_value (function_def_tree s.now) (state em.old)) }
-    ensures same { Same result (rest em.new) (rest em.old) }
-{
-    match s.type_params.as_slice() {
-        [] => return_plain_function(em, s),
-        [_, ..] => refuse_ended(em, s.location),
-    }
-}
-
-/// Emits a function without type parameters, which is stored and returned.
-#[tactic(auto, using(crate::proofs::Steps::steps))]
-fn return_plain_function(em: &mut Emitter, s: &StmtFunctionDef) -> Result<(), CodegenError>
-    ensures goes { Goes result (state em.new) ((moving s.now.location ▸ decorated (values (all_emissions (exprs expr_tree s.now.decorator_list))) (def_emission s.now) ▸ stored_and_returned s.now.name) (state em.old)) }
     ensures same { Same result (rest em.new) (rest em.old) }
 {
     em.set_location(s.location);
@@ -188,36 +173,15 @@ fn return_plain_function(em: &mut Emitter, s: &StmtFunctionDef) -> Result<(), Co
     store_and_return(em, s.name.as_str())
 }
 
-/// Emits a class that is stored and returned. One with type parameters is refused.
+/// Emits a class that is stored and returned.
+#[tactic(auto, using(crate::proofs::Steps::steps))]
 fn return_class(em: &mut Emitter, s: &StmtClassDef) -> Result<(), CodegenError>
     ensures goes { Goes result (state em.new) (emission_of_value (class_def_tree s.now) (state em.old)) }
-    ensures same { Same result (rest em.new) (rest em.old) }
-{
-    match s.type_params.as_slice() {
-        [] => return_plain_class(em, s),
-        [_, ..] => refuse_ended(em, s.location),
-    }
-}
-
-/// Emits a class without type parameters, which is stored and returned.
-#[tactic(auto, using(crate::proofs::Steps::steps))]
-fn return_plain_class(em: &mut Emitter, s: &StmtClassDef) -> Result<(), CodegenError>
-    ensures goes { Goes result (state em.new) ((moving s.now.location ▸ decorated (values (all_emissions (exprs expr_tree s.now.decorator_list))) (class_emission s.now) ▸ stored_and_returned s.now.name) (state em.old)) }
     ensures same { Same result (rest em.new) (rest em.old) }
 {
     em.set_location(s.location);
     classes::compile_decorated(em, s)?;
     store_and_return(em, s.name.as_str())
-}
-
-/// Refuses a statement that does not compile yet, behind which a return of None would stand.
-#[tactic(auto, using(py_bytecode::proofs::View::views))]
-fn refuse_ended(em: &mut Emitter, location: SourceLocation) -> Result<(), CodegenError>
-    ensures goes { Goes result (state em.new) ((unbuilt location ▸ emit_constant Instruction.ReturnConst none) (state em.old)) }
-    ensures same { Same result (rest em.new) (rest em.old) }
-{
-    refuse_unbuilt(em, location)?;
-    em.return_const(ConstantData::None)
 }
 
 /// Emits what stores a value under a name and returns it.

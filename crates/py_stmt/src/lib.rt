@@ -1,11 +1,14 @@
 //! The code of statements.
 #![tactic(auto)]
 
+mod aliases;
 mod annotations;
 mod assignments;
 mod classes;
 mod docs;
 mod functions;
+mod futures;
+mod generics;
 mod imports;
 mod interactive;
 mod loops;
@@ -19,5 +22,5 @@ mod withs;
 
 pub use annotations::find_ann;
 pub use docs::{split_doc, statements_from};
-pub use interactive::{compile_block, compile_single};
+pub use futures::{compile_file, compile_future_features, compile_prompt, compile_whole_block};
 pub use statements::compile_statements;

@@ -3,16 +3,18 @@ ghost use Rattle.std.specs.Prelude.{◌≡◌, ◌+◌, length, IfOk};
 ghost use Rattle.py_tree.specs.View.{args, arguments, expr_tree, opt_arg, opt_box};
 ghost use Rattle.py_steps.specs.Children.{some_emitted, some_flag};
 ghost use Rattle.py_steps.specs.EmissionParts.{built, in_turn};
-ghost use Rattle.py_meaning.specs.EmissionDefs.{arg_notes, notes, opt_arg_note, opt_note};
+ghost use Rattle.py_meaning.specs.EmissionDefs.{arg_notes, emission_of_note, emission_of_text, notes, opt_arg_note, opt_note};
+ghost use Rattle.py_texts.specs.Annotation.{annotation as annotation_of};
 ghost use Rattle.py_emit.specs.States.{Goes, Same, rest, state};
 ghost use Rattle.py_expr.specs.Functions.{flag_if};
 
 use crate::assignments::load_mangled;
-use py_bytecode::Instruction;
+use py_bytecode::{ConstantData, Instruction};
 use py_emit::{Emitter, refuse};
 use py_expr::{build_some, compile_expression};
 use py_forms::{CodegenError, CodegenErrorType};
-use py_tree::{Arg, ArgWithDefault, Arguments, Expr};
+use py_texts::{TextError, annotation_text};
+use py_tree::{Arg, ArgWithDefault, Arguments, Expr, Text};
 
 /// Emits the map of the annotations of a function, that of what it returns first, where there are any. Answers whether
 /// there are.
@@ -100,6 +102,33 @@ fn compile_note(
         refuse!(em, CodegenErrorType::OutOfMemory);
     };
     load_mangled(em, name)?;
-    compile_expression(em, annotation)?;
+    compile_noted(em, annotation)?;
     Ok(count)
+}
+
+/// Emits an annotation, or its text where annotations are postponed.
+#[tactic(auto, unfolding(py_steps::specs::Emitting::by_context, py_emit::specs::States::rest))]
+pub(crate) fn compile_noted(em: &mut Emitter, annotation: &Expr) -> Result<(), CodegenError>
+    ensures goes { Goes result (state em.new) (emission_of_note (expr_tree annotation.now) (state em.old)) }
+    ensures same { Same result (rest em.new) (rest em.old) }
+{
+    if em.context().future_annotations {
+        return load_annotation(em, annotation);
+    }
+    compile_expression(em, annotation)
+}
+
+/// Emits the load of the text of an annotation, and refuses an f-string, which has none.
+#[tactic(auto, using(py_bytecode::proofs::View::views, py_expr::proofs::Steps::refuse_goes))]
+fn load_annotation(em: &mut Emitter, annotation: &Expr) -> Result<(), CodegenError>
+    ensures goes { Goes result (state em.new) (emission_of_text (annotation_of (expr_tree annotation.now)) (state em.old)) }
+    ensures same { Same result (rest em.new) (rest em.old) }
+{
+    match annotation_text(em.alloc(), annotation) {
+        Ok(text) => em.load_const(ConstantData::Str {
+            value: Text::from_string(text),
+        }),
+        Err(TextError::FString) => refuse!(em, CodegenErrorType::NotImplementedYet),
+        Err(TextError::OutOfMemory) => refuse!(em, CodegenErrorType::OutOfMemory),
+    }
 }

@@ -1,6 +1,6 @@
 //! Parts of statements that are scanned and not compiled, whose scopes are passed over.
 ghost use Rattle.std.specs.Prelude.{◌+◌};
-ghost use Rattle.py_counts.specs.Counts.{IsSum, scopes_in, scopes_in_opt};
+ghost use Rattle.py_counts.specs.Counts.{IsSum, scopes_in, scopes_in_annotation as scopes_in_note, scopes_in_opt};
 ghost use Rattle.py_tree.specs.View.{expr_tree, opt_box};
 ghost use Rattle.py_steps.specs.EmissionParts.{pass_scopes};
 ghost use Rattle.py_emit.specs.States.{Goes, Same, rest, state};
@@ -23,6 +23,31 @@ pub(crate) fn pass_expression(em: &mut Emitter, e: &Expr) -> Result<(), CodegenE
     let postponed = em.context().future_annotations;
     let next = scopes_in_expr(e, postponed, em.next_scope());
     pass_counted(em, next)
+}
+
+/// Passes over the scopes in an annotation, which has none where annotations are postponed.
+///
+/// # Errors
+/// OutOfMemory alone.
+#[tactic(auto, unfolding(py_emit::specs::States::rest))]
+pub(crate) fn pass_annotation(em: &mut Emitter, e: &Expr) -> Result<(), CodegenError>
+    ensures goes { Goes result (state em.new) (pass_scopes (λ postponed. scopes_in_note postponed (expr_tree e.now)) (state em.old)) }
+    ensures same { Same result (rest em.new) (rest em.old) }
+{
+    let postponed = em.context().future_annotations;
+    let next = scopes_in_annotation(e, postponed, em.next_scope());
+    pass_counted(em, next)
+}
+
+/// `count` and the scopes in an annotation, `count` alone where annotations are postponed. None exactly where the sum
+/// has no usize.
+fn scopes_in_annotation(e: &Expr, postponed: bool, count: usize) -> Option<usize>
+    ensures { IsSum result (count + scopes_in_note postponed (expr_tree e.now)) }
+{
+    if postponed {
+        return Some(count);
+    }
+    scopes_in_expr(e, postponed, count)
 }
 
 /// Passes over the scopes in an assertion.

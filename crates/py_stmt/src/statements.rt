@@ -6,6 +6,7 @@ ghost use Rattle.py_emission.specs.Emission.{emission_of_test};
 ghost use Rattle.py_meaning.specs.EmissionStmts.{emission_of_stmt, emission_of_stmts};
 ghost use Rattle.py_emit.specs.States.{AreMade, Goes, Same, rest, state};
 
+use crate::aliases::compile_type_alias;
 use crate::assignments::{
     compile_ann_assign, compile_assign, compile_aug_assign, compile_delete_statement,
 };
@@ -50,7 +51,7 @@ pub(crate) fn compile_statement(em: &mut Emitter, statement: &Stmt) -> Result<()
         Stmt::Return(s) => compile_return_statement(em, s),
         Stmt::Delete(s) => compile_delete_statement(em, s),
         Stmt::Assign(s) => compile_assign(em, s),
-        Stmt::TypeAlias(s) => refuse_unbuilt(em, s.location),
+        Stmt::TypeAlias(s) => compile_type_alias(em, s),
         Stmt::AugAssign(s) => compile_aug_assign(em, s),
         Stmt::AnnAssign(s) => compile_ann_assign(em, s),
         Stmt::For(s) => compile_for(em, s),

@@ -1,6 +1,7 @@
 mod Around
 mod Classes
 mod Defining
+mod Hidden
 mod Iterating
 mod Managing
 mod Trying
@@ -23,7 +24,8 @@ use Rattle.py_expr.proofs.Opening.{apart, begin_opens, block_opens, emit_opens, 
 use Rattle.py_stmt.proofs.Opening.{loop_opens, stmts_open}
 use Rattle.py_stmt.proofs.+code.Answers.Around.{each_around, last_around, unguarded_around, while_around}
 use Rattle.py_stmt.proofs.+code.Answers.Classes as class
-use Rattle.py_stmt.proofs.+code.Answers.Defining.{defaults_refused, function_refused, generic_refused, inner_goes, inner_refused, made_goes, made_refused, plain_refused, rest_done, rest_goes_on, rest_refused, scope_inner, scope_left, scope_refused, scope_unlooped}
+use Rattle.py_stmt.proofs.+code.Answers.Defining.{decorated_refused, defaults_refused, inner_goes, inner_refused, made_goes, made_refused, plain_goes, rest_done, rest_goes_on, rest_refused, scope_inner, scope_left, scope_refused, scope_unlooped, some_goes, value_refused}
+use Rattle.py_stmt.proofs.+code.Answers.Hidden as hidden
 use Rattle.py_stmt.proofs.+code.Answers.Iterating.{end_begins, end_refused, for_goes, other_begins, turn_begins, turn_refused}
 use Rattle.py_stmt.proofs.+code.Answers.Managing.{left_open, no_body, no_items, some_body, some_items}
 use Rattle.py_stmt.proofs.+code.Answers.Trying.{catch_begins, else_begins, forgetting_begins, handler_refused, handlers_go_on, last_begins, last_goes, last_refused, next_begins, try_goes}
@@ -205,17 +207,41 @@ functions::compile_made-returns-clause-goes = made_goes
 pub functions::compile_made-returns-in_err-code-clause-goes : goal.functions::compile_made-returns-in_err-code-clause-goes
 functions::compile_made-returns-in_err-code-clause-goes = made_refused
 
-pub functions::compile_function-returns-in_err-defaults-clause-goes : goal.functions::compile_function-returns-in_err-defaults-clause-goes
-functions::compile_function-returns-in_err-defaults-clause-goes = defaults_refused
+pub functions::compile_plain-returns-in_err-defaults-clause-goes : goal.functions::compile_plain-returns-in_err-defaults-clause-goes
+functions::compile_plain-returns-in_err-defaults-clause-goes = defaults_refused
 
-pub functions::compile_function-returns-in_err-compile_made-clause-goes : goal.functions::compile_function-returns-in_err-compile_made-clause-goes
-functions::compile_function-returns-in_err-compile_made-clause-goes = function_refused
+pub functions::compile_plain-returns-clause-goes : goal.functions::compile_plain-returns-clause-goes
+functions::compile_plain-returns-clause-goes = plain_goes
 
-pub functions::compile_function_def-returns-in-len1-up-clause-goes : goal.functions::compile_function_def-returns-in-len1-up-clause-goes
-functions::compile_function_def-returns-in-len1-up-clause-goes = generic_refused
+pub functions::compile_value-returns-in_err-compile_made-clause-goes : goal.functions::compile_value-returns-in_err-compile_made-clause-goes
+functions::compile_value-returns-in_err-compile_made-clause-goes = value_refused
 
-pub functions::compile_plain_def-returns-in_err-compile_decorated-clause-goes : goal.functions::compile_plain_def-returns-in_err-compile_decorated-clause-goes
-functions::compile_plain_def-returns-in_err-compile_decorated-clause-goes = plain_refused
+pub functions::compile_function-returns-in-len1-up-clause-goes : goal.functions::compile_function-returns-in-len1-up-clause-goes
+functions::compile_function-returns-in-len1-up-clause-goes = some_goes
+
+pub functions::compile_function_def-returns-in_err-compile_decorated-clause-goes : goal.functions::compile_function_def-returns-in_err-compile_decorated-clause-goes
+functions::compile_function_def-returns-in_err-compile_decorated-clause-goes = decorated_refused
+
+pub functions::compile_hidden_scope-returns : goal.functions::compile_hidden_scope-returns
+functions::compile_hidden_scope-returns = hidden.scope_left
+
+pub functions::compile_hidden_scope-leave_scope-requires : goal.functions::compile_hidden_scope-leave_scope-requires
+functions::compile_hidden_scope-leave_scope-requires = hidden.scope_inner
+
+pub functions::compile_hidden_scope-returns-in_err-return_value : goal.functions::compile_hidden_scope-returns-in_err-return_value
+functions::compile_hidden_scope-returns-in_err-return_value = hidden.scope_refused
+
+pub functions::make_around-returns-clause-goes : goal.functions::make_around-returns-clause-goes
+functions::make_around-returns-clause-goes = hidden.around_goes
+
+pub functions::make_around-returns-in_err-code-clause-goes : goal.functions::make_around-returns-in_err-code-clause-goes
+functions::make_around-returns-in_err-code-clause-goes = hidden.around_refused
+
+pub functions::compile_generic-returns-clause-goes : goal.functions::compile_generic-returns-clause-goes
+functions::compile_generic-returns-clause-goes = hidden.generic_goes
+
+pub functions::compile_generic-returns-in_err-make_around-clause-goes : goal.functions::compile_generic-returns-in_err-make_around-clause-goes
+functions::compile_generic-returns-in_err-make_around-clause-goes = hidden.generic_refused
 
 pub functions::compile_rest-loop-i-preserved : goal.functions::compile_rest-loop-i-preserved
 functions::compile_rest-loop-i-preserved = rest_goes_on
@@ -244,11 +270,29 @@ classes::compile_class_function-returns-clause-goes = class.function_goes
 pub classes::compile_class_function-returns-in_err-code-clause-goes : goal.classes::compile_class_function-returns-in_err-code-clause-goes
 classes::compile_class_function-returns-in_err-code-clause-goes = class.function_refused
 
+pub classes::compile_part-returns-clause-goes : goal.classes::compile_part-returns-clause-goes
+classes::compile_part-returns-clause-goes = class.part_goes
+
 pub classes::compile_class-returns-clause-goes : goal.classes::compile_class-returns-clause-goes
 classes::compile_class-returns-clause-goes = class.class_goes
 
-pub classes::compile_plain_class-returns-in_err-compile_decorated-clause-goes : goal.classes::compile_plain_class-returns-in_err-compile_decorated-clause-goes
-classes::compile_plain_class-returns-in_err-compile_decorated-clause-goes = class.plain_refused
+pub classes::compile_placed-returns-in-len1-up-clause-goes : goal.classes::compile_placed-returns-in-len1-up-clause-goes
+classes::compile_placed-returns-in-len1-up-clause-goes = class.some_goes
 
-pub classes::compile_class_def-returns-in-len1-up-clause-goes : goal.classes::compile_class_def-returns-in-len1-up-clause-goes
-classes::compile_class_def-returns-in-len1-up-clause-goes = class.generic_refused
+pub classes::compile_class_def-returns-in_err-compile_decorated-clause-goes : goal.classes::compile_class_def-returns-in_err-compile_decorated-clause-goes
+classes::compile_class_def-returns-in_err-compile_decorated-clause-goes = class.decorated_refused
+
+pub classes::compile_hidden_scope-returns : goal.classes::compile_hidden_scope-returns
+classes::compile_hidden_scope-returns = hidden.class_left
+
+pub classes::compile_hidden_scope-leave_scope-requires : goal.classes::compile_hidden_scope-leave_scope-requires
+classes::compile_hidden_scope-leave_scope-requires = hidden.class_inner
+
+pub classes::compile_hidden_scope-returns-in_err-return_built : goal.classes::compile_hidden_scope-returns-in_err-return_built
+classes::compile_hidden_scope-returns-in_err-return_built = hidden.class_refused
+
+pub classes::make_around-returns-clause-goes : goal.classes::make_around-returns-clause-goes
+classes::make_around-returns-clause-goes = hidden.class_around_goes
+
+pub classes::make_around-returns-in_err-code-clause-goes : goal.classes::make_around-returns-in_err-code-clause-goes
+classes::make_around-returns-in_err-code-clause-goes = hidden.class_around_refused

@@ -103,17 +103,35 @@ decreases-functions::compile_function_scope l = 16 * goal.size-functions::compil
 abbrev pub decreases-functions::compile_made : goal.decreases-functions::compile_made
 decreases-functions::compile_made l = 16 * goal.size-functions::compile_made l + 5
 
+abbrev pub decreases-functions::compile_value : goal.decreases-functions::compile_value
+decreases-functions::compile_value l = 16 * goal.size-functions::compile_value l + 6
+
+abbrev pub decreases-functions::compile_plain : goal.decreases-functions::compile_plain
+decreases-functions::compile_plain l = 16 * goal.size-functions::compile_plain l + 7
+
+abbrev pub decreases-functions::compile_within : goal.decreases-functions::compile_within
+decreases-functions::compile_within l = 16 * goal.size-functions::compile_within l + 7
+
+abbrev pub decreases-functions::return_value : goal.decreases-functions::return_value
+decreases-functions::return_value l = 16 * goal.size-functions::return_value l + 8
+
+abbrev pub decreases-functions::compile_hidden_scope : goal.decreases-functions::compile_hidden_scope
+decreases-functions::compile_hidden_scope l = 16 * goal.size-functions::compile_hidden_scope l + 9
+
+abbrev pub decreases-functions::make_around : goal.decreases-functions::make_around
+decreases-functions::make_around l = 16 * goal.size-functions::make_around l + 10
+
+abbrev pub decreases-functions::compile_generic : goal.decreases-functions::compile_generic
+decreases-functions::compile_generic l = 16 * goal.size-functions::compile_generic l + 11
+
 abbrev pub decreases-functions::compile_function : goal.decreases-functions::compile_function
-decreases-functions::compile_function l = 16 * goal.size-functions::compile_function l + 6
+decreases-functions::compile_function l = 16 * goal.size-functions::compile_function l + 12
 
 abbrev pub decreases-functions::compile_decorated : goal.decreases-functions::compile_decorated
-decreases-functions::compile_decorated l = 16 * goal.size-functions::compile_decorated l + 7
-
-abbrev pub decreases-functions::compile_plain_def : goal.decreases-functions::compile_plain_def
-decreases-functions::compile_plain_def l = 16 * goal.size-functions::compile_plain_def l + 8
+decreases-functions::compile_decorated l = 16 * goal.size-functions::compile_decorated l + 13
 
 abbrev pub decreases-functions::compile_function_def : goal.decreases-functions::compile_function_def
-decreases-functions::compile_function_def l = 16 * goal.size-functions::compile_function_def l + 9
+decreases-functions::compile_function_def l = 16 * goal.size-functions::compile_function_def l + 14
 
 abbrev pub decreases-classes::compile_inner : goal.decreases-classes::compile_inner
 decreases-classes::compile_inner l = 16 * goal.size-classes::compile_inner l + 2
@@ -124,17 +142,32 @@ decreases-classes::compile_class_scope l = 16 * goal.size-classes::compile_class
 abbrev pub decreases-classes::compile_class_function : goal.decreases-classes::compile_class_function
 decreases-classes::compile_class_function l = 16 * goal.size-classes::compile_class_function l + 4
 
+abbrev pub decreases-classes::compile_part : goal.decreases-classes::compile_part
+decreases-classes::compile_part l = 16 * goal.size-classes::compile_part l + 5
+
 abbrev pub decreases-classes::compile_built : goal.decreases-classes::compile_built
-decreases-classes::compile_built l = 16 * goal.size-classes::compile_built l + 5
+decreases-classes::compile_built l = 16 * goal.size-classes::compile_built l + 6
+
+abbrev pub decreases-classes::return_built : goal.decreases-classes::return_built
+decreases-classes::return_built l = 16 * goal.size-classes::return_built l + 7
+
+abbrev pub decreases-classes::compile_hidden_scope : goal.decreases-classes::compile_hidden_scope
+decreases-classes::compile_hidden_scope l = 16 * goal.size-classes::compile_hidden_scope l + 8
+
+abbrev pub decreases-classes::make_around : goal.decreases-classes::make_around
+decreases-classes::make_around l = 16 * goal.size-classes::make_around l + 9
+
+abbrev pub decreases-classes::compile_generic : goal.decreases-classes::compile_generic
+decreases-classes::compile_generic l = 16 * goal.size-classes::compile_generic l + 10
+
+abbrev pub decreases-classes::compile_placed : goal.decreases-classes::compile_placed
+decreases-classes::compile_placed l = 16 * goal.size-classes::compile_placed l + 11
 
 abbrev pub decreases-classes::compile_class : goal.decreases-classes::compile_class
-decreases-classes::compile_class l = 16 * goal.size-classes::compile_class l + 6
+decreases-classes::compile_class l = 16 * goal.size-classes::compile_class l + 12
 
 abbrev pub decreases-classes::compile_decorated : goal.decreases-classes::compile_decorated
-decreases-classes::compile_decorated l = 16 * goal.size-classes::compile_decorated l + 7
-
-abbrev pub decreases-classes::compile_plain_class : goal.decreases-classes::compile_plain_class
-decreases-classes::compile_plain_class l = 16 * goal.size-classes::compile_plain_class l + 8
+decreases-classes::compile_decorated l = 16 * goal.size-classes::compile_decorated l + 13
 
 abbrev pub decreases-classes::compile_class_def : goal.decreases-classes::compile_class_def
-decreases-classes::compile_class_def l = 16 * goal.size-classes::compile_class_def l + 9
+decreases-classes::compile_class_def l = 16 * goal.size-classes::compile_class_def l + 14

@@ -1,28 +1,26 @@
 -- The scope of a class, and the call that builds it.
-use Rattle.std.proofs.Common.{◌≡◌, ℕ, suc, ◌≤◌, List, [], ◌∷◌, length, Err, refl, sym, ap, subst, ◌∙◌, arith, rules}
-use Rattle.py_base.specs.declared.location.SourceLocation.{SourceLocation}
-use Rattle.py_tree.specs.Tree as tree
-use Rattle.py_tree.specs.View.{expr_tree, exprs, keywords, stmt_tree, stmts, type_params}
+use Rattle.std.proofs.Common.{◌≡◌, suc, ◌≤◌, List, length, Err, refl, sym, ap, subst, ◌∙◌, arith, rules}
+use Rattle.py_tree.specs.View.{expr_tree, exprs, stmt_tree, stmts, type_params}
 use Rattle.py_tree.specs.declared.statements.TypeParam.{TypeParam}
 use Rattle.py_scope.specs.declared.table_type.SymbolTableType.TheVariants as kind
 use Rattle.py_steps.specs.Accesses.{emission_of_stored}
 use Rattle.py_steps.specs.Children.{decorated, made}
-use Rattle.py_steps.specs.Classes.{class_shape}
-use Rattle.py_steps.specs.Emitting.{Emission, State, ◌▸◌, go_on}
+use Rattle.py_steps.specs.Classes.{class_path, class_shape, class_within}
+use Rattle.py_steps.specs.Emitting.{Emission, State, ◌▸◌, by_context, go_on}
 use Rattle.py_steps.specs.EmissionParts.{values}
-use Rattle.py_emission.specs.Emission.{all_emissions, unbuilt}
-use Rattle.py_meaning.specs.EmissionStmts.{emission_of_rest, emission_of_stmt}
+use Rattle.py_emission.specs.Emission.{all_emissions}
 use Rattle.py_emit.specs.States.{AreMade, Rest, Same, rest, state}
 use Rattle.py_emit.specs.declared.context.Naming.TheVariants as naming
 use Rattle.py_emit.specs.declared.emitter.Emitter.{Emitter}
-use Rattle.py_emit.proofs.Joined.{first_refuses, goes_as, refuses_as}
+use Rattle.py_emit.proofs.Joined.{first_refuses, goes_as, refuses_as, went}
 use Rattle.py_emit.proofs.Within.{inner}
 use Rattle.py_expr.specs.Functions.{Gives}
 use Rattle.py_expr.proofs.Scopes.{left_gives, left_keeps, refused_gives, same_path}
 use Rattle.py_expr.proofs.Steps.{move_goes}
-use Rattle.py_stmt.specs.Classes.{built_emission, class_body, class_emission, class_within, own_emission, own_scope}
-use Rattle.py_stmt.proofs.Building.{class_is}
-use Rattle.py_stmt.proofs.ClassParts.{class_scope_as, entered_path}
+use Rattle.py_stmt.specs.Classes.{class_body, class_emission, class_params, function_emission, own_emission, own_scope, placed}
+use Rattle.py_stmt.specs.Generics.{params_flag, some_params}
+use Rattle.py_stmt.proofs.Building.{class_is, some_params_placed}
+use Rattle.py_stmt.proofs.ClassParts.{entered_path}
 use Rattle.py_stmt.proofs.+code.Goals as goal
 
 pub scope_left : goal.classes::compile_class_scope-returns
@@ -40,7 +38,7 @@ scope_left t c =
     let gives = left_gives kind.Class n h first entry begins last c.leave_scope.new.self into same (own_emission body) c.leave_scope.result c.in_ok-compile_inner.ensures.goes c.leave_scope.ensures.code c.leave_scope.ensures.state c.leave_scope.ensures.err in
     let keeps = left_keeps kind.Class n h first entry begins last c.leave_scope.new.self into same c.leave_scope.result c.leave_scope.ensures.rest c.leave_scope.ensures.err in
     record {
-      goes = subst (λ (e : Emitter). Gives c.leave_scope.result (state c.leave_scope.new.self) (λ k. own_scope (class_within name c.args.path) name body k (state e))) c.in_ok-full.ensures.same gives;
+      goes = subst (λ (e : Emitter). Gives c.leave_scope.result (state c.leave_scope.new.self) (λ k. own_scope (class_within c.args.path name) name body k (state e))) c.in_ok-full.ensures.same gives;
       same = subst (λ (e : Emitter). Same c.leave_scope.result (rest c.leave_scope.new.self) (rest e)) c.in_ok-full.ensures.same keeps;
     }
 
@@ -65,7 +63,7 @@ scope_refused t c =
     let gives = refused_gives kind.Class n h first entry begins (own_emission body) out x _ r c.in_err-compile_inner.ensures.goes in
     let keeps = same_path kind.Class n h first entry begins entry entry into refl out x _ r c.in_err-compile_inner.ensures.same in
     record {
-      goes = subst (λ (e : Emitter). Gives out (state c.compile_inner.new.em) (λ k. own_scope (class_within name c.args.path) name body k (state e))) c.in_ok-full.ensures.same gives;
+      goes = subst (λ (e : Emitter). Gives out (state c.compile_inner.new.em) (λ k. own_scope (class_within c.args.path name) name body k (state e))) c.in_ok-full.ensures.same gives;
       same = subst (λ (e : Emitter). Same out (rest c.compile_inner.new.em) (rest e)) c.in_ok-full.ensures.same keeps;
     }
 
@@ -77,56 +75,59 @@ scope_begins t c =
     let path : c.in_ok-full.full ≡ (state c.enter_class.new.em).around.context.path = c.in_ok-full.ensures.data ∙ c.as_str.ensures ∙ sym (ap (λ (r : State). r.around.context.path) c.in_ok-enter_class.ensures.state ∙ entered_path c.args.name.now c.args.path s s.location (suc s.next)) in
     (search rules, (made, path))
 
--- the scope stands where the qualified name of the class says
+-- a function is made of its code
 pub function_goes : goal.classes::compile_class_function-returns-clause-goes
 function_goes t c =
-    let name = c.args.name.now in
-    let body = stmts stmt_tree c.args.body.now in
     goes_as _ _ _ _
-    (class_scope_as name c.in_ok-path.path body (made 0 name) (state c.args.em.now) c.in_ok-path.ensures.data
-    ∙ ap (λ (e : Emitter). own_scope (class_within name c.in_ok-path.path) name body (made 0 name) (state e)) (sym c.in_ok-path.ensures.same)
-    ∙ c.in_ok-code.ensures.goes (made 0 name))
+    (c.in_ok-code.ensures.goes (made c.args.flags.0 c.args.name.now))
     c.make_class.ensures.goes
 
 pub function_refused : goal.classes::compile_class_function-returns-in_err-code-clause-goes
 function_refused t c =
-    let name = c.args.name.now in
-    let body = stmts stmt_tree c.args.body.now in
-    let r : c.from_residual-in_err-code.result ≡ Err c.in_err-code.field-0.0 = grind arith in
-    refuses_as _ _ _ _ _ r
-    (class_scope_as name c.in_ok-path.path body (made 0 name) (state c.args.em.now) c.in_ok-path.ensures.data
-    ∙ ap (λ (e : Emitter). own_scope (class_within name c.in_ok-path.path) name body (made 0 name) (state e)) (sym c.in_ok-path.ensures.same))
-    (c.in_err-code.ensures.goes (made 0 name))
+    let r : c.from_residual.result ≡ Err c.in_err-code.field-0.0 = grind arith in
+    refuses_as _ _ _ _ _ r refl (c.in_err-code.ensures.goes (made c.args.flags.0 c.args.name.now))
 
+-- type parameters come before it
+pub part_goes : goal.classes::compile_part-returns-clause-goes
+part_goes t c =
+    let s = c.args.s.now in
+    let path = c.args.path in
+    let now = state c.args.em.now in
+    let mid = state c.compile_some_params.new.em in
+    let body = class_body s in
+    let flag = c.params_flag-flags.ensures ∙ ap (λ (xs : List TypeParam). params_flag (type_params xs)) c.as_slice-2.ensures in
+    let k : Emission = function_emission path (params_flag (class_params s)) s.name body in
+    goes_as _ _ _ _
+    (ap (λ (xs : List TypeParam). go_on (some_params (type_params xs) now) k) (sym c.as_slice.ensures)
+    ∙ went _ k _ c.in_ok-compile_some_params.ensures.goes
+    ∙ ap (λ n. function_emission path n s.name body mid) (sym flag)
+    ∙ ap (λ y. function_emission path c.params_flag-flags.result.0 y body mid) (sym c.as_str.ensures))
+    c.compile_class_function.ensures.goes
+
+-- its qualified name is that of the scope around
 pub class_goes : goal.classes::compile_class-returns-clause-goes
+unfolding by_context
 class_goes t c =
     let s = c.args.s.now in
-    let bases = exprs expr_tree s.bases in
-    let ks = keywords expr_tree s.keywords in
+    let path = c.in_ok-path.ensures.data ∙ ap (class_path (state c.args.em.now).around.context) c.as_str.ensures in
     goes_as _ _ _ _
-    (ap (λ (f : Emission). f (state c.args.em.now)) (class_is s.name bases ks (class_body s) (emission_of_rest (class_body s)))
-    ∙ ap (λ name. built_emission name (class_body s) bases ks (state c.args.em.now)) (sym c.as_str.ensures))
-    c.compile_built.ensures.goes
+    (ap (λ (f : Emission). f (state c.args.em.now)) (class_is s)
+    ∙ ap (λ p. placed p s (class_params s) (state c.args.em.now)) (sym path)
+    ∙ ap (λ (e : Emitter). placed c.in_ok-path.path s (class_params s) (state e)) (sym c.in_ok-path.ensures.same))
+    c.compile_placed.ensures.goes
+
+-- one with type parameters
+pub some_goes : goal.classes::compile_placed-returns-in-len1-up-clause-goes
+some_goes t c =
+    let s = c.args.s.now in
+    let many : 1 ≤ length s.type_params = subst (λ (xs : List TypeParam). 1 ≤ length xs) c.as_slice.ensures c.in-len1-up.len_at_least in
+    goes_as _ _ _ _ (ap (λ (f : Emission). f (state c.args.em.now)) (some_params_placed s c.args.path many)) c.compile_generic.ensures.goes
 
 -- a refusal of a class or of its decorators
-pub plain_refused : goal.classes::compile_plain_class-returns-in_err-compile_decorated-clause-goes
-plain_refused t c =
+pub decorated_refused : goal.classes::compile_class_def-returns-in_err-compile_decorated-clause-goes
+decorated_refused t c =
     let s = c.args.s.now in
     let d = decorated (values (all_emissions (exprs expr_tree s.decorator_list))) (class_emission s) in
     let w = d ▸ emission_of_stored s.name in
     let r : c.from_residual.result ≡ Err c.in_err-compile_decorated.field-0.0 = grind arith in
     first_refuses _ _ _ _ _ (emission_of_stored s.name) r (ap (λ o. go_on o w) (move_goes s.location (state c.args.em.now)) ∙ ap w (sym c.set_location.ensures.state)) c.in_err-compile_decorated.ensures.goes
-
--- a class with type parameters
-generic_is : (at : SourceLocation) (name : List ℕ) (bases : tree.Exprs) (ks : tree.Keywords) (body : tree.Stmts) (decorators : tree.Exprs) (ps : List TypeParam) → 1 ≤ length ps → emission_of_stmt (tree.ClassDef at name bases ks body decorators (type_params ps)) ≡ unbuilt at
-generic_is at name bases ks body decorators [] h = absurd (omega (arith, h))
-generic_is at name bases ks body decorators (p ∷ ps) h = refl
-
-pub generic_refused : goal.classes::compile_class_def-returns-in-len1-up-clause-goes
-generic_refused t c =
-    let s = c.args.s.now in
-    let def : List TypeParam → tree.Stmt = λ ps. tree.ClassDef s.location s.name (exprs expr_tree s.bases) (keywords expr_tree s.keywords) (class_body s) (exprs expr_tree s.decorator_list) (type_params ps) in
-    goes_as _ _ _ _
-    (ap (λ ps. emission_of_stmt (def ps) (state c.args.em.now)) (sym c.as_slice.ensures)
-    ∙ ap (λ (f : Emission). f (state c.args.em.now)) (generic_is s.location s.name (exprs expr_tree s.bases) (keywords expr_tree s.keywords) (class_body s) (exprs expr_tree s.decorator_list) c.as_slice.result.now c.in-len1-up.len_at_least))
-    c.refuse_unbuilt.ensures.goes

@@ -1,8 +1,6 @@
 -- The scope of a function.
 use Rattle.std.proofs.Common.{ℕ, ◌<◌, ◌≤◌, List, [], ◌∷◌, length, Err, refl, sym, ap, subst, ◌≡◌, ◌∙◌, arith, rules}
-use Rattle.py_base.specs.declared.location.SourceLocation.{SourceLocation}
-use Rattle.py_tree.specs.Tree as tree
-use Rattle.py_tree.specs.View.{arguments, expr_tree, exprs, function_def_tree, opt_box, stmt_tree, stmts, type_params}
+use Rattle.py_tree.specs.View.{arguments, expr_tree, exprs}
 use Rattle.py_tree.specs.declared.expressions.ArgumentsOf.{ArgumentsOf}
 use Rattle.py_tree.specs.declared.expressions.Expr.{Expr}
 use Rattle.py_tree.specs.declared.statements.Stmt.{Stmt}
@@ -12,14 +10,13 @@ use Rattle.py_scope.specs.declared.table_type.SymbolTableType.TheVariants as kin
 use Rattle.py_emission.specs.Parameters.{function_shape, parameters}
 use Rattle.py_bytecode.specs.Objects as const
 use Rattle.py_steps.specs.Accesses.{emission_of_stored}
-use Rattle.py_steps.specs.Children.{code_head, decorated, documented, emission_of_defaults, enter_parameters, function_inside}
+use Rattle.py_steps.specs.Children.{code_head, decorated, documented, emission_of_defaults, enter_parameters, flags_of_defaults, function_inside}
 use Rattle.py_steps.specs.Context.{function_path}
-use Rattle.py_steps.specs.Emitting.{Emission, Outcome, State, ◌▸◌, add_constant, by_level, go_on}
+use Rattle.py_steps.specs.Emitting.{Emission, State, ◌▸◌, add_constant, by_level, go_on}
 use Rattle.py_steps.specs.EmissionParts.{values}
-use Rattle.py_emission.specs.Emission.{all_emissions, default_emissions, unbuilt}
+use Rattle.py_emission.specs.Emission.{all_emissions, default_emissions}
 use Rattle.py_emission.specs.Texts.{doc_of}
 use Rattle.py_meaning.specs.EmissionDefs.{emission_of_def}
-use Rattle.py_meaning.specs.EmissionStmts.{emission_of_stmt}
 use Rattle.py_emit.specs.States.{AreMade, Rest, entered, entered_rest, rest, state}
 use Rattle.py_emit.specs.declared.emitter.Emitter.{Emitter}
 use Rattle.py_emit.proofs.Joined.{first_refuses, goes_as, joined, refuses_as, went}
@@ -28,7 +25,9 @@ use Rattle.py_emit.specs.declared.context.Naming.TheVariants as naming
 use Rattle.py_emit.proofs.Within.{inner}
 use Rattle.py_expr.proofs.Steps.{move_goes}
 use Rattle.py_expr.proofs.Scopes.{left_gives, left_keeps, refused_gives, same_path}
-use Rattle.py_stmt.specs.Functions.{body_emission, body_of, def_emission, inner_emission, made_emission, params_of, scope_emission}
+use Rattle.py_stmt.specs.Functions.{body_emission, body_of, def_emission, inner_emission, made_emission, params_of, plain_emission, scope_emission, value_emission}
+use Rattle.py_stmt.specs.Generics.{given_flags}
+use Rattle.py_stmt.proofs.Handing.{plain_flags, some_generic}
 use Rattle.py_stmt.proofs.LastReturn.{none_left, scope_as, statement_at}
 use Rattle.py_stmt.proofs.+code.Goals as goal
 
@@ -97,7 +96,7 @@ inner_refused t c =
 pub made_goes : goal.functions::compile_made-returns-clause-goes
 made_goes t c =
     let s = c.args.s.now in
-    let k = made_emission s in
+    let k = made_emission (given_flags c.args.defaults c.args.generic) s in
     let same = c.in_ok-path.ensures.same ∙ c.in_ok-name.ensures.same in
     let path = c.in_ok-path.ensures.data ∙ ap (function_path (state c.text.new.self).around.context) c.as_str-2.ensures ∙ ap (λ (e : Emitter). function_path (state e).around.context s.name) (sym c.in_ok-path.ensures.same) in
     goes_as _ _ _ _
@@ -109,7 +108,7 @@ made_goes t c =
 pub made_refused : goal.functions::compile_made-returns-in_err-code-clause-goes
 made_refused t c =
     let s = c.args.s.now in
-    let k = made_emission s in
+    let k = made_emission (given_flags c.args.defaults c.args.generic) s in
     let same = c.in_ok-path.ensures.same ∙ c.in_ok-name.ensures.same in
     let path = c.in_ok-path.ensures.data ∙ ap (function_path (state c.text.new.self).around.context) c.as_str-2.ensures ∙ ap (λ (e : Emitter). function_path (state e).around.context s.name) (sym c.in_ok-path.ensures.same) in
     let r : c.from_residual-in_err-code.result ≡ Err c.in_err-code.field-0.0 = grind arith in
@@ -118,47 +117,50 @@ made_refused t c =
     ∙ scope_as s _ _ k _ (c.in_ok-name.ensures.data ∙ c.as_str.ensures) path)
     (c.in_err-code.ensures.goes k)
 
--- what follows the defaults of a function
-abbrev after_defaults : StmtFunctionDefOf Stmt → Emission
-after_defaults s = scope_emission (function_inside s.name) s.name s (made_emission s) ▸ by_level (λ l. documented (doc_of l (body_of s)))
-
-def_is : (s : StmtFunctionDefOf Stmt) → def_emission s ≡ emission_of_defaults (default_emissions (params_of s)) ▸ after_defaults s
+-- a function without type parameters is made behind its defaults
+def_is : (s : StmtFunctionDefOf Stmt) → plain_emission s ≡ emission_of_defaults (default_emissions (params_of s)) ▸ value_emission (flags_of_defaults (default_emissions (params_of s))) s
 unfolding emission_of_def
 def_is s = refl
 
-def_as : (s : StmtFunctionDefOf Stmt) (p : ArgumentsOf Expr) (r : State) → p ≡ s.args.value → def_emission s r ≡ go_on (emission_of_defaults (default_emissions (arguments expr_tree p)) r) (after_defaults s)
+def_as : (s : StmtFunctionDefOf Stmt) (p : ArgumentsOf Expr) (r : State) → p ≡ s.args.value → plain_emission s r ≡ go_on (emission_of_defaults (default_emissions (arguments expr_tree p)) r) (value_emission (flags_of_defaults (default_emissions (arguments expr_tree p))) s)
 def_as s p r is =
     ap (λ (f : Emission). f r) (def_is s)
-    ∙ ap (λ (x : ArgumentsOf Expr). go_on (emission_of_defaults (default_emissions (arguments expr_tree x)) r) (after_defaults s)) (sym is)
+    ∙ ap (λ (x : ArgumentsOf Expr). go_on (emission_of_defaults (default_emissions (arguments expr_tree x)) r) (value_emission (flags_of_defaults (default_emissions (arguments expr_tree x))) s)) (sym is)
 
-pub defaults_refused : goal.functions::compile_function-returns-in_err-defaults-clause-goes
+pub defaults_refused : goal.functions::compile_plain-returns-in_err-defaults-clause-goes
 defaults_refused t c =
-    let r : c.from_residual.result ≡ Err c.in_err-defaults.field-0.0 = grind arith in
-    first_refuses _ _ _ _ _ (after_defaults c.args.s.now) r (def_as c.args.s.now c.deref.result.now (state c.args.em.now) c.deref.ensures) c.in_err-defaults.ensures.goes
-
-pub function_refused : goal.functions::compile_function-returns-in_err-compile_made-clause-goes
-function_refused t c =
     let s = c.args.s.now in
-    let r : c.from_residual-in_err-compile_made.result ≡ Err c.in_err-compile_made.field-0.0 = grind arith in
-    first_refuses _ _ _ _ _ (by_level (λ l. documented (doc_of l (body_of s)))) r (def_as s c.deref.result.now (state c.args.em.now) c.deref.ensures ∙ went _ (after_defaults s) _ c.in_ok-defaults.ensures.goes) c.in_err-compile_made.ensures.goes
+    let r : c.from_residual.result ≡ Err c.in_err-defaults.field-0.0 = grind arith in
+    first_refuses _ _ _ _ _ (value_emission (flags_of_defaults (default_emissions (arguments expr_tree c.deref.result.now))) s) r (def_as s c.deref.result.now (state c.args.em.now) c.deref.ensures) c.in_err-defaults.ensures.goes
+
+pub plain_goes : goal.functions::compile_plain-returns-clause-goes
+plain_goes t c =
+    let s = c.args.s.now in
+    let d = c.in_ok-defaults.defaults in
+    let flags = c.in_ok-defaults.ensures.flags ∙ sym (plain_flags d) in
+    goes_as _ _ _ _
+    (def_as s c.deref.result.now (state c.args.em.now) c.deref.ensures
+    ∙ went _ (value_emission (flags_of_defaults (default_emissions (arguments expr_tree c.deref.result.now))) s) _ c.in_ok-defaults.ensures.goes
+    ∙ ap (λ n. value_emission n s (state c.compile_defaults.new.em)) flags)
+    c.compile_value.ensures.goes
+
+-- a refusal of what a function's own scope holds
+pub value_refused : goal.functions::compile_value-returns-in_err-compile_made-clause-goes
+value_refused t c =
+    let s = c.args.s.now in
+    let r : c.from_residual.result ≡ Err c.in_err-compile_made.field-0.0 = grind arith in
+    first_refuses _ _ _ _ _ (by_level (λ l. documented (doc_of l (body_of s)))) r refl c.in_err-compile_made.ensures.goes
 
 -- a function with type parameters
-generic_is : (at : SourceLocation) (name : List ℕ) (params : tree.Arguments) (body : tree.Stmts) (decorators : tree.Exprs) (returns : tree.OptExpr) (ps : List TypeParam) → 1 ≤ length ps → emission_of_stmt (tree.FunctionDef at name params body decorators returns (type_params ps)) ≡ unbuilt at
-generic_is at name params body decorators returns [] h = absurd (omega (arith, h))
-generic_is at name params body decorators returns (p ∷ ps) h = refl
-
-pub generic_refused : goal.functions::compile_function_def-returns-in-len1-up-clause-goes
-generic_refused t c =
+pub some_goes : goal.functions::compile_function-returns-in-len1-up-clause-goes
+some_goes t c =
     let s = c.args.s.now in
-    let def : List TypeParam → tree.Stmt = λ ps. tree.FunctionDef s.location s.name (params_of s) (body_of s) (exprs expr_tree s.decorator_list) (opt_box expr_tree s.returns) (type_params ps) in
-    goes_as _ _ _ _
-    (ap (λ ps. emission_of_stmt (def ps) (state c.args.em.now)) (sym c.as_slice.ensures)
-    ∙ ap (λ (f : Emission). f (state c.args.em.now)) (generic_is s.location s.name (params_of s) (body_of s) (exprs expr_tree s.decorator_list) (opt_box expr_tree s.returns) c.as_slice.result.now c.in-len1-up.len_at_least))
-    c.refuse_unbuilt.ensures.goes
+    let many : 1 ≤ length s.type_params = subst (λ (xs : List TypeParam). 1 ≤ length xs) c.as_slice.ensures c.in-len1-up.len_at_least in
+    goes_as _ _ _ _ (ap (λ (f : Emission). f (state c.args.em.now)) (some_generic s many)) c.compile_generic.ensures.goes
 
 -- a refusal of a function or of its decorators
-pub plain_refused : goal.functions::compile_plain_def-returns-in_err-compile_decorated-clause-goes
-plain_refused t c =
+pub decorated_refused : goal.functions::compile_function_def-returns-in_err-compile_decorated-clause-goes
+decorated_refused t c =
     let s = c.args.s.now in
     let d = decorated (values (all_emissions (exprs expr_tree s.decorator_list))) (def_emission s) in
     let w = d ▸ emission_of_stored s.name in

@@ -15,5 +15,5 @@ returns-then-is_future-clause-goes c =
     let s = state c.args.em.now in
     let i = c.args.s.now in
     let within : from_future i.«module» ≡ true = sym c.is_future.ensures ∙ c.if-is_future.true in
-    λ n. ap (λ b. (if b then refuse error.NotImplementedYet else emission_of_from i.«module» i.names i.level) s) within
-    ∙ refused_as error.NotImplementedYet s c.refuse-error.result (ap (λ (x : LocatedError CodegenErrorType). x.error) c.refuse-error.ensures) (ap (λ (x : LocatedError CodegenErrorType). x.location) c.refuse-error.ensures)
+    λ n. ap (λ b. (if b then refuse error.InvalidFuturePlacement else emission_of_from i.«module» i.names i.level) s) within
+    ∙ refused_as error.InvalidFuturePlacement s c.refuse-error.result (ap (λ (x : LocatedError CodegenErrorType). x.error) c.refuse-error.ensures) (ap (λ (x : LocatedError CodegenErrorType). x.location) c.refuse-error.ensures)
