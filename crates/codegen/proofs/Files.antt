@@ -8,12 +8,13 @@ use Rattle.py_meaning.specs.StmtParts.{annotated}
 use Rattle.py_steps.specs.Emitting.{Done, Emission, State, ◌▸◌, by_level, emit_constant}
 use Rattle.py_meaning.specs.EmissionStmts.{emission_of_stmts}
 use Rattle.py_meaning.specs.EmissionDefs.{emission_of_setup}
+use Rattle.py_meaning.specs.EmissionFutures.{emission_behind}
 use Rattle.py_meaning.specs.EmissionMods.{emission_of_doc, emission_of_program}
 use Rattle.py_emit.proofs.Joined.{went}
 
 -- statements, and the return of None
 abbrev pub returning : tree.Stmts → Emission
-returning after = emission_of_stmts after ▸ emit_constant op.ReturnConst none
+returning after = emission_behind emission_of_stmts after ▸ emit_constant op.ReturnConst none
 
 -- what is left of a file behind its docstring
 pub behind_doc : (body after : tree.Stmts) (b : Bool) (s r : State) → by_level (λ l. emission_of_doc (doc_of l body)) s ≡ Done r → after ≡ after_doc body → b ≡ annotated after → emission_of_program body s ≡ (emission_of_setup b ▸ returning after) r

@@ -1,5 +1,7 @@
 pub mod Heights
 pub mod Agreeing
+pub mod Wholes
 pub mod Firsts
 pub mod Made
+pub mod Answered
 pub mod Files

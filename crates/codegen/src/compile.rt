@@ -2,39 +2,29 @@
 
 ghost use Rattle.std.specs.Prelude.{◌≡◌, [], ◌<◌, ◌^◌, None, IfOk, IfErr, OnOk};
 ghost use Rattle.py_limits.specs.Size.{size_of};
-ghost use Rattle.py_tree.specs.View.{mod_tree};
-ghost use Rattle.py_bytecode.specs.View.{object};
-ghost use Rattle.py_forms.specs.Agreement.{Agree, AgreeFull};
-ghost use Rattle.py_steps.specs.Everywhere.{Everywhere};
-ghost use Rattle.py_walks.specs.Sound.{sound};
+ghost use Rattle.py_tree.specs.Tree as tree;
+ghost use Rattle.py_tree.specs.View.{expr_tree, mod_tree, stmts, stmt_tree};
 ghost use Rattle.py_steps.specs.Context.{outermost};
-ghost use Rattle.py_meaning.specs.EmissionMods.{emission_of_mod, emitted, unbuilt_tree};
-ghost use Rattle.py_meaning.specs.Faults.{faults};
-ghost use Rattle.py_meaning.specs.Meaning.{body};
+ghost use Rattle.py_meaning.specs.EmissionMods.{emission_of_mod, emitted};
 ghost use Rattle.py_meaning.specs.Scanned.{scan_faults, scopes_of};
-ghost use Rattle.codegen.specs.Compiled.{AlwaysEnds, HasExactDepth, HasFewSymbols, HasFewUnits, InLeastWidths, IsFirst, IsLocated, IsRefused, IsScan, IsScanned, NamesPath, NoHigher, around_tree};
+ghost use Rattle.codegen.specs.Calls.{IsCompiled, IsWhole, tree_of};
+ghost use Rattle.codegen.specs.Compiled.{HasFewSymbols, IsRefused, IsScan, IsScanned, around_tree};
 ghost use Rattle.py_emit.specs.Emitted.{IsEmitted};
 ghost use Rattle.py_emit.specs.States.{AreMade, Goes, Same, rest, state};
 
-use crate::program::{emit_interactive, emit_program};
+use crate::program::{Program, emit_interactive, emit_program};
 use crate::scopes::has_few_symbols;
+use crate::whole::{body_fault, expr_fault, tree_fault};
 use py_bytecode::CodeObject;
 pub use py_emit::CompileOpts;
 use py_emit::Emitter;
 use py_expr::compile_return;
 use py_forms::{CodegenError, CodegenErrorType};
-use py_limits::{depth_of_tree, size_of_tree};
 use py_scope::{FlatScopes, SymbolTable, SymbolTableError};
-use py_shapes::valid;
 use py_tables::{scan_body, scan_value};
-use py_tree::{LocatedError, Mod, Mode, Text, TreeLimit};
+use py_tree::{Expr, LocatedError, Mod, Mode, Stmts, Text};
 use std::alloc::Global;
 use symboltable::into_codegen_error;
-
-/// The nesting that no accepted tree reaches.
-pub const NESTING_LIMIT: u32 = 1024;
-/// The size that no accepted tree reaches.
-pub const SIZE_LIMIT: u32 = 4_194_304;
 
 /// Compiles a tree. The code does what the tree means: for every finite list of answers the same operations and
 /// accesses on the same operands, in the same order, with the same end.
@@ -48,30 +38,109 @@ pub fn compile_top(
     mode: Mode,
     opts: CompileOpts,
 ) -> Result<CodeObject, CodegenError>
-    ensures agrees { IfOk result (λ code. Agree (object code) (body (scopes_of (mod_tree ast.now)) (mod_tree ast.now) mode opts.optimize)) }
-    ensures agrees_full { IfOk result (λ code. AgreeFull (object code) (body (scopes_of (mod_tree ast.now)) (mod_tree ast.now) mode opts.optimize)) }
-    ensures emission { IfOk result (λ code. IsEmitted code (around_tree (mod_tree ast.now) source_path opts.optimize) (emitted (mod_tree ast.now) mode (around_tree (mod_tree ast.now) source_path opts.optimize))) }
-    ensures ends { IfOk result (λ code. Everywhere AlwaysEnds (object code)) }
-    ensures sound { IfOk result (λ code. Everywhere sound (object code)) }
-    ensures depth { IfOk result (λ code. Everywhere NoHigher (object code)) }
-    ensures exact { IfOk result (λ code. Everywhere HasExactDepth (object code)) }
-    ensures named { IfOk result (λ code. Everywhere (NamesPath source_path) (object code)) }
-    ensures located { IfOk result (λ code. Everywhere IsLocated (object code)) }
-    ensures units { IfOk result (λ code. Everywhere HasFewUnits (object code)) }
-    ensures widths { IfOk result (λ code. Everywhere InLeastWidths (object code)) }
-    ensures clean { OnOk result (faults (mod_tree ast.now) mode opts.optimize ≡ []) }
-    ensures first { IfErr result (λ e. IsFirst e (faults (mod_tree ast.now) mode opts.optimize)) }
-    ensures path { IfErr result (λ e. e.source_path ≡ source_path) }
+    ensures { IsCompiled result (mod_tree ast.now) source_path mode opts.optimize }
 {
-    if depth_of_tree(ast, NESTING_LIMIT).is_none() {
-        return Err(refused(CodegenErrorType::TooLarge(TreeLimit::Depth), source_path));
+    match tree_fault(ast, mode) {
+        Some(error) => Err(refused(error, source_path)),
+        None => match ast {
+            Mod::Module(m) => {
+                let program = Program::Module(&m.body);
+                compile_valid(alloc, &program, source_path, mode, opts)
+            }
+            Mod::Interactive(m) => {
+                let program = Program::Interactive(&m.body);
+                compile_valid(alloc, &program, source_path, mode, opts)
+            }
+            Mod::Expression(m) => {
+                let program = Program::Expression(&m.body);
+                compile_valid(alloc, &program, source_path, mode, opts)
+            }
+            Mod::FunctionType(_) => Err(refused(CodegenErrorType::NotImplementedYet, source_path)),
+        },
     }
-    if size_of_tree(ast, SIZE_LIMIT).is_none() {
-        return Err(refused(CodegenErrorType::TooLarge(TreeLimit::Nodes), source_path));
+}
+
+/// Compiles the statements of a file, as `compile_top` does a Module in each mode.
+///
+/// # Errors
+/// As `compile_top`.
+pub fn compile_program(
+    alloc: Global,
+    ast: &Stmts,
+    source_path: Text,
+    opts: CompileOpts,
+) -> Result<CodeObject, CodegenError>
+    ensures { IsCompiled result (tree.Module (stmts stmt_tree ast.now)) source_path Mode.Exec opts.optimize }
+{
+    match body_fault(ast) {
+        Some(error) => Err(refused(error, source_path)),
+        None => {
+            let program = Program::Module(ast);
+            compile_valid(alloc, &program, source_path, Mode::Exec, opts)
+        }
     }
-    match valid(ast, mode) {
-        Some(shape) => Err(refused(CodegenErrorType::MalformedTree(shape), source_path)),
-        None => compile_valid(alloc, ast, source_path, mode, opts),
+}
+
+/// Compiles what is entered at a prompt, as `compile_top` does an Interactive in Single: each value is printed.
+///
+/// # Errors
+/// As `compile_top`.
+pub fn compile_program_single(
+    alloc: Global,
+    ast: &Stmts,
+    source_path: Text,
+    opts: CompileOpts,
+) -> Result<CodeObject, CodegenError>
+    ensures { IsCompiled result (tree.Interactive (stmts stmt_tree ast.now)) source_path Mode.Single opts.optimize }
+{
+    match body_fault(ast) {
+        Some(error) => Err(refused(error, source_path)),
+        None => {
+            let program = Program::Interactive(ast);
+            compile_valid(alloc, &program, source_path, Mode::Single, opts)
+        }
+    }
+}
+
+/// Compiles a file whose last value is given, as `compile_top` does an Interactive in BlockExpr.
+///
+/// # Errors
+/// As `compile_top`.
+pub fn compile_block_expression(
+    alloc: Global,
+    ast: &Stmts,
+    source_path: Text,
+    opts: CompileOpts,
+) -> Result<CodeObject, CodegenError>
+    ensures { IsCompiled result (tree.Interactive (stmts stmt_tree ast.now)) source_path Mode.BlockExpr opts.optimize }
+{
+    match body_fault(ast) {
+        Some(error) => Err(refused(error, source_path)),
+        None => {
+            let program = Program::Interactive(ast);
+            compile_valid(alloc, &program, source_path, Mode::BlockExpr, opts)
+        }
+    }
+}
+
+/// Compiles one expression, whose value is given, as `compile_top` does an Expression in each mode.
+///
+/// # Errors
+/// As `compile_top`.
+pub fn compile_expression(
+    alloc: Global,
+    ast: &Expr,
+    source_path: Text,
+    opts: CompileOpts,
+) -> Result<CodeObject, CodegenError>
+    ensures { IsCompiled result (tree.Expression (expr_tree ast.now)) source_path Mode.Eval opts.optimize }
+{
+    match expr_fault(ast) {
+        Some(error) => Err(refused(error, source_path)),
+        None => {
+            let program = Program::Expression(ast);
+            compile_valid(alloc, &program, source_path, Mode::Eval, opts)
+        }
     }
 }
 
@@ -88,54 +157,47 @@ fn refused(error: CodegenErrorType, source_path: Text) -> CodegenError
     }
 }
 
-/// The code of a tree whose nesting, size and shapes are right: its scopes come first. What is entered at a prompt is
-/// scanned as a file is.
+/// The code of a program whose nesting, size and shapes are right: its scopes come first.
 fn compile_valid(
     alloc: Global,
-    ast: &Mod,
+    program: &Program<'_>,
     source_path: Text,
     mode: Mode,
     opts: CompileOpts,
 ) -> Result<CodeObject, CodegenError>
-    requires { size_of (mod_tree ast.now) < 2 ^ 22 }
-    ensures emission { IfOk result (λ code. IsEmitted code (around_tree (mod_tree ast.now) source_path opts.optimize) (emitted (mod_tree ast.now) mode (around_tree (mod_tree ast.now) source_path opts.optimize))) }
-    ensures few { OnOk result (HasFewSymbols (scopes_of (mod_tree ast.now))) }
-    ensures clean { OnOk result (scan_faults (mod_tree ast.now) ≡ []) }
-    ensures first { IfErr result (λ e. IsScanned e (mod_tree ast.now) mode (around_tree (mod_tree ast.now) source_path opts.optimize)) }
-    ensures path { IfErr result (λ e. e.source_path ≡ source_path) }
+    requires { IsWhole (tree_of program.now) mode }
+    ensures { IsCompiled result (tree_of program.now) source_path mode opts.optimize }
 {
-    match ast {
-        Mod::Module(m) => {
-            let table = scan_body(alloc, &m.body);
-            compile_scanned(alloc, ast, source_path, mode, opts, table)
-        }
-        Mod::Expression(m) => {
-            let table = scan_value(alloc, &m.body);
-            compile_scanned(alloc, ast, source_path, mode, opts, table)
-        }
-        Mod::Interactive(m) => {
-            let table = scan_body(alloc, &m.body);
-            compile_scanned(alloc, ast, source_path, mode, opts, table)
-        }
-        Mod::FunctionType(_) => { Err(refused(CodegenErrorType::NotImplementedYet, source_path)) }
+    let table = scan(alloc, program);
+    compile_scanned(alloc, program, source_path, mode, opts, table)
+}
+
+/// The scopes of a program. What is entered at a prompt is scanned as a file is.
+fn scan(alloc: Global, program: &Program<'_>) -> Result<SymbolTable, SymbolTableError>
+    ensures { IsScan (tree_of program.now) result }
+{
+    match program {
+        Program::Module(body) => scan_body(alloc, body),
+        Program::Interactive(body) => scan_body(alloc, body),
+        Program::Expression(value) => scan_value(alloc, value),
     }
 }
 
-/// The code of a tree whose scopes were met, or why they are refused.
+/// The code of a program whose scopes were met, or why they are refused.
 fn compile_scanned(
     alloc: Global,
-    ast: &Mod,
+    program: &Program<'_>,
     source_path: Text,
     mode: Mode,
     opts: CompileOpts,
     table: Result<SymbolTable, SymbolTableError>,
 ) -> Result<CodeObject, CodegenError>
-    requires size { size_of (mod_tree ast.now) < 2 ^ 22 }
-    requires scanned { IsScan (mod_tree ast.now) table }
-    ensures emission { IfOk result (λ code. IsEmitted code (around_tree (mod_tree ast.now) source_path opts.optimize) (emitted (mod_tree ast.now) mode (around_tree (mod_tree ast.now) source_path opts.optimize))) }
-    ensures few { OnOk result (HasFewSymbols (scopes_of (mod_tree ast.now))) }
-    ensures clean { OnOk result (scan_faults (mod_tree ast.now) ≡ []) }
-    ensures first { IfErr result (λ e. IsScanned e (mod_tree ast.now) mode (around_tree (mod_tree ast.now) source_path opts.optimize)) }
+    requires size { size_of (tree_of program.now) < 2 ^ 22 }
+    requires scanned { IsScan (tree_of program.now) table }
+    ensures emission { IfOk result (λ code. IsEmitted code (around_tree (tree_of program.now) source_path opts.optimize) (emitted (tree_of program.now) mode (around_tree (tree_of program.now) source_path opts.optimize))) }
+    ensures few { OnOk result (HasFewSymbols (scopes_of (tree_of program.now))) }
+    ensures clean { OnOk result (scan_faults (tree_of program.now) ≡ []) }
+    ensures first { IfErr result (λ e. IsScanned e (tree_of program.now) mode (around_tree (tree_of program.now) source_path opts.optimize)) }
     ensures path { IfErr result (λ e. e.source_path ≡ source_path) }
 {
     let table = match table {
@@ -143,54 +205,43 @@ fn compile_scanned(
         Err(error) => return Err(into_codegen_error(error, source_path)),
     };
     match FlatScopes::from_table(alloc, table) {
-        Ok(scopes) => compile_mod(alloc, ast, source_path, mode, opts, scopes),
+        Ok(scopes) => compile_mod(alloc, program, source_path, mode, opts, scopes),
         Err(_) => Err(refused(CodegenErrorType::OutOfMemory, source_path)),
     }
 }
 
-/// The code of a tree with these scopes. Scopes with 2^26 symbols or more count as want of memory.
+/// The code of a program with these scopes. Scopes with 2^26 symbols or more count as want of memory.
 fn compile_mod(
     alloc: Global,
-    ast: &Mod,
+    program: &Program<'_>,
     source_path: Text,
     mode: Mode,
     opts: CompileOpts,
     scopes: FlatScopes,
 ) -> Result<CodeObject, CodegenError>
-    requires { size_of (mod_tree ast.now) < 2 ^ 22 }
-    ensures emission { IfOk result (λ code. IsEmitted code (outermost opts.optimize source_path scopes) (emitted (mod_tree ast.now) mode (outermost opts.optimize source_path scopes))) }
+    requires { size_of (tree_of program.now) < 2 ^ 22 }
+    ensures emission { IfOk result (λ code. IsEmitted code (outermost opts.optimize source_path scopes) (emitted (tree_of program.now) mode (outermost opts.optimize source_path scopes))) }
     ensures few { OnOk result (HasFewSymbols scopes) }
-    ensures refused { IfErr result (λ e. IsRefused e (emitted (mod_tree ast.now) mode (outermost opts.optimize source_path scopes))) }
+    ensures refused { IfErr result (λ e. IsRefused e (emitted (tree_of program.now) mode (outermost opts.optimize source_path scopes))) }
     ensures path { IfErr result (λ e. e.source_path ≡ source_path) }
 {
     if !has_few_symbols(&scopes) {
         return Err(refused(CodegenErrorType::OutOfMemory, source_path));
     }
     let mut em = Emitter::new(alloc, opts, source_path, scopes)?;
-    emit_mod(&mut em, ast, mode)?;
+    emit_mod(&mut em, program, mode)?;
     em.finish()
 }
 
-/// Emits a whole tree.
-fn emit_mod(em: &mut Emitter, ast: &Mod, mode: Mode) -> Result<(), CodegenError>
+/// Emits a whole program.
+fn emit_mod(em: &mut Emitter, program: &Program<'_>, mode: Mode) -> Result<(), CodegenError>
     requires loops { AreMade (rest em.old).context.loop_blocks }
-    ensures goes { Goes result (state em.new) (emission_of_mod (mod_tree ast.now) mode (state em.old)) }
+    ensures goes { Goes result (state em.new) (emission_of_mod (tree_of program.now) mode (state em.old)) }
     ensures same { Same result (rest em.new) (rest em.old) }
 {
-    match ast {
-        Mod::Module(m) => emit_program(em, &m.body),
-        Mod::Interactive(m) => emit_interactive(em, &m.body, mode),
-        Mod::Expression(m) => compile_return(em, &m.body),
-        Mod::FunctionType(_) => refuse_tree(em),
+    match program {
+        Program::Module(body) => emit_program(em, body),
+        Program::Interactive(body) => emit_interactive(em, body, mode),
+        Program::Expression(value) => compile_return(em, value),
     }
-}
-
-/// Refuses the type of a function, which is no tree of a program in any mode.
-fn refuse_tree(em: &mut Emitter) -> Result<(), CodegenError>
-    ensures goes { Goes result (state em.new) (unbuilt_tree (state em.old)) }
-    ensures same { Same result (rest em.new) (rest em.old) }
-{
-    let mut error = em.error(CodegenErrorType::NotImplementedYet);
-    error.location = None;
-    Err(error)
 }

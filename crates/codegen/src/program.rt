@@ -4,6 +4,7 @@ ghost use Rattle.py_tree.specs.View.{stmt_tree, stmts};
 ghost use Rattle.py_steps.specs.Emitting.{◌▸◌, by_level, emit_constant};
 ghost use Rattle.py_meaning.specs.EmissionStmts.{emission_of_stmts};
 ghost use Rattle.py_meaning.specs.EmissionDefs.{emission_of_setup};
+ghost use Rattle.py_meaning.specs.EmissionFutures.{emission_behind};
 ghost use Rattle.py_meaning.specs.EmissionMods.{emission_of_doc, emission_of_interactive, emission_of_program};
 ghost use Rattle.py_bytecode.specs.Objects.{none};
 ghost use Rattle.py_emission.specs.Texts.{after_doc, doc_of};
@@ -13,9 +14,20 @@ use py_bytecode::{ConstantData, Instruction};
 use py_emit::{Emitter, emit, refuse};
 use py_forms::{CodegenError, CodegenErrorType};
 use py_stmt::{
-    compile_block, compile_single, compile_statements, find_ann, split_doc, statements_from,
+    compile_file, compile_prompt, compile_whole_block, find_ann, split_doc, statements_from,
 };
-use py_tree::{Mode, Stmt, Stmts, Text};
+use py_tree::{Expr, Mode, Stmt, Stmts, Text};
+
+/// A program that is lent: no part of it is copied.
+#[derive(Clone, Copy)]
+pub(crate) enum Program<'a> {
+    /// The statements of a file.
+    Module(&'a Stmts),
+    /// What is entered at a prompt, or a file whose last value is given.
+    Interactive(&'a Stmts),
+    /// One expression, whose value is given.
+    Expression(&'a Expr),
+}
 
 /// Emits the statements of a file, its docstring first, and the return of None.
 pub(crate) fn emit_program(em: &mut Emitter, body: &Stmts) -> Result<(), CodegenError>
@@ -33,10 +45,10 @@ pub(crate) fn emit_program(em: &mut Emitter, body: &Stmts) -> Result<(), Codegen
 #[tactic(auto, using(py_bytecode::proofs::View::views))]
 fn emit_rest(em: &mut Emitter, body: &[Stmt]) -> Result<(), CodegenError>
     requires loops { AreMade (rest em.old).context.loop_blocks }
-    ensures goes { Goes result (state em.new) ((emission_of_stmts (stmts stmt_tree body.now) ▸ emit_constant Instruction.ReturnConst none) (state em.old)) }
+    ensures goes { Goes result (state em.new) ((emission_behind emission_of_stmts (stmts stmt_tree body.now) ▸ emit_constant Instruction.ReturnConst none) (state em.old)) }
     ensures same { Same result (rest em.new) (rest em.old) }
 {
-    compile_statements(em, body)?;
+    compile_file(em, body)?;
     em.return_const(ConstantData::None)
 }
 
@@ -94,7 +106,7 @@ pub(crate) fn emit_interactive(
     ensures same { Same result (rest em.new) (rest em.old) }
 {
     match mode {
-        Mode::Single => compile_single(em, body.as_slice()),
-        Mode::BlockExpr | Mode::Exec | Mode::Eval => compile_block(em, body.as_slice()),
+        Mode::Single => compile_prompt(em, body.as_slice()),
+        Mode::BlockExpr | Mode::Exec | Mode::Eval => compile_whole_block(em, body.as_slice()),
     }
 }

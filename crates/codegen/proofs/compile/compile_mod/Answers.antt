@@ -1,6 +1,6 @@
 use Rattle.std.proofs.Common.{◌≡◌, Result, Ok, Err, IfOk, IfErr, OnOk, IsErrAnd, sym, ap, ◌∙◌, subst}
 use Rattle.std.proofs.lemmas.Result.{err_from_is_err_and}
-use Rattle.py_tree.specs.View.{mod_tree}
+use Rattle.codegen.specs.Calls.{tree_of}
 use Rattle.py_base.specs.declared.location.LocatedError.{LocatedError}
 use Rattle.py_ir.specs.Final.{IsFinal}
 use Rattle.py_steps.specs.Context.{outermost}
@@ -30,8 +30,8 @@ pub returns-in_err-emit_mod-clause-refused : goal.returns-in_err-emit_mod-clause
 returns-in_err-emit_mod-clause-refused c =
     let r : c.from_residual-in_err-emit_mod.result ≡ Err c.in_err-emit_mod.field-0.0 = errs _ _ c.from_residual-in_err-emit_mod.ensures.1 in
     let x : Result (Unit {0}) (LocatedError CodegenErrorType) = Err c.in_err-emit_mod.field-0.0 in
-    let h : IsRefused c.in_err-emit_mod.field-0.0 (emitted (mod_tree c.args.ast.now) c.args.mode (outermost c.args.opts.optimize c.args.source_path c.args.scopes)) = goes_first (mod_tree c.args.ast.now) c.args.mode c.args.opts c.args.source_path c.args.scopes c.in_ok-em.em c.in_ok-em.ensures.state c.in_ok-em.ensures.rest x (state c.emit_mod.new.em) c.in_err-emit_mod.ensures.goes in
-    subst (λ y. IfErr y (λ e. IsRefused e (emitted (mod_tree c.args.ast.now) c.args.mode (outermost c.args.opts.optimize c.args.source_path c.args.scopes)))) (sym r) h
+    let h : IsRefused c.in_err-emit_mod.field-0.0 (emitted (tree_of c.args.program.now) c.args.mode (outermost c.args.opts.optimize c.args.source_path c.args.scopes)) = goes_first (tree_of c.args.program.now) c.args.mode c.args.opts c.args.source_path c.args.scopes c.in_ok-em.em c.in_ok-em.ensures.state c.in_ok-em.ensures.rest x (state c.emit_mod.new.em) c.in_err-emit_mod.ensures.goes in
+    subst (λ y. IfErr y (λ e. IsRefused e (emitted (tree_of c.args.program.now) c.args.mode (outermost c.args.opts.optimize c.args.source_path c.args.scopes)))) (sym r) h
 
 pub returns-in_err-emit_mod-clause-path : goal.returns-in_err-emit_mod-clause-path
 returns-in_err-emit_mod-clause-path c =
@@ -40,11 +40,11 @@ returns-in_err-emit_mod-clause-path c =
 
 pub finish-requires : goal.finish-requires
 finish-requires c =
-    let is = goes_first (mod_tree c.args.ast.now) c.args.mode c.args.opts c.args.source_path c.args.scopes c.in_ok-em.em c.in_ok-em.ensures.state c.in_ok-em.ensures.rest (Ok (tt {0})) (state c.emit_mod.new.em) c.in_ok-emit_mod.ensures.goes in
-    unrefused_mod (mod_tree c.args.ast.now) c.args.mode c.args.opts c.args.source_path c.args.scopes c.in_ok-em.em c.in_ok-em.ensures.state c.in_ok-em.ensures.rest c.emit_mod.new.em c.in_ok-emit_mod.ensures.same is c.requires (few_everywhere c.args.scopes (c.has_few_symbols.ensures c.if-not-has_few_symbols.false))
+    let is = goes_first (tree_of c.args.program.now) c.args.mode c.args.opts c.args.source_path c.args.scopes c.in_ok-em.em c.in_ok-em.ensures.state c.in_ok-em.ensures.rest (Ok (tt {0})) (state c.emit_mod.new.em) c.in_ok-emit_mod.ensures.goes in
+    unrefused_mod (tree_of c.args.program.now) c.args.mode c.args.opts c.args.source_path c.args.scopes c.in_ok-em.em c.in_ok-em.ensures.state c.in_ok-em.ensures.rest c.emit_mod.new.em c.in_ok-emit_mod.ensures.same is c.requires (few_everywhere c.args.scopes (c.has_few_symbols.ensures c.if-not-has_few_symbols.false))
 
 pub returns-clause-emission : goal.returns-clause-emission
 returns-clause-emission c =
-    let t = mod_tree c.args.ast.now in
+    let t = tree_of c.args.program.now in
     let is = goes_first t c.args.mode c.args.opts c.args.source_path c.args.scopes c.in_ok-em.em c.in_ok-em.ensures.state c.in_ok-em.ensures.rest (Ok (tt {0})) (state c.emit_mod.new.em) c.in_ok-emit_mod.ensures.goes in
     on_ok c.finish.result (λ code. IsFinal (rest c.emit_mod.new.em).opts.optimize (info c.emit_mod.new.em) code) (λ code. IsEmitted code (outermost c.args.opts.optimize c.args.source_path c.args.scopes) (emitted t c.args.mode (outermost c.args.opts.optimize c.args.source_path c.args.scopes))) (made_mod t c.args.mode c.args.opts c.args.source_path c.args.scopes c.in_ok-em.em c.in_ok-em.ensures.state c.in_ok-em.ensures.rest c.emit_mod.new.em c.in_ok-emit_mod.ensures.same is) c.finish.ensures.code

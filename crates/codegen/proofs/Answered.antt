@@ -1,0 +1,96 @@
+-- What the compile calls answer: code for a whole tree, or why there is none.
+use Rattle.std.proofs.Common.{◌≡◌, ℕ, ◌<◌, ◌^◌, List, [], Result, Ok, Err, Some, None, IfOk, IfErr, OnOk}
+use Rattle.py_tree.specs.Tree as tree
+use Rattle.py_tree.specs.declared.modules.Mode.{Mode}
+use Rattle.py_limits.specs.Size.{size_of}
+use Rattle.py_base.specs.declared.location.LocatedError.{LocatedError}
+use Rattle.py_bytecode.specs.Objects.{Object}
+use Rattle.py_bytecode.specs.View.{object}
+use Rattle.py_bytecode.specs.declared.code.CodeObject.{CodeObject}
+use Rattle.py_forms.specs.Form.{Scope}
+use Rattle.py_forms.specs.Agreement.{Agree, AgreeFull}
+use Rattle.py_forms.specs.declared.errors.CodegenErrorType.{CodegenErrorType}
+use Rattle.py_forms.proofs.CodeObjects.{objects_agree}
+use Rattle.py_steps.specs.Everywhere.{Everywhere}
+use Rattle.py_meaning.specs.EmissionMods.{emitted}
+use Rattle.py_meaning.specs.Faults.{faults}
+use Rattle.py_meaning.specs.Meaning.{body}
+use Rattle.py_meaning.specs.Scanned.{scan_faults, scopes_of}
+use Rattle.py_emit.specs.Emitted.{IsEmitted}
+use Rattle.py_adds.proofs.Codes.{MadeFrom}
+use Rattle.py_adds.proofs.WellMade.{WellMade, everywhere_so}
+use Rattle.codegen.specs.Calls.{IsChecked, IsCompiled, IsWhole}
+use Rattle.codegen.specs.Compiled.{HasFewSymbols, IsFirst, IsScanned, around_tree}
+use Rattle.codegen.proofs.Agreeing.{made_from_scope}
+use Rattle.codegen.proofs.Heights.{no_higher}
+use Rattle.codegen.proofs.Made.{few_everywhere}
+use Rattle.codegen.proofs.Firsts.{checked_first, refused_first, emitted_clean}
+
+-- a tree is refused as a whole
+pub refused_whole : (e : LocatedError CodegenErrorType) (r : CodegenErrorType) (t : tree.Mod) (path : List ℕ) (m : Mode) (l : ℕ) → e.error ≡ r → e.location ≡ None → e.source_path ≡ path → IsChecked (Some r) t m → IsCompiled (Err e) t path m l
+refused_whole e r t path m l p q s h = record {
+  agrees = tt;
+  agrees_full = tt;
+  emission = tt;
+  ends = tt;
+  sound = tt;
+  depth = tt;
+  exact = tt;
+  named = tt;
+  located = tt;
+  units = tt;
+  widths = tt;
+  clean = tt;
+  first = checked_first e r t m l p q h;
+  path = s;
+}
+
+on_err : {T E : Type 0} (r : Result T E) (P Q : E → Type 0) → ((x : E) → P x → Q x) → IfErr r P → IfErr r Q
+on_err (Ok x) P Q f p = p
+on_err (Err e) P Q f p = f e p
+
+ok_both : {T E : Type 0} (r : Result T E) (P : T → Type 0) (R Q : Type 0) → ((x : T) → P x → R → Q) → IfOk r P → OnOk r R → OnOk r Q
+ok_both (Ok x) P R Q f p q = f x p q
+ok_both (Err e) P R Q f p q = p
+
+-- what is made from the scope of a tree agrees with it, and so does each code object within it
+agree : (path : List ℕ) (o : Object) (s : Scope) → MadeFrom path (o, s) → Agree o s
+agree path o s h n = (objects_agree n o s (h.from n)).1
+
+agree_full : (path : List ℕ) (o : Object) (s : Scope) → MadeFrom path (o, s) → AgreeFull o s
+agree_full path o s h n = (objects_agree n o s (h.from n)).0
+
+-- a whole tree whose scopes were met, and which was emitted or refused
+module _ (r : Result CodeObject (LocatedError CodegenErrorType)) (t : tree.Mod) (path : List ℕ) (m : Mode) (l : ℕ) (w : IsWhole t m) (e : IfOk r (λ code. IsEmitted code (around_tree t path l) (emitted t m (around_tree t path l)))) (few : OnOk r (HasFewSymbols (scopes_of t))) where
+  abbrev scope : Scope
+  scope = body (scopes_of t) t m l
+
+  -- what holds of a code object that is made from the scope of a tree
+  made_so : (Q : Object → Type 0) → ((o : Object) → MadeFrom path (o, scope) → Q o) → IfOk r (λ code. Q (object code))
+  made_so Q f = go r e few
+    where
+      go : (x : Result CodeObject (LocatedError CodegenErrorType)) → IfOk x (λ code. IsEmitted code (around_tree t path l) (emitted t m (around_tree t path l))) → OnOk x (HasFewSymbols (scopes_of t)) → IfOk x (λ code. Q (object code))
+      go (Ok code) p q = f (object code) (made_from_scope code path m l (scopes_of t) t w.1 (few_everywhere (scopes_of t) q) p)
+      go (Err e) p q = p
+
+  -- and what holds of it and of each code object within it
+  well_so : (Q : Object → Type 0) → ((o : Object) → WellMade path o → Q o) → IfOk r (λ code. Everywhere Q (object code))
+  well_so Q f = made_so (Everywhere Q) (λ o h. everywhere_so (WellMade path) Q f o h.well)
+
+  pub answered : OnOk r (scan_faults t ≡ []) → IfErr r (λ e. IsScanned e t m (around_tree t path l)) → IfErr r (λ e. e.source_path ≡ path) → IsCompiled r t path m l
+  answered clean first named = record {
+    agrees = made_so (λ o. Agree o scope) (λ o h. agree path o scope h);
+    agrees_full = made_so (λ o. AgreeFull o scope) (λ o h. agree_full path o scope h);
+    emission = e;
+    ends = well_so _ (λ o w. w.ends);
+    sound = well_so _ (λ o w. w.sound);
+    depth = well_so _ (λ o w. no_higher o w.sound);
+    exact = well_so _ (λ o w. w.depth);
+    named = well_so _ (λ o w. w.named);
+    located = well_so _ (λ o w. w.located);
+    units = well_so _ (λ o w. w.few);
+    widths = well_so _ (λ o w. w.written);
+    clean = ok_both r (λ code. IsEmitted code (around_tree t path l) (emitted t m (around_tree t path l))) (scan_faults t ≡ []) (faults t m l ≡ []) (λ code e z. emitted_clean code path t m l w z e) e clean;
+    first = on_err r (λ e. IsScanned e t m (around_tree t path l)) (λ e. IsFirst e (faults t m l)) (λ e h. refused_first e t m l path w h) first;
+    path = named;
+  }
