@@ -1,6 +1,6 @@
 """Writes crates/codegen_vectors/stdin and stdout: sources, with the listing of their code or why they are refused.
 
-usage: source_tables.py MODEL_FOLDER
+usage: source_tables.py MODEL_FOLDER PYTHON
 
 MODEL_FOLDER holds a Python model of the compiler (`pyc.py`) and a reader of Python sources (`py2rows.py`).
 Each source below gives one case: a line with its mode, its level and its source, and a line with its rows; in stdout
@@ -8,51 +8,23 @@ what the model writes over the rows stands in their place. Kinds that the model 
 are refused where they stand, as this compiler refuses them.
 The levels 0, 1 and 2 follow one another in each table, unless an entry names its own.
 A source that Python's parser does not read as the tree that is wanted is a pair: what it is called, and its rows.
-The places of what stands in an f-string are those of Python before 3.12.
+The places of what stands in an f-string are those of Python before 3.12, so this runs under an older one; PYTHON is one of
+3.12 or later, which reads the sources that have type parameters.
 """
 import itertools
 import json
 import pathlib
+import subprocess
 import sys
-if len(sys.argv) != 2:
+if len(sys.argv) != 3:
     sys.exit("usage: %s MODEL_FOLDER" % pathlib.Path(sys.argv[0]).name)
 sys.path.insert(0, sys.argv[1])
-import emit
 import pyc
 from py2rows import rows_text, tree_of
 from tree import Node
 from tree import rows_of as rows_of_tree
 
 CRATES = pathlib.Path(__file__).resolve().parent.parent / "crates"
-# What the model compiles, and this compiler refuses where it stands
-NOT_YET = ["s_TypeAlias"]
-
-
-class Emitter(emit.Emitter):
-    """The emitter of the model, for the kinds that this compiler compiles."""
-
-    def futures(self, names):
-        """Looks at no future: its import is refused."""
-
-    def s_ImportFrom(self, node):
-        if node.module == "__future__":
-            self.not_yet(node)
-        super().s_ImportFrom(node)
-
-    def s_FunctionDef(self, node):
-        if node.type_params:
-            self.not_yet(node)
-        super().s_FunctionDef(node)
-
-    def s_ClassDef(self, node):
-        if node.type_params:
-            self.not_yet(node)
-        super().s_ClassDef(node)
-
-
-for refused in NOT_YET:
-    setattr(Emitter, refused, emit.Emitter.not_yet)
-emit.Emitter = Emitter
 
 
 class At:
@@ -66,6 +38,17 @@ class At:
 def at_each(source):
     """A source at each level."""
     return [At(level, source) for level in "012"]
+
+
+def generic(source):
+    """A source with type parameters."""
+    read = "import sys; sys.path.insert(0, sys.argv[1]); from py2rows import rows_text; print(rows_text(sys.argv[2], 'exec'))"
+    return source, subprocess.run([sys.argv[2], "-c", read, sys.argv[1], source], capture_output=True, check=True, text=True).stdout.strip()
+
+
+def generic_at_each(source):
+    """The same at each level."""
+    return [At(level, generic(source)) for level in "012"]
 
 
 def constant(name, rows):
@@ -2314,7 +2297,379 @@ INTERACTIVE = {
 }
 
 
-GROUPS = [CHOICES, DISPLAYS, TARGETS, CONTROL, ORDER, SCOPES, LARGE, FUNCTIONS, COMPREHENSIONS, LEAVING, IMPORTS, CLASSES, INTERACTIVE]
+FUTURES = {
+    "exec": {
+        "HEADS": [
+            *at_each("'a'\nfrom __future__ import annotations\nx: y"),
+            "from __future__ import nested_scopes, generators, division, absolute_import, with_statement, print_function, unicode_literals, generator_stop, annotations",
+            "from __future__ import division\nfrom __future__ import annotations as a, generators\nx: y\nb: c = d",
+            "from .__future__ import annotations\nfrom ..__future__ import division\nx: y",
+            "from __future__ import annotations\nfrom __future__ import annotations\nfrom a import b\nx: y",
+            "from __future__ import annotations\nfrom a import __future__\nimport __future__",
+            "f'a' 'b'\nfrom __future__ import division\nx: y",
+            "from __future__ import division\nx: y\ndef f(a: b) -> c: d: e",
+            importing("__future__", []),
+        ],
+        "TEXTS": [
+            "from __future__ import annotations\nx: a.b[c, 1:2] | None = f(y)",
+            "from __future__ import annotations\n(x): lambda a=1, *b: a\nx[y]: z\nx.y: z = w",
+            "from __future__ import annotations\nx: 'y'\nz: (yield)",
+            "from __future__ import annotations\nif a: x: [b for b in c]\nelse: y: (z := w)\nlambda: x",
+            "from __future__ import annotations\ndef f(a: b, c: (lambda: d) = e, *g: h, i: [j for j in k], **l: m) -> n:\n 'o'\n return lambda: p",
+            "from __future__ import annotations\ndef f(return_: b): x: (lambda: y)\nf(lambda: z)",
+            "from __future__ import annotations\nclass A:\n __x: __y\n def f(self, __a: __b) -> A: pass\n lambda: c",
+            "from __future__ import annotations\ndef f():\n def g(a: {b for b in c}): return a\n x: (d for d in e) = lambda: f\n return g, x",
+            "from __future__ import annotations\n@a\ndef f(b: c = [d for d in e]): return [b for f in b]",
+            "from __future__ import annotations\nwhile a:\n x: await b\n break",
+            "from __future__ import annotations\ndef f(*, a: __debug__): b: (yield) = 1",
+            "from __future__ import annotations\ntry: x: y\nexcept A: z: w\nfinally: v: u",
+        ],
+        "FAULTS": [
+            "from __future__ import a",
+            "from __future__ import annotations, a, b",
+            "from __future__ import *",
+            "from __future__ import a as __debug__",
+            "from __future__ import annotations as __debug__, a",
+            "from __future__ import division as __debug__",
+            "from __future__ import division\nfrom __future__ import a",
+            "pass\nfrom __future__ import division",
+            "x\nfrom __future__ import a",
+            "'a'\n'b'\nfrom __future__ import division",
+            "import a\nfrom .__future__ import *",
+            "from a import b\nfrom __future__ import annotations\nx: y",
+            "if a: from __future__ import division",
+            "try: from __future__ import a\nfinally: pass",
+            "while a:\n from __future__ import division as __debug__\n break",
+            within_function("from __future__ import *"),
+            "class A:\n 'a'\n from __future__ import annotations",
+            "from __future__ import division\ndef f():\n from __future__ import annotations",
+            "from __future__ import annotations\nx: f'a'",
+            "from __future__ import annotations\nx: f'{y}' = 1\nz: f''",
+            "from __future__ import annotations\ndef f(a: b = c) -> f'{d}':\n x\n return y",
+            "from __future__ import annotations\ndef f(a, b: g[f'{c}'], *c: (lambda: f'')): pass",
+            "from __future__ import annotations\ndef f():\n x: f'{y}' = z",
+            "from __future__ import annotations\nclass A:\n x: {f'{y}': 1}\n break",
+            "from __future__ import annotations\nx: y = (yield)",
+        ],
+    },
+    "single": {
+        "AT_A_PROMPT": [
+            entered("from __future__ import annotations"),
+            entered("x\nfrom __future__ import annotations\ny\nfrom __future__ import division\nz\na: b"),
+            entered("from __future__ import annotations\ndef f(a: b) -> c: return lambda: a"),
+            entered("from __future__ import annotations\na: b\nx"),
+            entered("'a'\n'b'\nfrom __future__ import division\nx"),
+            entered("x = 1\nfrom __future__ import division"),
+            entered("x\npass\nfrom __future__ import annotations"),
+            entered("x\nfrom __future__ import a"),
+            entered("from __future__ import annotations\nx: f'{y}'"),
+            entered("f(lambda: x)\nfrom __future__ import annotations\na: [b for b in c]\nlambda: y"),
+        ],
+    },
+    "block": {
+        "IN_A_BLOCK": [
+            entered("from __future__ import annotations"),
+            entered("from __future__ import annotations\nfrom __future__ import division\nx: y\nz"),
+            entered("from __future__ import annotations\ndef f(a: b) -> c: return a"),
+            entered("from __future__ import annotations\nclass A: x: y"),
+            entered("'a'\nfrom __future__ import annotations"),
+            entered("x\nfrom __future__ import annotations\ny"),
+            entered("from __future__ import annotations, a"),
+            entered("from __future__ import annotations\ndef f(a: f''): pass"),
+        ],
+    },
+}
+
+
+TYPE_PARAMETERS = {
+    "exec": {
+        "FUNCTIONS": [
+            generic("def f[T](): pass"),
+            generic("def f[T](x: T = 1): pass"),
+            generic("def f[T](x=1, y=2): pass"),
+            generic("def f[T](*, k=1): pass"),
+            generic("def f[T](a, /, b=1, *c, d, e=2, **g) -> T: return a"),
+            generic("def f[T, U](x: T, y: U) -> T: return y"),
+            generic("def f[T: int](x): return T"),
+            generic("def f[T: (int, str)](x: T): pass"),
+            generic("def f[T: a.b[c], U: g(d, *e, k=h)](): pass"),
+            *generic_at_each("def f[T](x=1):\n 'doc'\n return x"),
+            generic("@a\n@b.c(d)\ndef f[T](x=e): pass"),
+            generic("def f[T]():\n def g(): return T\n return g"),
+            generic("def f[T](x=lambda: y, *, k=[a for a in b]): return T"),
+            generic("def f[T: (lambda: a)](x=lambda: b, *, y=lambda: c): return lambda: T"),
+            generic("def f[T: [a for a in b]](): pass\ndef g(): pass"),
+            generic("def f[T]():\n def g[U](x: T, y: U): return T, U"),
+            generic("def f[T]():\n def g[T](x: T): return T"),
+            generic("def f[f](x: f): return f"),
+            generic("def f[T](T): return T"),
+            generic("def f[T](x=(y := 1)): pass"),
+            generic("def g():\n def f[T](x=(y := 1)): return y\n return y"),
+            generic("def f[T](): yield T"),
+            generic("def f[T](x: T):\n y: T = x\n T = 1"),
+            generic("def g():\n global f\n def f[T](): pass"),
+            generic("def g():\n def f[T](): return f\n def h():\n  nonlocal f\n  f = 1"),
+            generic("def g(x):\n def f[T: x](y=x): return x, T"),
+            generic("def f[T](x: T): return [T for a in x if T]"),
+            generic("def f[T](x: T): return {T: lambda: T}"),
+            generic("while a:\n def f[T](): pass\n break"),
+            generic("try:\n def f[T: a](x=b): pass\nfinally: c"),
+        ],
+        "CLASSES": [
+            generic("class A[T]: x = T"),
+            generic("class A[T]: pass"),
+            generic("class A[T](B): pass"),
+            generic("class A[T](B[T], C, metaclass=D[T]): pass"),
+            generic("class A[T](*b, **c): pass"),
+            generic("class A[T](a, *b, k=T, **c): pass"),
+            *generic_at_each("class A[T]:\n 'doc'\n x: T = 1"),
+            generic("@a\nclass A[T: b]: pass"),
+            generic("class A[T, U: T]: x: U"),
+            generic("class A[T]:\n def f(self, x: T): return T"),
+            generic("class A[T]:\n def f(self): return __class__, super()"),
+            generic("class A[T]:\n def f[U](self, x: T, y: U): return T, U, __class__"),
+            generic("class A:\n def f[T](self, x: T): return __class__"),
+            generic("class A:\n def f[__T](self, x: __T): return __T"),
+            generic("class A[__T]:\n x = __T"),
+            generic("class A:\n class B[__T](__C, __k=__T): y = __T"),
+            generic("class A[T]:\n class B[U]: x = T, U"),
+            generic("def f():\n class A[T]: x = T\n return A"),
+            generic("def f():\n global A\n class A[T]:\n  class B: pass\n  def g(self): pass"),
+            generic("def f(x):\n class A[T: x](x): y = x"),
+            generic("class A[T]: T = T"),
+            generic("class A[A]: x = A"),
+            generic("class A[T](B := C): pass"),
+            generic("class A[T](lambda: T): y = [T for a in b]"),
+        ],
+        "ALIASES": [
+            generic("type X = int"),
+            generic("type X[T] = int"),
+            generic("type X[T] = list[T]"),
+            generic("type X[T: a, U] = {T: U}"),
+            generic("type X = X"),
+            generic("type X[X] = X"),
+            generic("type X = lambda: x"),
+            generic("type X[T] = lambda: T"),
+            generic("type X[T: [a for a in b]] = [T for c in d]"),
+            generic("def f():\n type X[T] = T\n return X"),
+            generic("def f(x):\n type X[T: x] = (x, T)"),
+            generic("def f():\n global X\n type X[T] = T"),
+            generic("class A:\n type X = A\n type __Y[__T] = __T"),
+            generic("class A[T]:\n type X[U] = (T, U)"),
+            generic("type X = a if b else c"),
+            generic("type X[T] = a < b < T"),
+            generic("type X = (y := z)"),
+            *generic_at_each("type X[T: __debug__] = __debug__"),
+        ],
+        "POSTPONED": [
+            generic("from __future__ import annotations\ndef f[T: (lambda: a)](x: T = lambda: b, *, y: [c for c in d] = lambda: e) -> T: return lambda: T"),
+            generic("from __future__ import annotations\nclass A[T]:\n x: T\n def f[U](self, y: __class__) -> U: z: T"),
+            generic("from __future__ import annotations\ntype X[T: (lambda: a)] = lambda: T\nlambda: b"),
+            generic("from __future__ import annotations\nclass A:\n y = 1\n def m[T](self, z: y): pass"),
+            generic("from __future__ import annotations\n@a\ndef f[T: b](x: f'{c}' = d): pass"),
+        ],
+        "FAULTS": [
+            generic("def f[**P](): pass"),
+            generic("def f[*Ts](): pass"),
+            generic("class A[T, *Ts]: pass"),
+            generic("type X[**P] = a"),
+            generic("def f[T, T](): pass"),
+            generic("class A[T, U, T]: pass"),
+            generic("class A:\n def f[__T, _A__T](): pass"),
+            generic("def f[T: (x := 1)](): pass"),
+            generic("class A[T](x := 1): pass"),
+            generic("type X[T] = (x := 1)"),
+            generic("def f[T: (yield)](): pass"),
+            generic("def g():\n type X[T] = (yield a)"),
+            generic("def g():\n class A[T]((yield)): pass"),
+            generic("type X = (yield)"),
+            generic("def g():\n type X = (yield)"),
+            generic("def f[T: await a](): pass"),
+            generic("class A:\n y = 1\n def m[T](self, z: y): pass"),
+            generic("class A:\n y = 1\n def m[T: y](self): pass"),
+            generic("class A:\n y = 1\n type X[T] = y"),
+            generic("class A:\n y = 1\n def m[T](self, z=y): pass"),
+            generic("class A:\n def m[T](self): return __class__\n def n[T: __class__](self): pass"),
+            generic("def f[__debug__](): pass"),
+            generic("def f[T: a, __debug__](): pass"),
+            generic("class A[__debug__]: break"),
+            generic("def f[T](__debug__): break"),
+            generic("def f[T](x=f(__debug__=1)): break"),
+            generic("def f[T: f(__debug__=1)](x=f(*(yield))): pass"),
+            generic("def __debug__[T](x=\n1): pass"),
+            generic("class __debug__[T: a](b): pass"),
+            generic("type __debug__ = a"),
+            generic("type __debug__[T] = a"),
+            generic("type X[__debug__] = __debug__"),
+            generic("def f[T](x: (yield) = 1): pass"),
+            generic("class A[T](f(__debug__=1)): continue"),
+            generic("async def f[T](): pass"),
+            rows_of("type a.b = c", [["Name", 1, 6, "a"], ["Attribute", 1, 6, 0, "b"], ["Name", 1, 12, "c"], ["TypeAlias", 1, 1, 1, [], 2], ["Module", [3]]]),
+            rows_of("type a[b] = await c", [["Name", 1, 6, "a"], ["Name", 1, 8, "b"], ["Subscript", 1, 6, 0, 1], ["Name", 1, 19, "c"], ["Await", 1, 13, 3], ["TypeAlias", 1, 1, 2, [], 4], ["Module", [5]]]),
+        ],
+    },
+}
+
+
+# The calls that take a part of a tree: each answers what `compile_top` does in a mode, for the tree that the part makes
+CALLS = {
+    "compile_program": (
+        "exec",
+        [
+            "'doc'\nx: int = a\nprint(x)",
+            "",
+            "'doc'\ndef f(a):\n 'inner'\n return a",
+            "a = b\nbreak",
+            "def f(a, a): pass",
+            "def f():\n nonlocal x",
+        ],
+    ),
+    "compile_program_single": (
+        "single",
+        [
+            entered("a\nb = c\nd"),
+            entered(""),
+            entered("'text'\nf(b)"),
+            entered("'text'\nassert a, b"),
+            entered("def f(a, a): pass"),
+            entered("f(*c, **d)\nreturn a"),
+        ],
+    ),
+    "compile_block_expression": (
+        "block",
+        [
+            entered("a\nb = c\nd"),
+            entered("def f(a, b=1):\n return a"),
+            entered(""),
+            entered("class A:\n x = 1\n def f(self): return __class__"),
+            entered("global x\nx: a"),
+            entered("x\nyield a"),
+        ],
+    ),
+    "compile_expression": (
+        "eval",
+        [
+            "a if __debug__ else [b for b in c]",
+            "lambda x: (x, __debug__)",
+            "f(*a, b=1)",
+            "(yield a)",
+            "f(__debug__=a)",
+            "lambda a, a: b",
+        ],
+    ),
+}
+
+
+def as_statement(name, *rows):
+    """Rows by hand, under a name, the last of which is an expression that stands in a program."""
+    return as_program(name, *rows, ["Expr", 1, 1, len(rows) - 1])
+
+
+def as_program(name, *rows):
+    """Rows by hand, under a name, the last of which is a statement of a program."""
+    return rows_of(name, [*rows, ["Module", [len(rows) - 1]]])
+
+
+def with_parameters(name, *parameters):
+    """A lambda with these parameters: a name for one without default, and a tuple with a name for one with a default."""
+    rows, places = [["Name", 1, 1, "a"]], []
+    for it in parameters:
+        default = None
+        if isinstance(it, tuple):
+            (it,), default = it, len(rows)
+            rows.append(["Name", 1, 1, "d"])
+        rows += [["Arg", 1, 1, it, None], ["ArgWithDefault", len(rows), default]]
+        places.append(len(rows) - 1)
+    return as_statement(name, *rows, ["Arguments", [], places, None, [], None], ["Lambda", 1, 1, len(rows), 0])
+
+
+NAME = ["Name", 1, 1, "a"]
+
+# Trees that no source has
+SHAPES = {
+    "exec": {
+        "OPERANDS": [
+            as_statement("an `and` of nothing", ["BoolOp", 1, 1, "And", []]),
+            as_statement("an `or` of nothing", ["BoolOp", 1, 1, "Or", []]),
+            as_statement("a comparison without operators", NAME, ["Compare", 1, 1, 0, [], []]),
+            as_statement("a comparison without operators, of a comparand", NAME, NAME, ["Compare", 1, 1, 0, [], [1]]),
+            as_program("an assignment to nothing", NAME, ["Assign", 1, 1, [], 0]),
+            as_statement("a list comprehension without clauses", NAME, ["ListComp", 1, 1, 0, []]),
+            as_statement("a set comprehension without clauses", NAME, ["SetComp", 1, 1, 0, []]),
+            as_statement("a dict comprehension without clauses", NAME, NAME, ["DictComp", 1, 1, 0, 1, []]),
+            as_statement("a generator expression without clauses", NAME, ["GeneratorExp", 1, 1, 0, []]),
+        ],
+        "LISTS": [
+            as_statement("a comparison of too few", NAME, ["Compare", 1, 1, 0, ["Lt"], []]),
+            as_statement("a comparison of too many", NAME, NAME, NAME, ["Compare", 1, 1, 0, ["Lt"], [1, 2]]),
+            as_statement("a dict of more keys than values", NAME, ["Dict", 1, 1, [0], []]),
+            as_statement("a dict of more values than keys", NAME, ["Dict", 1, 1, [], [0]]),
+            as_statement("a dict that unpacks nothing", ["Dict", 1, 1, [None], []]),
+        ],
+        "NAMES": [
+            as_program("a cause alone", NAME, ["Raise", 1, 1, None, 0]),
+            as_program("a handler that names no type", ["Pass", 1, 1], ["Pass", 2, 1], ["ExceptHandler", None, "e", [1]], ["Try", 1, 1, [0], [2], [], []]),
+            as_statement("an empty name", ["Name", 1, 1, ""]),
+            as_statement("a name with a dot", ["Name", 1, 1, "a.b"]),
+            as_statement("an attribute without a name", NAME, ["Attribute", 1, 1, 0, ""]),
+            as_statement("an attribute with a dot", NAME, ["Attribute", 1, 1, 0, "b.c"]),
+            as_program("a global without a name", ["Global", 1, 1, ["a", ""]]),
+            as_program("an import of a path with an empty part", ["Alias", "a..b", None], ["Import", 1, 1, [0]]),
+            as_program("an import as a path", ["Alias", "a.b", "c.d"], ["Import", 1, 1, [0]]),
+            as_program("an import of a path from a module", ["Alias", "a.b", None], ["ImportFrom", 1, 1, "m", [0], 0]),
+            as_program("an import from a path with an empty part", ["Alias", "a", None], ["ImportFrom", 1, 1, "m.", [0], 0]),
+        ],
+        "PARAMETERS": [
+            with_parameters("two parameters of one name", "x", "x"),
+            with_parameters("two parameters of one name behind another", "y", "x", ("x",)),
+            with_parameters("a default before none", ("x",), "y"),
+            with_parameters("two parameters of one name, with a default before none", ("x",), "x"),
+            as_program(
+                "two parameters of one name in a class",
+                NAME, ["Arg", 1, 1, "__x", None], ["ArgWithDefault", 1, None], ["Arg", 1, 1, "_A__x", None], ["ArgWithDefault", 3, None],
+                ["Arguments", [], [2, 4], None, [], None], ["Lambda", 1, 1, 5, 0], ["Expr", 1, 1, 6], ["ClassDef", 1, 1, "A", [], [], [7], [], []],
+            ),
+            as_statement(
+                "two parameters of one name, one of which takes what is left",
+                NAME, ["Arg", 1, 1, "x", None], ["ArgWithDefault", 1, None], ["Arg", 1, 1, "x", None], ["Arguments", [2], [], 3, [], None], ["Lambda", 1, 1, 4, 0],
+            ),
+            as_statement(
+                "keyword parameters, a default before none",
+                NAME, ["Name", 1, 1, "d"], ["Arg", 1, 1, "x", None], ["ArgWithDefault", 2, 1], ["Arg", 1, 1, "y", None], ["ArgWithDefault", 4, None],
+                ["Arguments", [], [], None, [3, 5], None], ["Lambda", 1, 1, 6, 0],
+            ),
+        ],
+        "SEVERAL": [
+            as_statement("a comparison without operators, within a dict of uneven lists", NAME, ["Compare", 1, 1, 0, [], []], ["Dict", 1, 1, [1], []]),
+            as_statement("a dict of uneven lists, in a comparison of too few", ["Dict", 1, 1, [None], []], ["Compare", 1, 1, 0, ["Lt"], []]),
+            as_program("a name with a dot before an empty one", ["Name", 1, 1, "a.b"], ["Name", 1, 1, ""], ["Assign", 1, 1, [0], 1]),
+            as_program("an empty name in a test before a break", ["Name", 1, 1, ""], ["Break", 1, 1], ["If", 1, 1, 0, [1], []]),
+            rows_of("a break before an empty name", [["Break", 1, 1], ["Name", 2, 1, ""], ["Expr", 2, 1, 1], ["Module", [0, 2]]]),
+        ],
+        "MODES": [
+            rows_of("a statement at a prompt", [["Pass", 1, 1], ["Interactive", [0]]]),
+            rows_of("the type of a function", [NAME, ["FunctionType", [], 0]]),
+        ],
+    },
+    "eval": {
+        "MODES": [rows_of("a statement at a prompt", [["Pass", 1, 1], ["Interactive", [0]]])],
+    },
+    "single": {
+        "MODES": [
+            rows_of("the type of a function", [NAME, ["FunctionType", [], 0]]),
+            rows_of("an empty name at a prompt", [["Name", 1, 1, ""], ["Expr", 1, 1, 0], ["Interactive", [1]]]),
+        ],
+    },
+    "block": {
+        "MODES": [
+            rows_of("the type of a function", [NAME, ["FunctionType", [], 0]]),
+            rows_of("an `and` of nothing in a block", [["BoolOp", 1, 1, "And", []], ["Expr", 1, 1, 0], ["Interactive", [1]]]),
+        ],
+    },
+}
+
+
+GROUPS = [CHOICES, DISPLAYS, TARGETS, CONTROL, ORDER, SCOPES, LARGE, FUNCTIONS, COMPREHENSIONS, LEAVING, IMPORTS, CLASSES, INTERACTIVE, FUTURES, TYPE_PARAMETERS, SHAPES]
 
 
 def escaped(source):
@@ -2344,6 +2699,14 @@ def cases(groups):
                     yield case(source, mode, "012"[i % 3])
 
 
+def call_cases(calls):
+    """The cases of the calls that take a part of a tree, with the call in the place of the mode."""
+    for name, (mode, sources) in calls.items():
+        for i, source in enumerate(sources):
+            head, rows, answer = case(source, mode, "012"[i % 3])
+            yield name + head[len(mode) :], rows, answer
+
+
 def write(crate, answered):
     """Writes the input of a crate's program, and what it is to write."""
     answered = list(answered)
@@ -2354,4 +2717,4 @@ def write(crate, answered):
 
 
 if __name__ == "__main__":
-    write("codegen_vectors", cases(GROUPS))
+    write("codegen_vectors", [*cases(GROUPS), *call_cases(CALLS)])

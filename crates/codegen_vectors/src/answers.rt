@@ -1,11 +1,14 @@
 //! What is written of a case.
 
 use codegen::CompileOpts;
-use codegen::compile::compile_top;
+use codegen::compile::{
+    compile_block_expression, compile_expression, compile_program, compile_program_single,
+    compile_top,
+};
 use codegen::error::CodegenError;
-use py_bytecode::listing;
+use py_bytecode::{CodeObject, listing};
 use py_rows::read_rows;
-use py_tree::{Mode, Text};
+use py_tree::{Mod, Mode, Text};
 use std::alloc::{AllocError, Global};
 
 /// The path of each program.
@@ -21,25 +24,63 @@ pub fn refusal_line(alloc: Global, error: &CodegenError) -> Result<String, Alloc
     }
 }
 
-/// The mode that is the first word, and the level that is the second.
-fn ways_of(head: &str) -> (Mode, CompileOpts) {
+/// The call that a case is for.
+#[derive(Clone, Copy)]
+enum Call {
+    Top(Mode),
+    Program,
+    ProgramSingle,
+    BlockExpression,
+    Expression,
+}
+
+/// The call that is the first word, or its mode, and the level that is the second.
+fn ways_of(head: &str) -> (Call, CompileOpts) {
     let mut words = head.split(' ');
-    let mode = match words.next() {
-        Some("eval") => Mode::Eval,
-        Some("single") => Mode::Single,
-        Some("block") => Mode::BlockExpr,
-        _ => Mode::Exec,
+    let call = match words.next() {
+        Some("eval") => Call::Top(Mode::Eval),
+        Some("single") => Call::Top(Mode::Single),
+        Some("block") => Call::Top(Mode::BlockExpr),
+        Some("compile_program") => Call::Program,
+        Some("compile_program_single") => Call::ProgramSingle,
+        Some("compile_block_expression") => Call::BlockExpression,
+        Some("compile_expression") => Call::Expression,
+        _ => Call::Top(Mode::Exec),
     };
     let optimize = match words.next() {
         Some("1") => 1,
         Some("2") => 2,
         _ => 0,
     };
-    (mode, CompileOpts { optimize })
+    (call, CompileOpts { optimize })
+}
+
+/// What the call answers for the tree. One that takes a part of a tree is handed that of a tree of its form.
+fn called(
+    alloc: Global,
+    call: Call,
+    tree: &Mod,
+    source_path: Text,
+    opts: CompileOpts,
+) -> Result<CodeObject, CodegenError> {
+    match (call, tree) {
+        (Call::Program, Mod::Module(m)) => compile_program(alloc, &m.body, source_path, opts),
+        (Call::ProgramSingle, Mod::Interactive(m)) => {
+            compile_program_single(alloc, &m.body, source_path, opts)
+        }
+        (Call::BlockExpression, Mod::Interactive(m)) => {
+            compile_block_expression(alloc, &m.body, source_path, opts)
+        }
+        (Call::Expression, Mod::Expression(m)) => {
+            compile_expression(alloc, &m.body, source_path, opts)
+        }
+        (Call::Top(mode), tree) => compile_top(alloc, tree, source_path, mode, opts),
+        (_, tree) => compile_top(alloc, tree, source_path, Mode::Exec, opts),
+    }
 }
 
 /// The listing of the code of the tree whose rows these are, or the line that says why there is none. The first two words
-/// of the head are the mode and the level.
+/// of the head are the mode, or the name of another call than `compile_top`, and the level.
 pub fn answer(alloc: Global, head: &str, rows: &str) -> Result<String, AllocError> {
     if rows.len() >= 1 << 26 {
         return String::from_str(alloc, "input: too long\n");
@@ -48,8 +89,8 @@ pub fn answer(alloc: Global, head: &str, rows: &str) -> Result<String, AllocErro
         Ok(tree) => tree,
         Err(error) => return format!(in alloc; "input: {error}\n"),
     };
-    let (mode, opts) = ways_of(head);
-    match compile_top(alloc, &tree, path(alloc)?, mode, opts) {
+    let (call, opts) = ways_of(head);
+    match called(alloc, call, &tree, path(alloc)?, opts) {
         Ok(code) => listing(alloc, &code),
         Err(error) => refusal_line(alloc, &error),
     }
