@@ -1,6 +1,7 @@
 pub mod Table
 pub mod Operands
 pub mod Objects
+pub mod Nesting
 pub mod View
 pub mod Equality
 pub mod Values

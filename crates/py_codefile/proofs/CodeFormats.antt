@@ -5,7 +5,7 @@ use Rattle.std.specs.List.{flat_map, AllByRecursion}
 use Rattle.std.proofs.lemmas.List.Concat.{flat_map-cons}
 use Rattle.py_bytecode.specs.Objects as obj
 use Rattle.py_bytecode.specs.Objects.{Head, Const, Consts, Object, consts_of, listed}
-use Rattle.py_codefile.specs.Limits.{const_nesting, consts_nesting, nesting}
+use Rattle.py_bytecode.specs.Nesting.{const_nesting, consts_nesting, nesting}
 use Rattle.py_codefile.specs.Fits.{AreConsts, AreNames, AreCells, IsConst, IsFlags, IsLine, IsList, IsLocation, IsNumber, IsObject, IsText, IsUnit}
 use Rattle.py_codefile.specs.Spelling.{cells_spelling, const_spelling, consts_spelling, heading_spelling, line_spelling, list_spelling, location_spelling, names_spelling, object_spelling, tables_spelling, text_spelling, unit_spelling}
 use Rattle.py_codefile.specs.Places.{both}

@@ -6,7 +6,7 @@ use Rattle.py_bytecode.specs.Objects.{Const, Consts, Object, consts_of, listed}
 use Rattle.py_codefile.specs.declared.tags.Tag.{Tag}
 use Rattle.py_codefile.specs.declared.tags.Tag.TheVariants as tag
 use Rattle.py_codefile.specs.Tags.{tag_number}
-use Rattle.py_codefile.specs.Limits.{consts_nesting}
+use Rattle.py_bytecode.specs.Nesting.{consts_nesting}
 use Rattle.py_codefile.specs.Spelling.{byte_spelling, const_spelling, list_spelling, object_spelling, signed_spelling, text_spelling}
 use Rattle.py_codefile.specs.Places.{Place, Read, Reading, seen}
 use Rattle.py_codefile.specs.Reading.{after_tag, constant_at, constant_with, inner_code_at, tag_at, tuple_at, within}

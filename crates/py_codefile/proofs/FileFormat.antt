@@ -9,7 +9,7 @@ use Rattle.py_bytecode.specs.Objects.{Object}
 use Rattle.py_bytecode.specs.View.{object}
 use Rattle.py_codefile.specs.declared.error.ReadCodeError.{ReadCodeError}
 use Rattle.py_codefile.specs.declared.error.ReadCodeError.TheVariants.{Magic, Trailing}
-use Rattle.py_codefile.specs.Limits.{nesting}
+use Rattle.py_bytecode.specs.Nesting.{nesting}
 use Rattle.py_codefile.specs.Grammar.{Spells}
 use Rattle.py_codefile.specs.Spelling.{magic, object_spelling, spelling}
 use Rattle.py_codefile.specs.Places.{Place, ◌>>=◌, Gives}

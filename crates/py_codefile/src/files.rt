@@ -4,7 +4,8 @@ ghost use Rattle.std.specs.Result.{IsErrOf};
 ghost use Rattle.py_bytecode.specs.Objects.{Object};
 ghost use Rattle.py_bytecode.specs.View.{object};
 ghost use Rattle.py_codefile.specs.Grammar.{Spells};
-ghost use Rattle.py_codefile.specs.Limits.{longest, nesting};
+ghost use Rattle.py_bytecode.specs.Nesting.{nesting};
+ghost use Rattle.py_codefile.specs.Limits.{longest};
 ghost use Rattle.py_codefile.specs.Places.{Gives};
 ghost use Rattle.py_codefile.specs.Reading.{file_at, magic_at};
 

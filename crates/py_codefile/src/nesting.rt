@@ -1,7 +1,7 @@
 //! How deep codes and tuples nest.
 ghost use Rattle.std.specs.Prelude.{◌≡◌, nat_le};
 ghost use Rattle.py_bytecode.specs.View.{constant, constants_of, object};
-ghost use Rattle.py_codefile.specs.Limits.{const_nesting, consts_nesting, nesting};
+ghost use Rattle.py_bytecode.specs.Nesting.{const_nesting, consts_nesting, nesting};
 
 use py_bytecode::{CodeObject, ConstantData};
 
