@@ -3,7 +3,6 @@ ghost use Rattle.std.specs.Prelude.{◌≡◌, ◌≤◌, drop, length, IfOk};
 ghost use Rattle.py_tree.specs.View.{stmt_tree, stmts};
 ghost use Rattle.py_steps.specs.Emitting.{◌▸◌, by_level, emit_constant};
 ghost use Rattle.py_meaning.specs.EmissionStmts.{emission_of_stmts};
-ghost use Rattle.py_meaning.specs.EmissionDefs.{emission_of_setup};
 ghost use Rattle.py_meaning.specs.EmissionFutures.{emission_behind};
 ghost use Rattle.py_meaning.specs.EmissionMods.{emission_of_doc, emission_of_interactive, emission_of_program};
 ghost use Rattle.py_bytecode.specs.Objects.{none};
@@ -11,10 +10,11 @@ ghost use Rattle.py_emission.specs.Texts.{after_doc, doc_of};
 ghost use Rattle.py_emit.specs.States.{AreMade, Goes, Same, rest, state};
 
 use py_bytecode::{ConstantData, Instruction};
-use py_emit::{Emitter, emit, refuse};
+use py_emit::{Emitter, refuse};
 use py_forms::{CodegenError, CodegenErrorType};
 use py_stmt::{
-    compile_file, compile_prompt, compile_whole_block, find_ann, split_doc, statements_from,
+    compile_file, compile_prompt, compile_whole_block, emit_setup, find_ann, split_doc,
+    statements_from,
 };
 use py_tree::{Expr, Mode, Stmt, Stmts, Text};
 
@@ -82,17 +82,6 @@ fn store_doc(em: &mut Emitter, doc: Option<Text>) -> Result<(), CodegenError>
         }
         None => Ok(()),
     }
-}
-
-/// Emits the instruction that makes room for annotations, where there are any.
-fn emit_setup(em: &mut Emitter, annotated: bool) -> Result<(), CodegenError>
-    ensures goes { Goes result (state em.new) (emission_of_setup annotated (state em.old)) }
-    ensures same { Same result (rest em.new) (rest em.old) }
-{
-    if annotated {
-        emit!(em, Instruction::SetupAnnotation);
-    }
-    Ok(())
 }
 
 /// Emits what is entered at a prompt, or a file whose last value is given. In the other modes there is no such tree.

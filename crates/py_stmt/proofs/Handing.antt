@@ -6,6 +6,7 @@ use Rattle.py_tree.specs.View.{expr_tree, opt_box, type_params}
 use Rattle.py_tree.specs.declared.statements.Stmt.{Stmt}
 use Rattle.py_tree.specs.declared.statements.StmtFunctionDefOf.{StmtFunctionDefOf}
 use Rattle.py_tree.specs.declared.statements.TypeParam.{TypeParam}
+use Rattle.py_uses.specs.Parts.{has_default}
 use Rattle.py_bytecode.specs.declared.instruction.Instruction.TheVariants as op
 use Rattle.py_steps.specs.Children.{flags_of_defaults, some_flag}
 use Rattle.py_steps.specs.Emitting.{Emission, ◌▸◌, emit_count, emit_varname}
@@ -16,21 +17,21 @@ use Rattle.py_emit.proofs.Joined.{joined}
 use Rattle.py_expr.specs.declared.functions.Defaults.{Defaults}
 use Rattle.py_expr.specs.Functions.{flag_if}
 use Rattle.py_stmt.specs.Functions.{body_emission, body_of, def_emission, generic_emission, hidden_function, params_of}
-use Rattle.py_stmt.specs.Generics.{defaults_of, given_flags, handed_by, hidden_called, hidden_made, name_if, params_flag, some_default, some_params}
+use Rattle.py_stmt.specs.Generics.{defaults_of, given_flags, handed_by, hidden_called, hidden_made, name_if, params_flag, some_params}
 
 -- the name of a hidden scope, as it is written
 pub name_within : (xs name ys : List ℕ) → (xs ++ name) ++ ys ≡ xs ++ (name ++ ys)
 name_within xs name ys = append_assoc xs name ys
 
 -- whether positional parameters have a default
-some_positional : (name : List ℕ) (xs ys : tree.Args) → some_name name (positional_emissions xs ++ positional_emissions ys) ≡ name_if name (some_default xs || some_default ys)
+some_positional : (name : List ℕ) (xs ys : tree.Args) → some_name name (positional_emissions xs ++ positional_emissions ys) ≡ name_if name (has_default xs || has_default ys)
 some_positional name tree.no_args tree.no_args = refl
 some_positional name tree.no_args (tree.more_args a tree.no_expr ys) = some_positional name tree.no_args ys
 some_positional name tree.no_args (tree.more_args a (tree.some_expr e) ys) = refl
 some_positional name (tree.more_args a tree.no_expr xs) ys = some_positional name xs ys
 some_positional name (tree.more_args a (tree.some_expr e) xs) ys = refl
 
-positional_flag : (flag : ℕ) (xs ys : tree.Args) → some_flag flag (positional_emissions xs ++ positional_emissions ys) ≡ flag_if flag (some_default xs || some_default ys)
+positional_flag : (flag : ℕ) (xs ys : tree.Args) → some_flag flag (positional_emissions xs ++ positional_emissions ys) ≡ flag_if flag (has_default xs || has_default ys)
 positional_flag flag tree.no_args tree.no_args = refl
 positional_flag flag tree.no_args (tree.more_args a tree.no_expr ys) = positional_flag flag tree.no_args ys
 positional_flag flag tree.no_args (tree.more_args a (tree.some_expr e) ys) = refl
@@ -38,12 +39,12 @@ positional_flag flag (tree.more_args a tree.no_expr xs) ys = positional_flag fla
 positional_flag flag (tree.more_args a (tree.some_expr e) xs) ys = refl
 
 -- whether keyword-only ones have
-some_keyword : (name : List ℕ) (xs : tree.Args) → some_name name (keyword_only_emissions xs) ≡ name_if name (some_default xs)
+some_keyword : (name : List ℕ) (xs : tree.Args) → some_name name (keyword_only_emissions xs) ≡ name_if name (has_default xs)
 some_keyword name tree.no_args = refl
 some_keyword name (tree.more_args a tree.no_expr xs) = some_keyword name xs
 some_keyword name (tree.more_args (tree.arg at x note) (tree.some_expr e) xs) = refl
 
-keyword_flag : (flag : ℕ) (xs : tree.Args) → some_flag flag (keyword_only_emissions xs) ≡ flag_if flag (some_default xs)
+keyword_flag : (flag : ℕ) (xs : tree.Args) → some_flag flag (keyword_only_emissions xs) ≡ flag_if flag (has_default xs)
 keyword_flag flag tree.no_args = refl
 keyword_flag flag (tree.more_args a tree.no_expr xs) = keyword_flag flag xs
 keyword_flag flag (tree.more_args (tree.arg at x note) (tree.some_expr e) xs) = refl
@@ -52,12 +53,12 @@ keyword_flag flag (tree.more_args (tree.arg at x note) (tree.some_expr e) xs) = 
 pub handed_is : (p : tree.Arguments) → handed (default_emissions p).positional (default_emissions p).keyword ≡ handed_by (defaults_of p)
 handed_is (tree.arguments posonly args vararg kwonly kwarg) =
     ap (λ xs. xs ++ some_name (codes ".kwdefaults") (keyword_only_emissions kwonly)) (some_positional (codes ".defaults") posonly args)
-    ∙ ap (λ xs. name_if (codes ".defaults") (some_default posonly || some_default args) ++ xs) (some_keyword (codes ".kwdefaults") kwonly)
+    ∙ ap (λ xs. name_if (codes ".defaults") (has_default posonly || has_default args) ++ xs) (some_keyword (codes ".kwdefaults") kwonly)
 
 flags_are : (p : tree.Arguments) → flags_of_defaults (default_emissions p) ≡ flag_if 0x08 (defaults_of p).positional + flag_if 0x04 (defaults_of p).keyword
 flags_are (tree.arguments posonly args vararg kwonly kwarg) =
     ap (λ n. n + some_flag 0x04 (keyword_only_emissions kwonly)) (positional_flag 0x08 posonly args)
-    ∙ ap (λ n. flag_if 0x08 (some_default posonly || some_default args) + n) (keyword_flag 0x04 kwonly)
+    ∙ ap (λ n. flag_if 0x08 (has_default posonly || has_default args) + n) (keyword_flag 0x04 kwonly)
 
 -- the loads of two lists of names
 load_both : (xs ys : List (List ℕ)) → load_handed (xs ++ ys) ≡ load_handed xs ▸ load_handed ys

@@ -1,6 +1,7 @@
 -- What is emitted of type parameters and of hidden scopes, by which defaults there are.
 use Rattle.std.specs.Prelude.{ℕ, ◌+◌, List, [], ◌∷◌, ◌++◌, length, Bool, true, false, ◌||◌, codes}
 use Rattle.py_tree.specs.Tree as tree
+use Rattle.py_uses.specs.Parts.{has_default}
 use Rattle.py_bytecode.specs.declared.instruction.Instruction.TheVariants as op
 use Rattle.py_bytecode.specs.Objects.{Object}
 use Rattle.py_steps.specs.Children.{child, emission_of_defaults, made}
@@ -11,19 +12,9 @@ use Rattle.py_meaning.specs.EmissionDefs.{emission_of_params}
 use Rattle.py_expr.specs.declared.functions.Defaults.{Defaults}
 use Rattle.py_expr.specs.Functions.{flag_if}
 
--- there is a default
-abbrev pub is_given : tree.OptExpr → Bool
-is_given tree.no_expr = false
-is_given (tree.some_expr e) = true
-
--- some parameter has one
-abbrev pub some_default : tree.Args → Bool
-some_default tree.no_args = false
-some_default (tree.more_args a default rest) = is_given default || some_default rest
-
 -- which defaults parameters have
 abbrev pub defaults_of : tree.Arguments → Defaults
-defaults_of (tree.arguments posonly args vararg kwonly kwarg) = record { positional = some_default posonly || some_default args; keyword = some_default kwonly }
+defaults_of (tree.arguments posonly args vararg kwonly kwarg) = record { positional = has_default posonly || has_default args; keyword = has_default kwonly }
 
 -- a name, where it is handed
 abbrev pub name_if : (name : List ℕ) → Bool → List (List ℕ)

@@ -1,9 +1,14 @@
-//! Annotated assignments.
+//! Annotated assignments, and the room for what they annotate.
 ghost use Rattle.std.specs.Prelude.{◌≡◌, ◌≤◌, drop, length};
 ghost use Rattle.py_tree.specs.View.{stmt_tree, stmts};
+ghost use Rattle.py_meaning.specs.EmissionDefs.{emission_of_setup};
 ghost use Rattle.py_meaning.specs.StmtParts.{annotated, annotates};
+ghost use Rattle.py_emit.specs.States.{Goes, Same, rest, state};
 
 use crate::docs::statements_from;
+use py_bytecode::Instruction;
+use py_emit::{Emitter, emit};
+use py_forms::CodegenError;
 use py_tree::{Stmt, Stmts};
 
 /// Whether an annotated assignment stands among the statements of a body from a place on, or in those within them that are
@@ -13,6 +18,20 @@ pub fn find_ann(body: &Stmts, from: usize) -> bool
     ensures { result ≡ annotated (stmts stmt_tree (drop from body.now)) }
 {
     has_annotation(statements_from(body, from))
+}
+
+/// Emits the instruction that makes room for annotations, where there are any.
+///
+/// # Errors
+/// OutOfMemory.
+pub fn emit_setup(em: &mut Emitter, annotated: bool) -> Result<(), CodegenError>
+    ensures goes { Goes result (state em.new) (emission_of_setup annotated (state em.old)) }
+    ensures same { Same result (rest em.new) (rest em.old) }
+{
+    if annotated {
+        emit!(em, Instruction::SetupAnnotation);
+    }
+    Ok(())
 }
 
 /// Whether an annotated assignment stands among these statements.

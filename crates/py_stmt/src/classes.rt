@@ -9,14 +9,13 @@ ghost use Rattle.py_steps.specs.Emitting.{begun, by_level};
 ghost use Rattle.py_steps.specs.EmissionParts.{values};
 ghost use Rattle.py_emission.specs.Emission.{all_emissions};
 ghost use Rattle.py_emission.specs.Texts.{after_doc, doc_of};
-ghost use Rattle.py_meaning.specs.EmissionDefs.{emission_of_setup};
 ghost use Rattle.py_meaning.specs.EmissionStmts.{emission_of_stmt};
 ghost use Rattle.py_emit.specs.States.{AreMade, Goes, IsStarved, Same, entered, entered_rest, rest, state};
 ghost use Rattle.py_expr.specs.Functions.{Gives};
 ghost use Rattle.py_stmt.specs.Classes.{builder_called, built_emission, cell_kept, cells_kept, class_emission, class_params, copied, function_emission, generic_emission, own_emission, own_scope, part_emission, placed, stored_as};
 ghost use Rattle.py_stmt.specs.Generics.{hidden_made, hidden_scope, returned};
 
-use crate::annotations::find_ann;
+use crate::annotations::{emit_setup, find_ann};
 use crate::docs::split_doc;
 use crate::functions::{call_decorators, compile_rest};
 use crate::generics::{compile_some_params, enter_hidden, load_text, make_hidden, params_flag};
@@ -309,17 +308,6 @@ fn doc_constant(doc: Option<Text>) -> ConstantData
         Some(value) => ConstantData::Str { value },
         None => ConstantData::None,
     }
-}
-
-/// Emits the instruction that makes room for annotations, where there are any.
-fn emit_setup(em: &mut Emitter, annotated: bool) -> Result<(), CodegenError>
-    ensures goes { Goes result (state em.new) (emission_of_setup annotated (state em.old)) }
-    ensures same { Same result (rest em.new) (rest em.old) }
-{
-    if annotated {
-        emit!(em, Instruction::SetupAnnotation);
-    }
-    Ok(())
 }
 
 /// Emits the end of a class: where methods use `super` or `__class__` their cell is kept under `__classcell__` and

@@ -1,7 +1,7 @@
 //! Imports from the future, which stand before all other statements.
 ghost use Rattle.std.specs.Prelude.{◌≡◌, ◌≤◌, ◌<◌, ◌+◌, Some, false, None, [], ◌∷◌, drop, get_or, length, IfErr, IfNone, IfOk, IfSome, if◌then◌else◌};
 ghost use Rattle.py_tree.specs.View.{expr_tree, stmt_tree, stmts};
-ghost use Rattle.py_uses.specs.Parts.{is_annotations, names_annotations};
+ghost use Rattle.py_uses.specs.Parts.{names_annotations};
 ghost use Rattle.py_steps.specs.Emitting.{◌▸◌, emit as emitting};
 ghost use Rattle.py_emission.specs.Emission.{emission};
 ghost use Rattle.py_meaning.specs.EmissionFutures.{check_features, emission_behind, emission_of_future};
@@ -11,13 +11,14 @@ ghost use Rattle.py_meaning.specs.Futures.{future_of, is_feature};
 ghost use Rattle.py_emit.specs.States.{AreMade, Goes, Same, postponed_rest, rest, state};
 ghost use Rattle.py_stmt.specs.Futures.{AreChanged, Begins, Entered, IsRefusing, NoBegin, NoFuture, Opens, Prompts, begin_emission, begin_postpones, begins, changed_rest, followers, future, restored_state};
 
-use crate::imports::{import_from, is_future};
+use crate::imports::import_from;
 use crate::interactive::{compile_block, compile_single, print_value};
 use crate::statements::compile_statements;
 use py_bytecode::Instruction;
 use py_emit::{Emitter, refuse};
 use py_forms::{CodegenError, CodegenErrorType};
 use py_tree::{Alias, Stmt, StmtExpr, StmtImportFrom};
+use py_uses::names::{is_future, names_annotations};
 
 /// Where the statements begin that stand behind future imports, and whether one of these postpones annotations.
 #[derive(Clone, Copy)]
@@ -271,22 +272,4 @@ fn is_feature(name: &str) -> bool
             | "generator_stop"
             | "annotations"
     )
-}
-
-/// Whether annotations are among these names.
-fn names_annotations(names: &[Alias]) -> bool
-    ensures { result ≡ names_annotations names.now }
-{
-    for alias in names {
-        if is_annotations(alias) {
-            return true;
-        }
-    }
-    false
-}
-
-fn is_annotations(alias: &Alias) -> bool
-    ensures { result ≡ is_annotations alias.now }
-{
-    alias.name.as_str() == "annotations"
 }

@@ -1,7 +1,7 @@
 //! Type parameters (PEP 695; language reference, "Type parameter lists"): each is kept under its name in a hidden scope
 //! around what is generic, which is called at once.
 ghost use Rattle.std.specs.Prelude.{◌≡◌, ◌+◌, length, suc, IfErr, IfOk, OnOk};
-ghost use Rattle.py_tree.specs.View.{args, arguments, expr_tree, opt_box, type_param_tree, type_params as param_trees, type_var_tree};
+ghost use Rattle.py_tree.specs.View.{arguments, expr_tree, type_param_tree, type_params as param_trees, type_var_tree};
 ghost use Rattle.py_bytecode.specs.Objects.{str};
 ghost use Rattle.py_bytecode.specs.View.{object};
 ghost use Rattle.py_steps.specs.Children.{code_head, made};
@@ -12,7 +12,7 @@ ghost use Rattle.py_emission.specs.Emission.{emission};
 ghost use Rattle.py_meaning.specs.EmissionDefs.{emission_of_param, emission_of_params, param_emissions};
 ghost use Rattle.py_emit.specs.States.{Goes, IsStarved, Same, entered, entered_rest, rest, state};
 ghost use Rattle.py_expr.specs.Functions.{flag_if};
-ghost use Rattle.py_stmt.specs.Generics.{defaults_of, given_flags, handed_by, hidden_called, is_given, name_if, params_flag, some_default, some_params};
+ghost use Rattle.py_stmt.specs.Generics.{defaults_of, given_flags, handed_by, hidden_called, name_if, params_flag, some_params};
 
 use bitflags::Flags;
 use py_bytecode::{CodeFlags, CodeObject, ConstantData, Instruction, MakeFunctionFlags};
@@ -20,7 +20,8 @@ use py_emit::{Emitter, NameUsage, Naming, ScopeHead, emit};
 use py_expr::{Defaults, compile_defaults, compile_expression, refuse_unbuilt};
 use py_forms::{CodegenError, CodegenErrorType};
 use py_scope::SymbolTableType;
-use py_tree::{ArgWithDefault, Arguments, Expr, Text, TypeParam, TypeParamTypeVar};
+use py_tree::{Arguments, Expr, Text, TypeParam, TypeParamTypeVar};
+use py_uses::type_params::has_default;
 use std::alloc::{AllocError, Global};
 
 /// Emits the tuple of type parameters.
@@ -142,28 +143,6 @@ pub(crate) fn given_defaults(params: &Arguments) -> Defaults
         positional: has_default(params.posonlyargs.as_slice())
             || has_default(params.args.as_slice()),
         keyword: has_default(params.kwonlyargs.as_slice()),
-    }
-}
-
-/// Whether some parameter has a default.
-fn has_default(items: &[ArgWithDefault]) -> bool
-    ensures { result ≡ some_default (args expr_tree items.now) }
-{
-    for item in items {
-        if is_given(&item.default) {
-            return true;
-        }
-    }
-    false
-}
-
-/// Whether there is a default.
-fn is_given(default: &Option<Box<Expr>>) -> bool
-    ensures { result ≡ is_given (opt_box expr_tree default.now) }
-{
-    match default {
-        Some(_) => true,
-        None => false,
     }
 }
 

@@ -7,7 +7,7 @@ ghost use Rattle.py_steps.specs.Accesses.{emission_of_stored};
 ghost use Rattle.py_steps.specs.Emitting.{◌▸◌, emit as emitting, emit_constant};
 ghost use Rattle.py_meaning.specs.EmissionImports.{emission_of_alias, emission_of_attributes, emission_of_from, emission_of_import, emission_of_imported, emission_of_module, emission_of_names, emission_of_star, emission_of_taken};
 ghost use Rattle.py_meaning.specs.EmissionStmts.{emission_of_import_from, emission_of_stmt};
-ghost use Rattle.py_meaning.specs.Imports.{asked, asked_all, from_future, further_segments, is_star, package_name, taken_name, takes_all};
+ghost use Rattle.py_meaning.specs.Imports.{asked, asked_all, further_segments, is_star, package_name, taken_name, takes_all};
 ghost use Rattle.py_emit.specs.States.{Goes, Same, rest, state};
 
 use py_bytecode::{ConstantData, Instruction};
@@ -15,6 +15,7 @@ use py_emit::{Emitter, NameUsage, emit, refuse};
 use py_expr::is_function;
 use py_forms::{CodegenError, CodegenErrorType};
 use py_tree::{Alias, List, StmtImport, StmtImportFrom, Text};
+use py_uses::names::is_future;
 use std::alloc::{AllocError, Global};
 
 #[tactic(auto, using(crate::proofs::Steps::steps))]
@@ -191,16 +192,6 @@ fn import_present(em: &mut Emitter, s: &StmtImportFrom) -> Result<(), CodegenErr
         refuse!(em, CodegenErrorType::InvalidFuturePlacement);
     }
     import_from(em, s)
-}
-
-/// Whether a module is the future.
-pub(crate) fn is_future(path: &Option<Text>) -> bool
-    ensures { result ≡ from_future path.now }
-{
-    match path {
-        Some(path) => path.as_str() == "__future__",
-        None => false,
-    }
 }
 
 /// Emits the import of all names of a module, or of some.

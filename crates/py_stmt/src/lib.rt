@@ -20,7 +20,7 @@ mod statements;
 mod tries;
 mod withs;
 
-pub use annotations::find_ann;
+pub use annotations::{emit_setup, find_ann};
 pub use docs::{split_doc, statements_from};
 pub use futures::{compile_file, compile_future_features, compile_prompt, compile_whole_block};
 pub use statements::compile_statements;

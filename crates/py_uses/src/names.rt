@@ -115,7 +115,8 @@ fn is_annotations(alias: &Alias) -> bool
     alias.name.as_str() == "annotations"
 }
 
-fn names_annotations(names: &[Alias]) -> bool
+/// Whether annotations are among these names.
+pub fn names_annotations(names: &[Alias]) -> bool
     ensures { result ≡ names_annotations names.now }
 {
     for alias in names {
@@ -126,7 +127,8 @@ fn names_annotations(names: &[Alias]) -> bool
     false
 }
 
-fn is_future(path: &Option<Text>) -> bool
+/// Whether a module is the future.
+pub fn is_future(path: &Option<Text>) -> bool
     ensures { result ≡ is_future path.now }
 {
     match path {

@@ -103,7 +103,8 @@ pub fn leave_type_params(scan: &mut Scan, generic: bool) -> Result<(), SymbolTab
     scan.leave()
 }
 
-fn has_default(params: &[ArgWithDefault]) -> bool
+/// Whether one of the parameters has a default.
+pub fn has_default(params: &[ArgWithDefault]) -> bool
     ensures { result ≡ has_default (args expr_tree params.now) }
 {
     for param in params {
