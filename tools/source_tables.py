@@ -17,7 +17,7 @@ import pathlib
 import subprocess
 import sys
 if len(sys.argv) != 3:
-    sys.exit("usage: %s MODEL_FOLDER" % pathlib.Path(sys.argv[0]).name)
+    sys.exit("usage: %s MODEL_FOLDER PYTHON" % pathlib.Path(sys.argv[0]).name)
 sys.path.insert(0, sys.argv[1])
 import pyc
 from py2rows import rows_text, tree_of
@@ -44,11 +44,6 @@ def generic(source):
     """A source with type parameters."""
     read = "import sys; sys.path.insert(0, sys.argv[1]); from py2rows import rows_text; print(rows_text(sys.argv[2], 'exec'))"
     return source, subprocess.run([sys.argv[2], "-c", read, sys.argv[1], source], capture_output=True, check=True, text=True).stdout.strip()
-
-
-def generic_at_each(source):
-    """The same at each level."""
-    return [At(level, generic(source)) for level in "012"]
 
 
 def constant(name, rows):
@@ -95,6 +90,7 @@ def with_part(source, *parts):
     return rows_of(source, rows_of_tree(whole))
 
 
+# Choices, loops that are tests alone, constants and names
 CHOICES = {
     "exec": {
         "BRANCHES": [
@@ -180,6 +176,7 @@ CHOICES = {
     },
 }
 
+# Displays, f-strings, calls, and docstrings of files
 DISPLAYS = {
     "eval": {
         "SEQUENCES": [
@@ -277,6 +274,7 @@ DISPLAYS = {
     },
 }
 
+# Assignments, annotations, deletions and keywords
 TARGETS = {
     "exec": {
         "ASSIGNMENTS": [
@@ -460,6 +458,7 @@ def nested(outer, inner, last):
     return WRAPS[outer](f"if i: {last}\n" + WRAPS[inner](f"if j: {last}\nk"))
 
 
+# Loops over iterators, exceptions, `with` and `assert`, within one another
 CONTROL = {
     "exec": {
         "ITERATION": [
@@ -599,6 +598,7 @@ def branch(count):
     return named(f"if c: with {count} statements a and del a", "if c:\n" + " a\n" * count + " del a")
 
 
+# Deep and wide trees
 LARGE = {
     "exec": {
         "DEEP": [
@@ -741,11 +741,6 @@ def entered(source):
     return rows_of(f"entered: {source}".rstrip(), rows_of_tree(Node("Interactive", None, {"body": tree_of(source).body})))
 
 
-def entered_at_each(source):
-    """Statements that are entered at a prompt, at each level."""
-    return [At(level, entered(source)) for level in "012"]
-
-
 def nested_defs(depth, last):
     """Functions within one another, each with a parameter of its own, and what stands in the innermost."""
     lines = [f"{' ' * i}def f{i}(a{i}):" for i in range(depth)]
@@ -758,6 +753,7 @@ def within_function(source):
     return f"def f(a):\n{indented(source)}"
 
 
+# Functions, lambdas and generators
 FUNCTIONS = {
     "exec": {
         "RETURNS": [
@@ -1101,7 +1097,7 @@ FUNCTIONS = {
             "def f():\n def g(): nonlocal g\n def h(): nonlocal f",
             "def f(): nonlocal x, y\nclass A: pass",
         ],
-        "REFUSED": [
+        "OTHERS": [
             *at_each("class A: pass"),
             "def f():\n class A: return",
             "from __future__ import annotations\ndef f(a: b): break",
@@ -1180,6 +1176,7 @@ FUNCTIONS = {
     },
 }
 
+# Comprehensions, within one another and within functions
 COMPREHENSIONS = {
     "exec": {
         "KINDS": [
@@ -1571,6 +1568,7 @@ def picked(count, *choices):
 
 LASTS = ["return", "return None", "return k", "return k, 1", "return 1", "raise", "raise k", "raise k from None", "yield", "yield k", "x = yield k", "yield from k"]
 
+# A function that is left, or goes on, from within loops, handlers, last parts and `with`
 LEAVING = {
     "exec": {
         "WORKED": [
@@ -1655,6 +1653,7 @@ def importing(module, names, level=0):
     return rows_of(f"from {'.' * level}{module or ''} import {source}", [*aliases, whole, ["Module", [len(names)]]])
 
 
+# Imports but those from the future
 IMPORTS = {
     "exec": {
         "MODULES": [
@@ -1755,6 +1754,7 @@ IMPORTS = {
     },
 }
 
+# Classes
 CLASSES = {
     "exec": {
         "BODIES": [
@@ -2144,7 +2144,7 @@ CLASSES = {
             "class A:\n def f(self): nonlocal A",
             "class x: break\ndef f(): nonlocal x",
         ],
-        "CLASS_REFUSED": [
+        "OTHER_CLASSES": [
             "class A:\n async def f(self): await x",
             "class A:\n x = 1\n async for y in z: pass",
             "class A:\n def f(self):\n  async with a: b",
@@ -2186,8 +2186,8 @@ INTERACTIVE = {
     "single": {
         "PRINTED": [
             entered(""),
-            *entered_at_each("1"),
-            *entered_at_each("'doc'"),
+            *at_each(entered("1")),
+            *at_each(entered("'doc'")),
             entered("x"),
             entered("x\ny"),
             entered("x\ny = x\ny"),
@@ -2211,7 +2211,7 @@ INTERACTIVE = {
             entered("try: x\nexcept E as e: e\nfinally: y"),
             entered("x: int = 1\ny: str"),
             entered("del x\nx += 1\nassert x, y"),
-            *entered_at_each("assert x"),
+            *at_each(entered("assert x")),
             entered("import a.b\nfrom c import d as e\ne"),
             entered("global x\nx\npass"),
             entered("raise x\ny"),
@@ -2236,8 +2236,8 @@ INTERACTIVE = {
     "block": {
         "VALUES": [
             entered(""),
-            *entered_at_each("1"),
-            *entered_at_each("'doc'\n'again'"),
+            *at_each(entered("1")),
+            *at_each(entered("'doc'\n'again'")),
             entered("x"),
             entered("x\ny"),
             entered("x = 1\nx"),
@@ -2255,12 +2255,12 @@ INTERACTIVE = {
         ],
         "DEFINITIONS": [
             entered("def f(): pass"),
-            *entered_at_each("x\ndef f(a, /, b=1, *c, d=2, **e):\n 'doc'\n return a"),
+            *at_each(entered("x\ndef f(a, /, b=1, *c, d=2, **e):\n 'doc'\n return a")),
             entered("@a\n@b.c(d)\ndef f(x: int, *y: z) -> str: yield x"),
             entered("def f(x):\n def g(): return x\n return g"),
             entered("global f\ndef f(): return f"),
             entered("class A: pass"),
-            *entered_at_each("x\n@a\nclass A(B, *c, k=d):\n 'doc'\n x: int\n def f(self): return __class__"),
+            *at_each(entered("x\n@a\nclass A(B, *c, k=d):\n 'doc'\n x: int\n def f(self): return __class__")),
             entered("def f(): pass\nclass A: pass\nx"),
             entered("def f(): pass\npass"),
             entered("if x:\n def f(): pass"),
@@ -2277,7 +2277,7 @@ INTERACTIVE = {
             entered("global x"),
             entered("del x\npass"),
             entered("raise x"),
-            *entered_at_each("assert x"),
+            *at_each(entered("assert x")),
         ],
         "FAULTS": [
             entered("x\nbreak"),
@@ -2297,6 +2297,7 @@ INTERACTIVE = {
 }
 
 
+# Imports from the future, and annotations that they postpone
 FUTURES = {
     "exec": {
         "HEADS": [
@@ -2381,6 +2382,7 @@ FUTURES = {
 }
 
 
+# Type parameters of functions, classes and aliases
 TYPE_PARAMETERS = {
     "exec": {
         "FUNCTIONS": [
@@ -2393,7 +2395,7 @@ TYPE_PARAMETERS = {
             generic("def f[T: int](x): return T"),
             generic("def f[T: (int, str)](x: T): pass"),
             generic("def f[T: a.b[c], U: g(d, *e, k=h)](): pass"),
-            *generic_at_each("def f[T](x=1):\n 'doc'\n return x"),
+            *at_each(generic("def f[T](x=1):\n 'doc'\n return x")),
             generic("@a\n@b.c(d)\ndef f[T](x=e): pass"),
             generic("def f[T]():\n def g(): return T\n return g"),
             generic("def f[T](x=lambda: y, *, k=[a for a in b]): return T"),
@@ -2422,7 +2424,7 @@ TYPE_PARAMETERS = {
             generic("class A[T](B[T], C, metaclass=D[T]): pass"),
             generic("class A[T](*b, **c): pass"),
             generic("class A[T](a, *b, k=T, **c): pass"),
-            *generic_at_each("class A[T]:\n 'doc'\n x: T = 1"),
+            *at_each(generic("class A[T]:\n 'doc'\n x: T = 1")),
             generic("@a\nclass A[T: b]: pass"),
             generic("class A[T, U: T]: x: U"),
             generic("class A[T]:\n def f(self, x: T): return T"),
@@ -2459,7 +2461,7 @@ TYPE_PARAMETERS = {
             generic("type X = a if b else c"),
             generic("type X[T] = a < b < T"),
             generic("type X = (y := z)"),
-            *generic_at_each("type X[T: __debug__] = __debug__"),
+            *at_each(generic("type X[T: __debug__] = __debug__")),
         ],
         "POSTPONED": [
             generic("from __future__ import annotations\ndef f[T: (lambda: a)](x: T = lambda: b, *, y: [c for c in d] = lambda: e) -> T: return lambda: T"),
