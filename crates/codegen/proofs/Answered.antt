@@ -2,8 +2,8 @@
 use Rattle.std.proofs.Common.{◌≡◌, ℕ, ◌<◌, ◌^◌, List, [], Result, Ok, Err, Some, None, IfOk, IfErr, OnOk}
 use Rattle.py_tree.specs.Tree as tree
 use Rattle.py_tree.specs.declared.modules.Mode.{Mode}
-use Rattle.py_limits.specs.Size.{size_of}
 use Rattle.py_base.specs.declared.location.LocatedError.{LocatedError}
+use Rattle.py_bytecode.specs.Nesting.{nesting}
 use Rattle.py_bytecode.specs.Objects.{Object}
 use Rattle.py_bytecode.specs.View.{object}
 use Rattle.py_bytecode.specs.declared.code.CodeObject.{CodeObject}
@@ -24,6 +24,7 @@ use Rattle.codegen.specs.Compiled.{HasFewSymbols, IsFirst, IsScanned, around_tre
 use Rattle.codegen.proofs.Agreeing.{made_from_scope}
 use Rattle.codegen.proofs.Heights.{no_higher}
 use Rattle.codegen.proofs.Made.{few_everywhere}
+use Rattle.codegen.proofs.Nested.{nested_below}
 use Rattle.codegen.proofs.Firsts.{checked_first, refused_first, emitted_clean}
 
 -- a tree is refused as a whole
@@ -40,6 +41,7 @@ refused_whole e r t path m l p q s h = record {
   located = tt;
   units = tt;
   widths = tt;
+  nested = tt;
   clean = tt;
   first = checked_first e r t m l p q h;
   path = s;
@@ -48,6 +50,10 @@ refused_whole e r t path m l p q s h = record {
 on_err : {T E : Type 0} (r : Result T E) (P Q : E → Type 0) → ((x : E) → P x → Q x) → IfErr r P → IfErr r Q
 on_err (Ok x) P Q f p = p
 on_err (Err e) P Q f p = f e p
+
+on_ok : {T E : Type 0} (r : Result T E) (P Q : T → Type 0) → ((x : T) → P x → Q x) → IfOk r P → IfOk r Q
+on_ok (Ok x) P Q f p = f x p
+on_ok (Err e) P Q f p = p
 
 ok_both : {T E : Type 0} (r : Result T E) (P : T → Type 0) (R Q : Type 0) → ((x : T) → P x → R → Q) → IfOk r P → OnOk r R → OnOk r Q
 ok_both (Ok x) P R Q f p q = f x p q
@@ -90,6 +96,7 @@ module _ (r : Result CodeObject (LocatedError CodegenErrorType)) (t : tree.Mod) 
     located = well_so _ (λ o w. w.located);
     units = well_so _ (λ o w. w.few);
     widths = well_so _ (λ o w. w.written);
+    nested = on_ok r (λ code. IsEmitted code (around_tree t path l) (emitted t m (around_tree t path l))) (λ code. nesting (object code) < 2 ^ 11) (λ code h. nested_below code t m (around_tree t path l) w.0 h) e;
     clean = ok_both r (λ code. IsEmitted code (around_tree t path l) (emitted t m (around_tree t path l))) (scan_faults t ≡ []) (faults t m l ≡ []) (λ code e z. emitted_clean code path t m l w z e) e clean;
     first = on_err r (λ e. IsScanned e t m (around_tree t path l)) (λ e. IsFirst e (faults t m l)) (λ e h. refused_first e t m l path w h) first;
     path = named;

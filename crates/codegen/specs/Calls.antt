@@ -7,6 +7,7 @@ use Rattle.py_limits.specs.Nesting.{nesting}
 use Rattle.py_limits.specs.Size.{size_of}
 use Rattle.py_shapes.specs.Valid.{shapes}
 use Rattle.py_base.specs.declared.location.LocatedError.{LocatedError}
+use Rattle.py_bytecode.specs.Nesting.{nesting as code_nesting}
 use Rattle.py_bytecode.specs.View.{object}
 use Rattle.py_bytecode.specs.declared.code.CodeObject.{CodeObject}
 use Rattle.py_walks.specs.Sound.{sound}
@@ -39,6 +40,8 @@ pub record IsCompiled (answer : Result CodeObject (LocatedError CodegenErrorType
   pub located : IfOk answer (λ code. Everywhere IsLocated (object code))
   pub units : IfOk answer (λ code. Everywhere HasFewUnits (object code))
   pub widths : IfOk answer (λ code. Everywhere InLeastWidths (object code))
+  -- codes and tuples among constants nest below 2^11, the outermost code counting one
+  pub nested : IfOk answer (λ code. code_nesting (object code) < 2 ^ 11)
   -- there is code only where nothing is wrong, and an error is the first of what is wrong
   pub clean : OnOk answer (faults t m l ≡ [])
   pub first : IfErr answer (λ e. IsFirst e (faults t m l))
