@@ -24,7 +24,33 @@ machine() {
     echo "$(uname -sm), $(getconf _NPROCESSORS_ONLN) processors, $(awk '/^MemTotal/ { printf "%d GB", $2 / 1000000 }' /proc/meminfo)"
 }
 
-# The build ends with a run of the program, which gets a file of the repository and not the input of this call.
+# The crates that pyc stands on, those below others first, and pyc itself; crates.txt says which uses which.
+crates() {
+    awk -F: '
+        function visit(name, used, count, i) {
+            if (name in seen) return
+            seen[name] = 1
+            count = split(uses[name], used, " ")
+            for (i = 1; i <= count; i++) if (used[i] in uses) visit(used[i])
+            print name
+        }
+        !/^#/ && NF == 2 { uses[$1] = $2 }
+        END { visit("pyc") }
+    ' "$root/crates.txt"
+}
+
+# Proves one crate, whose name is told with its place among the others. What was proved before is taken as it is, and what
+# is wrong is shown.
+prove() {
+    say "$2 of $3: $1"
+    said=$(cd "$root/crates/$1" && rt lib 2>&1) || {
+        echo "$said" >&2
+        return 1
+    }
+}
+
+# One crate after the other takes less memory than all at once, and what a call that was stopped has proved is there for the
+# next. The build ends with a run of the program, which gets a file of the repository and not the input of this call.
 build() {
     if ! command -v rt >/dev/null; then
         say 'the program is not built yet, and rt, which proves and builds it, is not on the path: install the Rattle kit'
@@ -33,6 +59,14 @@ build() {
     say "the first call proves the program and builds it, in $root/crates"
     say 'this takes long, and the end says how long; README.md has a quick run without proof'
     start=$(date +%s)
+    all=$(crates)
+    count=$(echo "$all" | wc -l)
+    at=0
+    for crate in $all; do
+        at=$((at + 1))
+        [ "$crate" = pyc ] || prove "$crate" $at $((count)) || return
+    done
+    say "$at of $((count)): pyc"
     (cd "$root/crates/pyc" && rt run -- exec 0 m.py <"$root/examples/call.json" >/dev/null) >&2
     took=$(($(date +%s) - start))
     if [ -x "$pyc" ]; then

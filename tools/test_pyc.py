@@ -21,10 +21,21 @@ printf '%s;' "$@"
 echo "${#input}"
 """
 
-# It stands for rt, which builds the program.
+# It stands for rt, which proves the crates below the program and then builds this.
 BUILDER = """#!/bin/sh
-[ "$PWD" = "%(root)s/crates/pyc" ] && [ "$1" = run ] || exit 2
-mkdir -p out && cp "%(program)s" out/pyc
+case $1:$PWD in
+    lib:"%(root)s/crates/"*) echo "${PWD##*/}" >>"%(root)s/proved" ;;
+    run:"%(root)s/crates/pyc") mkdir -p out && cp "%(program)s" out/pyc ;;
+    *) exit 2 ;;
+esac
+"""
+
+# The crates of the checkout; one has nothing to do with the program.
+CRATES = """# which uses which
+pyc: high low std
+other: low
+high: low
+low:
 """
 
 
@@ -43,7 +54,9 @@ class Fresh(unittest.TestCase):
         self.folder = pathlib.Path(folder.name).resolve()
         # A blank in the name, as users have it.
         self.root = self.folder / "check out"
-        (self.root / "crates" / "pyc").mkdir(parents=True)
+        for name in ("pyc", "high", "low", "other"):
+            (self.root / "crates" / name).mkdir(parents=True)
+        (self.root / "crates.txt").write_text(CRATES)
         shutil.copytree(ROOT / "tools", self.root / "tools", ignore=shutil.ignore_patterns("__pycache__"))
         shutil.copytree(ROOT / "examples", self.root / "examples")
         shutil.copy(ROOT / "pyc.sh", self.root)
@@ -69,6 +82,8 @@ class Fresh(unittest.TestCase):
         status, out, told = self.call(["sh", self.root / "pyc.sh", "exec", "0", "m.py"], data=b"[]")
         self.assertEqual((status, out), (0, "exec;0;m.py;2\n"))
         self.assertIn("the first call proves the program and builds it, in %s/crates\n" % self.root, told)
+        self.assertIn("pyc.sh: 1 of 3: low\npyc.sh: 2 of 3: high\npyc.sh: 3 of 3: pyc\n", told)
+        self.assertEqual((self.root / "proved").read_text(), "low\nhigh\n")
         self.assertRegex(told, r"pyc\.sh: proved and built in \d+ minutes \d+ seconds \(.+ processors, .+\)\n$")
         self.assertEqual(self.call(["sh", self.root / "pyc.sh", "a b", "", "*"], data=b"[]"), (0, "a b;;*;2\n", ""))
 
