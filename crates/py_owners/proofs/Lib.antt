@@ -1,0 +1,35 @@
+mod Lying
+mod Groves
+pub mod Entering
+mod EnteringNames
+mod EnteringParts
+mod EnteringExprs
+mod FutureFree
+mod EnteringDefs
+mod EnteringStatements
+pub mod EnteringPrograms
+mod Listing
+pub mod ListedTables
+pub mod OwnerTables
+mod OwnerSamples
+mod Lengths
+mod StmtLengths
+mod Ownerless
+mod Kept
+mod KeptForms
+mod KeptScopes
+mod KeptStmts
+mod OwnScopes
+mod OwnExprs
+mod OwnNotes
+mod OwnParts
+mod OwnDefs
+mod OwnStmts
+pub mod EachOwn
+mod OwnSamples
+pub mod Ordering
+pub mod OrderingStatements
+pub mod Wanted
+pub mod FreeNames
+pub mod CellsOfScopes
+mod CellSamples

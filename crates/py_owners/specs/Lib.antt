@@ -1,0 +1,5 @@
+pub mod Owners
+pub mod StmtOwners
+pub mod Entered
+pub mod Own
+pub mod Cells
