@@ -1,0 +1,6 @@
+//! The law of the verifier: a code that a compile call answers has no flaw.
+#![tactic(auto)]
+
+mod laws;
+
+pub use laws::compiled_is_flawless;
