@@ -3,10 +3,11 @@
 
 usage: speed.py [--program FILE] [--runs N] [--most N] [--library FOLDER]
 
-The program is crates/pyc/out/pyc, which pyc.sh builds. The trees are generated ones of 10^3 to 10^5 statements, and one
-of --most at most, and those files of the library of this Python, or of FOLDER, that pyc compiles, as one file. CPython
-gets the same rows, as text, to read, and the tree of the same source, which is parsed before, to compile and to show.
-"JSON" is the program on an object that holds the rows: it reads all of it, and then refuses it, since it is no array.
+The program is crates/pyc/out/pyc, which pyc.sh builds. The trees are generated ones of 10^3 to 10^5 statements, and
+one of --most at most, and those files of the library of this Python, or of FOLDER, that pyc compiles and that import
+nothing from the future, as one file. CPython gets the same rows, as text, to read, and the tree of the same source, which is
+parsed before, to compile and to show. "JSON" is the program on an object that holds the rows: it reads all of it, and
+then refuses it, since it is no array.
 
 Times are seconds of processor time, the least of N runs (3). Peaks are of resident memory, and no less than what the
 Python has that starts the run, some 16 MB. Standard output is a table, as README.md shows it.
@@ -167,9 +168,13 @@ def gather(program, library, together):
     texts, size = [], 0
     for file in stdlib.library_files(pathlib.Path(library)):
         found = stdlib.Found(program, file)
-        if found.how == "compiled" and size + found.size <= LIBRARY_ROWS:
+        if found.how != "compiled" or size + found.size > LIBRARY_ROWS:
+            continue
+        text = rows.text_of(file.read_bytes()) + "\n"
+        # An import from the future stands before all else, so behind another file it is refused.
+        if "from __future__" not in text:
             size += found.size
-            texts.append(rows.text_of(file.read_bytes()) + "\n")
+            texts.append(text)
     # Encodings are named in the first two lines alone.
     pathlib.Path(together).write_text("\n\n" + "".join(texts), encoding="utf-8")
     print(len(texts))
