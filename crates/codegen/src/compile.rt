@@ -10,7 +10,7 @@ ghost use Rattle.py_meaning.specs.Scanned.{scan_faults, scopes_of};
 ghost use Rattle.codegen.specs.Calls.{IsCompiled, IsWhole, tree_of};
 ghost use Rattle.codegen.specs.Compiled.{HasFewSymbols, IsRefused, IsScan, IsScanned, around_tree};
 ghost use Rattle.py_emit.specs.Emitted.{IsEmitted};
-ghost use Rattle.py_emit.specs.States.{AreMade, Goes, Same, rest, state};
+ghost use Rattle.py_emit.specs.States.{AreMade, Emits, rest};
 
 use crate::program::{Program, emit_interactive, emit_program};
 use crate::scopes::has_few_symbols;
@@ -236,8 +236,7 @@ fn compile_mod(
 /// Emits a whole program.
 fn emit_mod(em: &mut Emitter, program: &Program<'_>, mode: Mode) -> Result<(), CodegenError>
     requires loops { AreMade (rest em.old).context.loop_blocks }
-    ensures goes { Goes result (state em.new) (emission_of_mod (tree_of program.now) mode (state em.old)) }
-    ensures same { Same result (rest em.new) (rest em.old) }
+    ensures { Emits result (emission_of_mod (tree_of program.now) mode) em.old em.new }
 {
     match program {
         Program::Module(body) => emit_program(em, body),

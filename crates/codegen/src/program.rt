@@ -7,7 +7,7 @@ ghost use Rattle.py_meaning.specs.EmissionFutures.{emission_behind};
 ghost use Rattle.py_meaning.specs.EmissionMods.{emission_of_doc, emission_of_interactive, emission_of_program};
 ghost use Rattle.py_bytecode.specs.Objects.{none};
 ghost use Rattle.py_emission.specs.Texts.{after_doc, doc_of};
-ghost use Rattle.py_emit.specs.States.{AreMade, Goes, Same, rest, state};
+ghost use Rattle.py_emit.specs.States.{AreMade, Emits, rest};
 
 use py_bytecode::{ConstantData, Instruction};
 use py_emit::{Emitter, refuse};
@@ -32,8 +32,7 @@ pub(crate) enum Program<'a> {
 /// Emits the statements of a file, its docstring first, and the return of None.
 pub(crate) fn emit_program(em: &mut Emitter, body: &Stmts) -> Result<(), CodegenError>
     requires loops { AreMade (rest em.old).context.loop_blocks }
-    ensures goes { Goes result (state em.new) (emission_of_program (stmts stmt_tree body.now) (state em.old)) }
-    ensures same { Same result (rest em.new) (rest em.old) }
+    ensures { Emits result (emission_of_program (stmts stmt_tree body.now)) em.old em.new }
 {
     let from = emit_doc(em, body)?;
     emit_setup(em, find_ann(body, from))?;
@@ -45,8 +44,7 @@ pub(crate) fn emit_program(em: &mut Emitter, body: &Stmts) -> Result<(), Codegen
 #[tactic(auto, using(py_bytecode::proofs::View::views))]
 fn emit_rest(em: &mut Emitter, body: &[Stmt]) -> Result<(), CodegenError>
     requires loops { AreMade (rest em.old).context.loop_blocks }
-    ensures goes { Goes result (state em.new) ((emission_behind emission_of_stmts (stmts stmt_tree body.now) ▸ emit_constant Instruction.ReturnConst none) (state em.old)) }
-    ensures same { Same result (rest em.new) (rest em.old) }
+    ensures { Emits result (emission_behind emission_of_stmts (stmts stmt_tree body.now) ▸ emit_constant Instruction.ReturnConst none) em.old em.new }
 {
     compile_file(em, body)?;
     em.return_const(ConstantData::None)
@@ -55,10 +53,9 @@ fn emit_rest(em: &mut Emitter, body: &[Stmt]) -> Result<(), CodegenError>
 /// Emits what stores the docstring, where one is kept. Answers the place at which the other statements begin.
 #[tactic(auto, unfolding(py_steps::specs::Emitting::by_level, py_emit::specs::States::rest))]
 fn emit_doc(em: &mut Emitter, body: &Stmts) -> Result<usize, CodegenError>
-    ensures goes { Goes result (state em.new) (by_level (λ l. emission_of_doc (doc_of l (stmts stmt_tree body.now))) (state em.old)) }
+    ensures emits { Emits result (by_level (λ l. emission_of_doc (doc_of l (stmts stmt_tree body.now)))) em.old em.new }
     ensures from { IfOk result (λ from. stmts stmt_tree (drop from body.now) ≡ after_doc (stmts stmt_tree body.now)) }
     ensures within { IfOk result (λ from. from ≤ length body.now) }
-    ensures same { Same result (rest em.new) (rest em.old) }
 {
     match split_doc(em.alloc(), body, em.opts()) {
         Ok((doc, from)) => {
@@ -72,8 +69,7 @@ fn emit_doc(em: &mut Emitter, body: &Stmts) -> Result<usize, CodegenError>
 /// Emits what stores a docstring, where there is one.
 #[tactic(auto, using(py_bytecode::proofs::View::views))]
 fn store_doc(em: &mut Emitter, doc: Option<Text>) -> Result<(), CodegenError>
-    ensures goes { Goes result (state em.new) (emission_of_doc doc (state em.old)) }
-    ensures same { Same result (rest em.new) (rest em.old) }
+    ensures { Emits result (emission_of_doc doc) em.old em.new }
 {
     match doc {
         Some(value) => {
@@ -91,8 +87,7 @@ pub(crate) fn emit_interactive(
     mode: Mode,
 ) -> Result<(), CodegenError>
     requires loops { AreMade (rest em.old).context.loop_blocks }
-    ensures goes { Goes result (state em.new) (emission_of_interactive mode (stmts stmt_tree body.now) (state em.old)) }
-    ensures same { Same result (rest em.new) (rest em.old) }
+    ensures { Emits result (emission_of_interactive mode (stmts stmt_tree body.now)) em.old em.new }
 {
     match mode {
         Mode::Single => compile_prompt(em, body.as_slice()),

@@ -17,7 +17,7 @@ use Rattle.py_scope.specs.declared.flat.ScopeEntry.{ScopeEntry}
 use Rattle.py_scope.specs.declared.table_type.SymbolTableType.{SymbolTableType}
 use Rattle.py_scope.specs.declared.symbols.Symbol.{Symbol}
 use Rattle.py_steps.specs.Context.{Context, cells_among, frees_among, inside, outermost, with_path, within_class}
-use Rattle.py_steps.specs.Emitting.{Around, State, LoopBlocks, Outcome, Done, Refused}
+use Rattle.py_steps.specs.Emitting.{Around, Emission, State, LoopBlocks, Outcome, Done, Refused}
 use Rattle.py_steps.specs.Sealed.{Head, flags_of}
 use Rattle.py_steps.specs.Children.{Shape, code_head}
 use Rattle.py_forms.specs.declared.errors.CodegenErrorType.{CodegenErrorType}
@@ -169,6 +169,12 @@ Goes (Err e) s o = e.error ≢ error.OutOfMemory → o ≡ Refused e.error e.loc
 abbrev pub Same : {A : Type 0} → Result A (LocatedError CodegenErrorType) → (after before : Rest) → Type 0
 Same (Ok a) after before = after ≡ before
 Same (Err e) after before = e.source_path ≡ before.path
+
+-- a call emits this: where it is Ok, it has come from the state before to the one after, and the rest is as it was; where it is not, the
+-- emission is refused so, and the error names the path, unless memory is wanting
+pub record Emits {A : Type 0} (r : Result A (LocatedError CodegenErrorType)) (a : Emission) (before after : Emitter) : Type 0 where
+  pub goes : Goes r (state after) (a (state before))
+  pub same : Same r (rest after) (rest before)
 
 -- the code is refused for want of memory alone, where its tables are short enough
 abbrev pub IsUnrefused : (level : ℕ) → CodeInfo → Type 0

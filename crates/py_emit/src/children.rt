@@ -5,7 +5,7 @@ ghost use Rattle.py_bytecode.specs.View.{object};
 ghost use Rattle.py_steps.specs.Children.{cell_loads, closure, load_cell as cell_load, made, some_flag};
 ghost use Rattle.py_steps.specs.EmissionParts.{in_turn};
 ghost use Rattle.py_steps.specs.Emitting.{◌▸◌, emit_constant, emit_count};
-ghost use Rattle.py_emit.specs.States.{Goes, Same, rest, state};
+ghost use Rattle.py_emit.specs.States.{Emits};
 
 use crate::emitter::Emitter;
 use bitflags::Flags;
@@ -21,8 +21,7 @@ impl Emitter {
     /// OutOfMemory alone.
     #[tactic(auto, unfolding(py_steps::specs::Children::load_cell), using(crate::proofs::CellPlaces::any_within))]
     pub fn load_cell(&mut self, name: &str) -> Result<(), CodegenError>
-        ensures goes { Goes result (state self.new) (cell_load name.now (state self.old)) }
-        ensures same { Same result (rest self.new) (rest self.old) }
+        ensures { Emits result (cell_load name.now) self.old self.new }
     {
         let place = self.cell_place(name)?;
         let count = self.cell_count();
@@ -34,8 +33,7 @@ impl Emitter {
 
     /// Appends the load of each cell in turn.
     fn load_cells(&mut self, names: &[Text]) -> Result<(), CodegenError>
-        ensures goes { Goes result (state self.new) (in_turn (cell_loads names.now) (state self.old)) }
-        ensures same { Same result (rest self.new) (rest self.old) }
+        ensures { Emits result (in_turn (cell_loads names.now)) self.old self.new }
     {
         for name in names {
             self.load_cell(name.as_str())?;
@@ -50,9 +48,8 @@ impl Emitter {
     /// OutOfMemory alone.
     #[tactic(auto, using(crate::proofs::Closures::closure_is))]
     pub fn build_closure(&mut self, code: &CodeObject) -> Result<bool, CodegenError>
-        ensures goes { Goes result (state self.new) (closure code.now.freevars (state self.old)) }
+        ensures emits { Emits result (closure code.now.freevars) self.old self.new }
         ensures any { IfOk result (λ any. some_flag 1 code.now.freevars ≡ (if any then 1 else 0)) }
-        ensures same { Same result (rest self.new) (rest self.old) }
     {
         let names = code.freevars.as_slice();
         if names.is_empty() {
@@ -64,8 +61,7 @@ impl Emitter {
 
     /// Appends the loads of cells, and the tuple of them.
     fn build_cells(&mut self, names: &[Text]) -> Result<(), CodegenError>
-        ensures goes { Goes result (state self.new) ((in_turn (cell_loads names.now) ▸ emit_count Instruction.BuildTuple (length names.now)) (state self.old)) }
-        ensures same { Same result (rest self.new) (rest self.old) }
+        ensures { Emits result (in_turn (cell_loads names.now) ▸ emit_count Instruction.BuildTuple (length names.now)) self.old self.new }
     {
         self.load_cells(names)?;
         self.emit_count(Instruction::BuildTuple, names.len())
@@ -82,8 +78,7 @@ impl Emitter {
         name: Text,
         code: CodeObject,
     ) -> Result<(), CodegenError>
-        ensures goes { Goes result (state self.new) (made flags.0 name (object code) (state self.old)) }
-        ensures same { Same result (rest self.new) (rest self.old) }
+        ensures { Emits result (made flags.0 name (object code)) self.old self.new }
     {
         let closed = self.build_closure(&code)?;
         self.load_code(code)?;
@@ -97,8 +92,7 @@ impl Emitter {
     /// # Errors
     /// OutOfMemory alone.
     fn load_code(&mut self, code: CodeObject) -> Result<(), CodegenError>
-        ensures goes { Goes result (state self.new) (emit_constant Instruction.LoadConst (code_constant (object code)) (state self.old)) }
-        ensures same { Same result (rest self.new) (rest self.old) }
+        ensures { Emits result (emit_constant Instruction.LoadConst (code_constant (object code))) self.old self.new }
     {
         match Box::new(self.alloc(), code) {
             Ok(code) => self.load_const(ConstantData::Code { code }),

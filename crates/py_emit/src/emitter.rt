@@ -8,7 +8,7 @@ ghost use Rattle.py_steps.specs.Children.{code_head};
 ghost use Rattle.py_steps.specs.Context.{inside, outermost, symbols_in};
 ghost use Rattle.py_steps.specs.Emitting.{Begin, Done, Put, begun, emit as emission_of, emit_count, generating, jump as jumping, located, nothing, with_block, with_loops, with_postponed, with_step};
 ghost use Rattle.py_steps.specs.Sealed.{sealed};
-ghost use Rattle.py_emit.specs.States.{Goes, Same, IsFirst, IsStarved, IsUnrefused, entered, entered_rest, first_rest, head_in, head_of, info, left, left_rest, loop_blocks, looped, module_shape, named_in, placed_error, postponed_rest, rest, shape_of, source_of, state, state_of, unlooped};
+ghost use Rattle.py_emit.specs.States.{Emits, Goes, IsFirst, IsStarved, IsUnrefused, entered, entered_rest, first_rest, head_in, head_of, info, left, left_rest, loop_blocks, looped, module_shape, named_in, placed_error, postponed_rest, rest, shape_of, source_of, state, state_of, unlooped};
 ghost use Rattle.py_emit.specs.Steps.{IsOpen, step_of};
 
 use crate::context::{CompileOpts, EmitContext, Naming, ScopeHead};
@@ -192,8 +192,7 @@ impl Emitter {
     /// OutOfMemory alone.
     #[tactic(auto, unfolding(py_steps::specs::Emitting::emit))]
     pub fn emit_arg(&mut self, instr: Instruction, arg: u32) -> Result<(), CodegenError>
-        ensures goes { Goes result (state self.new) (emission_of instr arg (state self.old)) }
-        ensures same { Same result (rest self.new) (rest self.old) }
+        ensures { Emits result (emission_of instr arg) self.old self.new }
     {
         self.emit(instr, OpArg(arg), BlockIdx::NULL)
     }
@@ -205,8 +204,7 @@ impl Emitter {
     /// OutOfMemory alone.
     #[tactic(auto, unfolding(py_steps::specs::Emitting::emit_count))]
     pub fn emit_count(&mut self, instr: Instruction, count: usize) -> Result<(), CodegenError>
-        ensures goes { Goes result (state self.new) (emit_count instr count (state self.old)) }
-        ensures same { Same result (rest self.new) (rest self.old) }
+        ensures { Emits result (emit_count instr count) self.old self.new }
     {
         if count >= COUNT_LIMIT {
             return Err(self.error(CodegenErrorType::OutOfMemory));
@@ -221,8 +219,7 @@ impl Emitter {
     #[tactic(auto, unfolding(py_steps::specs::Emitting::jump))]
     pub fn emit_jump(&mut self, instr: Instruction, target: BlockIdx) -> Result<(), CodegenError>
         requires { target.0 < 0xffff_ffff }
-        ensures goes { Goes result (state self.new) (jumping instr target.0 (state self.old)) }
-        ensures same { Same result (rest self.new) (rest self.old) }
+        ensures { Emits result (jumping instr target.0) self.old self.new }
     {
         self.emit(instr, OpArg(0), target)
     }

@@ -13,7 +13,7 @@ ghost use Rattle.py_steps.specs.EmissionParts.{unless_debug};
 ghost use Rattle.py_steps.specs.Emitting.{Refused, emit as emission_of_arg, emit_mangled as emission_mangled, refuse};
 ghost use Rattle.py_steps.specs.TableParts.{debug_constant as constant_debug, is_debug as named_debug};
 ghost use Rattle.py_emit.specs.Access.{emission_of_access, kind_of, usage_of};
-ghost use Rattle.py_emit.specs.States.{Goes, IsStarved, Same, rest, state};
+ghost use Rattle.py_emit.specs.States.{Emits, IsStarved, rest, state};
 
 use crate::context::{CompileOpts, NameUsage};
 use crate::emitter::Emitter;
@@ -103,8 +103,7 @@ impl Emitter {
     /// # Errors
     /// SyntaxError where `__debug__` is stored or deleted, at the present location, or OutOfMemory.
     pub fn compile_name(&mut self, usage: NameUsage, name: &str) -> Result<(), CodegenError>
-        ensures goes { Goes result (state self.new) (emission_of_access usage name.now (state self.old)) }
-        ensures same { Same result (rest self.new) (rest self.old) }
+        ensures { Emits result (emission_of_access usage name.now) self.old self.new }
     {
         match usage {
             NameUsage::Load => self.load_name(name),
@@ -119,8 +118,7 @@ impl Emitter {
 
     #[tactic(auto, unfolding(py_steps::specs::Emitting::by_level, crate::specs::States::rest))]
     fn load_name(&mut self, name: &str) -> Result<(), CodegenError>
-        ensures goes { Goes result (state self.new) (emission_of_name name.now (state self.old)) }
-        ensures same { Same result (rest self.new) (rest self.old) }
+        ensures { Emits result (emission_of_name name.now) self.old self.new }
     {
         if is_debug(name) {
             let opts = self.opts();
@@ -131,8 +129,7 @@ impl Emitter {
 
     /// Appends what stores or deletes a name, or leaves with the text where the name is `__debug__`.
     fn change_name(&mut self, usage: NameUsage, name: &str, text: &str) -> Result<(), CodegenError>
-        ensures goes { Goes result (state self.new) (unless_debug text.now name.now (accessed (usage_of usage) name.now) (state self.old)) }
-        ensures same { Same result (rest self.new) (rest self.old) }
+        ensures { Emits result (unless_debug text.now name.now (accessed (usage_of usage) name.now)) self.old self.new }
     {
         if is_debug(name) {
             return Err(self.syntax_error(text));
@@ -146,8 +143,7 @@ impl Emitter {
     /// OutOfMemory alone.
     #[tactic(auto, unfolding(py_steps::specs::Accesses::accessed))]
     pub fn access(&mut self, usage: NameUsage, name: &str) -> Result<(), CodegenError>
-        ensures goes { Goes result (state self.new) (accessed (usage_of usage) name.now (state self.old)) }
-        ensures same { Same result (rest self.new) (rest self.old) }
+        ensures { Emits result (accessed (usage_of usage) name.now) self.old self.new }
     {
         match self.mangled(name)? {
             Some(other) => self.access_mangled(usage, other.as_str()),
@@ -176,8 +172,7 @@ impl Emitter {
 
     /// Appends an access to a name that is written as the innermost class writes it.
     fn access_mangled(&mut self, usage: NameUsage, name: &str) -> Result<(), CodegenError>
-        ensures goes { Goes result (state self.new) (accessed_in (state self.old).around.context (usage_of usage) name.now (state self.old)) }
-        ensures same { Same result (rest self.new) (rest self.old) }
+        ensures { Emits result (accessed_in (state self.old).around.context (usage_of usage) name.now) self.old self.new }
     {
         let access = self.access_of(usage, name);
         match usage {
@@ -188,8 +183,7 @@ impl Emitter {
     }
 
     fn load_by(&mut self, access: Access, name: &str) -> Result<(), CodegenError>
-        ensures goes { Goes result (state self.new) (load_by (kind_of access) name.now (cell_place (state self.old).around.context name.now) (state self.old)) }
-        ensures same { Same result (rest self.new) (rest self.old) }
+        ensures { Emits result (load_by (kind_of access) name.now (cell_place (state self.old).around.context name.now)) self.old self.new }
     {
         match access {
             Access::Fast => self.emit_varname(Instruction::LoadFast, name),
@@ -201,8 +195,7 @@ impl Emitter {
     }
 
     fn store_by(&mut self, access: Access, name: &str) -> Result<(), CodegenError>
-        ensures goes { Goes result (state self.new) (store_by (kind_of access) name.now (cell_place (state self.old).around.context name.now) (state self.old)) }
-        ensures same { Same result (rest self.new) (rest self.old) }
+        ensures { Emits result (store_by (kind_of access) name.now (cell_place (state self.old).around.context name.now)) self.old self.new }
     {
         match access {
             Access::Fast => self.emit_varname(Instruction::StoreFast, name),
@@ -213,8 +206,7 @@ impl Emitter {
     }
 
     fn delete_by(&mut self, access: Access, name: &str) -> Result<(), CodegenError>
-        ensures goes { Goes result (state self.new) (delete_by (kind_of access) name.now (cell_place (state self.old).around.context name.now) (state self.old)) }
-        ensures same { Same result (rest self.new) (rest self.old) }
+        ensures { Emits result (delete_by (kind_of access) name.now (cell_place (state self.old).around.context name.now)) self.old self.new }
     {
         match access {
             Access::Fast => self.emit_varname(Instruction::DeleteFast, name),
@@ -253,8 +245,7 @@ impl Emitter {
 
     /// Appends an instruction that names a cell.
     fn emit_cell(&mut self, instr: Instruction, name: &str) -> Result<(), CodegenError>
-        ensures goes { Goes result (state self.new) (emission_of_arg instr (cell_place (state self.old).around.context name.now) (state self.old)) }
-        ensures same { Same result (rest self.new) (rest self.old) }
+        ensures { Emits result (emission_of_arg instr (cell_place (state self.old).around.context name.now)) self.old self.new }
     {
         let place = self.cell_place(name)?;
         self.emit_arg(instr, place)
@@ -302,8 +293,7 @@ impl Emitter {
     /// OutOfMemory alone.
     #[tactic(auto, unfolding(py_steps::specs::Emitting::emit_mangled))]
     pub fn emit_mangled(&mut self, instr: Instruction, name: &str) -> Result<(), CodegenError>
-        ensures goes { Goes result (state self.new) (emission_mangled instr name.now (state self.old)) }
-        ensures same { Same result (rest self.new) (rest self.old) }
+        ensures { Emits result (emission_mangled instr name.now) self.old self.new }
     {
         match self.mangled(name)? {
             Some(other) => self.emit_name(instr, other.as_str()),

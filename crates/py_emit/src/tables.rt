@@ -4,7 +4,7 @@ ghost use Rattle.py_bytecode.specs.Equality.{const_eq, text_eq};
 ghost use Rattle.py_bytecode.specs.View.{constant as constant_of};
 ghost use Rattle.py_steps.specs.Emitting.{add_constant, add_varname, emit_constant, emit_name as emission_of_name, emit_varname as emission_of_varname, place_in, with_constant, with_name, with_varname};
 ghost use Rattle.py_steps.specs.EmissionParts.{no_assignment, unless_debug};
-ghost use Rattle.py_emit.specs.States.{Goes, Same, IsStarved, rest, state};
+ghost use Rattle.py_emit.specs.States.{Emits, IsStarved, rest, state};
 
 use crate::emitter::Emitter;
 use crate::names::is_debug;
@@ -61,8 +61,7 @@ impl Emitter {
     /// # Errors
     /// SyntaxError where the name is `__debug__`, at the present location, or OutOfMemory.
     pub fn add_parameter(&mut self, name: &str) -> Result<(), CodegenError>
-        ensures goes { Goes result (state self.new) (unless_debug no_assignment name.now (add_varname name.now) (state self.old)) }
-        ensures same { Same result (rest self.new) (rest self.old) }
+        ensures { Emits result (unless_debug no_assignment name.now (add_varname name.now)) self.old self.new }
     {
         if is_debug(name) {
             return Err(self.syntax_error("cannot assign to __debug__"));
@@ -77,8 +76,7 @@ impl Emitter {
     /// OutOfMemory alone.
     #[tactic(auto, unfolding(py_steps::specs::Emitting::add_varname))]
     pub fn add_varname(&mut self, name: &str) -> Result<(), CodegenError>
-        ensures goes { Goes result (state self.new) (add_varname name.now (state self.old)) }
-        ensures same { Same result (rest self.new) (rest self.old) }
+        ensures { Emits result (add_varname name.now) self.old self.new }
     {
         match self.mangled(name)? {
             Some(other) => self.varname(other.as_str())?,
@@ -93,8 +91,7 @@ impl Emitter {
     /// OutOfMemory alone.
     #[tactic(auto, unfolding(py_steps::specs::Emitting::emit_varname))]
     pub fn emit_varname(&mut self, instr: Instruction, name: &str) -> Result<(), CodegenError>
-        ensures goes { Goes result (state self.new) (emission_of_varname instr name.now (state self.old)) }
-        ensures same { Same result (rest self.new) (rest self.old) }
+        ensures { Emits result (emission_of_varname instr name.now) self.old self.new }
     {
         let place = self.varname(name)?;
         self.emit_arg(instr, place)
@@ -123,8 +120,7 @@ impl Emitter {
     /// OutOfMemory alone.
     #[tactic(auto, unfolding(py_steps::specs::Emitting::add_constant))]
     pub fn enter_constant(&mut self, constant: ConstantData) -> Result<(), CodegenError>
-        ensures goes { Goes result (state self.new) (add_constant (constant_of constant) (state self.old)) }
-        ensures same { Same result (rest self.new) (rest self.old) }
+        ensures { Emits result (add_constant (constant_of constant)) self.old self.new }
     {
         self.add_constant(constant)?;
         Ok(())
@@ -148,8 +144,7 @@ impl Emitter {
     /// OutOfMemory alone.
     #[tactic(auto, unfolding(py_steps::specs::Emitting::emit_constant))]
     pub fn load_const(&mut self, constant: ConstantData) -> Result<(), CodegenError>
-        ensures goes { Goes result (state self.new) (emit_constant Instruction.LoadConst (constant_of constant) (state self.old)) }
-        ensures same { Same result (rest self.new) (rest self.old) }
+        ensures { Emits result (emit_constant Instruction.LoadConst (constant_of constant)) self.old self.new }
     {
         let place = self.add_constant(constant)?;
         self.emit_arg(Instruction::LoadConst, place)
@@ -161,8 +156,7 @@ impl Emitter {
     /// OutOfMemory alone.
     #[tactic(auto, unfolding(py_steps::specs::Emitting::emit_constant))]
     pub fn return_const(&mut self, constant: ConstantData) -> Result<(), CodegenError>
-        ensures goes { Goes result (state self.new) (emit_constant Instruction.ReturnConst (constant_of constant) (state self.old)) }
-        ensures same { Same result (rest self.new) (rest self.old) }
+        ensures { Emits result (emit_constant Instruction.ReturnConst (constant_of constant)) self.old self.new }
     {
         let place = self.add_constant(constant)?;
         self.emit_arg(Instruction::ReturnConst, place)
@@ -174,8 +168,7 @@ impl Emitter {
     /// OutOfMemory alone.
     #[tactic(auto, unfolding(py_steps::specs::Emitting::emit_name))]
     pub fn emit_name(&mut self, instr: Instruction, name: &str) -> Result<(), CodegenError>
-        ensures goes { Goes result (state self.new) (emission_of_name instr name.now (state self.old)) }
-        ensures same { Same result (rest self.new) (rest self.old) }
+        ensures { Emits result (emission_of_name instr name.now) self.old self.new }
     {
         let place = self.name(name)?;
         self.emit_arg(instr, place)

@@ -1,8 +1,6 @@
 -- A call, from what is called to the call itself.
 use Rattle.std.proofs.Common.{◌≡◌, ◌≢◌, ℕ, suc, ◌+◌, List, [], ◌∷◌, length, Bool, true, false, refl, sym, ap, ◌∙◌, arith}
 use Rattle.std.specs.Prelude.{◌||◌, nat_eq, if◌then◌else◌}
-use Rattle.py_base.specs.declared.location.SourceLocation.{SourceLocation}
-use Rattle.py_tree.specs.Tree as tree
 use Rattle.py_tree.specs.View.{expr_tree, exprs, keywords}
 use Rattle.py_tree.specs.declared.expressions.Expr.{Expr}
 use Rattle.py_tree.specs.declared.expressions.KeywordOf.{KeywordOf}
@@ -10,16 +8,15 @@ use Rattle.py_bytecode.specs.declared.instruction.Instruction.{Instruction}
 use Rattle.py_bytecode.specs.declared.instruction.Instruction.TheVariants as op
 use Rattle.py_steps.specs.Elements.{Element, Single, Spread, Callee, Function, Method, bare, groups, starred}
 use Rattle.py_steps.specs.TableParts.{any}
-use Rattle.py_steps.specs.Emitting.{Emission, State, ◌▸◌, emit_count, emit_mangled, located}
+use Rattle.py_steps.specs.Emitting.{Emission, ◌▸◌, emit_count, emit_mangled}
 use Rattle.py_steps.specs.EmissionParts.{Keywords, built, call_by, checked, elements, emission_of_call, in_turn, joined_map, map_of, packed, packed_tuple, placed}
-use Rattle.py_emission.specs.Emission.{all_emissions, emission, emissions, keyword_emissions}
+use Rattle.py_emission.specs.Emission.{all_emissions, keyword_emissions}
 use Rattle.py_expr.specs.declared.calls.CallType.{CallType}
 use Rattle.py_expr.specs.declared.calls.CallType.TheVariants as call
 use Rattle.py_expr.specs.Calling.{argument_tuple, call_operand, called, callee_value, calling, function_call, is_method, keyworded, method_call, named_if_any, named_values, positional, taken, type_of}
 use Rattle.py_emit.proofs.Joined.{joined, keep_last}
 use Rattle.py_expr.proofs.Groups.{many_elements}
 use Rattle.py_expr.proofs.Mapping.{many_keywords}
-use Rattle.py_expr.proofs.Steps.{move_goes}
 
 none_more : (n : ℕ) → n ≡ 0 + n
 none_more n = omega arith

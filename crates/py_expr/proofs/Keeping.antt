@@ -1,6 +1,6 @@
 -- A block that is made and has not begun stays so through what is emitted of a node: a node begins only blocks that it makes.
-use Rattle.std.proofs.Common.{◌≡◌, ◌≢◌, ℕ, ◌<◌, ◌≤◌, ◌^◌, List, [], ◌∷◌, ◌++◌, length, Bool, true, false, Option, Some, None, inl, inr, subst, arith}
-use Rattle.std.specs.Prelude.{nat_eq, nat_lt, if◌then◌else◌}
+use Rattle.std.proofs.Common.{◌≡◌, ◌≢◌, ℕ, ◌<◌, ◌≤◌, ◌^◌, List, [], ◌∷◌, ◌++◌, Bool, true, false, Option, Some, None, inl, inr, subst, arith}
+use Rattle.std.specs.Prelude.{nat_lt, if◌then◌else◌}
 use Rattle.py_base.specs.declared.location.SourceLocation.{SourceLocation}
 use Rattle.py_bytecode.specs.declared.instruction.Instruction.{Instruction}
 use Rattle.py_bytecode.specs.declared.instruction.Instruction.TheVariants as op
@@ -10,7 +10,7 @@ use Rattle.py_forms.specs.Form.{Resolved}
 use Rattle.py_forms.specs.declared.errors.CodegenErrorType.{CodegenErrorType}
 use Rattle.py_steps.specs.Accesses.{access_by, accessed, delete_by, load_by, store_by}
 use Rattle.py_steps.specs.Context.{Context, access_kind, cell_place, mangled}
-use Rattle.py_steps.specs.Emitting.{Step, Put, Begin, State, Outcome, Done, TooWide, Emission, LoopBlocks, ◌▸◌, keep, with_step, with_block, with_name, with_varname, with_constant, with_loops, located, refuse, emit, emit_count, emit_mangled, emit_name, emit_varname, emit_constant, jump, begin, new_block, move, by_context, by_level, by_loops, in_loop}
+use Rattle.py_steps.specs.Emitting.{Step, Put, Begin, State, Done, Emission, LoopBlocks, ◌▸◌, keep, with_step, with_block, with_name, with_varname, with_constant, with_loops, located, refuse, emit, emit_count, emit_mangled, emit_name, emit_varname, emit_constant, jump, begin, new_block, move, by_context, by_level, by_loops, in_loop}
 use Rattle.py_emit.specs.Steps.{Begun, IsOpen}
 use Rattle.py_emit.proofs.States.{never_refused}
 use Rattle.py_emit.proofs.Joined.{between, chosen_done, counted_done, done_same}

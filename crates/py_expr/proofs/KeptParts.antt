@@ -13,7 +13,7 @@ use Rattle.py_steps.specs.TableParts.{deciding}
 use Rattle.py_forms.specs.declared.errors.CodegenErrorType.TheVariants as error
 use Rattle.py_steps.specs.Elements.{Element, Single, Spread, Callee, Function, Method}
 use Rattle.py_steps.specs.EmissionParts as emitting
-use Rattle.py_steps.specs.Emitting.{Emission, ◌▸◌, begin, emit, jump, keep, refuse}
+use Rattle.py_steps.specs.Emitting.{Emission, ◌▸◌, begin, emit, jump, refuse}
 use Rattle.py_steps.specs.EmissionParts.{Emissions, keeping_jump, testing_jump, in_turn, shorts, some_values, bool_value, tests, past_tests, some_test, bool_test, bool_emissions, unary_value, unary_emissions, emission_of_comparison, emission_of_link, links, chain, choice, first_comparison, comparisons, emission_of_compare, only, values}
 use Rattle.py_expr.proofs.Keeping.{Keeps, begin_keeps, block_from, either_keeps, emit_keeps, idle_keeps, jump_keeps, moved_keeps, refuse_keeps, then_from, then_keeps}
 

@@ -1,21 +1,20 @@
 -- What is emitted of a scope within and of the function that is made of it keeps a block from beginning.
-use Rattle.std.proofs.Common.{◌≡◌, ℕ, suc, ◌+◌, List, [], ◌∷◌, ◌++◌, length, Bool, true, false, Option, Some, None, refl, subst}
+use Rattle.std.proofs.Common.{◌≡◌, ℕ, suc, ◌+◌, List, [], ◌∷◌, ◌++◌, Bool, true, subst}
 use Rattle.std.specs.Prelude.{if◌then◌else◌}
 use Rattle.std.specs.List.{list_any}
 use Rattle.py_bytecode.specs.Equality.{text_eq}
-use Rattle.py_bytecode.specs.declared.instruction.Instruction.{Instruction}
 use Rattle.py_bytecode.specs.declared.instruction.Instruction.TheVariants as op
 use Rattle.py_bytecode.specs.Objects as const
 use Rattle.py_bytecode.specs.Objects.{Object}
 use Rattle.py_forms.specs.declared.errors.CodegenErrorType.{CodegenErrorType}
 use Rattle.py_steps.specs.Children.{DefaultEmissions, Shape, behind_child, cell_loads, child, closure, code_head, emission_of_defaults, free_names, load_cell, made, on_sealed, some_emitted, some_flag}
 use Rattle.py_steps.specs.Context.{Context, cell_place, is_function}
-use Rattle.py_steps.specs.Emitting.{Done, Emission, Outcome, Refused, State, TooWide, ◌▸◌, begun, by_context, emit, emit_constant, generating, pass_over, refuse}
-use Rattle.py_steps.specs.EmissionParts.{built, in_turn, map_of, only_in_function, pass_scopes}
+use Rattle.py_steps.specs.Emitting.{Done, Emission, Outcome, Refused, State, TooWide, begun, emit, emit_constant, generating, pass_over, refuse}
+use Rattle.py_steps.specs.EmissionParts.{built, map_of, only_in_function, pass_scopes}
 use Rattle.py_steps.specs.Sealed.{Head, sealed}
 use Rattle.py_emit.proofs.Joined.{counted_done, done_same}
 use Rattle.py_expr.proofs.Keeping.{From, Grows, Keeps, constant_keeps, context_keeps, either_keeps, emit_keeps, idle_keeps, refuse_keeps, then_keeps}
-use Rattle.py_expr.proofs.KeptParts.{TurnsKeep, turn_keeps}
+use Rattle.py_expr.proofs.KeptParts.{TurnsKeep}
 use Rattle.py_expr.proofs.KeptDisplays.{built_keeps}
 use Rattle.py_expr.proofs.KeptCalls.{NamedKeep, map_keeps}
 

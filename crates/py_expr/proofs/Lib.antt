@@ -1,4 +1,5 @@
 pub mod Steps
+pub mod Entering
 pub mod Turns
 pub mod Keeping
 pub mod KeptParts

@@ -1,6 +1,6 @@
 -- A block that has not begun stays so through the emission of an expression, a target or a deletion.
-use Rattle.std.proofs.Common.{◌≡◌, ◌≢◌, ℕ, List, [], ◌∷◌, Bool, Option, Some, None, sym, subst, arith}
-use Rattle.std.specs.Prelude.{codes, if◌then◌else◌}
+use Rattle.std.proofs.Common.{◌≡◌, ◌≢◌, ℕ, List, [], Bool, Some, None, sym, subst, arith}
+use Rattle.std.specs.Prelude.{codes}
 use Rattle.py_tree.specs.Tree as tree
 use Rattle.py_base.specs.declared.location.SourceLocation.{SourceLocation}
 use Rattle.py_base.specs.declared.operators.BoolOp.{BoolOp}
@@ -18,7 +18,7 @@ use Rattle.py_steps.specs.Emitting.{State, Begin, Done, Emission, ◌▸◌, gen
 use Rattle.py_steps.specs.EmissionParts.{Emissions, pass_scopes, values, elements, value_or, shorts, tests, bool_value, links, lone_star, no_assignment, no_deletion}
 use Rattle.py_bytecode.specs.Values.{Load, Store, Delete}
 use Rattle.py_steps.specs.Accesses.{accessed, emission_of_name}
-use Rattle.py_emission.specs.Emission.{clause_emissions, default_emissions, lambda_value, emission_of_return, keyword_only_emissions, name_return, positional_emissions, opt_emission, opt_emissions, emission, emission_of_test, emissions, all_emissions, all_stores, stores, keyword_emissions, deletion_name, emission_of_delete, emission_of_deletes, unbuilt}
+use Rattle.py_emission.specs.Emission.{clause_emissions, default_emissions, lambda_value, keyword_only_emissions, name_return, positional_emissions, opt_emission, opt_emissions, emission, emission_of_test, emissions, all_emissions, all_stores, stores, keyword_emissions, deletion_name, emission_of_delete, emission_of_deletes, unbuilt}
 use Rattle.py_emit.specs.Steps.{IsOpen}
 use Rattle.py_expr.proofs.Keeping.{Keeps, grows_same, grows_block, grows_located, begun_other, still_open, opens, emit_keeps, jump_keeps, idle_keeps, accessed_keeps, mangled_keeps, constant_keeps, level_keeps, either_keeps, then_keeps, moved_keeps, refuse_keeps}
 use Rattle.py_expr.proofs.KeptParts.{EachKeeps, AllKeep, TurnsKeep, ordinary_keeps, truth_keeps, shorts_keep, tests_keep, bool_test_keeps, bool_value_keeps, tested_keeps, unary_keeps, links_keep, choice_keeps, compare_keeps, values_keep}

@@ -17,7 +17,7 @@ use Rattle.py_tree.specs.declared.expressions.ExprStarredOf.{ExprStarredOf}
 use Rattle.py_tree.specs.declared.expressions.ExprUnaryOpOf.{ExprUnaryOpOf}
 use Rattle.py_bytecode.specs.declared.instruction.Instruction.TheVariants as op
 use Rattle.py_steps.specs.Elements.{Single, Function}
-use Rattle.py_steps.specs.Emitting.{Emission, ◌▸◌, emit, jump}
+use Rattle.py_steps.specs.Emitting.{◌▸◌, emit}
 use Rattle.py_steps.specs.EmissionParts.{truth_of}
 use Rattle.py_emission.specs.Emission.{emission, emission_of_return, emission_of_test, emissions}
 

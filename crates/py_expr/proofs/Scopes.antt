@@ -1,5 +1,5 @@
 -- A scope within that is entered, emitted and left, or refused.
-use Rattle.std.proofs.Common.{◌≡◌, ◌≢◌, ℕ, suc, List, [], ◌∷◌, ◌++◌, Option, Some, None, Ok, Err, Result, refl, sym, ap, ◌∙◌, subst}
+use Rattle.std.proofs.Common.{◌≡◌, ◌≢◌, ℕ, suc, List, [], ◌∷◌, ◌++◌, Option, Ok, Err, Result, sym, ap, ◌∙◌, subst}
 use Rattle.std.specs.Prelude.{IfErr, IfOk, OnOk, codes}
 use Rattle.py_counts.specs.Counts.{scopes_in_annotations}
 use Rattle.py_tree.specs.Tree as tree
@@ -14,9 +14,9 @@ use Rattle.py_scope.specs.declared.table_type.SymbolTableType.{SymbolTableType}
 use Rattle.py_bytecode.specs.Objects as const
 use Rattle.py_steps.specs.Children.{DefaultEmissions, Shape, child, code_head, emission_of_defaults, enter_parameters, flags_of_defaults, function_scope, lambda_inside, made, on_sealed}
 use Rattle.py_steps.specs.Context.{Context, inside}
-use Rattle.py_steps.specs.Emitting.{Done, Emission, Outcome, Refused, State, ◌▸◌, add_constant, begun}
+use Rattle.py_steps.specs.Emitting.{Done, Emission, Refused, State, ◌▸◌, add_constant, begun}
 use Rattle.py_steps.specs.EmissionParts.{pass_scopes}
-use Rattle.py_steps.specs.Sealed.{Head, sealed}
+use Rattle.py_steps.specs.Sealed.{sealed}
 use Rattle.py_emission.specs.Emission.{lambda_value}
 use Rattle.py_emission.specs.Parameters.{function_shape, parameters}
 use Rattle.py_emit.specs.States.{IsStarved, Rest, Same, entered, entered_rest, left, left_rest, named_in, rest, state}

@@ -1,5 +1,5 @@
 -- The parameters of functions and their defaults, one at a time, and scopes within that are entered and left.
-use Rattle.std.proofs.Common.{◌≡◌, ◌≢◌, ℕ, zero, suc, ◌+◌, ◌<◌, ◌≤◌, List, [], ◌∷◌, ◌++◌, length, drop, get_or, Bool, true, false, Option, Some, None, Ok, Err, Result, refl, sym, ap, ◌∙◌, subst, arith}
+use Rattle.std.proofs.Common.{◌≡◌, ℕ, suc, ◌+◌, ◌<◌, List, [], ◌∷◌, ◌++◌, length, drop, get_or, Bool, true, false, Option, Some, None, refl, sym, ap, ◌∙◌, arith}
 use Rattle.std.proofs.Math.Seq.{drop-cons}
 use Rattle.std.proofs.lemmas.List.{length-append}
 use Rattle.std.specs.Option as option
@@ -12,7 +12,6 @@ use Rattle.py_tree.specs.declared.expressions.Expr.{Expr}
 use Rattle.py_tree.specs.declared.expressions.ArgOf.{ArgOf}
 use Rattle.py_tree.specs.declared.expressions.ArgWithDefaultOf.{ArgWithDefaultOf}
 use Rattle.py_tree.specs.declared.expressions.ArgumentsOf.{ArgumentsOf}
-use Rattle.py_bytecode.specs.declared.instruction.Instruction.{Instruction}
 use Rattle.py_bytecode.specs.declared.instruction.Instruction.TheVariants as op
 use Rattle.py_bytecode.specs.Objects as const
 use Rattle.py_steps.specs.Children.{Shape, enter_parameters, some_emitted, some_flag}
@@ -23,7 +22,7 @@ use Rattle.py_steps.specs.EmissionParts.{built, in_turn, map_of, name_values, on
 use Rattle.py_emission.specs.Emission.{default_emissions, emission, keyword_only_emissions, positional_emissions}
 use Rattle.py_emission.specs.Parameters.{arg_names, names_with_default, names_without_default, opt_arg_names, parameters, function_shape}
 use Rattle.py_emit.proofs.Joined.{joined, turn_append}
-use Rattle.py_expr.specs.Functions.{closed_by, default_count, default_name, default_value, default_values, flag_if, is_some, names_given, parameter, parameter_given}
+use Rattle.py_expr.specs.Functions.{closed_by, default_values, flag_if, is_some, names_given, parameter, parameter_given}
 
 one_more : (i : ℕ) → suc i ≡ i + 1
 one_more i = omega arith

@@ -1,5 +1,5 @@
 -- What each step of an emission does to what is emitted so far.
-use Rattle.std.proofs.Common.{◌≡◌, ℕ, suc, List, [], ◌∷◌, length, Some, refl, ap}
+use Rattle.std.proofs.Common.{◌≡◌, ℕ, suc, List, [], ◌∷◌, length, Some, refl, ap, sym}
 use Rattle.py_tree.specs.declared.expressions.Expr.{Expr}
 use Rattle.py_tree.specs.View.{expr_tree, exprs}
 use Rattle.py_base.specs.declared.location.SourceLocation.{SourceLocation}
@@ -10,6 +10,11 @@ use Rattle.py_emission.specs.Emission.{all_emissions}
 pub move_goes : (at : SourceLocation) (s : State) → move at s ≡ Done (located at s)
 unfolding move
 move_goes at s = refl
+
+-- where the location is this
+pub stays : (at : SourceLocation) (s : State) → s.location ≡ at → move at s ≡ Done s
+unfolding move located
+stays at s h = ap (λ x. Done (record s { location = x })) (sym h)
 
 pub block_goes : (a : ℕ → Emission) (s : State) → new_block a s ≡ a s.blocks (with_block s)
 unfolding new_block
@@ -35,4 +40,4 @@ pub many_emissions : (xs : List Expr) → length (all_emissions (exprs expr_tree
 many_emissions [] = refl
 many_emissions (x ∷ xs) = ap suc (many_emissions xs)
 
-pub ruleset steps = (move_goes, block_goes, begin_goes, refuse_goes, level_goes, located_at, many_emissions)
+pub ruleset steps = (move_goes, block_goes, begin_goes, refuse_goes, level_goes, located_at, many_emissions, stays)

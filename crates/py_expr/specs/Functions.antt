@@ -1,5 +1,5 @@
 -- What is emitted of the parameters of functions and their defaults, and what a scope within comes to.
-use Rattle.std.specs.Prelude.{◌≡◌, ◌≢◌, ℕ, zero, suc, List, [], ◌∷◌, Bool, true, false, Option, None, Some, Result, Ok, Err}
+use Rattle.std.specs.Prelude.{◌≡◌, ◌≢◌, ℕ, zero, suc, List, [], ◌∷◌, Bool, true, false, Result, Ok, Err}
 use Rattle.py_base.specs.declared.location.LocatedError.{LocatedError}
 use Rattle.py_tree.specs.Tree as tree
 use Rattle.py_bytecode.specs.declared.instruction.Instruction.{Instruction}

@@ -1,10 +1,10 @@
 //! Calls.
-ghost use Rattle.std.specs.Prelude.{◌≡◌, ◌+◌, ◌||◌, ℕ, false, length, IfErr, IfOk, OnOk, if◌then◌else◌};
-ghost use Rattle.py_tree.specs.View.{call_tree, expr_tree, exprs, keywords as keyword_trees};
+ghost use Rattle.std.specs.Prelude.{◌≡◌, ◌+◌, ◌||◌, false, length, IfErr, IfOk, OnOk, if◌then◌else◌};
+ghost use Rattle.py_tree.specs.View.{expr_tree, exprs, keywords as keyword_trees};
 ghost use Rattle.py_steps.specs.EmissionParts.{elements, in_turn};
-ghost use Rattle.py_emission.specs.Emission.{all_emissions, emission, emissions, keyword_emissions};
+ghost use Rattle.py_emission.specs.Emission.{all_emissions, emissions, keyword_emissions};
 ghost use Rattle.py_steps.specs.Elements.{bare, starred};
-ghost use Rattle.py_emit.specs.States.{Goes, IsStarved, Same, rest, state};
+ghost use Rattle.py_emit.specs.States.{Emits, IsStarved, rest};
 ghost use Rattle.py_expr.specs.Calling.{argument_tuple, arguments, call_operand, called, callee_value, calling, function_call, is_method, keyworded, method_call, positional, taken, type_of};
 
 use crate::elements::{close_run, compile_groups, has_star};
@@ -26,20 +26,10 @@ pub enum CallType {
     Ex { has_kwargs: bool },
 }
 
-#[cycle(code)]
-pub(crate) fn compile_call(em: &mut Emitter, e: &ExprCall) -> Result<(), CodegenError>
-    ensures goes { Goes result (state em.new) (emission (call_tree e.now) (state em.old)) }
-    ensures same { Same result (rest em.new) (rest em.old) }
-{
-    em.set_location(e.location);
-    compile_called(em, e)
-}
-
 /// Emits what is called, its arguments and the call.
 #[cycle(code)]
-fn compile_called(em: &mut Emitter, e: &ExprCall) -> Result<(), CodegenError>
-    ensures goes { Goes result (state em.new) (called (emissions (expr_tree e.now.func.value)).callee (elements (all_emissions (exprs expr_tree e.now.args))) (keyword_emissions (keyword_trees expr_tree e.now.keywords)) (state em.old)) }
-    ensures same { Same result (rest em.new) (rest em.old) }
+pub(crate) fn compile_call(em: &mut Emitter, e: &ExprCall) -> Result<(), CodegenError>
+    ensures { Emits result (called (emissions (expr_tree e.now.func.value)).callee (elements (all_emissions (exprs expr_tree e.now.args))) (keyword_emissions (keyword_trees expr_tree e.now.keywords))) em.old em.new }
 {
     let is_method = compile_callee(em, &e.func)?;
     let call = compile_call_arguments(em, e)?;
@@ -50,8 +40,7 @@ fn compile_called(em: &mut Emitter, e: &ExprCall) -> Result<(), CodegenError>
 #[cycle(code)]
 fn compile_callee(em: &mut Emitter, func: &Expr) -> Result<bool, CodegenError>
     ensures method { IfOk result (λ b. b ≡ is_method (emissions (expr_tree func.now)).callee) }
-    ensures goes { Goes result (state em.new) (callee_value (emissions (expr_tree func.now)).callee (state em.old)) }
-    ensures same { Same result (rest em.new) (rest em.old) }
+    ensures emits { Emits result (callee_value (emissions (expr_tree func.now)).callee) em.old em.new }
 {
     match func {
         Expr::Attribute(e) => {
@@ -70,8 +59,7 @@ fn compile_callee(em: &mut Emitter, func: &Expr) -> Result<bool, CodegenError>
 #[cycle(code)]
 fn compile_call_arguments(em: &mut Emitter, e: &ExprCall) -> Result<CallType, CodegenError>
     ensures call { IfOk result (λ c. c ≡ taken 0 (elements (all_emissions (exprs expr_tree e.now.args))) (keyword_emissions (keyword_trees expr_tree e.now.keywords))) }
-    ensures goes { Goes result (state em.new) (arguments 0 (elements (all_emissions (exprs expr_tree e.now.args))) (keyword_emissions (keyword_trees expr_tree e.now.keywords)) (state em.old)) }
-    ensures same { Same result (rest em.new) (rest em.old) }
+    ensures emits { Emits result (arguments 0 (elements (all_emissions (exprs expr_tree e.now.args))) (keyword_emissions (keyword_trees expr_tree e.now.keywords))) em.old em.new }
 {
     let args = e.args.as_slice();
     let keywords = e.keywords.as_slice();
@@ -92,8 +80,7 @@ pub fn compile_call_inner(
     keywords: &List<Keyword>,
 ) -> Result<CallType, CodegenError>
     ensures call { IfOk result (λ c. c ≡ taken additional (elements (all_emissions (exprs expr_tree args.now))) (keyword_emissions (keyword_trees expr_tree keywords.now))) }
-    ensures goes { Goes result (state em.new) (arguments additional (elements (all_emissions (exprs expr_tree args.now))) (keyword_emissions (keyword_trees expr_tree keywords.now)) (state em.old)) }
-    ensures same { Same result (rest em.new) (rest em.old) }
+    ensures emits { Emits result (arguments additional (elements (all_emissions (exprs expr_tree args.now))) (keyword_emissions (keyword_trees expr_tree keywords.now))) em.old em.new }
 {
     let args = args.as_slice();
     let keywords = keywords.as_slice();
@@ -120,8 +107,7 @@ fn compile_positional(
     keywords: &[Keyword],
 ) -> Result<(), CodegenError>
     requires plain { packed ≡ false → starred (elements (all_emissions (exprs expr_tree args.now))) ≡ false }
-    ensures goes { Goes result (state em.new) (positional packed additional (elements (all_emissions (exprs expr_tree args.now))) (keyword_emissions (keyword_trees expr_tree keywords.now)) (state em.old)) }
-    ensures same { Same result (rest em.new) (rest em.old) }
+    ensures { Emits result (positional packed additional (elements (all_emissions (exprs expr_tree args.now))) (keyword_emissions (keyword_trees expr_tree keywords.now))) em.old em.new }
 {
     if packed {
         return compile_argument_tuple(em, additional, args, keywords);
@@ -133,8 +119,7 @@ fn compile_positional(
 #[cycle(code)]
 fn compile_plain(em: &mut Emitter, args: &[Expr]) -> Result<(), CodegenError>
     requires plain { starred (elements (all_emissions (exprs expr_tree args.now))) ≡ false }
-    ensures goes { Goes result (state em.new) (in_turn (bare (elements (all_emissions (exprs expr_tree args.now)))) (state em.old)) }
-    ensures same { Same result (rest em.new) (rest em.old) }
+    ensures { Emits result (in_turn (bare (elements (all_emissions (exprs expr_tree args.now))))) em.old em.new }
 {
     compile_expressions(em, args)
 }
@@ -148,8 +133,7 @@ fn compile_argument_tuple(
     args: &[Expr],
     keywords: &[Keyword],
 ) -> Result<(), CodegenError>
-    ensures goes { Goes result (state em.new) (argument_tuple additional (elements (all_emissions (exprs expr_tree args.now))) (keyword_emissions (keyword_trees expr_tree keywords.now)) (state em.old)) }
-    ensures same { Same result (rest em.new) (rest em.old) }
+    ensures { Emits result (argument_tuple additional (elements (all_emissions (exprs expr_tree args.now))) (keyword_emissions (keyword_trees expr_tree keywords.now))) em.old em.new }
 {
     if has_star(args) {
         let own = close_run(em, additional as usize)?;
@@ -172,8 +156,7 @@ fn compile_keywords(
     packed: bool,
     keywords: &[Keyword],
 ) -> Result<(), CodegenError>
-    ensures goes { Goes result (state em.new) (keyworded packed (keyword_emissions (keyword_trees expr_tree keywords.now)) (state em.old)) }
-    ensures same { Same result (rest em.new) (rest em.old) }
+    ensures { Emits result (keyworded packed (keyword_emissions (keyword_trees expr_tree keywords.now))) em.old em.new }
 {
     if packed {
         return compile_keyword_map(em, keywords);
@@ -208,8 +191,7 @@ fn call_type(
 
 /// Emits the call of what lies below its arguments.
 pub fn emit_call(em: &mut Emitter, is_method: bool, call: CallType) -> Result<(), CodegenError>
-    ensures goes { Goes result (state em.new) (calling is_method call (state em.old)) }
-    ensures same { Same result (rest em.new) (rest em.old) }
+    ensures { Emits result (calling is_method call) em.old em.new }
 {
     em.emit_count(
         call_instruction(is_method, call),

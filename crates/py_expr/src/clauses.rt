@@ -3,7 +3,7 @@ ghost use Rattle.std.specs.Prelude.{◌≡◌, ◌<◌, ◌++◌, ◌∷◌, [],
 ghost use Rattle.py_tree.specs.View.{expr_tree, exprs, generators as clause_trees};
 ghost use Rattle.py_steps.specs.Comprehensions.{conditions};
 ghost use Rattle.py_emission.specs.Emission.{all_emissions, clause_emissions, emission};
-ghost use Rattle.py_emit.specs.States.{Goes, IsStarved, Same, rest, state};
+ghost use Rattle.py_emit.specs.States.{Emits, IsStarved, Same, rest, state};
 ghost use Rattle.py_emit.specs.Steps.{IsOpen};
 ghost use Rattle.py_expr.specs.Clauses.{AllOpen, AreOpened, AreRefused, IsOpenClause, clause_of, closed, closing, iterator_of, opened, opened_clause};
 
@@ -71,8 +71,7 @@ fn open_clause(
     ensures start { IfOk result (λ blocks. blocks.start.0 ≡ (state em.old).blocks) }
     ensures end { IfOk result (λ blocks. blocks.end.0 ≡ suc (state em.old).blocks) }
     ensures open { IfOk result (λ blocks. IsOpenClause blocks (state em.new)) }
-    ensures goes { Goes result (state em.new) (opened_clause (iterator_of first (clause_of clause.now).iterable) (clause_of clause.now) (state em.old)) }
-    ensures same { Same result (rest em.new) (rest em.old) }
+    ensures emits { Emits result (opened_clause (iterator_of first (clause_of clause.now).iterable) (clause_of clause.now)) em.old em.new }
 {
     let start = em.new_block()?;
     let end = em.new_block()?;
@@ -93,8 +92,7 @@ fn begin_clause(
     requires open { IsOpen blocks.now.start.0 (state em.old) }
     requires start_below { blocks.now.start.0 < 0xffff_ffff }
     requires end_below { blocks.now.end.0 < 0xffff_ffff }
-    ensures goes { Goes result (state em.new) (opened (iterator_of first (clause_of clause.now).iterable) (clause_of clause.now) blocks.now.start.0 blocks.now.end.0 (state em.old)) }
-    ensures same { Same result (rest em.new) (rest em.old) }
+    ensures { Emits result (opened (iterator_of first (clause_of clause.now).iterable) (clause_of clause.now) blocks.now.start.0 blocks.now.end.0) em.old em.new }
 {
     compile_iterator(em, &clause.iter, first)?;
     em.switch_to_block(blocks.start);
@@ -110,8 +108,7 @@ pub(crate) fn compile_iterator(
     iterable: &Expr,
     first: bool,
 ) -> Result<(), CodegenError>
-    ensures goes { Goes result (state em.new) (iterator_of first (emission (expr_tree iterable.now)) (state em.old)) }
-    ensures same { Same result (rest em.new) (rest em.old) }
+    ensures { Emits result (iterator_of first (emission (expr_tree iterable.now))) em.old em.new }
 {
     if first {
         return em.emit_varname(Instruction::LoadFast, ".0");
@@ -125,8 +122,7 @@ pub(crate) fn compile_iterator(
 #[cycle(code)]
 fn compile_conditions(em: &mut Emitter, ifs: &[Expr], start: BlockIdx) -> Result<(), CodegenError>
     requires { start.0 < 0xffff_ffff }
-    ensures goes { Goes result (state em.new) (conditions (all_emissions (exprs expr_tree ifs.now)) start.0 (state em.old)) }
-    ensures same { Same result (rest em.new) (rest em.old) }
+    ensures { Emits result (conditions (all_emissions (exprs expr_tree ifs.now)) start.0) em.old em.new }
 {
     for condition in ifs {
         let jump = JumpIf {
@@ -144,8 +140,7 @@ pub(crate) fn close_clauses(
     blocks: List<ClauseBlocks>,
 ) -> Result<(), CodegenError>
     requires open { AllOpen blocks (state em.old) }
-    ensures goes { Goes result (state em.new) (closed blocks (state em.old)) }
-    ensures same { Same result (rest em.new) (rest em.old) }
+    ensures { Emits result (closed blocks) em.old em.new }
 {
     let mut blocks = blocks;
     while let Some(clause) = blocks.pop() {
@@ -158,8 +153,7 @@ pub(crate) fn close_clauses(
 #[tactic(auto, using(crate::proofs::Steps::steps))]
 fn close_clause(em: &mut Emitter, blocks: &ClauseBlocks) -> Result<(), CodegenError>
     requires open { IsOpenClause blocks.now (state em.old) }
-    ensures goes { Goes result (state em.new) (closing blocks.now (state em.old)) }
-    ensures same { Same result (rest em.new) (rest em.old) }
+    ensures { Emits result (closing blocks.now) em.old em.new }
 {
     emit!(em, Instruction::Jump => blocks.start);
     em.switch_to_block(blocks.end);

@@ -1,10 +1,10 @@
 //! Comparisons, one or a chain of them.
 ghost use Rattle.std.specs.Prelude.{◌≡◌, ◌<◌, length};
-ghost use Rattle.py_tree.specs.View.{compare_tree, expr_tree, exprs};
+ghost use Rattle.py_tree.specs.View.{expr_tree, exprs};
 ghost use Rattle.py_steps.specs.Emitting.{◌▸◌, emit as emitting};
 ghost use Rattle.py_steps.specs.EmissionParts.{chain, emission_of_compare, emission_of_comparison, emission_of_link, in_turn, links, first_comparison, values};
-ghost use Rattle.py_emission.specs.Emission.{all_emissions, emission, emissions};
-ghost use Rattle.py_emit.specs.States.{Goes, Same, rest, state};
+ghost use Rattle.py_emission.specs.Emission.{all_emissions, emissions};
+ghost use Rattle.py_emit.specs.States.{Emits};
 ghost use Rattle.py_expr.specs.Turns.{linked};
 
 use crate::expressions::{compile_expression, compile_expressions};
@@ -14,21 +14,10 @@ use py_forms::{CodegenError, CodegenErrorType};
 use py_ir::BlockIdx;
 use py_tree::{CmpOp, Expr, ExprCompare, Malformed};
 
-#[cycle(code)]
-#[tactic(auto, using(crate::proofs::Steps::steps))]
-pub(crate) fn compile_compare(em: &mut Emitter, e: &ExprCompare) -> Result<(), CodegenError>
-    ensures goes { Goes result (state em.new) (emission (compare_tree e.now) (state em.old)) }
-    ensures same { Same result (rest em.new) (rest em.old) }
-{
-    em.set_location(e.location);
-    compile_comparisons(em, e)
-}
-
 /// Emits one comparison, or a chain of them.
 #[cycle(code)]
-fn compile_comparisons(em: &mut Emitter, e: &ExprCompare) -> Result<(), CodegenError>
-    ensures goes { Goes result (state em.new) (emission_of_compare (emissions (expr_tree e.now.left.value)).value e.now.ops (all_emissions (exprs expr_tree e.now.comparators)) (state em.old)) }
-    ensures same { Same result (rest em.new) (rest em.old) }
+pub(crate) fn compile_compare(em: &mut Emitter, e: &ExprCompare) -> Result<(), CodegenError>
+    ensures { Emits result (emission_of_compare (emissions (expr_tree e.now.left.value)).value e.now.ops (all_emissions (exprs expr_tree e.now.comparators))) em.old em.new }
 {
     let count = e.ops.len();
     if count == 0 {
@@ -47,8 +36,7 @@ fn compile_comparisons(em: &mut Emitter, e: &ExprCompare) -> Result<(), CodegenE
 #[tactic(auto, using(crate::proofs::Steps::steps))]
 fn compile_one_comparison(em: &mut Emitter, e: &ExprCompare) -> Result<(), CodegenError>
     requires { 0 < length e.now.ops }
-    ensures goes { Goes result (state em.new) (((emissions (expr_tree e.now.left.value)).value ▸ in_turn (values (all_emissions (exprs expr_tree e.now.comparators))) ▸ first_comparison e.now.ops) (state em.old)) }
-    ensures same { Same result (rest em.new) (rest em.old) }
+    ensures { Emits result ((emissions (expr_tree e.now.left.value)).value ▸ in_turn (values (all_emissions (exprs expr_tree e.now.comparators))) ▸ first_comparison e.now.ops) em.old em.new }
 {
     compile_expression(em, &e.left)?;
     compile_expressions(em, e.comparators.as_slice())?;
@@ -57,8 +45,7 @@ fn compile_one_comparison(em: &mut Emitter, e: &ExprCompare) -> Result<(), Codeg
 
 fn compile_first_comparison(em: &mut Emitter, ops: &[CmpOp]) -> Result<(), CodegenError>
     requires { 0 < length ops.now }
-    ensures goes { Goes result (state em.new) (first_comparison ops.now (state em.old)) }
-    ensures same { Same result (rest em.new) (rest em.old) }
+    ensures { Emits result (first_comparison ops.now) em.old em.new }
 {
     compile_comparison(em, ops[0])
 }
@@ -68,8 +55,7 @@ fn compile_first_comparison(em: &mut Emitter, ops: &[CmpOp]) -> Result<(), Codeg
 #[tactic(auto, using(crate::proofs::Steps::steps))]
 fn compile_chain(em: &mut Emitter, e: &ExprCompare) -> Result<(), CodegenError>
     requires { length e.now.ops ≡ length e.now.comparators }
-    ensures goes { Goes result (state em.new) (chain (emissions (expr_tree e.now.left.value)).value e.now.ops (all_emissions (exprs expr_tree e.now.comparators)) (state em.old)) }
-    ensures same { Same result (rest em.new) (rest em.old) }
+    ensures { Emits result (chain (emissions (expr_tree e.now.left.value)).value e.now.ops (all_emissions (exprs expr_tree e.now.comparators))) em.old em.new }
 {
     let out = em.new_block()?;
     let end = em.new_block()?;
@@ -93,8 +79,7 @@ fn compile_links(
 ) -> Result<(), CodegenError>
     requires even { length ops.now ≡ length values.now }
     requires below { out.0 < 0xffff_ffff }
-    ensures goes { Goes result (state em.new) (links out.0 ops.now (all_emissions (exprs expr_tree values.now)) (state em.old)) }
-    ensures same { Same result (rest em.new) (rest em.old) }
+    ensures { Emits result (links out.0 ops.now (all_emissions (exprs expr_tree values.now))) em.old em.new }
 {
     for (i, value) in values.iter().enumerate() {
         compile_linked(em, out, ops[i], i + 1 < values.len(), value)?;
@@ -112,8 +97,7 @@ fn compile_linked(
     value: &Expr,
 ) -> Result<(), CodegenError>
     requires below { out.0 < 0xffff_ffff }
-    ensures goes { Goes result (state em.new) (linked out.0 op more (expr_tree value.now) (state em.old)) }
-    ensures same { Same result (rest em.new) (rest em.old) }
+    ensures { Emits result (linked out.0 op more (expr_tree value.now)) em.old em.new }
 {
     compile_expression(em, value)?;
     if more {
@@ -125,8 +109,7 @@ fn compile_linked(
 /// Emits a comparison whose right value the next one needs too.
 fn compile_link(em: &mut Emitter, op: CmpOp, out: BlockIdx) -> Result<(), CodegenError>
     requires below { out.0 < 0xffff_ffff }
-    ensures goes { Goes result (state em.new) (emission_of_link op out.0 (state em.old)) }
-    ensures same { Same result (rest em.new) (rest em.old) }
+    ensures { Emits result (emission_of_link op out.0) em.old em.new }
 {
     emit!(em, Instruction::Duplicate);
     emit!(em, Instruction::Rotate3);
@@ -137,8 +120,7 @@ fn compile_link(em: &mut Emitter, op: CmpOp, out: BlockIdx) -> Result<(), Codege
 
 #[tactic(auto, using(crate::proofs::Steps::steps))]
 fn compile_comparison(em: &mut Emitter, op: CmpOp) -> Result<(), CodegenError>
-    ensures goes { Goes result (state em.new) (emission_of_comparison op (state em.old)) }
-    ensures same { Same result (rest em.new) (rest em.old) }
+    ensures { Emits result (emission_of_comparison op) em.old em.new }
 {
     let (instr, case) = comparison_case(op);
     emit!(em, instr, case);

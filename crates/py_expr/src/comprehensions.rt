@@ -7,7 +7,7 @@ ghost use Rattle.py_steps.specs.Comprehensions.{as_element, called_at_once, clau
 ghost use Rattle.py_steps.specs.Emitting.{◌▸◌, begun, emit as emitting, generating};
 ghost use Rattle.py_emission.specs.Awaits.{some_async};
 ghost use Rattle.py_emission.specs.Emission.{clause_emissions, emission};
-ghost use Rattle.py_emit.specs.States.{Goes, IsStarved, Same, entered, entered_rest, rest, state};
+ghost use Rattle.py_emit.specs.States.{Emits, Goes, IsStarved, Same, entered, entered_rest, rest, state};
 ghost use Rattle.py_expr.specs.Comprehensions.{added, collection, comprehension_of, element_of, finished, first_iterable, is_awaited, name_of, scope_of, turn};
 ghost use Rattle.py_expr.specs.Functions.{Gives};
 
@@ -37,10 +37,9 @@ pub(crate) enum ComprehensionElement<'a> {
 #[cycle(code)]
 #[tactic(auto, using(crate::proofs::Steps::steps))]
 pub(crate) fn compile_list_comp(em: &mut Emitter, e: &ExprListComp) -> Result<(), CodegenError>
-    ensures goes { Goes result (state em.new) (emission (list_comp_tree e.now) (state em.old)) }
-    ensures same { Same result (rest em.new) (rest em.old) }
+    requires at { (state em.old).location ≡ e.now.location }
+    ensures { Emits result (emission (list_comp_tree e.now)) em.old em.new }
 {
-    em.set_location(e.location);
     let element = ComprehensionElement::List(&e.elt);
     compile_comprehension(em, e.generators.as_slice(), &element)
 }
@@ -48,10 +47,9 @@ pub(crate) fn compile_list_comp(em: &mut Emitter, e: &ExprListComp) -> Result<()
 #[cycle(code)]
 #[tactic(auto, using(crate::proofs::Steps::steps))]
 pub(crate) fn compile_set_comp(em: &mut Emitter, e: &ExprSetComp) -> Result<(), CodegenError>
-    ensures goes { Goes result (state em.new) (emission (set_comp_tree e.now) (state em.old)) }
-    ensures same { Same result (rest em.new) (rest em.old) }
+    requires at { (state em.old).location ≡ e.now.location }
+    ensures { Emits result (emission (set_comp_tree e.now)) em.old em.new }
 {
-    em.set_location(e.location);
     let element = ComprehensionElement::Set(&e.elt);
     compile_comprehension(em, e.generators.as_slice(), &element)
 }
@@ -59,10 +57,9 @@ pub(crate) fn compile_set_comp(em: &mut Emitter, e: &ExprSetComp) -> Result<(), 
 #[cycle(code)]
 #[tactic(auto, using(crate::proofs::Steps::steps))]
 pub(crate) fn compile_dict_comp(em: &mut Emitter, e: &ExprDictComp) -> Result<(), CodegenError>
-    ensures goes { Goes result (state em.new) (emission (dict_comp_tree e.now) (state em.old)) }
-    ensures same { Same result (rest em.new) (rest em.old) }
+    requires at { (state em.old).location ≡ e.now.location }
+    ensures { Emits result (emission (dict_comp_tree e.now)) em.old em.new }
 {
-    em.set_location(e.location);
     let element = ComprehensionElement::Dict {
         key: &e.key,
         value: &e.value,
@@ -76,10 +73,9 @@ pub(crate) fn compile_generator_exp(
     em: &mut Emitter,
     e: &ExprGeneratorExp,
 ) -> Result<(), CodegenError>
-    ensures goes { Goes result (state em.new) (emission (generator_exp_tree e.now) (state em.old)) }
-    ensures same { Same result (rest em.new) (rest em.old) }
+    requires at { (state em.old).location ≡ e.now.location }
+    ensures { Emits result (emission (generator_exp_tree e.now)) em.old em.new }
 {
-    em.set_location(e.location);
     let element = ComprehensionElement::Generator(&e.elt);
     compile_comprehension(em, e.generators.as_slice(), &element)
 }
@@ -91,8 +87,7 @@ fn compile_comprehension(
     generators: &[Comprehension],
     element: &ComprehensionElement<'_>,
 ) -> Result<(), CodegenError>
-    ensures goes { Goes result (state em.new) (comprehension_of (clause_trees expr_tree generators.now) element.now (state em.old)) }
-    ensures same { Same result (rest em.new) (rest em.old) }
+    ensures { Emits result (comprehension_of (clause_trees expr_tree generators.now) element.now) em.old em.new }
 {
     if generators.is_empty() {
         refuse!(em, CodegenErrorType::MalformedTree(Malformed::NoGenerator));
@@ -136,8 +131,7 @@ fn call_comprehension(
     element: &ComprehensionElement<'_>,
 ) -> Result<(), CodegenError>
     requires { 0 < length generators.now }
-    ensures goes { Goes result (state em.new) (called_at_once (name_of element.now) (scope_of (clause_emissions (clause_trees expr_tree generators.now)) element.now) (first_iterable (clause_emissions (clause_trees expr_tree generators.now))) (state em.old)) }
-    ensures same { Same result (rest em.new) (rest em.old) }
+    ensures { Emits result (called_at_once (name_of element.now) (scope_of (clause_emissions (clause_trees expr_tree generators.now)) element.now) (first_iterable (clause_emissions (clause_trees expr_tree generators.now)))) em.old em.new }
 {
     make_comprehension(em, generators, element)?;
     compile_iterator(em, &generators[0].iter, false)?;
@@ -151,8 +145,7 @@ fn make_comprehension(
     generators: &[Comprehension],
     element: &ComprehensionElement<'_>,
 ) -> Result<(), CodegenError>
-    ensures goes { Goes result (state em.new) (child comprehension_inside (comprehension_shape (name_of element.now)) (scope_of (clause_emissions (clause_trees expr_tree generators.now)) element.now) (made 0 (name_of element.now)) (state em.old)) }
-    ensures same { Same result (rest em.new) (rest em.old) }
+    ensures { Emits result (child comprehension_inside (comprehension_shape (name_of element.now)) (scope_of (clause_emissions (clause_trees expr_tree generators.now)) element.now) (made 0 (name_of element.now))) em.old em.new }
 {
     let name = em.text(scope_name(element))?;
     let code = compile_comprehension_scope(em, generators, element, name)?;
@@ -165,8 +158,7 @@ fn make_named(
     element: &ComprehensionElement<'_>,
     code: CodeObject,
 ) -> Result<(), CodegenError>
-    ensures goes { Goes result (state em.new) (made 0 (name_of element.now) (object code) (state em.old)) }
-    ensures same { Same result (rest em.new) (rest em.old) }
+    ensures { Emits result (made 0 (name_of element.now) (object code)) em.old em.new }
 {
     let name = em.text(scope_name(element))?;
     em.make_function(MakeFunctionFlags::from_bits_retain(0), name, code)
@@ -223,8 +215,7 @@ fn compile_turns(
     generators: &[Comprehension],
     element: &ComprehensionElement<'_>,
 ) -> Result<(), CodegenError>
-    ensures goes { Goes result (state em.new) (scope_of (clause_emissions (clause_trees expr_tree generators.now)) element.now (state em.old)) }
-    ensures same { Same result (rest em.new) (rest em.old) }
+    ensures { Emits result (scope_of (clause_emissions (clause_trees expr_tree generators.now)) element.now) em.old em.new }
 {
     begin_collection(em, element)?;
     compile_clauses(em, generators, element)?;
@@ -236,8 +227,7 @@ fn begin_collection(
     em: &mut Emitter,
     element: &ComprehensionElement<'_>,
 ) -> Result<(), CodegenError>
-    ensures goes { Goes result (state em.new) (collection element.now (state em.old)) }
-    ensures same { Same result (rest em.new) (rest em.old) }
+    ensures { Emits result (collection element.now) em.old em.new }
 {
     match element {
         ComprehensionElement::List(_) => em.emit_arg(Instruction::BuildList, 0),
@@ -253,8 +243,7 @@ fn finish_collection(
     em: &mut Emitter,
     element: &ComprehensionElement<'_>,
 ) -> Result<(), CodegenError>
-    ensures goes { Goes result (state em.new) (finished element.now (state em.old)) }
-    ensures same { Same result (rest em.new) (rest em.old) }
+    ensures { Emits result (finished element.now) em.old em.new }
 {
     match element {
         ComprehensionElement::Generator(_) => em.return_const(ConstantData::None),
@@ -271,8 +260,7 @@ fn compile_clauses(
     generators: &[Comprehension],
     element: &ComprehensionElement<'_>,
 ) -> Result<(), CodegenError>
-    ensures goes { Goes result (state em.new) (clauses (clause_emissions (clause_trees expr_tree generators.now)) (turn (clause_emissions (clause_trees expr_tree generators.now)) element.now) (state em.old)) }
-    ensures same { Same result (rest em.new) (rest em.old) }
+    ensures { Emits result (clauses (clause_emissions (clause_trees expr_tree generators.now)) (turn (clause_emissions (clause_trees expr_tree generators.now)) element.now)) em.old em.new }
 {
     let blocks = open_clauses(em, generators)?;
     compile_turn(em, element, generators.len())?;
@@ -286,8 +274,7 @@ fn compile_turn(
     element: &ComprehensionElement<'_>,
     depth: usize,
 ) -> Result<(), CodegenError>
-    ensures goes { Goes result (state em.new) ((element_of element.now ▸ added element.now depth) (state em.old)) }
-    ensures same { Same result (rest em.new) (rest em.old) }
+    ensures { Emits result (element_of element.now ▸ added element.now depth) em.old em.new }
 {
     compile_element(em, element)?;
     add_element(em, element, depth)
@@ -296,8 +283,7 @@ fn compile_turn(
 /// Emits the element, a key before its value.
 #[cycle(code)]
 fn compile_element(em: &mut Emitter, element: &ComprehensionElement<'_>) -> Result<(), CodegenError>
-    ensures goes { Goes result (state em.new) (element_of element.now (state em.old)) }
-    ensures same { Same result (rest em.new) (rest em.old) }
+    ensures { Emits result (element_of element.now) em.old em.new }
 {
     match element {
         ComprehensionElement::Dict { key, value } => {
@@ -313,8 +299,7 @@ fn compile_element(em: &mut Emitter, element: &ComprehensionElement<'_>) -> Resu
 /// Emits an element, in which a star is told in other words.
 #[cycle(code)]
 fn compile_unstarred(em: &mut Emitter, elt: &Expr) -> Result<(), CodegenError>
-    ensures goes { Goes result (state em.new) (as_element (emission (expr_tree elt.now)) (state em.old)) }
-    ensures same { Same result (rest em.new) (rest em.old) }
+    ensures { Emits result (as_element (emission (expr_tree elt.now))) em.old em.new }
 {
     match compile_expression(em, elt) {
         Ok(()) => Ok(()),
@@ -356,8 +341,7 @@ fn add_element(
     element: &ComprehensionElement<'_>,
     depth: usize,
 ) -> Result<(), CodegenError>
-    ensures goes { Goes result (state em.new) (added element.now depth (state em.old)) }
-    ensures same { Same result (rest em.new) (rest em.old) }
+    ensures { Emits result (added element.now depth) em.old em.new }
 {
     match element {
         ComprehensionElement::List(_) => append(em, Instruction::ListAppend, depth),
@@ -369,8 +353,7 @@ fn add_element(
 
 /// Emits what adds to a collection below so many iterators.
 fn append(em: &mut Emitter, instr: Instruction, depth: usize) -> Result<(), CodegenError>
-    ensures goes { Goes result (state em.new) (emitting instr depth (state em.old)) }
-    ensures same { Same result (rest em.new) (rest em.old) }
+    ensures { Emits result (emitting instr depth) em.old em.new }
 {
     let depth = em.narrow(depth)?;
     em.emit_arg(instr, depth)
@@ -378,8 +361,7 @@ fn append(em: &mut Emitter, instr: Instruction, depth: usize) -> Result<(), Code
 
 /// Emits what hands a value on, and forgets what comes back for it.
 fn hand_on(em: &mut Emitter) -> Result<(), CodegenError>
-    ensures goes { Goes result (state em.new) ((generating ▸ emitting Instruction.YieldValue 0 ▸ emitting Instruction.Pop 0) (state em.old)) }
-    ensures same { Same result (rest em.new) (rest em.old) }
+    ensures { Emits result (generating ▸ emitting Instruction.YieldValue 0 ▸ emitting Instruction.Pop 0) em.old em.new }
 {
     em.mark_generator();
     emit!(em, Instruction::YieldValue);

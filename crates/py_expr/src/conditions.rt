@@ -1,19 +1,19 @@
 //! Tests, and the values of `and` and `or`.
 ghost use Rattle.std.specs.Prelude.{◌≡◌, ◌<◌, if◌then◌else◌};
-ghost use Rattle.py_tree.specs.View.{bool_op_tree, expr_tree, exprs, unary_op_tree};
+ghost use Rattle.py_bytecode.specs.Values.{flip};
+ghost use Rattle.py_tree.specs.View.{bool_op_tree, expr_tree, exprs};
 ghost use Rattle.py_steps.specs.TableParts.{deciding};
-ghost use Rattle.py_steps.specs.Emitting.{jump as jumping};
 ghost use Rattle.py_steps.specs.EmissionParts.{bool_test, bool_value, keeping_jump, past_tests, shorts, some_test, some_values, testing_jump, tests, values, truth_of};
 ghost use Rattle.py_emission.specs.Emission.{all_emissions, emission, emission_of_test};
-ghost use Rattle.py_emit.specs.States.{Goes, Same, rest, state};
+ghost use Rattle.py_emit.specs.States.{Emits, state};
 ghost use Rattle.py_expr.specs.Turns.{short};
 
-use crate::expressions::{compile_expression, compile_unary_op};
+use crate::expressions::compile_expression;
 use py_bytecode::Instruction;
 use py_emit::{Emitter, emit, refuse};
 use py_forms::{CodegenError, CodegenErrorType};
 use py_ir::BlockIdx;
-use py_tree::{BoolOp, Expr, ExprBoolOp, ExprUnaryOp, Malformed, UnaryOp};
+use py_tree::{BoolOp, Expr, ExprBoolOp, Malformed, UnaryOp};
 
 /// Where a test jumps: to the block, where the truth is this.
 #[derive(Clone, Copy)]
@@ -25,18 +25,16 @@ pub(crate) struct JumpIf {
 #[cycle(code)]
 #[tactic(auto, using(crate::proofs::Steps::steps))]
 pub(crate) fn compile_bool_op(em: &mut Emitter, e: &ExprBoolOp) -> Result<(), CodegenError>
-    ensures goes { Goes result (state em.new) (emission (bool_op_tree e.now) (state em.old)) }
-    ensures same { Same result (rest em.new) (rest em.old) }
+    requires at { (state em.old).location ≡ e.now.location }
+    ensures { Emits result (emission (bool_op_tree e.now)) em.old em.new }
 {
-    em.set_location(e.location);
     compile_bool_value(em, e.op, e.values.as_slice())
 }
 
 /// Emits a value of `and` or `or`.
 #[cycle(code)]
 fn compile_bool_value(em: &mut Emitter, op: BoolOp, values: &[Expr]) -> Result<(), CodegenError>
-    ensures goes { Goes result (state em.new) (bool_value op (all_emissions (exprs expr_tree values.now)) (state em.old)) }
-    ensures same { Same result (rest em.new) (rest em.old) }
+    ensures { Emits result (bool_value op (all_emissions (exprs expr_tree values.now))) em.old em.new }
 {
     if values.is_empty() {
         refuse!(em, CodegenErrorType::MalformedTree(Malformed::NoOperand));
@@ -48,8 +46,7 @@ fn compile_bool_value(em: &mut Emitter, op: BoolOp, values: &[Expr]) -> Result<(
 #[cycle(code)]
 #[tactic(auto, using(crate::proofs::Steps::steps))]
 fn compile_some_values(em: &mut Emitter, op: BoolOp, values: &[Expr]) -> Result<(), CodegenError>
-    ensures goes { Goes result (state em.new) (some_values op (all_emissions (exprs expr_tree values.now)) (state em.old)) }
-    ensures same { Same result (rest em.new) (rest em.old) }
+    ensures { Emits result (some_values op (all_emissions (exprs expr_tree values.now))) em.old em.new }
 {
     let end = em.new_block()?;
     compile_shorts(em, op, end, values)?;
@@ -66,8 +63,7 @@ fn compile_shorts(
     values: &[Expr],
 ) -> Result<(), CodegenError>
     requires below { end.0 < 0xffff_ffff }
-    ensures goes { Goes result (state em.new) (shorts op end.0 (all_emissions (exprs expr_tree values.now)) (state em.old)) }
-    ensures same { Same result (rest em.new) (rest em.old) }
+    ensures { Emits result (shorts op end.0 (all_emissions (exprs expr_tree values.now))) em.old em.new }
 {
     for (i, value) in values.iter().enumerate() {
         compile_short(em, op, end, i + 1 < values.len(), value)?;
@@ -85,8 +81,7 @@ fn compile_short(
     value: &Expr,
 ) -> Result<(), CodegenError>
     requires below { end.0 < 0xffff_ffff }
-    ensures goes { Goes result (state em.new) (short op end.0 more (expr_tree value.now) (state em.old)) }
-    ensures same { Same result (rest em.new) (rest em.old) }
+    ensures { Emits result (short op end.0 more (expr_tree value.now)) em.old em.new }
 {
     compile_expression(em, value)?;
     if more {
@@ -139,8 +134,7 @@ pub fn compile_jump_if(
     target: BlockIdx,
 ) -> Result<(), CodegenError>
     requires { target.0 < 0xffff_ffff }
-    ensures goes { Goes result (state em.new) (emission_of_test (expr_tree expr.now) condition target.0 (state em.old)) }
-    ensures same { Same result (rest em.new) (rest em.old) }
+    ensures { Emits result (emission_of_test (expr_tree expr.now) condition target.0) em.old em.new }
 {
     let jump = JumpIf {
         truth: condition,
@@ -154,56 +148,37 @@ pub fn compile_jump_if(
 #[tactic(auto, using(py_tree::proofs::View::trees, crate::proofs::Steps::steps))]
 pub(crate) fn compile_test(em: &mut Emitter, expr: &Expr, jump: &JumpIf) -> Result<(), CodegenError>
     requires below { jump.now.block.0 < 0xffff_ffff }
-    ensures goes { Goes result (state em.new) (emission_of_test (expr_tree expr.now) jump.now.truth jump.now.block.0 (state em.old)) }
-    ensures same { Same result (rest em.new) (rest em.old) }
+    ensures { Emits result (emission_of_test (expr_tree expr.now) jump.now.truth jump.now.block.0) em.old em.new }
 {
     match expr {
         Expr::BoolOp(e) => compile_bool_test(em, e, jump),
-        Expr::UnaryOp(e) => compile_unary_test(em, e, jump),
+        Expr::UnaryOp(e) => match e.op {
+            UnaryOp::Not => compile_not(em, &e.operand, jump),
+            UnaryOp::Invert | UnaryOp::UAdd | UnaryOp::USub => compile_truth(em, expr, jump),
+        },
         _ => compile_truth(em, expr, jump),
     }
 }
 
-/// Emits a unary operation as a test. That of `not` turns the test of its operand.
+/// Emits the test that is turned: that of `not` where the operand is this.
 #[cycle(code)]
-#[tactic(auto, using(py_tree::proofs::View::trees, crate::proofs::Steps::steps))]
-fn compile_unary_test(em: &mut Emitter, e: &ExprUnaryOp, jump: &JumpIf) -> Result<(), CodegenError>
+#[tactic(auto, using(crate::proofs::Steps::steps))]
+fn compile_not(em: &mut Emitter, operand: &Expr, jump: &JumpIf) -> Result<(), CodegenError>
     requires below { jump.now.block.0 < 0xffff_ffff }
-    ensures goes { Goes result (state em.new) (emission_of_test (unary_op_tree e.now) jump.now.truth jump.now.block.0 (state em.old)) }
-    ensures same { Same result (rest em.new) (rest em.old) }
+    ensures { Emits result (emission_of_test (expr_tree operand.now) (flip jump.now.truth) jump.now.block.0) em.old em.new }
 {
-    match e.op {
-        UnaryOp::Not => {
-            let turned = JumpIf {
-                truth: !jump.truth,
-                block: jump.block,
-            };
-            compile_test(em, &e.operand, &turned)
-        }
-        UnaryOp::Invert => compile_unary_truth(em, e, jump),
-        UnaryOp::UAdd => compile_unary_truth(em, e, jump),
-        UnaryOp::USub => compile_unary_truth(em, e, jump),
-    }
-}
-
-/// Emits a unary operation, and the jump that tests its truth.
-#[cycle(code)]
-fn compile_unary_truth(em: &mut Emitter, e: &ExprUnaryOp, jump: &JumpIf) -> Result<(), CodegenError>
-    requires below { jump.now.block.0 < 0xffff_ffff }
-    ensures goes { Goes result (state em.new) (truth_of (emission (unary_op_tree e.now)) jump.now.truth jump.now.block.0 (state em.old)) }
-    ensures same { Same result (rest em.new) (rest em.old) }
-{
-    compile_unary_op(em, e)?;
-    emit!(em, testing_jump(jump.truth) => jump.block);
-    Ok(())
+    let turned = JumpIf {
+        truth: !jump.truth,
+        block: jump.block,
+    };
+    compile_test(em, operand, &turned)
 }
 
 /// Emits a value, and the jump that tests its truth.
 #[cycle(code)]
 fn compile_truth(em: &mut Emitter, expr: &Expr, jump: &JumpIf) -> Result<(), CodegenError>
     requires below { jump.now.block.0 < 0xffff_ffff }
-    ensures goes { Goes result (state em.new) (truth_of (emission (expr_tree expr.now)) jump.now.truth jump.now.block.0 (state em.old)) }
-    ensures same { Same result (rest em.new) (rest em.old) }
+    ensures { Emits result (truth_of (emission (expr_tree expr.now)) jump.now.truth jump.now.block.0) em.old em.new }
 {
     compile_expression(em, expr)?;
     emit!(em, testing_jump(jump.truth) => jump.block);
@@ -214,8 +189,7 @@ fn compile_truth(em: &mut Emitter, expr: &Expr, jump: &JumpIf) -> Result<(), Cod
 #[cycle(code)]
 fn compile_bool_test(em: &mut Emitter, e: &ExprBoolOp, jump: &JumpIf) -> Result<(), CodegenError>
     requires below { jump.now.block.0 < 0xffff_ffff }
-    ensures goes { Goes result (state em.new) (bool_test e.now.op (all_emissions (exprs expr_tree e.now.values)) jump.now.truth jump.now.block.0 (state em.old)) }
-    ensures same { Same result (rest em.new) (rest em.old) }
+    ensures { Emits result (bool_test e.now.op (all_emissions (exprs expr_tree e.now.values)) jump.now.truth jump.now.block.0) em.old em.new }
 {
     let values = e.values.as_slice();
     if values.is_empty() {
@@ -233,8 +207,7 @@ fn compile_some_test(
     values: &[Expr],
 ) -> Result<(), CodegenError>
     requires below { jump.now.block.0 < 0xffff_ffff }
-    ensures goes { Goes result (state em.new) (some_test deciding jump.now.truth (all_emissions (exprs expr_tree values.now)) jump.now.block.0 (state em.old)) }
-    ensures same { Same result (rest em.new) (rest em.old) }
+    ensures { Emits result (some_test deciding jump.now.truth (all_emissions (exprs expr_tree values.now)) jump.now.block.0) em.old em.new }
 {
     if jump.truth == deciding {
         return compile_tests(em, jump, jump, values);
@@ -252,8 +225,7 @@ fn compile_past_tests(
     values: &[Expr],
 ) -> Result<(), CodegenError>
     requires below { jump.now.block.0 < 0xffff_ffff }
-    ensures goes { Goes result (state em.new) (past_tests deciding jump.now.truth (all_emissions (exprs expr_tree values.now)) jump.now.block.0 (state em.old)) }
-    ensures same { Same result (rest em.new) (rest em.old) }
+    ensures { Emits result (past_tests deciding jump.now.truth (all_emissions (exprs expr_tree values.now)) jump.now.block.0) em.old em.new }
 {
     let end = em.new_block()?;
     let stop = JumpIf {
@@ -275,8 +247,7 @@ fn compile_tests(
 ) -> Result<(), CodegenError>
     requires stop { stop.now.block.0 < 0xffff_ffff }
     requires last { last.now.block.0 < 0xffff_ffff }
-    ensures goes { Goes result (state em.new) (tests stop.now.truth stop.now.block.0 last.now.truth last.now.block.0 (all_emissions (exprs expr_tree values.now)) (state em.old)) }
-    ensures same { Same result (rest em.new) (rest em.old) }
+    ensures { Emits result (tests stop.now.truth stop.now.block.0 last.now.truth last.now.block.0 (all_emissions (exprs expr_tree values.now))) em.old em.new }
 {
     for (i, value) in values.iter().enumerate() {
         let jump = either(i + 1 < values.len(), stop, last);

@@ -1,11 +1,11 @@
 //! Displays of lists, tuples, sets and dicts, and slices.
 ghost use Rattle.std.specs.Prelude.{◌≡◌, ◌≤◌, ◌<◌, ◌⊎◌, length};
-ghost use Rattle.py_tree.specs.View.{dict_tree, expr_tree, exprs, list_tree, opt_box, opt_expr, opt_exprs, set_tree, slice_tree, tuple_tree};
+ghost use Rattle.py_tree.specs.View.{expr_tree, exprs, list_tree, opt_box, opt_expr, opt_exprs, set_tree, slice_tree, tuple_tree};
 ghost use Rattle.py_bytecode.specs.Objects as object;
 ghost use Rattle.py_steps.specs.Elements.{pairs};
 ghost use Rattle.py_steps.specs.EmissionParts.{dict_value, display, elements, emission_of_dict, slice_step, value_or, values};
 ghost use Rattle.py_emission.specs.Emission.{all_emissions, emission, opt_emission, opt_emissions};
-ghost use Rattle.py_emit.specs.States.{Goes, Same, rest, state};
+ghost use Rattle.py_emit.specs.States.{Emits, state};
 ghost use Rattle.py_expr.specs.Dicts.{begun_by, closed_pairs, entry_begun, entry_ended, pairs_by};
 
 use crate::elements::{compile_unpacked, has_star};
@@ -18,10 +18,9 @@ use py_tree::{Expr, ExprDict, ExprList, ExprSet, ExprSlice, ExprTuple, Malformed
 #[cycle(code)]
 #[tactic(auto, using(crate::proofs::Steps::steps))]
 pub(crate) fn compile_list(em: &mut Emitter, e: &ExprList) -> Result<(), CodegenError>
-    ensures goes { Goes result (state em.new) (emission (list_tree e.now) (state em.old)) }
-    ensures same { Same result (rest em.new) (rest em.old) }
+    requires at { (state em.old).location ≡ e.now.location }
+    ensures { Emits result (emission (list_tree e.now)) em.old em.new }
 {
-    em.set_location(e.location);
     compile_display(
         em,
         e.elts.as_slice(),
@@ -33,10 +32,9 @@ pub(crate) fn compile_list(em: &mut Emitter, e: &ExprList) -> Result<(), Codegen
 #[cycle(code)]
 #[tactic(auto, using(crate::proofs::Steps::steps))]
 pub(crate) fn compile_tuple(em: &mut Emitter, e: &ExprTuple) -> Result<(), CodegenError>
-    ensures goes { Goes result (state em.new) (emission (tuple_tree e.now) (state em.old)) }
-    ensures same { Same result (rest em.new) (rest em.old) }
+    requires at { (state em.old).location ≡ e.now.location }
+    ensures { Emits result (emission (tuple_tree e.now)) em.old em.new }
 {
-    em.set_location(e.location);
     compile_display(
         em,
         e.elts.as_slice(),
@@ -48,10 +46,9 @@ pub(crate) fn compile_tuple(em: &mut Emitter, e: &ExprTuple) -> Result<(), Codeg
 #[cycle(code)]
 #[tactic(auto, using(crate::proofs::Steps::steps))]
 pub(crate) fn compile_set(em: &mut Emitter, e: &ExprSet) -> Result<(), CodegenError>
-    ensures goes { Goes result (state em.new) (emission (set_tree e.now) (state em.old)) }
-    ensures same { Same result (rest em.new) (rest em.old) }
+    requires at { (state em.old).location ≡ e.now.location }
+    ensures { Emits result (emission (set_tree e.now)) em.old em.new }
 {
-    em.set_location(e.location);
     compile_display(
         em,
         e.elts.as_slice(),
@@ -69,8 +66,7 @@ fn compile_display(
     build: Instruction,
     unpack: Instruction,
 ) -> Result<(), CodegenError>
-    ensures goes { Goes result (state em.new) (display build unpack (elements (all_emissions (exprs expr_tree elts.now))) (state em.old)) }
-    ensures same { Same result (rest em.new) (rest em.old) }
+    ensures { Emits result (display build unpack (elements (all_emissions (exprs expr_tree elts.now)))) em.old em.new }
 {
     if has_star(elts) {
         return compile_unpacked(em, elts, unpack);
@@ -79,21 +75,10 @@ fn compile_display(
     em.emit_count(build, elts.len())
 }
 
-#[cycle(code)]
-#[tactic(auto, using(crate::proofs::Steps::steps))]
-pub(crate) fn compile_dict(em: &mut Emitter, e: &ExprDict) -> Result<(), CodegenError>
-    ensures goes { Goes result (state em.new) (emission (dict_tree e.now) (state em.old)) }
-    ensures same { Same result (rest em.new) (rest em.old) }
-{
-    em.set_location(e.location);
-    compile_dict_display(em, e)
-}
-
 /// Emits a dict display, which has as many keys as values.
 #[cycle(code)]
-fn compile_dict_display(em: &mut Emitter, e: &ExprDict) -> Result<(), CodegenError>
-    ensures goes { Goes result (state em.new) (emission_of_dict (opt_emissions (opt_exprs expr_tree e.now.keys)) (values (all_emissions (exprs expr_tree e.now.values))) (state em.old)) }
-    ensures same { Same result (rest em.new) (rest em.old) }
+pub(crate) fn compile_dict(em: &mut Emitter, e: &ExprDict) -> Result<(), CodegenError>
+    ensures { Emits result (emission_of_dict (opt_emissions (opt_exprs expr_tree e.now.keys)) (values (all_emissions (exprs expr_tree e.now.values)))) em.old em.new }
 {
     let count = e.keys.len();
     if count != e.values.len() {
@@ -117,8 +102,7 @@ fn pair_count(e: &ExprDict) -> usize
 /// unpacked value is added.
 #[cycle(code)]
 fn compile_entries(em: &mut Emitter, e: &ExprDict) -> Result<(), CodegenError>
-    ensures goes { Goes result (state em.new) (dict_value (pairs (opt_emissions (opt_exprs expr_tree e.now.keys)) (values (all_emissions (exprs expr_tree e.now.values)))) (state em.old)) }
-    ensures same { Same result (rest em.new) (rest em.old) }
+    ensures { Emits result (dict_value (pairs (opt_emissions (opt_exprs expr_tree e.now.keys)) (values (all_emissions (exprs expr_tree e.now.values))))) em.old em.new }
 {
     let keys = e.keys.as_slice();
     let values = e.values.as_slice();
@@ -144,8 +128,7 @@ fn begin_entry(
     begun: bool,
     run: usize,
 ) -> Result<(), CodegenError>
-    ensures goes { Goes result (state em.new) (entry_begun begun run (opt_expr expr_tree key.now) (state em.old)) }
-    ensures same { Same result (rest em.new) (rest em.old) }
+    ensures { Emits result (entry_begun begun run (opt_expr expr_tree key.now)) em.old em.new }
 {
     match key {
         Some(key) => compile_expression(em, key),
@@ -155,8 +138,7 @@ fn begin_entry(
 
 /// Emits what adds an unpacked value to the map below it.
 fn end_entry(em: &mut Emitter, key: &Option<Expr>) -> Result<(), CodegenError>
-    ensures goes { Goes result (state em.new) (entry_ended (opt_expr expr_tree key.now) (state em.old)) }
-    ensures same { Same result (rest em.new) (rest em.old) }
+    ensures { Emits result (entry_ended (opt_expr expr_tree key.now)) em.old em.new }
 {
     match key {
         Some(_) => Ok(()),
@@ -184,8 +166,7 @@ fn run_after(key: &Option<Expr>, run: usize) -> usize
 
 /// Makes a map of a run of so many pairs: the first map, or one that is added to it, where there are any.
 fn close_pairs(em: &mut Emitter, begun: bool, run: usize) -> Result<(), CodegenError>
-    ensures goes { Goes result (state em.new) (closed_pairs begun run (state em.old)) }
-    ensures same { Same result (rest em.new) (rest em.old) }
+    ensures { Emits result (closed_pairs begun run) em.old em.new }
 {
     if begun && run == 0 {
         return Ok(());
@@ -200,10 +181,9 @@ fn close_pairs(em: &mut Emitter, begun: bool, run: usize) -> Result<(), CodegenE
 #[cycle(code)]
 #[tactic(auto, using(crate::proofs::Steps::steps))]
 pub(crate) fn compile_slice(em: &mut Emitter, e: &ExprSlice) -> Result<(), CodegenError>
-    ensures goes { Goes result (state em.new) (emission (slice_tree e.now) (state em.old)) }
-    ensures same { Same result (rest em.new) (rest em.old) }
+    requires at { (state em.old).location ≡ e.now.location }
+    ensures { Emits result (emission (slice_tree e.now)) em.old em.new }
 {
-    em.set_location(e.location);
     compile_or_none(em, &e.lower)?;
     compile_or_none(em, &e.upper)?;
     compile_step(em, &e.step)
@@ -216,8 +196,7 @@ pub(crate) fn compile_or_none(
     em: &mut Emitter,
     bound: &Option<Box<Expr>>,
 ) -> Result<(), CodegenError>
-    ensures goes { Goes result (state em.new) (value_or object.none (opt_emission (opt_box expr_tree bound.now)) (state em.old)) }
-    ensures same { Same result (rest em.new) (rest em.old) }
+    ensures { Emits result (value_or object.none (opt_emission (opt_box expr_tree bound.now))) em.old em.new }
 {
     match bound {
         Some(value) => compile_expression(em, value),
@@ -228,8 +207,7 @@ pub(crate) fn compile_or_none(
 /// Emits the step of a slice, where there is one, and the instruction that builds the slice.
 #[cycle(code)]
 fn compile_step(em: &mut Emitter, step: &Option<Box<Expr>>) -> Result<(), CodegenError>
-    ensures goes { Goes result (state em.new) (slice_step (opt_emission (opt_box expr_tree step.now)) (state em.old)) }
-    ensures same { Same result (rest em.new) (rest em.old) }
+    ensures { Emits result (slice_step (opt_emission (opt_box expr_tree step.now))) em.old em.new }
 {
     match step {
         Some(value) => {

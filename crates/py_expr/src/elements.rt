@@ -1,10 +1,10 @@
 //! Elements, some of which may be starred.
-ghost use Rattle.std.specs.Prelude.{◌≡◌, ◌<◌, ℕ, [], length, IfOk};
+ghost use Rattle.std.specs.Prelude.{◌≡◌, ◌<◌, [], length, IfOk};
 ghost use Rattle.py_tree.specs.View.{expr_tree, exprs};
 ghost use Rattle.py_steps.specs.Elements.{groups, starred};
 ghost use Rattle.py_steps.specs.EmissionParts.{built, elements, in_turn, unpacked};
 ghost use Rattle.py_emission.specs.Emission.{all_emissions, emissions, stores};
-ghost use Rattle.py_emit.specs.States.{Goes, Same, rest, state};
+ghost use Rattle.py_emit.specs.States.{Emits};
 ghost use Rattle.py_expr.specs.Turns.{is_spread, groups_by, element_behind, run_behind, runs, closed};
 
 use crate::expressions::compile_expression;
@@ -44,8 +44,7 @@ pub(crate) fn compile_unpacked(
     elts: &[Expr],
     unpack: Instruction,
 ) -> Result<(), CodegenError>
-    ensures goes { Goes result (state em.new) (unpacked unpack (elements (all_emissions (exprs expr_tree elts.now))) (state em.old)) }
-    ensures same { Same result (rest em.new) (rest em.old) }
+    ensures { Emits result (unpacked unpack (elements (all_emissions (exprs expr_tree elts.now)))) em.old em.new }
 {
     let groups = compile_groups(em, elts)?;
     em.emit_count(unpack, groups)
@@ -56,8 +55,7 @@ pub(crate) fn compile_unpacked(
 #[cycle(code)]
 pub(crate) fn compile_groups(em: &mut Emitter, elts: &[Expr]) -> Result<usize, CodegenError>
     ensures count { IfOk result (λ n. n ≡ length (groups (built Instruction.BuildTuple) [] (elements (all_emissions (exprs expr_tree elts.now))))) }
-    ensures goes { Goes result (state em.new) (in_turn (groups (built Instruction.BuildTuple) [] (elements (all_emissions (exprs expr_tree elts.now)))) (state em.old)) }
-    ensures same { Same result (rest em.new) (rest em.old) }
+    ensures emits { Emits result (in_turn (groups (built Instruction.BuildTuple) [] (elements (all_emissions (exprs expr_tree elts.now))))) em.old em.new }
 {
     let mut groups = 0;
     let mut run = 0;
@@ -74,8 +72,7 @@ pub(crate) fn compile_groups(em: &mut Emitter, elts: &[Expr]) -> Result<usize, C
 #[cycle(code)]
 fn compile_element(em: &mut Emitter, elt: &Expr, run: usize) -> Result<usize, CodegenError>
     ensures count { IfOk result (λ n. n ≡ groups_by run (emissions (expr_tree elt.now)).element) }
-    ensures goes { Goes result (state em.new) (element_behind run (emissions (expr_tree elt.now)).element (state em.old)) }
-    ensures same { Same result (rest em.new) (rest em.old) }
+    ensures emits { Emits result (element_behind run (emissions (expr_tree elt.now)).element) em.old em.new }
 {
     match elt {
         Expr::Starred(e) => {
@@ -101,8 +98,7 @@ fn run_after(elt: &Expr, run: usize) -> usize
 /// Makes a tuple of a run of so many elements, where there are any. Answers how many tuples that is.
 pub(crate) fn close_run(em: &mut Emitter, run: usize) -> Result<usize, CodegenError>
     ensures count { IfOk result (λ n. n ≡ runs run) }
-    ensures goes { Goes result (state em.new) (closed run (state em.old)) }
-    ensures same { Same result (rest em.new) (rest em.old) }
+    ensures emits { Emits result (closed run) em.old em.new }
 {
     if run == 0 {
         return Ok(0);

@@ -1,9 +1,11 @@
 //! Expressions.
 ghost use Rattle.std.specs.Prelude.{◌≡◌};
+ghost use Rattle.py_tree.specs.Tree.{expr_location};
 ghost use Rattle.py_tree.specs.View.{attribute_tree, bin_op_tree, expr_tree, exprs, if_exp_tree, name_tree, starred_tree, subscript_tree, unary_op_tree};
 ghost use Rattle.py_steps.specs.TableParts.{binary_case, unary_case};
-ghost use Rattle.py_emission.specs.Emission.{emission, emission_of_exprs, unbuilt};
-ghost use Rattle.py_emit.specs.States.{Goes, Same, rest, state};
+ghost use Rattle.py_steps.specs.Emitting.{refuse};
+ghost use Rattle.py_emission.specs.Emission.{emission, emission_of_exprs};
+ghost use Rattle.py_emit.specs.States.{Emits, state};
 
 use crate::calls::compile_call;
 use crate::comparisons::compile_compare;
@@ -21,7 +23,7 @@ use py_emit::{Emitter, NameUsage, emit, refuse};
 use py_forms::{CodegenError, CodegenErrorType};
 use py_tree::{
     Expr, ExprAttribute, ExprBinOp, ExprIfExp, ExprName, ExprStarred, ExprSubscript, ExprUnaryOp,
-    Operator, SourceLocation, UnaryOp,
+    Operator, UnaryOp,
 };
 
 /// Emits the code that pushes an expression's value.
@@ -29,10 +31,20 @@ use py_tree::{
 /// # Errors
 /// The first compile fault of the expression, or OutOfMemory.
 #[cycle(code)]
-#[tactic(auto, using(py_tree::proofs::View::trees))]
+#[tactic(auto, using(crate::proofs::Steps::steps))]
 pub fn compile_expression(em: &mut Emitter, expr: &Expr) -> Result<(), CodegenError>
-    ensures goes { Goes result (state em.new) (emission (expr_tree expr.now) (state em.old)) }
-    ensures same { Same result (rest em.new) (rest em.old) }
+    ensures { Emits result (emission (expr_tree expr.now)) em.old em.new }
+{
+    em.set_location(expr.location());
+    compile_entered(em, expr)
+}
+
+/// Emits the value of an expression, at whose location the emitter is.
+#[cycle(code)]
+#[tactic(auto, using(py_tree::proofs::View::trees, crate::proofs::Steps::steps))]
+pub(crate) fn compile_entered(em: &mut Emitter, expr: &Expr) -> Result<(), CodegenError>
+    requires at { (state em.old).location ≡ expr_location (expr_tree expr.now) }
+    ensures { Emits result (emission (expr_tree expr.now)) em.old em.new }
 {
     match expr {
         Expr::BoolOp(e) => compile_bool_op(em, e),
@@ -65,23 +77,20 @@ pub fn compile_expression(em: &mut Emitter, expr: &Expr) -> Result<(), CodegenEr
     }
 }
 
-/// Refuses a node that stands there, of a kind that is not compiled yet.
+/// Refuses a node of a kind that is not compiled yet.
 #[tactic(auto, using(crate::proofs::Steps::steps))]
-pub fn refuse_unbuilt(em: &mut Emitter, location: SourceLocation) -> Result<(), CodegenError>
-    ensures goes { Goes result (state em.new) (unbuilt location (state em.old)) }
-    ensures same { Same result (rest em.new) (rest em.old) }
+pub fn refuse_unbuilt(em: &mut Emitter) -> Result<(), CodegenError>
+    ensures { Emits result (refuse CodegenErrorType.NotImplementedYet) em.old em.new }
 {
-    em.set_location(location);
     refuse!(em, CodegenErrorType::NotImplementedYet);
 }
 
 #[cycle(code)]
 #[tactic(auto, using(crate::proofs::Steps::steps))]
 fn compile_bin_op(em: &mut Emitter, e: &ExprBinOp) -> Result<(), CodegenError>
-    ensures goes { Goes result (state em.new) (emission (bin_op_tree e.now) (state em.old)) }
-    ensures same { Same result (rest em.new) (rest em.old) }
+    requires at { (state em.old).location ≡ e.now.location }
+    ensures { Emits result (emission (bin_op_tree e.now)) em.old em.new }
 {
-    em.set_location(e.location);
     compile_expression(em, &e.left)?;
     compile_expression(em, &e.right)?;
     emit!(em, Instruction::BinaryOperation, case_of(e.op));
@@ -111,11 +120,10 @@ pub fn case_of(op: Operator) -> u32
 
 #[cycle(code)]
 #[tactic(auto, using(crate::proofs::Steps::steps))]
-pub(crate) fn compile_unary_op(em: &mut Emitter, e: &ExprUnaryOp) -> Result<(), CodegenError>
-    ensures goes { Goes result (state em.new) (emission (unary_op_tree e.now) (state em.old)) }
-    ensures same { Same result (rest em.new) (rest em.old) }
+fn compile_unary_op(em: &mut Emitter, e: &ExprUnaryOp) -> Result<(), CodegenError>
+    requires at { (state em.old).location ≡ e.now.location }
+    ensures { Emits result (emission (unary_op_tree e.now)) em.old em.new }
 {
-    em.set_location(e.location);
     compile_expression(em, &e.operand)?;
     emit!(em, Instruction::UnaryOperation, unary_case_of(e.op));
     Ok(())
@@ -136,10 +144,9 @@ fn unary_case_of(op: UnaryOp) -> u32
 #[cycle(code)]
 #[tactic(auto, using(crate::proofs::Steps::steps))]
 fn compile_if_exp(em: &mut Emitter, e: &ExprIfExp) -> Result<(), CodegenError>
-    ensures goes { Goes result (state em.new) (emission (if_exp_tree e.now) (state em.old)) }
-    ensures same { Same result (rest em.new) (rest em.old) }
+    requires at { (state em.old).location ≡ e.now.location }
+    ensures { Emits result (emission (if_exp_tree e.now)) em.old em.new }
 {
-    em.set_location(e.location);
     let other = em.new_block()?;
     let end = em.new_block()?;
     let jump = JumpIf {
@@ -158,10 +165,9 @@ fn compile_if_exp(em: &mut Emitter, e: &ExprIfExp) -> Result<(), CodegenError>
 #[cycle(code)]
 #[tactic(auto, using(crate::proofs::Steps::steps))]
 fn compile_attribute(em: &mut Emitter, e: &ExprAttribute) -> Result<(), CodegenError>
-    ensures goes { Goes result (state em.new) (emission (attribute_tree e.now) (state em.old)) }
-    ensures same { Same result (rest em.new) (rest em.old) }
+    requires at { (state em.old).location ≡ e.now.location }
+    ensures { Emits result (emission (attribute_tree e.now)) em.old em.new }
 {
-    em.set_location(e.location);
     compile_expression(em, &e.value)?;
     em.emit_mangled(Instruction::LoadAttr, e.attr.as_str())
 }
@@ -169,10 +175,9 @@ fn compile_attribute(em: &mut Emitter, e: &ExprAttribute) -> Result<(), CodegenE
 #[cycle(code)]
 #[tactic(auto, using(crate::proofs::Steps::steps))]
 fn compile_subscript(em: &mut Emitter, e: &ExprSubscript) -> Result<(), CodegenError>
-    ensures goes { Goes result (state em.new) (emission (subscript_tree e.now) (state em.old)) }
-    ensures same { Same result (rest em.new) (rest em.old) }
+    requires at { (state em.old).location ≡ e.now.location }
+    ensures { Emits result (emission (subscript_tree e.now)) em.old em.new }
 {
-    em.set_location(e.location);
     compile_expression(em, &e.value)?;
     compile_expression(em, &e.slice)?;
     emit!(em, Instruction::Subscript);
@@ -182,19 +187,17 @@ fn compile_subscript(em: &mut Emitter, e: &ExprSubscript) -> Result<(), CodegenE
 /// Refuses a starred expression that is no element.
 #[tactic(auto, using(crate::proofs::Steps::steps))]
 fn compile_starred(em: &mut Emitter, e: &ExprStarred) -> Result<(), CodegenError>
-    ensures goes { Goes result (state em.new) (emission (starred_tree e.now) (state em.old)) }
-    ensures same { Same result (rest em.new) (rest em.old) }
+    requires at { (state em.old).location ≡ e.now.location }
+    ensures { Emits result (emission (starred_tree e.now)) em.old em.new }
 {
-    em.set_location(e.location);
     refuse!(em, CodegenErrorType::InvalidStarExpr);
 }
 
 #[tactic(auto, using(crate::proofs::Steps::steps))]
 pub(crate) fn compile_name(em: &mut Emitter, e: &ExprName) -> Result<(), CodegenError>
-    ensures goes { Goes result (state em.new) (emission (name_tree e.now) (state em.old)) }
-    ensures same { Same result (rest em.new) (rest em.old) }
+    requires at { (state em.old).location ≡ e.now.location }
+    ensures { Emits result (emission (name_tree e.now)) em.old em.new }
 {
-    em.set_location(e.location);
     em.compile_name(NameUsage::Load, e.id.as_str())
 }
 
@@ -204,8 +207,7 @@ pub(crate) fn compile_name(em: &mut Emitter, e: &ExprName) -> Result<(), Codegen
 /// The first compile fault of an expression, or OutOfMemory.
 #[cycle(code)]
 pub fn compile_expressions(em: &mut Emitter, items: &[Expr]) -> Result<(), CodegenError>
-    ensures goes { Goes result (state em.new) (emission_of_exprs (exprs expr_tree items.now) (state em.old)) }
-    ensures same { Same result (rest em.new) (rest em.old) }
+    ensures { Emits result (emission_of_exprs (exprs expr_tree items.now)) em.old em.new }
 {
     for item in items {
         compile_expression(em, item)?;

@@ -1,15 +1,15 @@
 //! Lambdas, and what they share with the definitions of functions.
-ghost use Rattle.std.specs.Prelude.{◌≡◌, ◌≤◌, ◌+◌, ℕ, Bool, suc, length, codes, IfErr, IfOk, OnOk};
+ghost use Rattle.std.specs.Prelude.{◌≡◌, ◌+◌, ℕ, Bool, suc, length, codes, IfErr, IfOk, OnOk};
 ghost use Rattle.py_counts.specs.Counts.{IsSum, scopes_in_annotations as annotation_scopes};
-ghost use Rattle.py_tree.specs.View.{args, arguments, expr_tree, lambda_tree, opt_box};
+ghost use Rattle.py_tree.specs.View.{args, arguments, expr_tree, opt_box};
 ghost use Rattle.py_bytecode.specs.Objects as object;
 ghost use Rattle.py_bytecode.specs.View.{object as code_object};
 ghost use Rattle.py_steps.specs.Children.{child, code_head, emission_of_defaults, enter_parameters, flags_of_defaults, function_scope, lambda_inside, made, some_emitted, some_flag};
 ghost use Rattle.py_steps.specs.Emitting.{◌▸◌, add_constant, begun};
 ghost use Rattle.py_steps.specs.EmissionParts.{built, in_turn, map_of, pass_scopes};
-ghost use Rattle.py_emission.specs.Emission.{default_emissions, emission, emission_of_return, lambda_value};
+ghost use Rattle.py_emission.specs.Emission.{default_emissions, emission_of_return, lambda_value};
 ghost use Rattle.py_emission.specs.Parameters.{function_shape, parameters};
-ghost use Rattle.py_emit.specs.States.{Goes, IsStarved, Same, entered, entered_rest, rest, state};
+ghost use Rattle.py_emit.specs.States.{Emits, Goes, IsStarved, Same, entered, entered_rest, rest, state};
 ghost use Rattle.py_expr.specs.Functions.{Gives, closed_by, default_count, default_name, default_value, default_values, flag_if, is_some};
 
 use crate::expressions::compile_expression;
@@ -31,21 +31,10 @@ pub struct Defaults {
     pub keyword: bool,
 }
 
-#[cycle(code)]
-#[tactic(auto, using(crate::proofs::Steps::steps))]
-pub(crate) fn compile_lambda(em: &mut Emitter, e: &ExprLambda) -> Result<(), CodegenError>
-    ensures goes { Goes result (state em.new) (emission (lambda_tree e.now) (state em.old)) }
-    ensures same { Same result (rest em.new) (rest em.old) }
-{
-    em.set_location(e.location);
-    compile_lambda_value(em, e)
-}
-
 /// Emits the defaults of a lambda, its scope, and what makes a function of it.
 #[cycle(code)]
-fn compile_lambda_value(em: &mut Emitter, e: &ExprLambda) -> Result<(), CodegenError>
-    ensures goes { Goes result (state em.new) (lambda_value (arguments expr_tree e.now.args.value) (default_emissions (arguments expr_tree e.now.args.value)) (emission_of_return (expr_tree e.now.body.value)) (state em.old)) }
-    ensures same { Same result (rest em.new) (rest em.old) }
+pub(crate) fn compile_lambda(em: &mut Emitter, e: &ExprLambda) -> Result<(), CodegenError>
+    ensures { Emits result (lambda_value (arguments expr_tree e.now.args.value) (default_emissions (arguments expr_tree e.now.args.value)) (emission_of_return (expr_tree e.now.body.value))) em.old em.new }
 {
     let params: &Arguments = &e.args;
     let body: &Expr = &e.body;
@@ -62,8 +51,7 @@ fn make_lambda(
     defaults: Defaults,
     code: CodeObject,
 ) -> Result<(), CodegenError>
-    ensures goes { Goes result (state em.new) ((pass_scopes (λ postponed. annotation_scopes postponed (arguments expr_tree params.now)) ▸ made (flag_if 0x08 defaults.positional + flag_if 0x04 defaults.keyword) (codes "<lambda>") (code_object code)) (state em.old)) }
-    ensures same { Same result (rest em.new) (rest em.old) }
+    ensures { Emits result (pass_scopes (λ postponed. annotation_scopes postponed (arguments expr_tree params.now)) ▸ made (flag_if 0x08 defaults.positional + flag_if 0x04 defaults.keyword) (codes "<lambda>") (code_object code)) em.old em.new }
 {
     pass_annotations(em, params)?;
     let name = em.text("<lambda>")?;
@@ -112,8 +100,7 @@ pub fn enter_function(
 /// SyntaxError where a parameter is named `__debug__`, or OutOfMemory.
 #[tactic(auto, using(py_bytecode::proofs::View::views))]
 pub fn begin_function(em: &mut Emitter, params: &Arguments) -> Result<(), CodegenError>
-    ensures goes { Goes result (state em.new) ((enter_parameters (parameters (arguments expr_tree params.now)) ▸ add_constant object.none) (state em.old)) }
-    ensures same { Same result (rest em.new) (rest em.old) }
+    ensures { Emits result (enter_parameters (parameters (arguments expr_tree params.now)) ▸ add_constant object.none) em.old em.new }
 {
     enter_names(em, params)?;
     em.enter_constant(ConstantData::None)
@@ -125,8 +112,7 @@ pub fn begin_function(em: &mut Emitter, params: &Arguments) -> Result<(), Codege
 /// OutOfMemory alone.
 #[tactic(auto, unfolding(py_emit::specs::States::rest))]
 pub fn pass_annotations(em: &mut Emitter, params: &Arguments) -> Result<(), CodegenError>
-    ensures goes { Goes result (state em.new) (pass_scopes (λ postponed. annotation_scopes postponed (arguments expr_tree params.now)) (state em.old)) }
-    ensures same { Same result (rest em.new) (rest em.old) }
+    ensures { Emits result (pass_scopes (λ postponed. annotation_scopes postponed (arguments expr_tree params.now))) em.old em.new }
 {
     let postponed = em.context().future_annotations;
     let next = scopes_in_annotations(params, postponed, em.next_scope());
@@ -167,8 +153,7 @@ pub fn function_flags(defaults: Defaults, annotated: bool) -> MakeFunctionFlags
 #[cycle(code)]
 pub fn compile_defaults(em: &mut Emitter, params: &Arguments) -> Result<Defaults, CodegenError>
     ensures flags { IfOk result (λ d. flags_of_defaults (default_emissions (arguments expr_tree params.now)) ≡ flag_if 0x08 d.positional + flag_if 0x04 d.keyword) }
-    ensures goes { Goes result (state em.new) (emission_of_defaults (default_emissions (arguments expr_tree params.now)) (state em.old)) }
-    ensures same { Same result (rest em.new) (rest em.old) }
+    ensures emits { Emits result (emission_of_defaults (default_emissions (arguments expr_tree params.now))) em.old em.new }
 {
     let positional = compile_positional_defaults(em, params)?;
     let keyword = compile_keyword_defaults(em, params)?;
@@ -183,8 +168,7 @@ pub fn compile_defaults(em: &mut Emitter, params: &Arguments) -> Result<Defaults
 #[tactic(auto, using(crate::proofs::Signatures::positional_goes, crate::proofs::Signatures::positional_any))]
 fn compile_positional_defaults(em: &mut Emitter, params: &Arguments) -> Result<bool, CodegenError>
     ensures any { IfOk result (λ any. some_flag 0x08 (default_emissions (arguments expr_tree params.now)).positional ≡ flag_if 0x08 any) }
-    ensures goes { Goes result (state em.new) (some_emitted (built Instruction.BuildTuple) (default_emissions (arguments expr_tree params.now)).positional (state em.old)) }
-    ensures same { Same result (rest em.new) (rest em.old) }
+    ensures emits { Emits result (some_emitted (built Instruction.BuildTuple) (default_emissions (arguments expr_tree params.now)).positional) em.old em.new }
 {
     let posonly = compile_each_default(em, params.posonlyargs.as_slice(), false)?;
     let others = compile_each_default(em, params.args.as_slice(), false)?;
@@ -199,8 +183,7 @@ fn compile_positional_defaults(em: &mut Emitter, params: &Arguments) -> Result<b
 #[tactic(auto, using(crate::proofs::Signatures::keyword_goes, crate::proofs::Signatures::keyword_any))]
 fn compile_keyword_defaults(em: &mut Emitter, params: &Arguments) -> Result<bool, CodegenError>
     ensures any { IfOk result (λ any. some_flag 0x04 (default_emissions (arguments expr_tree params.now)).keyword ≡ flag_if 0x04 any) }
-    ensures goes { Goes result (state em.new) (some_emitted map_of (default_emissions (arguments expr_tree params.now)).keyword (state em.old)) }
-    ensures same { Same result (rest em.new) (rest em.old) }
+    ensures emits { Emits result (some_emitted map_of (default_emissions (arguments expr_tree params.now)).keyword) em.old em.new }
 {
     let count = compile_each_default(em, params.kwonlyargs.as_slice(), true)?;
     build_some(em, Instruction::BuildMap, count)
@@ -212,8 +195,7 @@ fn compile_keyword_defaults(em: &mut Emitter, params: &Arguments) -> Result<bool
 /// OutOfMemory alone.
 pub fn build_some(em: &mut Emitter, build: Instruction, count: usize) -> Result<bool, CodegenError>
     ensures any { IfOk result (λ any. any ≡ is_some count) }
-    ensures goes { Goes result (state em.new) (closed_by build count (state em.old)) }
-    ensures same { Same result (rest em.new) (rest em.old) }
+    ensures emits { Emits result (closed_by build count) em.old em.new }
 {
     if count == 0 {
         return Ok(false);
@@ -230,8 +212,7 @@ fn compile_each_default(
     named: bool,
 ) -> Result<usize, CodegenError>
     ensures count { IfOk result (λ n. n ≡ length (default_values named (args expr_tree items.now))) }
-    ensures goes { Goes result (state em.new) (in_turn (default_values named (args expr_tree items.now)) (state em.old)) }
-    ensures same { Same result (rest em.new) (rest em.old) }
+    ensures emits { Emits result (in_turn (default_values named (args expr_tree items.now))) em.old em.new }
 {
     let mut count = 0;
     for item in items {
@@ -248,8 +229,7 @@ fn compile_default(
     named: bool,
 ) -> Result<usize, CodegenError>
     ensures count { IfOk result (λ n. n ≡ default_count (opt_box expr_tree item.now.default)) }
-    ensures goes { Goes result (state em.new) (default_value named item.now.def.arg (opt_box expr_tree item.now.default) (state em.old)) }
-    ensures same { Same result (rest em.new) (rest em.old) }
+    ensures emits { Emits result (default_value named item.now.def.arg (opt_box expr_tree item.now.default)) em.old em.new }
 {
     match &item.default {
         Some(value) => {
@@ -263,8 +243,7 @@ fn compile_default(
 
 /// Emits the name of a default, where defaults are named.
 fn load_default_name(em: &mut Emitter, name: &Text, named: bool) -> Result<(), CodegenError>
-    ensures goes { Goes result (state em.new) (default_name named name.now (state em.old)) }
-    ensures same { Same result (rest em.new) (rest em.old) }
+    ensures { Emits result (default_name named name.now) em.old em.new }
 {
     if named {
         return load_name(em, name);

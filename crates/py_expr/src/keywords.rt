@@ -1,13 +1,13 @@
 //! The keywords of calls.
-ghost use Rattle.std.specs.Prelude.{◌≡◌, ◌<◌, ℕ, [], length, IfErr, IfOk, OnOk};
+ghost use Rattle.std.specs.Prelude.{◌≡◌, ◌<◌, [], length, IfOk};
 ghost use Rattle.py_tree.specs.View.{expr_tree, keywords as keyword_trees};
 ghost use Rattle.py_bytecode.specs.View.{constant};
 ghost use Rattle.py_bytecode.specs.Objects.{str, tuple};
 ghost use Rattle.py_steps.specs.Elements.{groups, starred};
 ghost use Rattle.py_steps.specs.Emitting.{emit_constant, keep};
 ghost use Rattle.py_steps.specs.EmissionParts.{checked, in_turn, joined_map, map_of, names_in, no_assignment, unless_debug, values_in};
-ghost use Rattle.py_emission.specs.Emission.{emission, keyword_emissions};
-ghost use Rattle.py_emit.specs.States.{Goes, IsStarved, Same, rest, state};
+ghost use Rattle.py_emission.specs.Emission.{keyword_emissions};
+ghost use Rattle.py_emit.specs.States.{Emits};
 ghost use Rattle.py_expr.specs.Calling.{checked_name, closed_map, keyword_behind, keyword_emission, named_if_any, named_values};
 ghost use Rattle.py_expr.specs.Turns.{groups_by, run_behind, runs};
 
@@ -33,8 +33,7 @@ pub(crate) fn has_double_star(keywords: &[Keyword]) -> bool
 
 /// Leaves where a keyword is named `__debug__`.
 pub(crate) fn check_keywords(em: &mut Emitter, keywords: &[Keyword]) -> Result<(), CodegenError>
-    ensures goes { Goes result (state em.new) (checked (keyword_emissions (keyword_trees expr_tree keywords.now)) (state em.old)) }
-    ensures same { Same result (rest em.new) (rest em.old) }
+    ensures { Emits result (checked (keyword_emissions (keyword_trees expr_tree keywords.now))) em.old em.new }
 {
     for keyword in keywords {
         check_keyword(em, keyword)?;
@@ -43,8 +42,7 @@ pub(crate) fn check_keywords(em: &mut Emitter, keywords: &[Keyword]) -> Result<(
 }
 
 fn check_keyword(em: &mut Emitter, keyword: &Keyword) -> Result<(), CodegenError>
-    ensures goes { Goes result (state em.new) (checked_name keyword.now.arg (state em.old)) }
-    ensures same { Same result (rest em.new) (rest em.old) }
+    ensures { Emits result (checked_name keyword.now.arg) em.old em.new }
 {
     match &keyword.arg {
         Some(name) => check_name(em, name),
@@ -53,8 +51,7 @@ fn check_keyword(em: &mut Emitter, keyword: &Keyword) -> Result<(), CodegenError
 }
 
 fn check_name(em: &mut Emitter, name: &Text) -> Result<(), CodegenError>
-    ensures goes { Goes result (state em.new) (unless_debug no_assignment name.now keep (state em.old)) }
-    ensures same { Same result (rest em.new) (rest em.old) }
+    ensures { Emits result (unless_debug no_assignment name.now keep) em.old em.new }
 {
     if is_debug(name.as_str()) {
         refuse!(em, SyntaxError: "cannot assign to __debug__");
@@ -68,8 +65,7 @@ pub(crate) fn compile_named_values(
     em: &mut Emitter,
     keywords: &[Keyword],
 ) -> Result<(), CodegenError>
-    ensures goes { Goes result (state em.new) (named_if_any (keyword_emissions (keyword_trees expr_tree keywords.now)) (state em.old)) }
-    ensures same { Same result (rest em.new) (rest em.old) }
+    ensures { Emits result (named_if_any (keyword_emissions (keyword_trees expr_tree keywords.now))) em.old em.new }
 {
     if keywords.is_empty() {
         return Ok(());
@@ -79,8 +75,7 @@ pub(crate) fn compile_named_values(
 
 #[cycle(code)]
 fn compile_some_named(em: &mut Emitter, keywords: &[Keyword]) -> Result<(), CodegenError>
-    ensures goes { Goes result (state em.new) (named_values (keyword_emissions (keyword_trees expr_tree keywords.now)) (state em.old)) }
-    ensures same { Same result (rest em.new) (rest em.old) }
+    ensures { Emits result (named_values (keyword_emissions (keyword_trees expr_tree keywords.now))) em.old em.new }
 {
     check_keywords(em, keywords)?;
     compile_values(em, keywords)?;
@@ -90,8 +85,7 @@ fn compile_some_named(em: &mut Emitter, keywords: &[Keyword]) -> Result<(), Code
 /// Emits the values of keywords one after the other.
 #[cycle(code)]
 fn compile_values(em: &mut Emitter, keywords: &[Keyword]) -> Result<(), CodegenError>
-    ensures goes { Goes result (state em.new) (in_turn (values_in (keyword_emissions (keyword_trees expr_tree keywords.now))) (state em.old)) }
-    ensures same { Same result (rest em.new) (rest em.old) }
+    ensures { Emits result (in_turn (values_in (keyword_emissions (keyword_trees expr_tree keywords.now)))) em.old em.new }
 {
     for keyword in keywords {
         compile_expression(em, &keyword.value)?;
@@ -101,8 +95,7 @@ fn compile_values(em: &mut Emitter, keywords: &[Keyword]) -> Result<(), CodegenE
 
 /// Emits the tuple of the names of keywords.
 fn load_names(em: &mut Emitter, keywords: &[Keyword]) -> Result<(), CodegenError>
-    ensures goes { Goes result (state em.new) (emit_constant Instruction.LoadConst (tuple (names_in (keyword_emissions (keyword_trees expr_tree keywords.now)))) (state em.old)) }
-    ensures same { Same result (rest em.new) (rest em.old) }
+    ensures { Emits result (emit_constant Instruction.LoadConst (tuple (names_in (keyword_emissions (keyword_trees expr_tree keywords.now))))) em.old em.new }
 {
     match name_tuple(em.alloc(), keywords) {
         Ok(names) => em.load_const(names),
@@ -131,8 +124,7 @@ pub(crate) fn compile_keyword_map(
     em: &mut Emitter,
     keywords: &[Keyword],
 ) -> Result<(), CodegenError>
-    ensures goes { Goes result (state em.new) (joined_map (groups map_of [] (keyword_emissions (keyword_trees expr_tree keywords.now))) (state em.old)) }
-    ensures same { Same result (rest em.new) (rest em.old) }
+    ensures { Emits result (joined_map (groups map_of [] (keyword_emissions (keyword_trees expr_tree keywords.now)))) em.old em.new }
 {
     let maps = compile_maps(em, keywords)?;
     if maps > 1 {
@@ -146,8 +138,7 @@ pub(crate) fn compile_keyword_map(
 #[cycle(code)]
 fn compile_maps(em: &mut Emitter, keywords: &[Keyword]) -> Result<usize, CodegenError>
     ensures count { IfOk result (λ n. n ≡ length (groups map_of [] (keyword_emissions (keyword_trees expr_tree keywords.now)))) }
-    ensures goes { Goes result (state em.new) (in_turn (groups map_of [] (keyword_emissions (keyword_trees expr_tree keywords.now))) (state em.old)) }
-    ensures same { Same result (rest em.new) (rest em.old) }
+    ensures emits { Emits result (in_turn (groups map_of [] (keyword_emissions (keyword_trees expr_tree keywords.now)))) em.old em.new }
 {
     let mut maps = 0;
     let mut run = 0;
@@ -164,8 +155,7 @@ fn compile_maps(em: &mut Emitter, keywords: &[Keyword]) -> Result<usize, Codegen
 #[cycle(code)]
 fn compile_keyword(em: &mut Emitter, keyword: &Keyword, run: usize) -> Result<usize, CodegenError>
     ensures count { IfOk result (λ n. n ≡ groups_by run (keyword_emission keyword.now.arg (expr_tree keyword.now.value))) }
-    ensures goes { Goes result (state em.new) (keyword_behind run (keyword_emission keyword.now.arg (expr_tree keyword.now.value)) (state em.old)) }
-    ensures same { Same result (rest em.new) (rest em.old) }
+    ensures emits { Emits result (keyword_behind run (keyword_emission keyword.now.arg (expr_tree keyword.now.value))) em.old em.new }
 {
     match &keyword.arg {
         Some(name) => {
@@ -192,8 +182,7 @@ fn run_after(keyword: &Keyword, run: usize) -> usize
 /// Makes a map of a run of so many named values, where there are any. Answers how many maps that is.
 fn close_map(em: &mut Emitter, run: usize) -> Result<usize, CodegenError>
     ensures count { IfOk result (λ n. n ≡ runs run) }
-    ensures goes { Goes result (state em.new) (closed_map run (state em.old)) }
-    ensures same { Same result (rest em.new) (rest em.old) }
+    ensures emits { Emits result (closed_map run) em.old em.new }
 {
     if run == 0 {
         return Ok(0);
@@ -205,8 +194,7 @@ fn close_map(em: &mut Emitter, run: usize) -> Result<usize, CodegenError>
 /// Emits the name of a keyword.
 #[tactic(auto, using(py_bytecode::proofs::View::views))]
 pub(crate) fn load_name(em: &mut Emitter, name: &Text) -> Result<(), CodegenError>
-    ensures goes { Goes result (state em.new) (emit_constant Instruction.LoadConst (str name.now) (state em.old)) }
-    ensures same { Same result (rest em.new) (rest em.old) }
+    ensures { Emits result (emit_constant Instruction.LoadConst (str name.now)) em.old em.new }
 {
     let value = em.text(name.as_str())?;
     em.load_const(ConstantData::Str { value })

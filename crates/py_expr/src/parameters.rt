@@ -1,9 +1,9 @@
 //! The parameters of functions, and what a code object says of them.
 ghost use Rattle.std.specs.Prelude.{◌≡◌, ◌+◌, IfErr, IfOk, OnOk};
 ghost use Rattle.py_tree.specs.View.{args, arguments, expr_tree, opt_arg, opt_box};
-ghost use Rattle.py_steps.specs.Children.{enter_parameters, some_flag};
+ghost use Rattle.py_steps.specs.Children.{enter_parameters};
 ghost use Rattle.py_emission.specs.Parameters.{arg_names, function_shape, opt_arg_names, parameters};
-ghost use Rattle.py_emit.specs.States.{Goes, IsStarved, Same, rest, shape_of, state};
+ghost use Rattle.py_emit.specs.States.{Emits, IsStarved, rest, shape_of};
 ghost use Rattle.py_expr.specs.Functions.{flag_if, names_given, parameter, parameter_given};
 
 use bitflags::Flags;
@@ -56,8 +56,7 @@ fn code_flags(vararg: bool, kwarg: bool) -> CodeFlags
 /// before those with one, and the two that take what is left over last.
 #[tactic(auto, using(crate::proofs::Signatures::parameters_are))]
 pub(crate) fn enter_names(em: &mut Emitter, params: &Arguments) -> Result<(), CodegenError>
-    ensures goes { Goes result (state em.new) (enter_parameters (parameters (arguments expr_tree params.now)) (state em.old)) }
-    ensures same { Same result (rest em.new) (rest em.old) }
+    ensures { Emits result (enter_parameters (parameters (arguments expr_tree params.now))) em.old em.new }
 {
     enter_all(em, params.posonlyargs.as_slice())?;
     enter_all(em, params.args.as_slice())?;
@@ -69,16 +68,14 @@ pub(crate) fn enter_names(em: &mut Emitter, params: &Arguments) -> Result<(), Co
 
 /// Enters the name of a parameter.
 fn enter_one(em: &mut Emitter, param: &Arg) -> Result<(), CodegenError>
-    ensures goes { Goes result (state em.new) (parameter param.now.arg (state em.old)) }
-    ensures same { Same result (rest em.new) (rest em.old) }
+    ensures { Emits result (parameter param.now.arg) em.old em.new }
 {
     em.add_parameter(param.arg.as_str())
 }
 
 /// Enters the names of parameters.
 fn enter_all(em: &mut Emitter, items: &[ArgWithDefault]) -> Result<(), CodegenError>
-    ensures goes { Goes result (state em.new) (enter_parameters (arg_names (args expr_tree items.now)) (state em.old)) }
-    ensures same { Same result (rest em.new) (rest em.old) }
+    ensures { Emits result (enter_parameters (arg_names (args expr_tree items.now))) em.old em.new }
 {
     for item in items {
         enter_one(em, &item.def)?;
@@ -88,8 +85,7 @@ fn enter_all(em: &mut Emitter, items: &[ArgWithDefault]) -> Result<(), CodegenEr
 
 /// Enters the names of those parameters that have a default, or of those that have none.
 fn enter_given(em: &mut Emitter, items: &[ArgWithDefault], given: bool) -> Result<(), CodegenError>
-    ensures goes { Goes result (state em.new) (enter_parameters (names_given given (args expr_tree items.now)) (state em.old)) }
-    ensures same { Same result (rest em.new) (rest em.old) }
+    ensures { Emits result (enter_parameters (names_given given (args expr_tree items.now))) em.old em.new }
 {
     for item in items {
         enter_if_given(em, item, given)?;
@@ -99,8 +95,7 @@ fn enter_given(em: &mut Emitter, items: &[ArgWithDefault], given: bool) -> Resul
 
 /// Enters the name of a parameter, if it has a default, or if it has none.
 fn enter_if_given(em: &mut Emitter, item: &ArgWithDefault, given: bool) -> Result<(), CodegenError>
-    ensures goes { Goes result (state em.new) (parameter_given given item.now.def.arg (opt_box expr_tree item.now.default) (state em.old)) }
-    ensures same { Same result (rest em.new) (rest em.old) }
+    ensures { Emits result (parameter_given given item.now.def.arg (opt_box expr_tree item.now.default)) em.old em.new }
 {
     match (&item.default, given) {
         (Some(_), true) | (None, false) => enter_one(em, &item.def),
@@ -110,8 +105,7 @@ fn enter_if_given(em: &mut Emitter, item: &ArgWithDefault, given: bool) -> Resul
 
 /// Enters the name of a parameter that may be missing.
 fn enter_optional(em: &mut Emitter, param: &Option<Box<Arg>>) -> Result<(), CodegenError>
-    ensures goes { Goes result (state em.new) (enter_parameters (opt_arg_names (opt_arg expr_tree param.now)) (state em.old)) }
-    ensures same { Same result (rest em.new) (rest em.old) }
+    ensures { Emits result (enter_parameters (opt_arg_names (opt_arg expr_tree param.now))) em.old em.new }
 {
     match param {
         Some(param) => enter_one(em, param),

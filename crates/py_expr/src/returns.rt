@@ -1,13 +1,14 @@
 //! The returns of values.
-ghost use Rattle.std.specs.Prelude.{ℕ};
+ghost use Rattle.std.specs.Prelude.{◌≡◌};
+ghost use Rattle.py_tree.specs.Tree.{expr_location};
 ghost use Rattle.py_tree.specs.View.{constant_tree, expr_tree, exprs, joined_str_tree, name_tree};
 ghost use Rattle.py_emission.specs.Texts.{texts_of};
 ghost use Rattle.py_steps.specs.Emitting.{◌▸◌, emit as emitting};
 ghost use Rattle.py_steps.specs.EmissionParts.{values};
 ghost use Rattle.py_emission.specs.Emission.{all_emissions, emission, emission_of_return, joined_return, name_return};
-ghost use Rattle.py_emit.specs.States.{Goes, Same, rest, state};
+ghost use Rattle.py_emit.specs.States.{Emits, rest, state};
 
-use crate::expressions::compile_expression;
+use crate::expressions::compile_entered;
 use crate::texts::{compile_parts, copied_constant, whole_text};
 use py_bytecode::{ConstantData, Instruction};
 use py_emit::{Emitter, NameUsage, debug_constant, emit, is_debug};
@@ -21,8 +22,18 @@ use py_tree::{Expr, ExprConstant, ExprJoinedStr, ExprName};
 #[cycle(code)]
 #[tactic(auto, using(py_tree::proofs::View::trees, crate::proofs::Steps::steps))]
 pub fn compile_return(em: &mut Emitter, expr: &Expr) -> Result<(), CodegenError>
-    ensures goes { Goes result (state em.new) (emission_of_return (expr_tree expr.now) (state em.old)) }
-    ensures same { Same result (rest em.new) (rest em.old) }
+    ensures { Emits result (emission_of_return (expr_tree expr.now)) em.old em.new }
+{
+    em.set_location(expr.location());
+    return_entered(em, expr)
+}
+
+/// Emits the return of an expression's value, at whose location the emitter is.
+#[cycle(code)]
+#[tactic(auto, using(py_tree::proofs::View::trees, crate::proofs::Steps::steps))]
+fn return_entered(em: &mut Emitter, expr: &Expr) -> Result<(), CodegenError>
+    requires at { (state em.old).location ≡ expr_location (expr_tree expr.now) }
+    ensures { Emits result (emission_of_return (expr_tree expr.now)) em.old em.new }
 {
     match expr {
         Expr::JoinedStr(e) => return_joined_str(em, e),
@@ -36,20 +47,19 @@ pub fn compile_return(em: &mut Emitter, expr: &Expr) -> Result<(), CodegenError>
 #[cycle(code)]
 #[tactic(auto, using(crate::proofs::Steps::steps))]
 fn return_value(em: &mut Emitter, expr: &Expr) -> Result<(), CodegenError>
-    ensures goes { Goes result (state em.new) ((emission (expr_tree expr.now) ▸ emitting Instruction.ReturnValue 0) (state em.old)) }
-    ensures same { Same result (rest em.new) (rest em.old) }
+    requires at { (state em.old).location ≡ expr_location (expr_tree expr.now) }
+    ensures { Emits result (emission (expr_tree expr.now) ▸ emitting Instruction.ReturnValue 0) em.old em.new }
 {
-    compile_expression(em, expr)?;
+    compile_entered(em, expr)?;
     emit!(em, Instruction::ReturnValue);
     Ok(())
 }
 
 #[tactic(auto, using(crate::proofs::Steps::steps))]
 fn return_constant(em: &mut Emitter, e: &ExprConstant) -> Result<(), CodegenError>
-    ensures goes { Goes result (state em.new) (emission_of_return (constant_tree e.now) (state em.old)) }
-    ensures same { Same result (rest em.new) (rest em.old) }
+    requires at { (state em.old).location ≡ e.now.location }
+    ensures { Emits result (emission_of_return (constant_tree e.now)) em.old em.new }
 {
-    em.set_location(e.location);
     let value = copied_constant(em, &e.value)?;
     em.return_const(value)
 }
@@ -57,10 +67,9 @@ fn return_constant(em: &mut Emitter, e: &ExprConstant) -> Result<(), CodegenErro
 #[cycle(code)]
 #[tactic(auto, using(crate::proofs::Steps::steps))]
 fn return_joined_str(em: &mut Emitter, e: &ExprJoinedStr) -> Result<(), CodegenError>
-    ensures goes { Goes result (state em.new) (emission_of_return (joined_str_tree e.now) (state em.old)) }
-    ensures same { Same result (rest em.new) (rest em.old) }
+    requires at { (state em.old).location ≡ e.now.location }
+    ensures { Emits result (emission_of_return (joined_str_tree e.now)) em.old em.new }
 {
-    em.set_location(e.location);
     return_joined(em, e.values.as_slice())
 }
 
@@ -68,8 +77,7 @@ fn return_joined_str(em: &mut Emitter, e: &ExprJoinedStr) -> Result<(), CodegenE
 #[cycle(code)]
 #[tactic(auto, using(py_bytecode::proofs::View::views))]
 fn return_joined(em: &mut Emitter, parts: &[Expr]) -> Result<(), CodegenError>
-    ensures goes { Goes result (state em.new) (joined_return (texts_of (exprs expr_tree parts.now)) (values (all_emissions (exprs expr_tree parts.now))) (state em.old)) }
-    ensures same { Same result (rest em.new) (rest em.old) }
+    ensures { Emits result (joined_return (texts_of (exprs expr_tree parts.now)) (values (all_emissions (exprs expr_tree parts.now)))) em.old em.new }
 {
     if let Some(value) = whole_text(em, parts)? {
         return em.return_const(ConstantData::Str { value });
@@ -81,18 +89,16 @@ fn return_joined(em: &mut Emitter, parts: &[Expr]) -> Result<(), CodegenError>
 
 #[tactic(auto, using(crate::proofs::Steps::steps))]
 fn return_name(em: &mut Emitter, e: &ExprName) -> Result<(), CodegenError>
-    ensures goes { Goes result (state em.new) (emission_of_return (name_tree e.now) (state em.old)) }
-    ensures same { Same result (rest em.new) (rest em.old) }
+    requires at { (state em.old).location ≡ e.now.location }
+    ensures { Emits result (emission_of_return (name_tree e.now)) em.old em.new }
 {
-    em.set_location(e.location);
     return_access(em, e.id.as_str())
 }
 
 /// Emits the return of what a name stands for, which is a constant where it is `__debug__`.
 #[tactic(auto, unfolding(py_steps::specs::Emitting::by_level, py_emit::specs::States::rest))]
 fn return_access(em: &mut Emitter, name: &str) -> Result<(), CodegenError>
-    ensures goes { Goes result (state em.new) (name_return name.now (state em.old)) }
-    ensures same { Same result (rest em.new) (rest em.old) }
+    ensures { Emits result (name_return name.now) em.old em.new }
 {
     if is_debug(name) {
         let opts = em.opts();

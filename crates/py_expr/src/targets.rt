@@ -1,13 +1,13 @@
 //! Targets: the code that stores to them or deletes them. A target is not entered: what is wrong with it stands where the code
 //! before it leaves off.
-ghost use Rattle.std.specs.Prelude.{◌≡◌, ◌<◌, ◌≢◌, ℕ, length};
-ghost use Rattle.py_tree.specs.View.{attribute_tree, expr_tree, exprs, named_expr_tree, subscript_tree};
+ghost use Rattle.std.specs.Prelude.{◌≡◌, ◌<◌, ◌≢◌};
+ghost use Rattle.py_tree.specs.View.{expr_tree, exprs, named_expr_tree};
 ghost use Rattle.py_tree.specs.PythonName.{python_name};
-ghost use Rattle.py_steps.specs.Elements.{after_star, bare, before_star, stars};
-ghost use Rattle.py_steps.specs.Emitting.{◌▸◌, Refused, emit_mangled, refuse, emit as emitting};
+ghost use Rattle.py_steps.specs.Elements.{bare, before_star, stars};
+ghost use Rattle.py_steps.specs.Emitting.{◌▸◌, emit_mangled, refuse, emit as emitting};
 ghost use Rattle.py_steps.specs.EmissionParts.{in_turn, lone_star, unless_debug, unpack, unpack_starred, unpacking};
 ghost use Rattle.py_emission.specs.Emission.{all_stores, deletion_name, emission, emission_of_delete, emission_of_deletes, emission_of_store, stores};
-ghost use Rattle.py_emit.specs.States.{Goes, Same, rest, state};
+ghost use Rattle.py_emit.specs.States.{Emits, state};
 ghost use Rattle.py_expr.specs.Targets.{bare_of};
 
 use crate::elements::is_star;
@@ -27,8 +27,7 @@ const MOST_ASIDE: usize = 255;
 #[cycle(code)]
 #[tactic(auto, using(py_tree::proofs::View::trees))]
 pub fn compile_store(em: &mut Emitter, target: &Expr) -> Result<(), CodegenError>
-    ensures goes { Goes result (state em.new) (emission_of_store (expr_tree target.now) (state em.old)) }
-    ensures same { Same result (rest em.new) (rest em.old) }
+    ensures { Emits result (emission_of_store (expr_tree target.now)) em.old em.new }
 {
     match target {
         Expr::Name(e) => em.compile_name(NameUsage::Store, e.id.as_str()),
@@ -54,8 +53,7 @@ fn compile_attribute_change(
     instr: Instruction,
     text: &str,
 ) -> Result<(), CodegenError>
-    ensures goes { Goes result (state em.new) (unless_debug text.now e.now.attr (emission (expr_tree e.now.value.value) ▸ emit_mangled instr e.now.attr) (state em.old)) }
-    ensures same { Same result (rest em.new) (rest em.old) }
+    ensures { Emits result (unless_debug text.now e.now.attr (emission (expr_tree e.now.value.value) ▸ emit_mangled instr e.now.attr)) em.old em.new }
 {
     if is_debug(e.attr.as_str()) {
         refuse!(em, SyntaxError: text);
@@ -71,8 +69,7 @@ fn compile_subscript_change(
     e: &ExprSubscript,
     instr: Instruction,
 ) -> Result<(), CodegenError>
-    ensures goes { Goes result (state em.new) ((emission (expr_tree e.now.value.value) ▸ emission (expr_tree e.now.slice.value) ▸ emitting instr 0) (state em.old)) }
-    ensures same { Same result (rest em.new) (rest em.old) }
+    ensures { Emits result (emission (expr_tree e.now.value.value) ▸ emission (expr_tree e.now.slice.value) ▸ emitting instr 0) em.old em.new }
 {
     compile_expression(em, &e.value)?;
     compile_expression(em, &e.slice)?;
@@ -87,8 +84,7 @@ fn compile_unpack(
     location: SourceLocation,
     elts: &[Expr],
 ) -> Result<(), CodegenError>
-    ensures goes { Goes result (state em.new) (unpack location (all_stores (exprs expr_tree elts.now)) (state em.old)) }
-    ensures same { Same result (rest em.new) (rest em.old) }
+    ensures { Emits result (unpack location (all_stores (exprs expr_tree elts.now))) em.old em.new }
 {
     emit_unpack(em, location, elts)?;
     compile_stores(em, elts)
@@ -100,8 +96,7 @@ fn emit_unpack(
     location: SourceLocation,
     elts: &[Expr],
 ) -> Result<(), CodegenError>
-    ensures goes { Goes result (state em.new) (unpacking location (all_stores (exprs expr_tree elts.now)) (state em.old)) }
-    ensures same { Same result (rest em.new) (rest em.old) }
+    ensures { Emits result (unpacking location (all_stores (exprs expr_tree elts.now))) em.old em.new }
 {
     let starred = star_count(elts);
     if starred == 0 {
@@ -119,8 +114,7 @@ fn emit_starred_unpack(
 ) -> Result<(), CodegenError>
     requires some { starred ≢ 0 }
     requires counted { starred ≡ stars (all_stores (exprs expr_tree elts.now)) }
-    ensures goes { Goes result (state em.new) (unpack_starred location (all_stores (exprs expr_tree elts.now)) (state em.old)) }
-    ensures same { Same result (rest em.new) (rest em.old) }
+    ensures { Emits result (unpack_starred location (all_stores (exprs expr_tree elts.now))) em.old em.new }
 {
     let before = before_star(elts);
     let after = elts.len() - before - 1;
@@ -164,8 +158,7 @@ fn before_star(elts: &[Expr]) -> usize
 /// Emits the code that stores to each target in turn.
 #[cycle(code)]
 fn compile_stores(em: &mut Emitter, elts: &[Expr]) -> Result<(), CodegenError>
-    ensures goes { Goes result (state em.new) (in_turn (bare (all_stores (exprs expr_tree elts.now))) (state em.old)) }
-    ensures same { Same result (rest em.new) (rest em.old) }
+    ensures { Emits result (in_turn (bare (all_stores (exprs expr_tree elts.now)))) em.old em.new }
 {
     for elt in elts {
         compile_element_store(em, elt)?;
@@ -177,8 +170,7 @@ fn compile_stores(em: &mut Emitter, elts: &[Expr]) -> Result<(), CodegenError>
 #[cycle(code)]
 #[tactic(auto, using(py_tree::proofs::View::trees))]
 fn compile_element_store(em: &mut Emitter, elt: &Expr) -> Result<(), CodegenError>
-    ensures goes { Goes result (state em.new) (bare_of (stores (expr_tree elt.now)).element (state em.old)) }
-    ensures same { Same result (rest em.new) (rest em.old) }
+    ensures { Emits result (bare_of (stores (expr_tree elt.now)).element) em.old em.new }
 {
     match elt {
         Expr::Starred(e) => compile_store(em, &e.value),
@@ -188,8 +180,7 @@ fn compile_element_store(em: &mut Emitter, elt: &Expr) -> Result<(), CodegenErro
 
 /// Refuses a starred target that is no element.
 fn refuse_lone_star(em: &mut Emitter) -> Result<(), CodegenError>
-    ensures goes { Goes result (state em.new) (refuse (CodegenErrorType.SyntaxError lone_star) (state em.old)) }
-    ensures same { Same result (rest em.new) (rest em.old) }
+    ensures { Emits result (refuse (CodegenErrorType.SyntaxError lone_star)) em.old em.new }
 {
     refuse!(em, SyntaxError: "starred assignment target must be in a list or tuple");
 }
@@ -197,8 +188,7 @@ fn refuse_lone_star(em: &mut Emitter) -> Result<(), CodegenError>
 /// Refuses an expression that is no target.
 #[tactic(auto, using(crate::proofs::Steps::steps))]
 pub fn refuse_store(em: &mut Emitter, target: &Expr) -> Result<(), CodegenError>
-    ensures goes { Goes result (state em.new) (refuse (CodegenErrorType.Assign (python_name (expr_tree target.now))) (state em.old)) }
-    ensures same { Same result (rest em.new) (rest em.old) }
+    ensures { Emits result (refuse (CodegenErrorType.Assign (python_name (expr_tree target.now)))) em.old em.new }
 {
     let name = em.text(target.python_name())?;
     refuse!(em, CodegenErrorType::Assign(name));
@@ -211,8 +201,7 @@ pub fn refuse_store(em: &mut Emitter, target: &Expr) -> Result<(), CodegenError>
 #[cycle(deletions)]
 #[tactic(auto, using(py_tree::proofs::View::trees))]
 pub fn compile_delete(em: &mut Emitter, target: &Expr) -> Result<(), CodegenError>
-    ensures goes { Goes result (state em.new) (emission_of_delete (expr_tree target.now) (state em.old)) }
-    ensures same { Same result (rest em.new) (rest em.old) }
+    ensures { Emits result (emission_of_delete (expr_tree target.now)) em.old em.new }
 {
     match target {
         Expr::Name(e) => em.compile_name(NameUsage::Delete, e.id.as_str()),
@@ -235,8 +224,7 @@ pub fn compile_delete(em: &mut Emitter, target: &Expr) -> Result<(), CodegenErro
 /// The first compile fault of the targets as what is deleted, or OutOfMemory.
 #[cycle(deletions)]
 pub fn compile_deletes(em: &mut Emitter, targets: &[Expr]) -> Result<(), CodegenError>
-    ensures goes { Goes result (state em.new) (emission_of_deletes (exprs expr_tree targets.now) (state em.old)) }
-    ensures same { Same result (rest em.new) (rest em.old) }
+    ensures { Emits result (emission_of_deletes (exprs expr_tree targets.now)) em.old em.new }
 {
     for target in targets {
         compile_delete(em, target)?;
@@ -247,8 +235,7 @@ pub fn compile_deletes(em: &mut Emitter, targets: &[Expr]) -> Result<(), Codegen
 /// Refuses an expression that cannot be deleted.
 #[tactic(auto, using(crate::proofs::Steps::steps))]
 fn refuse_delete(em: &mut Emitter, target: &Expr) -> Result<(), CodegenError>
-    ensures goes { Goes result (state em.new) (refuse (CodegenErrorType.Delete (deletion_name (expr_tree target.now))) (state em.old)) }
-    ensures same { Same result (rest em.new) (rest em.old) }
+    ensures { Emits result (refuse (CodegenErrorType.Delete (deletion_name (expr_tree target.now)))) em.old em.new }
 {
     let name = em.text(deletion_name(target))?;
     refuse!(em, CodegenErrorType::Delete(name));
@@ -270,10 +257,9 @@ fn deletion_name(target: &Expr) -> &'static str
 #[cycle(code)]
 #[tactic(auto, using(crate::proofs::Steps::steps))]
 pub(crate) fn compile_named_expr(em: &mut Emitter, e: &ExprNamedExpr) -> Result<(), CodegenError>
-    ensures goes { Goes result (state em.new) (emission (named_expr_tree e.now) (state em.old)) }
-    ensures same { Same result (rest em.new) (rest em.old) }
+    requires at { (state em.old).location ≡ e.now.location }
+    ensures { Emits result (emission (named_expr_tree e.now)) em.old em.new }
 {
-    em.set_location(e.location);
     compile_expression(em, &e.value)?;
     emit!(em, Instruction::Duplicate);
     compile_store(em, &e.target)

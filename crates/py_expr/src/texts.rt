@@ -1,5 +1,5 @@
 //! Constants and f-strings.
-ghost use Rattle.std.specs.Prelude.{◌≡◌, ℕ, [], string_bytes, IfOk, IfErr, OnOk};
+ghost use Rattle.std.specs.Prelude.{◌≡◌, [], string_bytes, IfOk, IfErr, OnOk};
 ghost use Rattle.py_tree.specs.View.{constant_tree, expr_tree, exprs, formatted_value_tree, joined_str_tree, literal_list, literal_of, opt_box};
 ghost use Rattle.py_bytecode.specs.View.{constant};
 ghost use Rattle.py_bytecode.specs.Objects as object;
@@ -7,7 +7,7 @@ ghost use Rattle.py_emission.specs.Texts.{text_in, text_of, texts_of};
 ghost use Rattle.py_steps.specs.TableParts.{constants_of, conversion_case, constant_of as literal_constant};
 ghost use Rattle.py_steps.specs.EmissionParts.{built, joined_value, value_or, values};
 ghost use Rattle.py_emission.specs.Emission.{all_emissions, emission, opt_emission};
-ghost use Rattle.py_emit.specs.States.{Goes, IsStarved, Same, rest, state};
+ghost use Rattle.py_emit.specs.States.{Emits, IsStarved, rest, state};
 ghost use Rattle.py_expr.specs.Appending.{Appended};
 
 use crate::expressions::{compile_expression, compile_expressions};
@@ -82,10 +82,9 @@ fn push_constant(value: &Constant, text: &mut String) -> Result<bool, AllocError
 
 #[tactic(auto, using(crate::proofs::Steps::steps))]
 pub(crate) fn compile_constant(em: &mut Emitter, e: &ExprConstant) -> Result<(), CodegenError>
-    ensures goes { Goes result (state em.new) (emission (constant_tree e.now) (state em.old)) }
-    ensures same { Same result (rest em.new) (rest em.old) }
+    requires at { (state em.old).location ≡ e.now.location }
+    ensures { Emits result (emission (constant_tree e.now)) em.old em.new }
 {
-    em.set_location(e.location);
     let value = copied_constant(em, &e.value)?;
     em.load_const(value)
 }
@@ -155,10 +154,9 @@ fn tuple_data(alloc: Global, items: &[Constant]) -> Result<ConstantData, AllocEr
 #[cycle(code)]
 #[tactic(auto, using(crate::proofs::Steps::steps))]
 pub(crate) fn compile_joined_str(em: &mut Emitter, e: &ExprJoinedStr) -> Result<(), CodegenError>
-    ensures goes { Goes result (state em.new) (emission (joined_str_tree e.now) (state em.old)) }
-    ensures same { Same result (rest em.new) (rest em.old) }
+    requires at { (state em.old).location ≡ e.now.location }
+    ensures { Emits result (emission (joined_str_tree e.now)) em.old em.new }
 {
-    em.set_location(e.location);
     compile_joined(em, e.values.as_slice())
 }
 
@@ -178,8 +176,7 @@ pub(crate) fn whole_text(em: &mut Emitter, parts: &[Expr]) -> Result<Option<Text
 #[cycle(code)]
 #[tactic(auto, using(py_bytecode::proofs::View::views))]
 fn compile_joined(em: &mut Emitter, parts: &[Expr]) -> Result<(), CodegenError>
-    ensures goes { Goes result (state em.new) (joined_value (texts_of (exprs expr_tree parts.now)) (values (all_emissions (exprs expr_tree parts.now))) (state em.old)) }
-    ensures same { Same result (rest em.new) (rest em.old) }
+    ensures { Emits result (joined_value (texts_of (exprs expr_tree parts.now)) (values (all_emissions (exprs expr_tree parts.now)))) em.old em.new }
 {
     if let Some(value) = whole_text(em, parts)? {
         return em.load_const(ConstantData::Str { value });
@@ -190,8 +187,7 @@ fn compile_joined(em: &mut Emitter, parts: &[Expr]) -> Result<(), CodegenError>
 /// Emits parts of an f-string and the instruction that joins them.
 #[cycle(code)]
 pub(crate) fn compile_parts(em: &mut Emitter, parts: &[Expr]) -> Result<(), CodegenError>
-    ensures goes { Goes result (state em.new) (built Instruction.BuildString (values (all_emissions (exprs expr_tree parts.now))) (state em.old)) }
-    ensures same { Same result (rest em.new) (rest em.old) }
+    ensures { Emits result (built Instruction.BuildString (values (all_emissions (exprs expr_tree parts.now)))) em.old em.new }
 {
     compile_expressions(em, parts)?;
     em.emit_count(Instruction::BuildString, parts.len())
@@ -203,10 +199,9 @@ pub(crate) fn compile_formatted_value(
     em: &mut Emitter,
     e: &ExprFormattedValue,
 ) -> Result<(), CodegenError>
-    ensures goes { Goes result (state em.new) (emission (formatted_value_tree e.now) (state em.old)) }
-    ensures same { Same result (rest em.new) (rest em.old) }
+    requires at { (state em.old).location ≡ e.now.location }
+    ensures { Emits result (emission (formatted_value_tree e.now)) em.old em.new }
 {
-    em.set_location(e.location);
     compile_expression(em, &e.value)?;
     compile_format_spec(em, &e.format_spec)?;
     emit!(
@@ -221,8 +216,7 @@ pub(crate) fn compile_formatted_value(
 #[cycle(code)]
 #[tactic(auto, using(py_bytecode::proofs::View::views))]
 fn compile_format_spec(em: &mut Emitter, spec: &Option<Box<Expr>>) -> Result<(), CodegenError>
-    ensures goes { Goes result (state em.new) (value_or (object.str []) (opt_emission (opt_box expr_tree spec.now)) (state em.old)) }
-    ensures same { Same result (rest em.new) (rest em.old) }
+    ensures { Emits result (value_or (object.str []) (opt_emission (opt_box expr_tree spec.now))) em.old em.new }
 {
     match spec {
         Some(spec) => compile_expression(em, spec),

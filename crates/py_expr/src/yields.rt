@@ -6,7 +6,7 @@ ghost use Rattle.py_steps.specs.Context.{is_function};
 ghost use Rattle.py_steps.specs.Emitting.{◌▸◌, emit as emitting, emit_constant, generating, keep};
 ghost use Rattle.py_steps.specs.EmissionParts.{only_in_function, value_or};
 ghost use Rattle.py_emission.specs.Emission.{emission, opt_emission};
-ghost use Rattle.py_emit.specs.States.{Goes, Same, rest, state};
+ghost use Rattle.py_emit.specs.States.{Emits, state};
 
 use crate::displays::compile_or_none;
 use crate::expressions::compile_expression;
@@ -28,8 +28,7 @@ pub fn is_function(typ: SymbolTableType) -> bool
 /// # Errors
 /// The error alone.
 pub fn check_in_function(em: &mut Emitter, error: CodegenErrorType) -> Result<(), CodegenError>
-    ensures goes { Goes result (state em.new) (only_in_function error keep (state em.old)) }
-    ensures same { Same result (rest em.new) (rest em.old) }
+    ensures { Emits result (only_in_function error keep) em.old em.new }
 {
     if is_function(em.scope_type()) {
         return Ok(());
@@ -40,18 +39,16 @@ pub fn check_in_function(em: &mut Emitter, error: CodegenErrorType) -> Result<()
 #[cycle(code)]
 #[tactic(auto, using(crate::proofs::Steps::steps))]
 pub(crate) fn compile_yield(em: &mut Emitter, e: &ExprYield) -> Result<(), CodegenError>
-    ensures goes { Goes result (state em.new) (emission (yield_tree e.now) (state em.old)) }
-    ensures same { Same result (rest em.new) (rest em.old) }
+    requires at { (state em.old).location ≡ e.now.location }
+    ensures { Emits result (emission (yield_tree e.now)) em.old em.new }
 {
-    em.set_location(e.location);
     yield_within(em, &e.value)
 }
 
 /// Emits what hands a value on, which only a function may do.
 #[cycle(code)]
 fn yield_within(em: &mut Emitter, value: &Option<Box<Expr>>) -> Result<(), CodegenError>
-    ensures goes { Goes result (state em.new) (only_in_function CodegenErrorType.InvalidYield (generating ▸ value_or object.none (opt_emission (opt_box expr_tree value.now)) ▸ emitting Instruction.YieldValue 0) (state em.old)) }
-    ensures same { Same result (rest em.new) (rest em.old) }
+    ensures { Emits result (only_in_function CodegenErrorType.InvalidYield (generating ▸ value_or object.none (opt_emission (opt_box expr_tree value.now)) ▸ emitting Instruction.YieldValue 0)) em.old em.new }
 {
     check_in_function(em, CodegenErrorType::InvalidYield)?;
     yield_value(em, value)
@@ -61,8 +58,7 @@ fn yield_within(em: &mut Emitter, value: &Option<Box<Expr>>) -> Result<(), Codeg
 #[cycle(code)]
 #[tactic(auto, using(crate::proofs::Steps::steps))]
 fn yield_value(em: &mut Emitter, value: &Option<Box<Expr>>) -> Result<(), CodegenError>
-    ensures goes { Goes result (state em.new) ((generating ▸ value_or object.none (opt_emission (opt_box expr_tree value.now)) ▸ emitting Instruction.YieldValue 0) (state em.old)) }
-    ensures same { Same result (rest em.new) (rest em.old) }
+    ensures { Emits result (generating ▸ value_or object.none (opt_emission (opt_box expr_tree value.now)) ▸ emitting Instruction.YieldValue 0) em.old em.new }
 {
     em.mark_generator();
     compile_or_none(em, value)?;
@@ -73,18 +69,16 @@ fn yield_value(em: &mut Emitter, value: &Option<Box<Expr>>) -> Result<(), Codege
 #[cycle(code)]
 #[tactic(auto, using(crate::proofs::Steps::steps))]
 pub(crate) fn compile_yield_from(em: &mut Emitter, e: &ExprYieldFrom) -> Result<(), CodegenError>
-    ensures goes { Goes result (state em.new) (emission (yield_from_tree e.now) (state em.old)) }
-    ensures same { Same result (rest em.new) (rest em.old) }
+    requires at { (state em.old).location ≡ e.now.location }
+    ensures { Emits result (emission (yield_from_tree e.now)) em.old em.new }
 {
-    em.set_location(e.location);
     yield_all_within(em, &e.value)
 }
 
 /// Emits what hands on all that a value gives, which only a function may do.
 #[cycle(code)]
 fn yield_all_within(em: &mut Emitter, value: &Expr) -> Result<(), CodegenError>
-    ensures goes { Goes result (state em.new) (only_in_function CodegenErrorType.InvalidYieldFrom (generating ▸ emission (expr_tree value.now) ▸ emitting Instruction.GetIter 0 ▸ emit_constant Instruction.LoadConst object.none ▸ emitting Instruction.YieldFrom 0) (state em.old)) }
-    ensures same { Same result (rest em.new) (rest em.old) }
+    ensures { Emits result (only_in_function CodegenErrorType.InvalidYieldFrom (generating ▸ emission (expr_tree value.now) ▸ emitting Instruction.GetIter 0 ▸ emit_constant Instruction.LoadConst object.none ▸ emitting Instruction.YieldFrom 0)) em.old em.new }
 {
     check_in_function(em, CodegenErrorType::InvalidYieldFrom)?;
     yield_all(em, value)
@@ -94,8 +88,7 @@ fn yield_all_within(em: &mut Emitter, value: &Expr) -> Result<(), CodegenError>
 #[cycle(code)]
 #[tactic(auto, using(py_bytecode::proofs::View::views))]
 fn yield_all(em: &mut Emitter, value: &Expr) -> Result<(), CodegenError>
-    ensures goes { Goes result (state em.new) ((generating ▸ emission (expr_tree value.now) ▸ emitting Instruction.GetIter 0 ▸ emit_constant Instruction.LoadConst object.none ▸ emitting Instruction.YieldFrom 0) (state em.old)) }
-    ensures same { Same result (rest em.new) (rest em.old) }
+    ensures { Emits result (generating ▸ emission (expr_tree value.now) ▸ emitting Instruction.GetIter 0 ▸ emit_constant Instruction.LoadConst object.none ▸ emitting Instruction.YieldFrom 0) em.old em.new }
 {
     em.mark_generator();
     compile_expression(em, value)?;
@@ -108,9 +101,8 @@ fn yield_all(em: &mut Emitter, value: &Expr) -> Result<(), CodegenError>
 /// Refuses an `await`, since no function that is compiled is an `async def`.
 #[tactic(auto, using(crate::proofs::Steps::steps))]
 pub(crate) fn compile_await(em: &mut Emitter, e: &ExprAwait) -> Result<(), CodegenError>
-    ensures goes { Goes result (state em.new) (emission (await_tree e.now) (state em.old)) }
-    ensures same { Same result (rest em.new) (rest em.old) }
+    requires at { (state em.old).location ≡ e.now.location }
+    ensures { Emits result (emission (await_tree e.now)) em.old em.new }
 {
-    em.set_location(e.location);
     refuse!(em, CodegenErrorType::InvalidAwait);
 }

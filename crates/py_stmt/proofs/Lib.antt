@@ -1,4 +1,5 @@
 pub mod Steps
+pub mod Entering
 pub mod KeptControl
 pub mod Opening
 pub mod Assigning

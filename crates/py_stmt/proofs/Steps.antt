@@ -10,7 +10,7 @@ use Rattle.py_steps.specs.Emitting.{Emission, LoopBlocks, State, by_context, by_
 use Rattle.py_steps.specs.Context.{Context}
 use Rattle.py_meaning.specs.EmissionStmts.{itemless}
 use Rattle.py_meaning.specs.StmtParts.{none}
-use Rattle.py_expr.proofs.Steps.{begin_goes, block_goes, level_goes, located_at, many_emissions, move_goes, refuse_goes}
+use Rattle.py_expr.proofs.Steps.{begin_goes, block_goes, level_goes, located_at, many_emissions, move_goes, refuse_goes, stays}
 
 pub loops_go : (a : Option LoopBlocks → Emission) (s : State) → by_loops a s ≡ a s.around.loops s
 unfolding by_loops
@@ -41,4 +41,4 @@ itemless_is [] false f g = let h = g refl in absurd cc
 itemless_is (x ∷ xs) true f g = let h = f refl in absurd cc
 itemless_is (x ∷ xs) false f g = refl
 
-pub ruleset steps = (begin_goes, block_goes, context_goes, level_goes, located_at, loops_go, many_emissions, move_goes, none_stmts, refuse_goes)
+pub ruleset steps = (begin_goes, block_goes, context_goes, level_goes, located_at, loops_go, many_emissions, move_goes, none_stmts, refuse_goes, stays)

@@ -1,4 +1,5 @@
 //! Aliases of types (language reference, "The type statement").
+ghost use Rattle.std.specs.Prelude.{◌≡◌};
 ghost use Rattle.py_tree.specs.View.{expr_tree, type_alias_tree, type_params as param_trees};
 ghost use Rattle.py_bytecode.specs.declared.instruction.Instruction.TheVariants as op;
 ghost use Rattle.py_steps.specs.Accesses.{emission_of_stored};
@@ -7,7 +8,7 @@ ghost use Rattle.py_steps.specs.TypeParameters.{generic_alias, plain_alias};
 ghost use Rattle.py_emission.specs.Emission.{emission};
 ghost use Rattle.py_meaning.specs.EmissionDefs.{alias_value, emission_of_alias, emission_of_params};
 ghost use Rattle.py_meaning.specs.EmissionStmts.{emission_of_stmt};
-ghost use Rattle.py_emit.specs.States.{Goes, Same, rest, state};
+ghost use Rattle.py_emit.specs.States.{Emits, Same, rest, state};
 ghost use Rattle.py_expr.specs.Functions.{Gives};
 ghost use Rattle.py_stmt.specs.Generics.{hidden_made, hidden_scope, returned};
 
@@ -21,10 +22,9 @@ use py_tree::{Expr, StmtTypeAlias, TypeParam};
 /// Emits an alias, and what stores it under its name.
 #[tactic(auto, using(crate::proofs::Steps::steps))]
 pub(crate) fn compile_type_alias(em: &mut Emitter, s: &StmtTypeAlias) -> Result<(), CodegenError>
-    ensures goes { Goes result (state em.new) (emission_of_stmt (type_alias_tree s.now) (state em.old)) }
-    ensures same { Same result (rest em.new) (rest em.old) }
+    requires at { (state em.old).location ≡ s.now.location }
+    ensures { Emits result (emission_of_stmt (type_alias_tree s.now)) em.old em.new }
 {
-    em.set_location(s.location);
     compile_alias(em, &s.name, s.type_params.as_slice(), &s.value)
 }
 
@@ -36,8 +36,7 @@ fn compile_alias(
     params: &[TypeParam],
     value: &Expr,
 ) -> Result<(), CodegenError>
-    ensures goes { Goes result (state em.new) (emission_of_alias (expr_tree target.now) (param_trees params.now) (expr_tree value.now) (state em.old)) }
-    ensures same { Same result (rest em.new) (rest em.old) }
+    ensures { Emits result (emission_of_alias (expr_tree target.now) (param_trees params.now) (expr_tree value.now)) em.old em.new }
 {
     match target {
         Expr::Name(e) => store_alias(em, e.id.as_str(), params, value),
@@ -52,8 +51,7 @@ fn store_alias(
     params: &[TypeParam],
     value: &Expr,
 ) -> Result<(), CodegenError>
-    ensures goes { Goes result (state em.new) ((alias_value name.now (param_trees params.now) (expr_tree value.now) ▸ emission_of_stored name.now) (state em.old)) }
-    ensures same { Same result (rest em.new) (rest em.old) }
+    ensures { Emits result (alias_value name.now (param_trees params.now) (expr_tree value.now) ▸ emission_of_stored name.now) em.old em.new }
 {
     compile_alias_value(em, name, params, value)?;
     em.compile_name(NameUsage::Store, name)
@@ -67,8 +65,7 @@ fn compile_alias_value(
     params: &[TypeParam],
     value: &Expr,
 ) -> Result<(), CodegenError>
-    ensures goes { Goes result (state em.new) (alias_value name.now (param_trees params.now) (expr_tree value.now) (state em.old)) }
-    ensures same { Same result (rest em.new) (rest em.old) }
+    ensures { Emits result (alias_value name.now (param_trees params.now) (expr_tree value.now)) em.old em.new }
 {
     match params {
         [] => make_plain(em, name, value),
@@ -78,8 +75,7 @@ fn compile_alias_value(
 
 /// Emits an alias without type parameters, which has an empty tuple of them.
 fn make_plain(em: &mut Emitter, name: &str, value: &Expr) -> Result<(), CodegenError>
-    ensures goes { Goes result (state em.new) (plain_alias name.now (emission (expr_tree value.now)) (state em.old)) }
-    ensures same { Same result (rest em.new) (rest em.old) }
+    ensures { Emits result (plain_alias name.now (emission (expr_tree value.now))) em.old em.new }
 {
     compile_expression(em, value)?;
     em.emit_count(Instruction::BuildTuple, 0)?;
@@ -95,8 +91,7 @@ fn call_generic(
     params: &[TypeParam],
     value: &Expr,
 ) -> Result<(), CodegenError>
-    ensures goes { Goes result (state em.new) ((hidden_made 0 name.now (generic_alias name.now (emission_of_params (param_trees params.now)) (emission (expr_tree value.now))) ▸ emit_count op.CallFunctionPositional 0) (state em.old)) }
-    ensures same { Same result (rest em.new) (rest em.old) }
+    ensures { Emits result (hidden_made 0 name.now (generic_alias name.now (emission_of_params (param_trees params.now)) (emission (expr_tree value.now))) ▸ emit_count op.CallFunctionPositional 0) em.old em.new }
 {
     make_generic(em, name, params, value)?;
     em.emit_count(Instruction::CallFunctionPositional, 0)
@@ -109,8 +104,7 @@ fn make_generic(
     params: &[TypeParam],
     value: &Expr,
 ) -> Result<(), CodegenError>
-    ensures goes { Goes result (state em.new) (hidden_made 0 name.now (generic_alias name.now (emission_of_params (param_trees params.now)) (emission (expr_tree value.now))) (state em.old)) }
-    ensures same { Same result (rest em.new) (rest em.old) }
+    ensures { Emits result (hidden_made 0 name.now (generic_alias name.now (emission_of_params (param_trees params.now)) (emission (expr_tree value.now)))) em.old em.new }
 {
     let code = compile_alias_scope(em, name, params, value)?;
     make_hidden(em, name, code)
@@ -138,8 +132,7 @@ fn return_alias(
     params: &[TypeParam],
     value: &Expr,
 ) -> Result<(), CodegenError>
-    ensures goes { Goes result (state em.new) (returned (generic_alias name.now (emission_of_params (param_trees params.now)) (emission (expr_tree value.now))) (state em.old)) }
-    ensures same { Same result (rest em.new) (rest em.old) }
+    ensures { Emits result (returned (generic_alias name.now (emission_of_params (param_trees params.now)) (emission (expr_tree value.now)))) em.old em.new }
 {
     make_alias(em, name, params, value)?;
     emit!(em, Instruction::ReturnValue);
@@ -153,8 +146,7 @@ fn make_alias(
     params: &[TypeParam],
     value: &Expr,
 ) -> Result<(), CodegenError>
-    ensures goes { Goes result (state em.new) (generic_alias name.now (emission_of_params (param_trees params.now)) (emission (expr_tree value.now)) (state em.old)) }
-    ensures same { Same result (rest em.new) (rest em.old) }
+    ensures { Emits result (generic_alias name.now (emission_of_params (param_trees params.now)) (emission (expr_tree value.now))) em.old em.new }
 {
     compile_type_params(em, params)?;
     compile_expression(em, value)?;

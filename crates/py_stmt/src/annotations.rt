@@ -3,7 +3,7 @@ ghost use Rattle.std.specs.Prelude.{◌≡◌, ◌≤◌, drop, length};
 ghost use Rattle.py_tree.specs.View.{stmt_tree, stmts};
 ghost use Rattle.py_meaning.specs.EmissionDefs.{emission_of_setup};
 ghost use Rattle.py_meaning.specs.StmtParts.{annotated, annotates};
-ghost use Rattle.py_emit.specs.States.{Goes, Same, rest, state};
+ghost use Rattle.py_emit.specs.States.{Emits};
 
 use crate::docs::statements_from;
 use py_bytecode::Instruction;
@@ -25,8 +25,7 @@ pub fn find_ann(body: &Stmts, from: usize) -> bool
 /// # Errors
 /// OutOfMemory.
 pub fn emit_setup(em: &mut Emitter, annotated: bool) -> Result<(), CodegenError>
-    ensures goes { Goes result (state em.new) (emission_of_setup annotated (state em.old)) }
-    ensures same { Same result (rest em.new) (rest em.old) }
+    ensures { Emits result (emission_of_setup annotated) em.old em.new }
 {
     if annotated {
         emit!(em, Instruction::SetupAnnotation);

@@ -1,51 +1,37 @@
 //! Assignments and deletions.
 ghost use Rattle.std.specs.Prelude.{◌≡◌};
-ghost use Rattle.py_tree.specs.View.{ann_assign_tree, assign_tree, attribute_tree, aug_assign_tree, delete_tree, expr_tree, exprs, name_tree, opt_box, subscript_tree};
+ghost use Rattle.py_tree.specs.View.{ann_assign_tree, assign_tree, attribute_tree, expr_tree, exprs, name_tree, opt_box, subscript_tree};
 ghost use Rattle.py_bytecode.specs.Objects.{str};
-ghost use Rattle.py_steps.specs.TableParts.{binary_case};
 ghost use Rattle.py_steps.specs.Emitting.{◌▸◌, by_context, emit as emitting, emit_constant, emit_name};
 ghost use Rattle.py_steps.specs.Context.{mangled};
-ghost use Rattle.py_emission.specs.Emission.{emission, emission_of_deletes};
+ghost use Rattle.py_emission.specs.Emission.{emission};
 ghost use Rattle.py_meaning.specs.EmissionStmts.{emission_of_annotated, emission_of_annotation, emission_of_assign, emission_of_augment, emission_of_declared, emission_of_operand, emission_of_stmt};
-ghost use Rattle.py_emit.specs.States.{Goes, Same, rest, state};
+ghost use Rattle.py_emit.specs.States.{Emits, state};
 ghost use Rattle.py_stmt.specs.Assigning.{assigned_to};
 
 use crate::notes::compile_noted;
 use crate::passed::{pass_annotation, pass_expression};
 use py_bytecode::{ConstantData, Instruction};
 use py_emit::{Emitter, NameUsage, emit, is_debug, refuse};
-use py_expr::{
-    case_of, compile_deletes, compile_expression, compile_store, is_function, refuse_store,
-};
+use py_expr::{case_of, compile_expression, compile_store, is_function, refuse_store};
 use py_forms::{CodegenError, CodegenErrorType};
 use py_tree::{
     Expr, ExprAttribute, ExprName, ExprSubscript, Malformed, StmtAnnAssign, StmtAssign,
-    StmtAugAssign, StmtDelete,
+    StmtAugAssign,
 };
 
 #[tactic(auto, using(crate::proofs::Steps::steps))]
-pub(crate) fn compile_delete_statement(em: &mut Emitter, s: &StmtDelete) -> Result<(), CodegenError>
-    ensures goes { Goes result (state em.new) (emission_of_stmt (delete_tree s.now) (state em.old)) }
-    ensures same { Same result (rest em.new) (rest em.old) }
-{
-    em.set_location(s.location);
-    compile_deletes(em, s.targets.as_slice())
-}
-
-#[tactic(auto, using(crate::proofs::Steps::steps))]
 pub(crate) fn compile_assign(em: &mut Emitter, s: &StmtAssign) -> Result<(), CodegenError>
-    ensures goes { Goes result (state em.new) (emission_of_stmt (assign_tree s.now) (state em.old)) }
-    ensures same { Same result (rest em.new) (rest em.old) }
+    requires at { (state em.old).location ≡ s.now.location }
+    ensures { Emits result (emission_of_stmt (assign_tree s.now)) em.old em.new }
 {
-    em.set_location(s.location);
     compile_expression(em, &s.value)?;
     compile_targets(em, s.targets.as_slice())
 }
 
 /// Emits what stores the value that lies there to each target.
 fn compile_targets(em: &mut Emitter, targets: &[Expr]) -> Result<(), CodegenError>
-    ensures goes { Goes result (state em.new) (emission_of_assign (exprs expr_tree targets.now) (state em.old)) }
-    ensures same { Same result (rest em.new) (rest em.old) }
+    ensures { Emits result (emission_of_assign (exprs expr_tree targets.now)) em.old em.new }
 {
     if targets.is_empty() {
         refuse!(em, CodegenErrorType::MalformedTree(Malformed::NoTarget));
@@ -58,8 +44,7 @@ fn compile_targets(em: &mut Emitter, targets: &[Expr]) -> Result<(), CodegenErro
 
 /// Emits what stores the value that lies there to a target, and keeps it where more follow.
 fn compile_target(em: &mut Emitter, more: bool, target: &Expr) -> Result<(), CodegenError>
-    ensures goes { Goes result (state em.new) (assigned_to more (expr_tree target.now) (state em.old)) }
-    ensures same { Same result (rest em.new) (rest em.old) }
+    ensures { Emits result (assigned_to more (expr_tree target.now)) em.old em.new }
 {
     if more {
         emit!(em, Instruction::Duplicate);
@@ -67,20 +52,10 @@ fn compile_target(em: &mut Emitter, more: bool, target: &Expr) -> Result<(), Cod
     compile_store(em, target)
 }
 
-#[tactic(auto, using(crate::proofs::Steps::steps))]
-pub(crate) fn compile_aug_assign(em: &mut Emitter, s: &StmtAugAssign) -> Result<(), CodegenError>
-    ensures goes { Goes result (state em.new) (emission_of_stmt (aug_assign_tree s.now) (state em.old)) }
-    ensures same { Same result (rest em.new) (rest em.old) }
-{
-    em.set_location(s.location);
-    compile_augmented(em, s)
-}
-
 /// Emits the present value of a target, the operand and the operation, and what stores the result where the first came from.
 #[tactic(auto, using(py_tree::proofs::View::trees))]
-fn compile_augmented(em: &mut Emitter, s: &StmtAugAssign) -> Result<(), CodegenError>
-    ensures goes { Goes result (state em.new) (emission_of_augment (expr_tree s.now.target.value) s.now.op (emission (expr_tree s.now.value.value)) (state em.old)) }
-    ensures same { Same result (rest em.new) (rest em.old) }
+pub(crate) fn compile_aug_assign(em: &mut Emitter, s: &StmtAugAssign) -> Result<(), CodegenError>
+    ensures { Emits result (emission_of_augment (expr_tree s.now.target.value) s.now.op (emission (expr_tree s.now.value.value))) em.old em.new }
 {
     match &*s.target {
         Expr::Name(e) => augment_name(em, e, s),
@@ -92,8 +67,7 @@ fn compile_augmented(em: &mut Emitter, s: &StmtAugAssign) -> Result<(), CodegenE
 
 /// Emits the operand of an augmented assignment, and its operation.
 fn compile_operand(em: &mut Emitter, s: &StmtAugAssign) -> Result<(), CodegenError>
-    ensures goes { Goes result (state em.new) (emission_of_operand s.now.op (emission (expr_tree s.now.value.value)) (state em.old)) }
-    ensures same { Same result (rest em.new) (rest em.old) }
+    ensures { Emits result (emission_of_operand s.now.op (emission (expr_tree s.now.value.value))) em.old em.new }
 {
     compile_expression(em, &s.value)?;
     emit!(em, Instruction::BinaryOperationInplace, case_of(s.op));
@@ -101,8 +75,7 @@ fn compile_operand(em: &mut Emitter, s: &StmtAugAssign) -> Result<(), CodegenErr
 }
 
 fn augment_name(em: &mut Emitter, e: &ExprName, s: &StmtAugAssign) -> Result<(), CodegenError>
-    ensures goes { Goes result (state em.new) (emission_of_augment (name_tree e.now) s.now.op (emission (expr_tree s.now.value.value)) (state em.old)) }
-    ensures same { Same result (rest em.new) (rest em.old) }
+    ensures { Emits result (emission_of_augment (name_tree e.now) s.now.op (emission (expr_tree s.now.value.value))) em.old em.new }
 {
     em.compile_name(NameUsage::Load, e.id.as_str())?;
     compile_operand(em, s)?;
@@ -114,8 +87,7 @@ fn augment_attribute(
     e: &ExprAttribute,
     s: &StmtAugAssign,
 ) -> Result<(), CodegenError>
-    ensures goes { Goes result (state em.new) (emission_of_augment (attribute_tree e.now) s.now.op (emission (expr_tree s.now.value.value)) (state em.old)) }
-    ensures same { Same result (rest em.new) (rest em.old) }
+    ensures { Emits result (emission_of_augment (attribute_tree e.now) s.now.op (emission (expr_tree s.now.value.value))) em.old em.new }
 {
     if is_debug(e.attr.as_str()) {
         refuse!(em, SyntaxError: "cannot assign to __debug__");
@@ -133,8 +105,7 @@ fn augment_subscript(
     e: &ExprSubscript,
     s: &StmtAugAssign,
 ) -> Result<(), CodegenError>
-    ensures goes { Goes result (state em.new) (emission_of_augment (subscript_tree e.now) s.now.op (emission (expr_tree s.now.value.value)) (state em.old)) }
-    ensures same { Same result (rest em.new) (rest em.old) }
+    ensures { Emits result (emission_of_augment (subscript_tree e.now) s.now.op (emission (expr_tree s.now.value.value))) em.old em.new }
 {
     compile_expression(em, &e.value)?;
     compile_expression(em, &e.slice)?;
@@ -148,10 +119,9 @@ fn augment_subscript(
 
 #[tactic(auto, using(crate::proofs::Steps::steps))]
 pub(crate) fn compile_ann_assign(em: &mut Emitter, s: &StmtAnnAssign) -> Result<(), CodegenError>
-    ensures goes { Goes result (state em.new) (emission_of_stmt (ann_assign_tree s.now) (state em.old)) }
-    ensures same { Same result (rest em.new) (rest em.old) }
+    requires at { (state em.old).location ≡ s.now.location }
+    ensures { Emits result (emission_of_stmt (ann_assign_tree s.now)) em.old em.new }
 {
-    em.set_location(s.location);
     compile_declared(em, s)?;
     compile_annotated(em, s)
 }
@@ -159,8 +129,7 @@ pub(crate) fn compile_ann_assign(em: &mut Emitter, s: &StmtAnnAssign) -> Result<
 /// Emits an annotation and what keeps it, but in a function, which only has it scanned.
 #[tactic(auto, unfolding(py_steps::specs::Emitting::by_context))]
 fn compile_annotated(em: &mut Emitter, s: &StmtAnnAssign) -> Result<(), CodegenError>
-    ensures goes { Goes result (state em.new) (emission_of_annotated (expr_tree s.now.target.value) (expr_tree s.now.annotation.value) (state em.old)) }
-    ensures same { Same result (rest em.new) (rest em.old) }
+    ensures { Emits result (emission_of_annotated (expr_tree s.now.target.value) (expr_tree s.now.annotation.value)) em.old em.new }
 {
     if is_function(em.scope_type()) {
         return pass_annotation(em, &s.annotation);
@@ -171,8 +140,7 @@ fn compile_annotated(em: &mut Emitter, s: &StmtAnnAssign) -> Result<(), CodegenE
 
 /// Emits the value of an annotated target and its store, where there is one. Else the target is only scanned.
 fn compile_declared(em: &mut Emitter, s: &StmtAnnAssign) -> Result<(), CodegenError>
-    ensures goes { Goes result (state em.new) (emission_of_declared (expr_tree s.now.target.value) (opt_box expr_tree s.now.value) (state em.old)) }
-    ensures same { Same result (rest em.new) (rest em.old) }
+    ensures { Emits result (emission_of_declared (expr_tree s.now.target.value) (opt_box expr_tree s.now.value)) em.old em.new }
 {
     match &s.value {
         Some(value) => {
@@ -186,8 +154,7 @@ fn compile_declared(em: &mut Emitter, s: &StmtAnnAssign) -> Result<(), CodegenEr
 /// Emits what keeps the annotation of a name in `__annotations__`, and drops that of another target.
 #[tactic(auto, using(py_tree::proofs::View::trees, py_bytecode::proofs::View::views))]
 fn compile_annotation(em: &mut Emitter, target: &Expr) -> Result<(), CodegenError>
-    ensures goes { Goes result (state em.new) (emission_of_annotation (expr_tree target.now) (state em.old)) }
-    ensures same { Same result (rest em.new) (rest em.old) }
+    ensures { Emits result (emission_of_annotation (expr_tree target.now)) em.old em.new }
 {
     match target {
         Expr::Name(e) => keep_annotation(em, e),
@@ -199,8 +166,7 @@ fn compile_annotation(em: &mut Emitter, target: &Expr) -> Result<(), CodegenErro
 }
 
 fn keep_annotation(em: &mut Emitter, e: &ExprName) -> Result<(), CodegenError>
-    ensures goes { Goes result (state em.new) (emission_of_annotation (name_tree e.now) (state em.old)) }
-    ensures same { Same result (rest em.new) (rest em.old) }
+    ensures { Emits result (emission_of_annotation (name_tree e.now)) em.old em.new }
 {
     store_key(em, "__annotations__", e.id.as_str())
 }
@@ -208,8 +174,7 @@ fn keep_annotation(em: &mut Emitter, e: &ExprName) -> Result<(), CodegenError>
 /// Emits what stores the value that lies there under a key, as the innermost class writes it, in the map that a name
 /// stands for.
 fn store_key(em: &mut Emitter, map: &str, key: &str) -> Result<(), CodegenError>
-    ensures goes { Goes result (state em.new) ((emit_name Instruction.LoadNameAny map.now ▸ by_context (λ c. emit_constant Instruction.LoadConst (str (mangled c key.now))) ▸ emitting Instruction.StoreSubscript 0) (state em.old)) }
-    ensures same { Same result (rest em.new) (rest em.old) }
+    ensures { Emits result (emit_name Instruction.LoadNameAny map.now ▸ by_context (λ c. emit_constant Instruction.LoadConst (str (mangled c key.now))) ▸ emitting Instruction.StoreSubscript 0) em.old em.new }
 {
     em.emit_name(Instruction::LoadNameAny, map)?;
     load_mangled(em, key)?;
@@ -220,8 +185,7 @@ fn store_key(em: &mut Emitter, map: &str, key: &str) -> Result<(), CodegenError>
 /// Emits the load of a name as a text, as the innermost class writes it.
 #[tactic(auto, unfolding(py_steps::specs::Emitting::by_context))]
 pub(crate) fn load_mangled(em: &mut Emitter, name: &str) -> Result<(), CodegenError>
-    ensures goes { Goes result (state em.new) (by_context (λ c. emit_constant Instruction.LoadConst (str (mangled c name.now))) (state em.old)) }
-    ensures same { Same result (rest em.new) (rest em.old) }
+    ensures { Emits result (by_context (λ c. emit_constant Instruction.LoadConst (str (mangled c name.now)))) em.old em.new }
 {
     match em.mangled(name)? {
         Some(other) => load_text(em, other.as_str()),
@@ -232,8 +196,7 @@ pub(crate) fn load_mangled(em: &mut Emitter, name: &str) -> Result<(), CodegenEr
 /// Emits the load of a text.
 #[tactic(auto, using(py_bytecode::proofs::View::views))]
 fn load_text(em: &mut Emitter, text: &str) -> Result<(), CodegenError>
-    ensures goes { Goes result (state em.new) (emit_constant Instruction.LoadConst (str text.now) (state em.old)) }
-    ensures same { Same result (rest em.new) (rest em.old) }
+    ensures { Emits result (emit_constant Instruction.LoadConst (str text.now)) em.old em.new }
 {
     let value = em.text(text)?;
     em.load_const(ConstantData::Str { value })

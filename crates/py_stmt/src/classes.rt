@@ -10,7 +10,7 @@ ghost use Rattle.py_steps.specs.EmissionParts.{values};
 ghost use Rattle.py_emission.specs.Emission.{all_emissions};
 ghost use Rattle.py_emission.specs.Texts.{after_doc, doc_of};
 ghost use Rattle.py_meaning.specs.EmissionStmts.{emission_of_stmt};
-ghost use Rattle.py_emit.specs.States.{AreMade, Goes, IsStarved, Same, entered, entered_rest, rest, state};
+ghost use Rattle.py_emit.specs.States.{AreMade, Emits, Goes, IsStarved, Same, entered, entered_rest, rest, state};
 ghost use Rattle.py_expr.specs.Functions.{Gives};
 ghost use Rattle.py_stmt.specs.Classes.{builder_called, built_emission, cell_kept, cells_kept, class_emission, class_params, copied, function_emission, generic_emission, own_emission, own_scope, part_emission, placed, stored_as};
 ghost use Rattle.py_stmt.specs.Generics.{hidden_made, hidden_scope, returned};
@@ -31,10 +31,9 @@ use py_tree::{Exprs, Keyword, List, StmtClassDef, Stmts, Text};
 #[cycle(code)]
 #[tactic(auto, using(crate::proofs::Steps::steps))]
 pub(crate) fn compile_class_def(em: &mut Emitter, s: &StmtClassDef) -> Result<(), CodegenError>
-    ensures goes { Goes result (state em.new) (emission_of_stmt (class_def_tree s.now) (state em.old)) }
-    ensures same { Same result (rest em.new) (rest em.old) }
+    requires at { (state em.old).location ≡ s.now.location }
+    ensures { Emits result (emission_of_stmt (class_def_tree s.now)) em.old em.new }
 {
-    em.set_location(s.location);
     compile_decorated(em, s)?;
     em.compile_name(NameUsage::Store, s.name.as_str())
 }
@@ -43,8 +42,7 @@ pub(crate) fn compile_class_def(em: &mut Emitter, s: &StmtClassDef) -> Result<()
 /// functions are).
 #[cycle(code)]
 pub(crate) fn compile_decorated(em: &mut Emitter, s: &StmtClassDef) -> Result<(), CodegenError>
-    ensures goes { Goes result (state em.new) (decorated (values (all_emissions (exprs expr_tree s.now.decorator_list))) (class_emission s.now) (state em.old)) }
-    ensures same { Same result (rest em.new) (rest em.old) }
+    ensures { Emits result (decorated (values (all_emissions (exprs expr_tree s.now.decorator_list))) (class_emission s.now)) em.old em.new }
 {
     compile_expressions(em, s.decorator_list.as_slice())?;
     compile_class(em, s)?;
@@ -54,8 +52,7 @@ pub(crate) fn compile_decorated(em: &mut Emitter, s: &StmtClassDef) -> Result<()
 /// Emits a class. Its qualified name is that of the scope in which the statement stands.
 #[cycle(code)]
 fn compile_class(em: &mut Emitter, s: &StmtClassDef) -> Result<(), CodegenError>
-    ensures goes { Goes result (state em.new) (class_emission s.now (state em.old)) }
-    ensures same { Same result (rest em.new) (rest em.old) }
+    ensures { Emits result (class_emission s.now) em.old em.new }
 {
     let path = em.class_path(s.name.as_str())?;
     compile_placed(em, s, path)
@@ -65,8 +62,7 @@ fn compile_class(em: &mut Emitter, s: &StmtClassDef) -> Result<(), CodegenError>
 /// "Generic classes").
 #[cycle(code)]
 fn compile_placed(em: &mut Emitter, s: &StmtClassDef, path: Text) -> Result<(), CodegenError>
-    ensures goes { Goes result (state em.new) (placed path s.now (class_params s.now) (state em.old)) }
-    ensures same { Same result (rest em.new) (rest em.old) }
+    ensures { Emits result (placed path s.now (class_params s.now)) em.old em.new }
 {
     match s.type_params.as_slice() {
         [] => compile_built(em, s, path),
@@ -77,8 +73,7 @@ fn compile_placed(em: &mut Emitter, s: &StmtClassDef, path: Text) -> Result<(), 
 /// Emits the function of a hidden scope, in which the class is built, and its call.
 #[cycle(code)]
 fn compile_generic(em: &mut Emitter, s: &StmtClassDef, path: Text) -> Result<(), CodegenError>
-    ensures goes { Goes result (state em.new) (generic_emission path s.now (state em.old)) }
-    ensures same { Same result (rest em.new) (rest em.old) }
+    ensures { Emits result (generic_emission path s.now) em.old em.new }
 {
     make_around(em, s, path)?;
     em.emit_count(Instruction::CallFunctionPositional, 0)
@@ -87,8 +82,7 @@ fn compile_generic(em: &mut Emitter, s: &StmtClassDef, path: Text) -> Result<(),
 /// Emits the function of a hidden scope, in which a class is built.
 #[cycle(code)]
 fn make_around(em: &mut Emitter, s: &StmtClassDef, path: Text) -> Result<(), CodegenError>
-    ensures goes { Goes result (state em.new) (hidden_made 0 s.now.name (built_emission path s.now) (state em.old)) }
-    ensures same { Same result (rest em.new) (rest em.old) }
+    ensures { Emits result (hidden_made 0 s.now.name (built_emission path s.now)) em.old em.new }
 {
     let code = compile_hidden_scope(em, s, path)?;
     make_hidden(em, s.name.as_str(), code)
@@ -112,8 +106,7 @@ fn compile_hidden_scope(
 /// Emits what a hidden scope holds: the class and its return.
 #[cycle(code)]
 fn return_built(em: &mut Emitter, s: &StmtClassDef, path: Text) -> Result<(), CodegenError>
-    ensures goes { Goes result (state em.new) (returned (built_emission path s.now) (state em.old)) }
-    ensures same { Same result (rest em.new) (rest em.old) }
+    ensures { Emits result (returned (built_emission path s.now)) em.old em.new }
 {
     compile_built(em, s, path)?;
     emit!(em, Instruction::ReturnValue);
@@ -123,8 +116,7 @@ fn return_built(em: &mut Emitter, s: &StmtClassDef, path: Text) -> Result<(), Co
 /// Emits what builds a class, the function of the class, and the call with that, the name, the bases and the keywords.
 #[cycle(code)]
 fn compile_built(em: &mut Emitter, s: &StmtClassDef, path: Text) -> Result<(), CodegenError>
-    ensures goes { Goes result (state em.new) (built_emission path s.now (state em.old)) }
-    ensures same { Same result (rest em.new) (rest em.old) }
+    ensures { Emits result (built_emission path s.now) em.old em.new }
 {
     emit!(em, Instruction::LoadBuildClass);
     compile_part(em, s, path)?;
@@ -134,8 +126,7 @@ fn compile_built(em: &mut Emitter, s: &StmtClassDef, path: Text) -> Result<(), C
 /// Emits the type parameters of a class, where it has some, and its function.
 #[cycle(code)]
 fn compile_part(em: &mut Emitter, s: &StmtClassDef, path: Text) -> Result<(), CodegenError>
-    ensures goes { Goes result (state em.new) (part_emission path s.now (state em.old)) }
-    ensures same { Same result (rest em.new) (rest em.old) }
+    ensures { Emits result (part_emission path s.now) em.old em.new }
 {
     compile_some_params(em, s.type_params.as_slice())?;
     let flags = params_flag(s.type_params.as_slice());
@@ -150,8 +141,7 @@ fn call_builder(
     bases: &Exprs,
     keywords: &List<Keyword>,
 ) -> Result<(), CodegenError>
-    ensures goes { Goes result (state em.new) (builder_called name.now (exprs expr_tree bases.now) (keyword_trees expr_tree keywords.now) (state em.old)) }
-    ensures same { Same result (rest em.new) (rest em.old) }
+    ensures { Emits result (builder_called name.now (exprs expr_tree bases.now) (keyword_trees expr_tree keywords.now)) em.old em.new }
 {
     load_text(em, name)?;
     let call = compile_call_inner(em, 2, bases, keywords)?;
@@ -167,8 +157,7 @@ fn compile_class_function(
     path: Text,
     flags: MakeFunctionFlags,
 ) -> Result<(), CodegenError>
-    ensures goes { Goes result (state em.new) (function_emission path flags.0 name.now (stmts stmt_tree body.now) (state em.old)) }
-    ensures same { Same result (rest em.new) (rest em.old) }
+    ensures { Emits result (function_emission path flags.0 name.now (stmts stmt_tree body.now)) em.old em.new }
 {
     let code = compile_class_scope(em, name, body, path)?;
     make_class(em, name, flags, code)
@@ -181,8 +170,7 @@ fn make_class(
     flags: MakeFunctionFlags,
     code: CodeObject,
 ) -> Result<(), CodegenError>
-    ensures goes { Goes result (state em.new) (made flags.0 name.now (object code) (state em.old)) }
-    ensures same { Same result (rest em.new) (rest em.old) }
+    ensures { Emits result (made flags.0 name.now (object code)) em.old em.new }
 {
     let name = em.text(name)?;
     em.make_function(flags, name, code)
@@ -232,8 +220,7 @@ fn enter_class(em: &mut Emitter, name: &str, path: Text) -> Result<(), CodegenEr
 fn compile_inner(em: &mut Emitter, body: &Stmts, path: Text) -> Result<(), CodegenError>
     requires loops { AreMade (rest em.old).context.loop_blocks }
     requires path { path ≡ (state em.old).around.context.path }
-    ensures goes { Goes result (state em.new) (own_emission (stmts stmt_tree body.now) (state em.old)) }
-    ensures same { Same result (rest em.new) (rest em.old) }
+    ensures { Emits result (own_emission (stmts stmt_tree body.now)) em.old em.new }
 {
     let from = begin_class(em, body, path)?;
     emit_setup(em, find_ann(body, from))?;
@@ -245,10 +232,9 @@ fn compile_inner(em: &mut Emitter, body: &Stmts, path: Text) -> Result<(), Codeg
 #[tactic(auto, unfolding(py_steps::specs::Emitting::by_level, py_emit::specs::States::rest))]
 fn begin_class(em: &mut Emitter, body: &Stmts, path: Text) -> Result<usize, CodegenError>
     requires path { path ≡ (state em.old).around.context.path }
-    ensures goes { Goes result (state em.new) (by_level (λ l. class_names (doc_of l (stmts stmt_tree body.now))) (state em.old)) }
+    ensures emits { Emits result (by_level (λ l. class_names (doc_of l (stmts stmt_tree body.now)))) em.old em.new }
     ensures from { IfOk result (λ from. stmts stmt_tree (drop from body.now) ≡ after_doc (stmts stmt_tree body.now)) }
     ensures within { IfOk result (λ from. from ≤ length body.now) }
-    ensures same { Same result (rest em.new) (rest em.old) }
 {
     match split_doc(em.alloc(), body, em.opts()) {
         Ok((doc, from)) => {
@@ -263,8 +249,7 @@ fn begin_class(em: &mut Emitter, body: &Stmts, path: Text) -> Result<usize, Code
 /// is kept.
 fn name_class(em: &mut Emitter, path: Text, doc: Option<Text>) -> Result<(), CodegenError>
     requires path { path ≡ (state em.old).around.context.path }
-    ensures goes { Goes result (state em.new) (class_names doc (state em.old)) }
-    ensures same { Same result (rest em.new) (rest em.old) }
+    ensures { Emits result (class_names doc) em.old em.new }
 {
     copy_name(em, "__name__", "__module__")?;
     store_text(em, path, "__qualname__")?;
@@ -273,8 +258,7 @@ fn name_class(em: &mut Emitter, path: Text, doc: Option<Text>) -> Result<(), Cod
 
 /// Emits what stores a global name under another.
 fn copy_name(em: &mut Emitter, from: &str, to: &str) -> Result<(), CodegenError>
-    ensures goes { Goes result (state em.new) (copied from.now to.now (state em.old)) }
-    ensures same { Same result (rest em.new) (rest em.old) }
+    ensures { Emits result (copied from.now to.now) em.old em.new }
 {
     em.emit_name(Instruction::LoadGlobal, from)?;
     em.emit_name(Instruction::StoreLocal, to)
@@ -283,8 +267,7 @@ fn copy_name(em: &mut Emitter, from: &str, to: &str) -> Result<(), CodegenError>
 /// Emits what stores a text under a name.
 #[tactic(auto, using(py_bytecode::proofs::View::views))]
 fn store_text(em: &mut Emitter, value: Text, name: &str) -> Result<(), CodegenError>
-    ensures goes { Goes result (state em.new) (stored_as name.now (str value) (state em.old)) }
-    ensures same { Same result (rest em.new) (rest em.old) }
+    ensures { Emits result (stored_as name.now (str value)) em.old em.new }
 {
     em.load_const(ConstantData::Str { value })?;
     em.emit_name(Instruction::StoreLocal, name)
@@ -292,8 +275,7 @@ fn store_text(em: &mut Emitter, value: Text, name: &str) -> Result<(), CodegenEr
 
 /// Emits what stores a docstring under a name, or None where there is none.
 fn store_doc(em: &mut Emitter, doc: Option<Text>, name: &str) -> Result<(), CodegenError>
-    ensures goes { Goes result (state em.new) (stored_as name.now (doc_const doc) (state em.old)) }
-    ensures same { Same result (rest em.new) (rest em.old) }
+    ensures { Emits result (stored_as name.now (doc_const doc)) em.old em.new }
 {
     em.load_const(doc_constant(doc))?;
     em.emit_name(Instruction::StoreLocal, name)
@@ -313,8 +295,7 @@ fn doc_constant(doc: Option<Text>) -> ConstantData
 /// Emits the end of a class: where methods use `super` or `__class__` their cell is kept under `__classcell__` and
 /// returned, by which the class is put into it (data model, "Creating the class object"); else None is returned.
 fn end_class(em: &mut Emitter) -> Result<(), CodegenError>
-    ensures goes { Goes result (state em.new) (class_end (state em.old)) }
-    ensures same { Same result (rest em.new) (rest em.old) }
+    ensures { Emits result class_end em.old em.new }
 {
     let kept = em.has_cell("__class__")?;
     end_with(em, kept)
@@ -323,8 +304,7 @@ fn end_class(em: &mut Emitter) -> Result<(), CodegenError>
 /// Emits the end of a class by whether the cell of `__class__` is kept.
 #[tactic(auto, using(py_bytecode::proofs::View::views))]
 fn end_with(em: &mut Emitter, kept: bool) -> Result<(), CodegenError>
-    ensures goes { Goes result (state em.new) (cell_returned (cells_kept kept) (state em.old)) }
-    ensures same { Same result (rest em.new) (rest em.old) }
+    ensures { Emits result (cell_returned (cells_kept kept)) em.old em.new }
 {
     if kept {
         return return_cell(em, "__class__", "__classcell__");
@@ -334,8 +314,7 @@ fn end_with(em: &mut Emitter, kept: bool) -> Result<(), CodegenError>
 
 /// Emits what keeps a cell under a name, and its return.
 fn return_cell(em: &mut Emitter, cell: &str, name: &str) -> Result<(), CodegenError>
-    ensures goes { Goes result (state em.new) (cell_kept cell.now name.now (state em.old)) }
-    ensures same { Same result (rest em.new) (rest em.old) }
+    ensures { Emits result (cell_kept cell.now name.now) em.old em.new }
 {
     em.load_cell(cell)?;
     emit!(em, Instruction::Duplicate);

@@ -11,7 +11,7 @@ ghost use Rattle.py_emission.specs.Texts.{doc_of};
 ghost use Rattle.py_meaning.specs.EmissionDefs.{emission_of_end, ends_in_return};
 ghost use Rattle.py_meaning.specs.StmtParts.{is_return};
 ghost use Rattle.py_meaning.specs.EmissionStmts.{emission_of_stmt, emission_of_stmts};
-ghost use Rattle.py_emit.specs.States.{AreMade, Goes, Same, rest, state};
+ghost use Rattle.py_emit.specs.States.{AreMade, Emits, Same, rest, state};
 ghost use Rattle.py_expr.specs.Functions.{Gives};
 ghost use Rattle.py_stmt.specs.Functions.{body_emission, def_emission, generic_emission, hidden_function, hidden_value, inner_emission, made_emission, plain_emission, scope_emission, value_emission, within_path};
 ghost use Rattle.py_stmt.specs.Generics.{given_flags, handed_by, hidden_scope, returned};
@@ -36,10 +36,9 @@ pub(crate) fn compile_function_def(
     em: &mut Emitter,
     s: &StmtFunctionDef,
 ) -> Result<(), CodegenError>
-    ensures goes { Goes result (state em.new) (emission_of_stmt (function_def_tree s.now) (state em.old)) }
-    ensures same { Same result (rest em.new) (rest em.old) }
+    requires at { (state em.old).location ≡ s.now.location }
+    ensures { Emits result (emission_of_stmt (function_def_tree s.now)) em.old em.new }
 {
-    em.set_location(s.location);
     compile_decorated(em, s)?;
     em.compile_name(NameUsage::Store, s.name.as_str())
 }
@@ -47,8 +46,7 @@ pub(crate) fn compile_function_def(
 /// Emits decorators, the function and their calls.
 #[cycle(code)]
 pub(crate) fn compile_decorated(em: &mut Emitter, s: &StmtFunctionDef) -> Result<(), CodegenError>
-    ensures goes { Goes result (state em.new) (decorated (values (all_emissions (exprs expr_tree s.now.decorator_list))) (def_emission s.now) (state em.old)) }
-    ensures same { Same result (rest em.new) (rest em.old) }
+    ensures { Emits result (decorated (values (all_emissions (exprs expr_tree s.now.decorator_list))) (def_emission s.now)) em.old em.new }
 {
     compile_expressions(em, s.decorator_list.as_slice())?;
     compile_function(em, s)?;
@@ -57,8 +55,7 @@ pub(crate) fn compile_decorated(em: &mut Emitter, s: &StmtFunctionDef) -> Result
 
 /// Emits the call of each decorator.
 pub(crate) fn call_decorators(em: &mut Emitter, items: &[Expr]) -> Result<(), CodegenError>
-    ensures goes { Goes result (state em.new) (decorations (values (all_emissions (exprs expr_tree items.now))) (state em.old)) }
-    ensures same { Same result (rest em.new) (rest em.old) }
+    ensures { Emits result (decorations (values (all_emissions (exprs expr_tree items.now)))) em.old em.new }
 {
     for _decorator in items {
         em.emit_count(Instruction::CallFunctionPositional, 1)?;
@@ -69,8 +66,7 @@ pub(crate) fn call_decorators(em: &mut Emitter, items: &[Expr]) -> Result<(), Co
 /// Emits a function. One with type parameters is made in a hidden scope (language reference, "Generic functions").
 #[cycle(code)]
 fn compile_function(em: &mut Emitter, s: &StmtFunctionDef) -> Result<(), CodegenError>
-    ensures goes { Goes result (state em.new) (def_emission s.now (state em.old)) }
-    ensures same { Same result (rest em.new) (rest em.old) }
+    ensures { Emits result (def_emission s.now) em.old em.new }
 {
     match s.type_params.as_slice() {
         [] => compile_plain(em, s),
@@ -81,8 +77,7 @@ fn compile_function(em: &mut Emitter, s: &StmtFunctionDef) -> Result<(), Codegen
 /// Emits a function without type parameters behind its defaults.
 #[cycle(code)]
 fn compile_plain(em: &mut Emitter, s: &StmtFunctionDef) -> Result<(), CodegenError>
-    ensures goes { Goes result (state em.new) (plain_emission s.now (state em.old)) }
-    ensures same { Same result (rest em.new) (rest em.old) }
+    ensures { Emits result (plain_emission s.now) em.old em.new }
 {
     let defaults = compile_defaults(em, &s.args)?;
     compile_value(em, s, defaults, false)
@@ -92,8 +87,7 @@ fn compile_plain(em: &mut Emitter, s: &StmtFunctionDef) -> Result<(), CodegenErr
 /// outside it.
 #[cycle(code)]
 fn compile_generic(em: &mut Emitter, s: &StmtFunctionDef) -> Result<(), CodegenError>
-    ensures goes { Goes result (state em.new) (generic_emission s.now (state em.old)) }
-    ensures same { Same result (rest em.new) (rest em.old) }
+    ensures { Emits result (generic_emission s.now) em.old em.new }
 {
     let defaults = given_defaults(&s.args);
     make_around(em, s, defaults)?;
@@ -107,8 +101,7 @@ fn make_around(
     s: &StmtFunctionDef,
     defaults: Defaults,
 ) -> Result<(), CodegenError>
-    ensures goes { Goes result (state em.new) (hidden_function defaults s.now (state em.old)) }
-    ensures same { Same result (rest em.new) (rest em.old) }
+    ensures { Emits result (hidden_function defaults s.now) em.old em.new }
 {
     let code = compile_hidden_scope(em, s, defaults)?;
     make_hidden(em, s.name.as_str(), code)
@@ -136,8 +129,7 @@ fn return_value(
     s: &StmtFunctionDef,
     defaults: Defaults,
 ) -> Result<(), CodegenError>
-    ensures goes { Goes result (state em.new) (returned (hidden_value defaults s.now) (state em.old)) }
-    ensures same { Same result (rest em.new) (rest em.old) }
+    ensures { Emits result (returned (hidden_value defaults s.now)) em.old em.new }
 {
     compile_within(em, s, defaults)?;
     emit!(em, Instruction::ReturnValue);
@@ -151,8 +143,7 @@ fn compile_within(
     s: &StmtFunctionDef,
     defaults: Defaults,
 ) -> Result<(), CodegenError>
-    ensures goes { Goes result (state em.new) (hidden_value defaults s.now (state em.old)) }
-    ensures same { Same result (rest em.new) (rest em.old) }
+    ensures { Emits result (hidden_value defaults s.now) em.old em.new }
 {
     load_defaults(em, defaults)?;
     compile_type_params(em, s.type_params.as_slice())?;
@@ -168,8 +159,7 @@ fn compile_value(
     defaults: Defaults,
     generic: bool,
 ) -> Result<(), CodegenError>
-    ensures goes { Goes result (state em.new) (value_emission (given_flags defaults generic) s.now (state em.old)) }
-    ensures same { Same result (rest em.new) (rest em.old) }
+    ensures { Emits result (value_emission (given_flags defaults generic) s.now) em.old em.new }
 {
     compile_made(em, s, defaults, generic)?;
     store_doc(em, &s.body)
@@ -183,8 +173,7 @@ fn compile_made(
     defaults: Defaults,
     generic: bool,
 ) -> Result<(), CodegenError>
-    ensures goes { Goes result (state em.new) (scope_emission (function_inside s.now.name) s.now.name s.now (made_emission (given_flags defaults generic) s.now) (state em.old)) }
-    ensures same { Same result (rest em.new) (rest em.old) }
+    ensures { Emits result (scope_emission (function_inside s.now.name) s.now.name s.now (made_emission (given_flags defaults generic) s.now)) em.old em.new }
 {
     let name = em.text(s.name.as_str())?;
     let path = em.function_path(s.name.as_str())?;
@@ -212,8 +201,7 @@ fn compile_function_scope(
 #[cycle(code)]
 fn compile_inner(em: &mut Emitter, s: &StmtFunctionDef) -> Result<(), CodegenError>
     requires loops { AreMade (rest em.old).context.loop_blocks }
-    ensures goes { Goes result (state em.new) (inner_emission s.now (state em.old)) }
-    ensures same { Same result (rest em.new) (rest em.old) }
+    ensures { Emits result (inner_emission s.now) em.old em.new }
 {
     begin_function(em, &s.args)?;
     compile_body(em, &s.body)
@@ -224,8 +212,7 @@ fn compile_inner(em: &mut Emitter, s: &StmtFunctionDef) -> Result<(), CodegenErr
 #[tactic(auto, using(crate::proofs::LastReturn::rest_is))]
 fn compile_body(em: &mut Emitter, body: &Stmts) -> Result<(), CodegenError>
     requires loops { AreMade (rest em.old).context.loop_blocks }
-    ensures goes { Goes result (state em.new) (body_emission (stmts stmt_tree body.now) (state em.old)) }
-    ensures same { Same result (rest em.new) (rest em.old) }
+    ensures { Emits result (body_emission (stmts stmt_tree body.now)) em.old em.new }
 {
     let Ok((_, from)) = split_doc(em.alloc(), body, em.opts()) else {
         refuse!(em, CodegenErrorType::OutOfMemory);
@@ -239,8 +226,7 @@ fn compile_body(em: &mut Emitter, body: &Stmts) -> Result<(), CodegenError>
 pub(crate) fn compile_rest(em: &mut Emitter, body: &[Stmt], from: usize) -> Result<(), CodegenError>
     requires loops { AreMade (rest em.old).context.loop_blocks }
     requires from { from ≤ length body.now }
-    ensures goes { Goes result (state em.new) (emission_of_stmts (stmts stmt_tree (drop from body.now)) (state em.old)) }
-    ensures same { Same result (rest em.new) (rest em.old) }
+    ensures { Emits result (emission_of_stmts (stmts stmt_tree (drop from body.now))) em.old em.new }
 {
     for i in from..body.len() {
         compile_statement(em, &body[i])?;
@@ -251,8 +237,7 @@ pub(crate) fn compile_rest(em: &mut Emitter, body: &[Stmt], from: usize) -> Resu
 /// Emits a return of None, unless the last of the statements is a return.
 #[tactic(auto, using(py_bytecode::proofs::View::views))]
 fn end_function(em: &mut Emitter, body: &[Stmt]) -> Result<(), CodegenError>
-    ensures goes { Goes result (state em.new) (emission_of_end (stmts stmt_tree body.now) (state em.old)) }
-    ensures same { Same result (rest em.new) (rest em.old) }
+    ensures { Emits result (emission_of_end (stmts stmt_tree body.now)) em.old em.new }
 {
     if ends_in_return(body) {
         return Ok(());
@@ -286,8 +271,7 @@ fn make_noted(
     generic: bool,
     code: CodeObject,
 ) -> Result<(), CodegenError>
-    ensures goes { Goes result (state em.new) (made_emission (given_flags defaults generic) s.now (object code) (state em.old)) }
-    ensures same { Same result (rest em.new) (rest em.old) }
+    ensures { Emits result (made_emission (given_flags defaults generic) s.now (object code)) em.old em.new }
 {
     let annotated = compile_notes(em, &s.args, &s.returns)?;
     let flags = made_flags(defaults, annotated, generic);
@@ -302,8 +286,7 @@ fn make_named(
     flags: MakeFunctionFlags,
     code: CodeObject,
 ) -> Result<(), CodegenError>
-    ensures goes { Goes result (state em.new) (by_context (λ c. made flags.0 (qualified c name.now) (object code)) (state em.old)) }
-    ensures same { Same result (rest em.new) (rest em.old) }
+    ensures { Emits result (by_context (λ c. made flags.0 (qualified c name.now) (object code))) em.old em.new }
 {
     let full = em.qualified(name)?;
     em.make_function(flags, full, code)
@@ -312,8 +295,7 @@ fn make_named(
 /// Emits what stores the docstring of a body to the function that lies there, where it has one and it is kept.
 #[tactic(auto, unfolding(py_steps::specs::Emitting::by_level, py_emit::specs::States::rest))]
 fn store_doc(em: &mut Emitter, body: &Stmts) -> Result<(), CodegenError>
-    ensures goes { Goes result (state em.new) (by_level (λ l. documented (doc_of l (stmts stmt_tree body.now))) (state em.old)) }
-    ensures same { Same result (rest em.new) (rest em.old) }
+    ensures { Emits result (by_level (λ l. documented (doc_of l (stmts stmt_tree body.now)))) em.old em.new }
 {
     match split_doc(em.alloc(), body, em.opts()) {
         Ok((doc, _)) => store_text(em, doc),
@@ -324,8 +306,7 @@ fn store_doc(em: &mut Emitter, body: &Stmts) -> Result<(), CodegenError>
 /// Emits what stores a docstring to the function that lies there, where there is one.
 #[tactic(auto, using(py_bytecode::proofs::View::views))]
 fn store_text(em: &mut Emitter, doc: Option<Text>) -> Result<(), CodegenError>
-    ensures goes { Goes result (state em.new) (documented doc (state em.old)) }
-    ensures same { Same result (rest em.new) (rest em.old) }
+    ensures { Emits result (documented doc) em.old em.new }
 {
     match doc {
         Some(value) => {

@@ -8,7 +8,7 @@ ghost use Rattle.py_meaning.specs.EmissionFutures.{check_features, emission_behi
 ghost use Rattle.py_meaning.specs.EmissionMods.{emission_of_block, emission_of_prompt};
 ghost use Rattle.py_meaning.specs.EmissionStmts.{emission_of_stmts};
 ghost use Rattle.py_meaning.specs.Futures.{future_of, is_feature};
-ghost use Rattle.py_emit.specs.States.{AreMade, Goes, Same, postponed_rest, rest, state};
+ghost use Rattle.py_emit.specs.States.{AreMade, Emits, postponed_rest, rest, state};
 ghost use Rattle.py_stmt.specs.Futures.{AreChanged, Begins, Entered, IsRefusing, NoBegin, NoFuture, Opens, Prompts, begin_emission, begin_postpones, begins, changed_rest, followers, future, restored_state};
 
 use crate::imports::import_from;
@@ -33,8 +33,7 @@ pub(crate) struct Opening {
 /// The first compile fault of the statements, or OutOfMemory.
 pub fn compile_file(em: &mut Emitter, body: &[Stmt]) -> Result<(), CodegenError>
     requires loops { AreMade (rest em.old).context.loop_blocks }
-    ensures goes { Goes result (state em.new) (emission_behind emission_of_stmts (stmts stmt_tree body.now) (state em.old)) }
-    ensures same { Same result (rest em.new) (rest em.old) }
+    ensures { Emits result (emission_behind emission_of_stmts (stmts stmt_tree body.now)) em.old em.new }
 {
     let before = em.context().future_annotations;
     let opening = compile_futures(em, body)?;
@@ -49,8 +48,7 @@ pub fn compile_file(em: &mut Emitter, body: &[Stmt]) -> Result<(), CodegenError>
 /// The first compile fault of the statements, or OutOfMemory.
 pub fn compile_whole_block(em: &mut Emitter, body: &[Stmt]) -> Result<(), CodegenError>
     requires loops { AreMade (rest em.old).context.loop_blocks }
-    ensures goes { Goes result (state em.new) (emission_behind emission_of_block (stmts stmt_tree body.now) (state em.old)) }
-    ensures same { Same result (rest em.new) (rest em.old) }
+    ensures { Emits result (emission_behind emission_of_block (stmts stmt_tree body.now)) em.old em.new }
 {
     let before = em.context().future_annotations;
     let opening = compile_futures(em, body)?;
@@ -66,8 +64,7 @@ pub fn compile_whole_block(em: &mut Emitter, body: &[Stmt]) -> Result<(), Codege
 /// The first compile fault of the statements, or OutOfMemory.
 pub fn compile_prompt(em: &mut Emitter, body: &[Stmt]) -> Result<(), CodegenError>
     requires loops { AreMade (rest em.old).context.loop_blocks }
-    ensures goes { Goes result (state em.new) (emission_of_prompt (stmts stmt_tree body.now) (state em.old)) }
-    ensures same { Same result (rest em.new) (rest em.old) }
+    ensures { Emits result (emission_of_prompt (stmts stmt_tree body.now)) em.old em.new }
 {
     let before = em.context().future_annotations;
     let opening = compile_openings(em, body)?;
@@ -223,8 +220,7 @@ fn as_future(statement: &Stmt) -> Option<&StmtImportFrom>
 #[tactic(auto, using(crate::proofs::Steps::steps))]
 fn compile_future(em: &mut Emitter, s: &StmtImportFrom) -> Result<bool, CodegenError>
     ensures postpones { IfOk result (λ p. p ≡ names_annotations s.now.names) }
-    ensures goes { Goes result (state em.new) (emission_of_future (future s.now) (state em.old)) }
-    ensures same { Same result (rest em.new) (rest em.old) }
+    ensures emits { Emits result (emission_of_future (future s.now)) em.old em.new }
 {
     em.set_location(s.location);
     compile_future_features(em, s.names.as_slice())?;
@@ -234,8 +230,7 @@ fn compile_future(em: &mut Emitter, s: &StmtImportFrom) -> Result<bool, CodegenE
 
 /// Refuses what cannot be taken from the future.
 pub fn compile_future_features(em: &mut Emitter, names: &[Alias]) -> Result<(), CodegenError>
-    ensures goes { Goes result (state em.new) (check_features names.now (state em.old)) }
-    ensures same { Same result (rest em.new) (rest em.old) }
+    ensures { Emits result (check_features names.now) em.old em.new }
 {
     for alias in names {
         check_feature(em, alias)?;
@@ -246,8 +241,7 @@ pub fn compile_future_features(em: &mut Emitter, names: &[Alias]) -> Result<(), 
 /// Refuses a name that cannot be taken from the future.
 #[tactic(auto, using(py_expr::proofs::Steps::refuse_goes))]
 fn check_feature(em: &mut Emitter, alias: &Alias) -> Result<(), CodegenError>
-    ensures goes { Goes result (state em.new) (check_features (alias.now ∷ []) (state em.old)) }
-    ensures same { Same result (rest em.new) (rest em.old) }
+    ensures { Emits result (check_features (alias.now ∷ [])) em.old em.new }
 {
     if is_feature(alias.name.as_str()) {
         return Ok(());

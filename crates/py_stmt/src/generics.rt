@@ -8,9 +8,9 @@ ghost use Rattle.py_steps.specs.Children.{code_head, made};
 ghost use Rattle.py_steps.specs.Emitting.{begun, emit_constant};
 ghost use Rattle.py_steps.specs.EmissionParts.{in_turn};
 ghost use Rattle.py_steps.specs.TypeParameters.{bounded, hidden_name, hidden_shape, kept_as, load_handed, plain};
-ghost use Rattle.py_emission.specs.Emission.{emission};
+ghost use Rattle.py_emission.specs.Emission.{emission, unbuilt};
 ghost use Rattle.py_meaning.specs.EmissionDefs.{emission_of_param, emission_of_params, param_emissions};
-ghost use Rattle.py_emit.specs.States.{Goes, IsStarved, Same, entered, entered_rest, rest, state};
+ghost use Rattle.py_emit.specs.States.{Emits, Goes, IsStarved, entered, entered_rest, rest, state};
 ghost use Rattle.py_expr.specs.Functions.{flag_if};
 ghost use Rattle.py_stmt.specs.Generics.{defaults_of, given_flags, handed_by, hidden_called, name_if, params_flag, some_params};
 
@@ -20,7 +20,7 @@ use py_emit::{Emitter, NameUsage, Naming, ScopeHead, emit};
 use py_expr::{Defaults, compile_defaults, compile_expression, refuse_unbuilt};
 use py_forms::{CodegenError, CodegenErrorType};
 use py_scope::SymbolTableType;
-use py_tree::{Arguments, Expr, Text, TypeParam, TypeParamTypeVar};
+use py_tree::{Arguments, Expr, SourceLocation, Text, TypeParam, TypeParamTypeVar};
 use py_uses::type_params::has_default;
 use std::alloc::{AllocError, Global};
 
@@ -30,8 +30,7 @@ pub(crate) fn compile_type_params(
     em: &mut Emitter,
     params: &[TypeParam],
 ) -> Result<(), CodegenError>
-    ensures goes { Goes result (state em.new) (emission_of_params (param_trees params.now) (state em.old)) }
-    ensures same { Same result (rest em.new) (rest em.old) }
+    ensures { Emits result (emission_of_params (param_trees params.now)) em.old em.new }
 {
     compile_each_param(em, params)?;
     em.emit_count(Instruction::BuildTuple, params.len())
@@ -42,8 +41,7 @@ pub(crate) fn compile_some_params(
     em: &mut Emitter,
     params: &[TypeParam],
 ) -> Result<(), CodegenError>
-    ensures goes { Goes result (state em.new) (some_params (param_trees params.now) (state em.old)) }
-    ensures same { Same result (rest em.new) (rest em.old) }
+    ensures { Emits result (some_params (param_trees params.now)) em.old em.new }
 {
     match params {
         [] => Ok(()),
@@ -63,8 +61,7 @@ pub(crate) fn params_flag(params: &[TypeParam]) -> MakeFunctionFlags
 
 /// Emits type parameters in turn.
 fn compile_each_param(em: &mut Emitter, params: &[TypeParam]) -> Result<(), CodegenError>
-    ensures goes { Goes result (state em.new) (in_turn (param_emissions (param_trees params.now)) (state em.old)) }
-    ensures same { Same result (rest em.new) (rest em.old) }
+    ensures { Emits result (in_turn (param_emissions (param_trees params.now))) em.old em.new }
 {
     for param in params {
         compile_param(em, param)?;
@@ -72,22 +69,29 @@ fn compile_each_param(em: &mut Emitter, params: &[TypeParam]) -> Result<(), Code
     Ok(())
 }
 
+/// Refuses a type parameter that takes many types, at its place.
+#[tactic(auto, using(crate::proofs::Steps::steps))]
+fn refuse_param(em: &mut Emitter, location: SourceLocation) -> Result<(), CodegenError>
+    ensures { Emits result (unbuilt location) em.old em.new }
+{
+    em.set_location(location);
+    refuse_unbuilt(em)
+}
+
 /// Emits a type parameter. Those that take many types are refused.
 fn compile_param(em: &mut Emitter, param: &TypeParam) -> Result<(), CodegenError>
-    ensures goes { Goes result (state em.new) (emission_of_param (type_param_tree param.now) (state em.old)) }
-    ensures same { Same result (rest em.new) (rest em.old) }
+    ensures { Emits result (emission_of_param (type_param_tree param.now)) em.old em.new }
 {
     match param {
         TypeParam::TypeVar(p) => compile_type_var(em, p),
-        TypeParam::ParamSpec(p) => refuse_unbuilt(em, p.location),
-        TypeParam::TypeVarTuple(p) => refuse_unbuilt(em, p.location),
+        TypeParam::ParamSpec(p) => refuse_param(em, p.location),
+        TypeParam::TypeVarTuple(p) => refuse_param(em, p.location),
     }
 }
 
 /// Emits a type parameter that takes one type, its bound first where it has one.
 fn compile_type_var(em: &mut Emitter, p: &TypeParamTypeVar) -> Result<(), CodegenError>
-    ensures goes { Goes result (state em.new) (emission_of_param (type_var_tree p.now) (state em.old)) }
-    ensures same { Same result (rest em.new) (rest em.old) }
+    ensures { Emits result (emission_of_param (type_var_tree p.now)) em.old em.new }
 {
     match &p.bound {
         Some(bound) => compile_bounded(em, bound, p.name.as_str()),
@@ -97,8 +101,7 @@ fn compile_type_var(em: &mut Emitter, p: &TypeParamTypeVar) -> Result<(), Codege
 
 /// Emits a type parameter with a bound.
 fn compile_bounded(em: &mut Emitter, bound: &Expr, name: &str) -> Result<(), CodegenError>
-    ensures goes { Goes result (state em.new) (bounded (emission (expr_tree bound.now)) name.now (state em.old)) }
-    ensures same { Same result (rest em.new) (rest em.old) }
+    ensures { Emits result (bounded (emission (expr_tree bound.now)) name.now) em.old em.new }
 {
     compile_expression(em, bound)?;
     load_text(em, name)?;
@@ -108,8 +111,7 @@ fn compile_bounded(em: &mut Emitter, bound: &Expr, name: &str) -> Result<(), Cod
 
 /// Emits a type parameter without a bound.
 fn compile_unbounded(em: &mut Emitter, name: &str) -> Result<(), CodegenError>
-    ensures goes { Goes result (state em.new) (plain name.now (state em.old)) }
-    ensures same { Same result (rest em.new) (rest em.old) }
+    ensures { Emits result (plain name.now) em.old em.new }
 {
     load_text(em, name)?;
     emit!(em, Instruction::TypeVar);
@@ -118,8 +120,7 @@ fn compile_unbounded(em: &mut Emitter, name: &str) -> Result<(), CodegenError>
 
 /// Emits what keeps a type parameter, and stores it under its name.
 fn keep_param(em: &mut Emitter, name: &str) -> Result<(), CodegenError>
-    ensures goes { Goes result (state em.new) (kept_as name.now (state em.old)) }
-    ensures same { Same result (rest em.new) (rest em.old) }
+    ensures { Emits result (kept_as name.now) em.old em.new }
 {
     emit!(em, Instruction::Duplicate);
     em.compile_name(NameUsage::Store, name)
@@ -128,8 +129,7 @@ fn keep_param(em: &mut Emitter, name: &str) -> Result<(), CodegenError>
 /// Loads a text.
 #[tactic(auto, using(py_bytecode::proofs::View::views))]
 pub(crate) fn load_text(em: &mut Emitter, text: &str) -> Result<(), CodegenError>
-    ensures goes { Goes result (state em.new) (emit_constant Instruction.LoadConst (str text.now) (state em.old)) }
-    ensures same { Same result (rest em.new) (rest em.old) }
+    ensures { Emits result (emit_constant Instruction.LoadConst (str text.now)) em.old em.new }
 {
     let value = em.text(text)?;
     em.load_const(ConstantData::Str { value })
@@ -169,8 +169,7 @@ pub(crate) fn made_flags(defaults: Defaults, annotated: bool, generic: bool) -> 
 /// Emits the loads of the defaults that a hidden scope is handed.
 #[tactic(auto, using(crate::proofs::Handing::handed_in_turn))]
 pub(crate) fn load_defaults(em: &mut Emitter, defaults: Defaults) -> Result<(), CodegenError>
-    ensures goes { Goes result (state em.new) (load_handed (handed_by defaults) (state em.old)) }
-    ensures same { Same result (rest em.new) (rest em.old) }
+    ensures { Emits result (load_handed (handed_by defaults)) em.old em.new }
 {
     load_if(em, ".defaults", defaults.positional)?;
     load_if(em, ".kwdefaults", defaults.keyword)
@@ -178,8 +177,7 @@ pub(crate) fn load_defaults(em: &mut Emitter, defaults: Defaults) -> Result<(), 
 
 /// Emits the load of a value that a hidden scope is handed, where it is.
 fn load_if(em: &mut Emitter, name: &str, handed: bool) -> Result<(), CodegenError>
-    ensures goes { Goes result (state em.new) (load_handed (name_if name.now handed) (state em.old)) }
-    ensures same { Same result (rest em.new) (rest em.old) }
+    ensures { Emits result (load_handed (name_if name.now handed)) em.old em.new }
 {
     if handed {
         em.emit_varname(Instruction::LoadFast, name)?;
@@ -213,8 +211,7 @@ pub(crate) fn make_hidden(
     name: &str,
     code: CodeObject,
 ) -> Result<(), CodegenError>
-    ensures goes { Goes result (state em.new) (made 0 (hidden_name name.now) (object code) (state em.old)) }
-    ensures same { Same result (rest em.new) (rest em.old) }
+    ensures { Emits result (made 0 (hidden_name name.now) (object code)) em.old em.new }
 {
     let full = hidden_text(em, name)?;
     make_named(em, full, code)
@@ -222,8 +219,7 @@ pub(crate) fn make_hidden(
 
 /// Makes a function of code under this name, with nothing beside it.
 fn make_named(em: &mut Emitter, name: Text, code: CodeObject) -> Result<(), CodegenError>
-    ensures goes { Goes result (state em.new) (made 0 name (object code) (state em.old)) }
-    ensures same { Same result (rest em.new) (rest em.old) }
+    ensures { Emits result (made 0 name (object code)) em.old em.new }
 {
     em.make_function(MakeFunctionFlags::from_bits_retain(0), name, code)
 }
@@ -235,8 +231,7 @@ pub(crate) fn call_hidden(
     params: &Arguments,
     count: u32,
 ) -> Result<(), CodegenError>
-    ensures goes { Goes result (state em.new) (hidden_called (arguments expr_tree params.now) count (state em.old)) }
-    ensures same { Same result (rest em.new) (rest em.old) }
+    ensures { Emits result (hidden_called (arguments expr_tree params.now) count) em.old em.new }
 {
     compile_defaults(em, params)?;
     em.emit_count(Instruction::CallFunctionPositional, count as usize)

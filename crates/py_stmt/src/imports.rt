@@ -1,14 +1,13 @@
 //! Imports.
 ghost use Rattle.std.specs.Prelude.{◌≡◌, ◌<◌, Some, None, [], ◌∷◌, length, pos, IfOk, IfSome, MatchOption};
-ghost use Rattle.py_tree.specs.View.{import_from_tree, import_tree};
 ghost use Rattle.py_bytecode.specs.Objects.{consts_of, integer, none, str, tuple};
 ghost use Rattle.py_bytecode.specs.View.{constant};
 ghost use Rattle.py_steps.specs.Accesses.{emission_of_stored};
 ghost use Rattle.py_steps.specs.Emitting.{◌▸◌, emit as emitting, emit_constant};
 ghost use Rattle.py_meaning.specs.EmissionImports.{emission_of_alias, emission_of_attributes, emission_of_from, emission_of_import, emission_of_imported, emission_of_module, emission_of_names, emission_of_star, emission_of_taken};
-ghost use Rattle.py_meaning.specs.EmissionStmts.{emission_of_import_from, emission_of_stmt};
+ghost use Rattle.py_meaning.specs.EmissionStmts.{emission_of_import_from};
 ghost use Rattle.py_meaning.specs.Imports.{asked, asked_all, further_segments, is_star, package_name, taken_name, takes_all};
-ghost use Rattle.py_emit.specs.States.{Goes, Same, rest, state};
+ghost use Rattle.py_emit.specs.States.{Emits};
 
 use py_bytecode::{ConstantData, Instruction};
 use py_emit::{Emitter, NameUsage, emit, refuse};
@@ -18,19 +17,9 @@ use py_tree::{Alias, List, StmtImport, StmtImportFrom, Text};
 use py_uses::names::is_future;
 use std::alloc::{AllocError, Global};
 
-#[tactic(auto, using(crate::proofs::Steps::steps))]
-pub(crate) fn compile_import(em: &mut Emitter, s: &StmtImport) -> Result<(), CodegenError>
-    ensures goes { Goes result (state em.new) (emission_of_stmt (import_tree s.now) (state em.old)) }
-    ensures same { Same result (rest em.new) (rest em.old) }
-{
-    em.set_location(s.location);
-    import_modules(em, s.names.as_slice())
-}
-
 /// Emits the imports of modules one after the other.
-fn import_modules(em: &mut Emitter, names: &[Alias]) -> Result<(), CodegenError>
-    ensures goes { Goes result (state em.new) (emission_of_import names.now (state em.old)) }
-    ensures same { Same result (rest em.new) (rest em.old) }
+pub(crate) fn compile_import(em: &mut Emitter, names: &[Alias]) -> Result<(), CodegenError>
+    ensures { Emits result (emission_of_import names.now) em.old em.new }
 {
     for alias in names {
         import_alias(em, alias)?;
@@ -40,8 +29,7 @@ fn import_modules(em: &mut Emitter, names: &[Alias]) -> Result<(), CodegenError>
 
 /// Emits the import of a module, and what stores it: itself where it has a name of its own, else its outermost package.
 fn import_alias(em: &mut Emitter, alias: &Alias) -> Result<(), CodegenError>
-    ensures goes { Goes result (state em.new) (emission_of_alias alias.now (state em.old)) }
-    ensures same { Same result (rest em.new) (rest em.old) }
+    ensures { Emits result (emission_of_alias alias.now) em.old em.new }
 {
     match &alias.asname {
         Some(name) => import_renamed(em, alias.name.as_str(), name.as_str()),
@@ -51,8 +39,7 @@ fn import_alias(em: &mut Emitter, alias: &Alias) -> Result<(), CodegenError>
 
 /// Emits the import of a module, and what stores its outermost package.
 fn import_package(em: &mut Emitter, path: &str) -> Result<(), CodegenError>
-    ensures goes { Goes result (state em.new) ((emission_of_module (Some path.now) 0 none ▸ emission_of_stored (package_name path.now)) (state em.old)) }
-    ensures same { Same result (rest em.new) (rest em.old) }
+    ensures { Emits result (emission_of_module (Some path.now) 0 none ▸ emission_of_stored (package_name path.now)) em.old em.new }
 {
     import_whole(em, path)?;
     em.compile_name(NameUsage::Store, first_segment(path))
@@ -60,8 +47,7 @@ fn import_package(em: &mut Emitter, path: &str) -> Result<(), CodegenError>
 
 /// Emits the import of a module, and what stores it under a name of its own.
 fn import_renamed(em: &mut Emitter, path: &str, name: &str) -> Result<(), CodegenError>
-    ensures goes { Goes result (state em.new) ((emission_of_imported path.now (Some name.now) ▸ emission_of_stored name.now) (state em.old)) }
-    ensures same { Same result (rest em.new) (rest em.old) }
+    ensures { Emits result (emission_of_imported path.now (Some name.now) ▸ emission_of_stored name.now) em.old em.new }
 {
     import_itself(em, path)?;
     em.compile_name(NameUsage::Store, name)
@@ -69,8 +55,7 @@ fn import_renamed(em: &mut Emitter, path: &str, name: &str) -> Result<(), Codege
 
 /// Emits the import of a module, and what comes from its outermost package to itself.
 fn import_itself(em: &mut Emitter, path: &str) -> Result<(), CodegenError>
-    ensures goes { Goes result (state em.new) ((emission_of_module (Some path.now) 0 none ▸ emission_of_attributes (further_segments path.now)) (state em.old)) }
-    ensures same { Same result (rest em.new) (rest em.old) }
+    ensures { Emits result (emission_of_module (Some path.now) 0 none ▸ emission_of_attributes (further_segments path.now)) em.old em.new }
 {
     import_whole(em, path)?;
     load_segments(em, path)
@@ -79,16 +64,14 @@ fn import_itself(em: &mut Emitter, path: &str) -> Result<(), CodegenError>
 /// Emits the import of a module by its path, which is asked for no names.
 #[tactic(auto, using(py_bytecode::proofs::View::views))]
 fn import_whole(em: &mut Emitter, path: &str) -> Result<(), CodegenError>
-    ensures goes { Goes result (state em.new) (emission_of_module (Some path.now) 0 none (state em.old)) }
-    ensures same { Same result (rest em.new) (rest em.old) }
+    ensures { Emits result (emission_of_module (Some path.now) 0 none) em.old em.new }
 {
     import_path(em, path, 0, ConstantData::None)
 }
 
 /// Emits the load of each further segment of a path, as an attribute of what stands before it.
 fn load_segments(em: &mut Emitter, path: &str) -> Result<(), CodegenError>
-    ensures goes { Goes result (state em.new) (emission_of_attributes (further_segments path.now) (state em.old)) }
-    ensures same { Same result (rest em.new) (rest em.old) }
+    ensures { Emits result (emission_of_attributes (further_segments path.now)) em.old em.new }
 {
     let mut left = path;
     while let Some(behind) = behind_dot(left) {
@@ -127,8 +110,7 @@ fn import_path(
     level: u32,
     names: ConstantData,
 ) -> Result<(), CodegenError>
-    ensures goes { Goes result (state em.new) (emission_of_module (Some path.now) level (constant names) (state em.old)) }
-    ensures same { Same result (rest em.new) (rest em.old) }
+    ensures { Emits result (emission_of_module (Some path.now) level (constant names)) em.old em.new }
 {
     load_level(em, level)?;
     em.load_const(names)?;
@@ -137,8 +119,7 @@ fn import_path(
 
 /// Emits the import of the package so many packages further out, which is asked for these names.
 fn import_nameless(em: &mut Emitter, level: u32, names: ConstantData) -> Result<(), CodegenError>
-    ensures goes { Goes result (state em.new) (emission_of_module None level (constant names) (state em.old)) }
-    ensures same { Same result (rest em.new) (rest em.old) }
+    ensures { Emits result (emission_of_module None level (constant names)) em.old em.new }
 {
     load_level(em, level)?;
     em.load_const(names)?;
@@ -153,8 +134,7 @@ fn import_module(
     level: u32,
     names: ConstantData,
 ) -> Result<(), CodegenError>
-    ensures goes { Goes result (state em.new) (emission_of_module path.now level (constant names) (state em.old)) }
-    ensures same { Same result (rest em.new) (rest em.old) }
+    ensures { Emits result (emission_of_module path.now level (constant names)) em.old em.new }
 {
     match path {
         Some(path) => import_path(em, path.as_str(), level, names),
@@ -165,28 +145,17 @@ fn import_module(
 /// Emits the load of a number.
 #[tactic(auto, using(py_bytecode::proofs::View::views))]
 fn load_level(em: &mut Emitter, level: u32) -> Result<(), CodegenError>
-    ensures goes { Goes result (state em.new) (emit_constant Instruction.LoadConst (integer (pos level)) (state em.old)) }
-    ensures same { Same result (rest em.new) (rest em.old) }
+    ensures { Emits result (emit_constant Instruction.LoadConst (integer (pos level))) em.old em.new }
 {
     em.load_const(ConstantData::Integer {
         value: i128::from(level),
     })
 }
 
-#[tactic(auto, using(crate::proofs::Steps::steps))]
-pub(crate) fn compile_import_from(em: &mut Emitter, s: &StmtImportFrom) -> Result<(), CodegenError>
-    ensures goes { Goes result (state em.new) (emission_of_stmt (import_from_tree s.now) (state em.old)) }
-    ensures same { Same result (rest em.new) (rest em.old) }
-{
-    em.set_location(s.location);
-    import_present(em, s)
-}
-
 /// Emits the import of names from a module, and refuses one from the future, which stands before all other statements.
 #[tactic(auto, using(crate::proofs::Steps::steps))]
-fn import_present(em: &mut Emitter, s: &StmtImportFrom) -> Result<(), CodegenError>
-    ensures goes { Goes result (state em.new) (emission_of_import_from s.now.«module» s.now.names s.now.level (state em.old)) }
-    ensures same { Same result (rest em.new) (rest em.old) }
+pub(crate) fn compile_import_from(em: &mut Emitter, s: &StmtImportFrom) -> Result<(), CodegenError>
+    ensures { Emits result (emission_of_import_from s.now.«module» s.now.names s.now.level) em.old em.new }
 {
     if is_future(&s.module) {
         refuse!(em, CodegenErrorType::InvalidFuturePlacement);
@@ -196,8 +165,7 @@ fn import_present(em: &mut Emitter, s: &StmtImportFrom) -> Result<(), CodegenErr
 
 /// Emits the import of all names of a module, or of some.
 pub(crate) fn import_from(em: &mut Emitter, s: &StmtImportFrom) -> Result<(), CodegenError>
-    ensures goes { Goes result (state em.new) (emission_of_from s.now.«module» s.now.names s.now.level (state em.old)) }
-    ensures same { Same result (rest em.new) (rest em.old) }
+    ensures { Emits result (emission_of_from s.now.«module» s.now.names s.now.level) em.old em.new }
 {
     if has_star(s.names.as_slice()) {
         return import_star(em, s);
@@ -226,8 +194,7 @@ fn is_star(alias: &Alias) -> bool
 /// Emits the import of all names of a module, and refuses it in a function.
 #[tactic(auto, using(py_expr::proofs::Steps::refuse_goes), unfolding(py_steps::specs::Emitting::by_context))]
 fn import_star(em: &mut Emitter, s: &StmtImportFrom) -> Result<(), CodegenError>
-    ensures goes { Goes result (state em.new) (emission_of_star s.now.«module» s.now.level (state em.old)) }
-    ensures same { Same result (rest em.new) (rest em.old) }
+    ensures { Emits result (emission_of_star s.now.«module» s.now.level) em.old em.new }
 {
     if is_function(em.scope_type()) {
         refuse!(em, CodegenErrorType::FunctionImportStar);
@@ -237,8 +204,7 @@ fn import_star(em: &mut Emitter, s: &StmtImportFrom) -> Result<(), CodegenError>
 
 /// Emits the import of all names of a module.
 fn import_all(em: &mut Emitter, s: &StmtImportFrom) -> Result<(), CodegenError>
-    ensures goes { Goes result (state em.new) ((emission_of_module s.now.«module» s.now.level asked_all ▸ emitting Instruction.ImportStar 0) (state em.old)) }
-    ensures same { Same result (rest em.new) (rest em.old) }
+    ensures { Emits result (emission_of_module s.now.«module» s.now.level asked_all ▸ emitting Instruction.ImportStar 0) em.old em.new }
 {
     ask_all(em, s)?;
     emit!(em, Instruction::ImportStar);
@@ -247,8 +213,7 @@ fn import_all(em: &mut Emitter, s: &StmtImportFrom) -> Result<(), CodegenError>
 
 /// Emits the import of a module that is asked for all names.
 fn ask_all(em: &mut Emitter, s: &StmtImportFrom) -> Result<(), CodegenError>
-    ensures goes { Goes result (state em.new) (emission_of_module s.now.«module» s.now.level asked_all (state em.old)) }
-    ensures same { Same result (rest em.new) (rest em.old) }
+    ensures { Emits result (emission_of_module s.now.«module» s.now.level asked_all) em.old em.new }
 {
     let star = em.text("*")?;
     match single_name(em.alloc(), star) {
@@ -270,8 +235,7 @@ fn single_name(alloc: Global, value: Text) -> Result<ConstantData, AllocError>
 
 /// Emits the import of a module that is asked for some names, and takes each of them from it.
 fn import_names(em: &mut Emitter, s: &StmtImportFrom) -> Result<(), CodegenError>
-    ensures goes { Goes result (state em.new) ((emission_of_module s.now.«module» s.now.level (asked s.now.names) ▸ emission_of_names s.now.names) (state em.old)) }
-    ensures same { Same result (rest em.new) (rest em.old) }
+    ensures { Emits result (emission_of_module s.now.«module» s.now.level (asked s.now.names) ▸ emission_of_names s.now.names) em.old em.new }
 {
     ask_names(em, s)?;
     take_names(em, s.names.as_slice())
@@ -279,8 +243,7 @@ fn import_names(em: &mut Emitter, s: &StmtImportFrom) -> Result<(), CodegenError
 
 /// Emits the import of a module that is asked for some names.
 fn ask_names(em: &mut Emitter, s: &StmtImportFrom) -> Result<(), CodegenError>
-    ensures goes { Goes result (state em.new) (emission_of_module s.now.«module» s.now.level (asked s.now.names) (state em.old)) }
-    ensures same { Same result (rest em.new) (rest em.old) }
+    ensures { Emits result (emission_of_module s.now.«module» s.now.level (asked s.now.names)) em.old em.new }
 {
     match asked_names(em.alloc(), s.names.as_slice()) {
         Ok(names) => import_module(em, &s.module, s.level, names),
@@ -312,8 +275,7 @@ fn name_data(alloc: Global, alias: &Alias) -> Result<ConstantData, AllocError>
 
 /// Emits what takes names from the module that lies there, and drops it.
 fn take_names(em: &mut Emitter, names: &[Alias]) -> Result<(), CodegenError>
-    ensures goes { Goes result (state em.new) (emission_of_names names.now (state em.old)) }
-    ensures same { Same result (rest em.new) (rest em.old) }
+    ensures { Emits result (emission_of_names names.now) em.old em.new }
 {
     for alias in names {
         take_name(em, alias)?;
@@ -324,8 +286,7 @@ fn take_names(em: &mut Emitter, names: &[Alias]) -> Result<(), CodegenError>
 
 /// Emits what takes a name from the module that lies there, and stores it.
 fn take_name(em: &mut Emitter, alias: &Alias) -> Result<(), CodegenError>
-    ensures goes { Goes result (state em.new) (emission_of_taken alias.now (state em.old)) }
-    ensures same { Same result (rest em.new) (rest em.old) }
+    ensures { Emits result (emission_of_taken alias.now) em.old em.new }
 {
     em.emit_mangled(Instruction::ImportFrom, alias.name.as_str())?;
     em.compile_name(NameUsage::Store, name_taken(alias))

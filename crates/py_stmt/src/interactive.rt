@@ -1,12 +1,11 @@
 //! Statements at a prompt, and blocks whose last value is given.
-ghost use Rattle.std.specs.Prelude.{◌≡◌};
 ghost use Rattle.py_tree.specs.View.{class_def_tree, expr_tree, function_def_tree, stmt_tree, stmts};
 ghost use Rattle.py_bytecode.specs.Objects.{none};
 ghost use Rattle.py_steps.specs.Emitting.{◌▸◌, emit as emitting, emit_constant};
 ghost use Rattle.py_emission.specs.Emission.{emission};
 ghost use Rattle.py_meaning.specs.EmissionMods.{emission_of_block, emission_of_single, emission_of_value, stored_and_returned};
 ghost use Rattle.py_meaning.specs.EmissionStmts.{emission_of_stmt, emission_of_stmts};
-ghost use Rattle.py_emit.specs.States.{AreMade, Goes, Same, rest, state};
+ghost use Rattle.py_emit.specs.States.{AreMade, Emits, rest};
 ghost use Rattle.py_stmt.specs.Interactive.{all_prompted, prompted, shown};
 
 use crate::statements::{compile_statement, compile_statements};
@@ -25,8 +24,7 @@ use py_tree::{Expr, Stmt, StmtClassDef, StmtFunctionDef};
 #[tactic(auto, using(py_bytecode::proofs::View::views))]
 pub(crate) fn compile_single(em: &mut Emitter, body: &[Stmt]) -> Result<(), CodegenError>
     requires loops { AreMade (rest em.old).context.loop_blocks }
-    ensures goes { Goes result (state em.new) (emission_of_single (stmts stmt_tree body.now) (state em.old)) }
-    ensures same { Same result (rest em.new) (rest em.old) }
+    ensures { Emits result (emission_of_single (stmts stmt_tree body.now)) em.old em.new }
 {
     let count = body.len();
     if count == 0 {
@@ -38,8 +36,7 @@ pub(crate) fn compile_single(em: &mut Emitter, body: &[Stmt]) -> Result<(), Code
 /// Emits statements at a prompt, the last of which is given apart.
 fn compile_single_parts(em: &mut Emitter, first: &[Stmt], last: &Stmt) -> Result<(), CodegenError>
     requires loops { AreMade (rest em.old).context.loop_blocks }
-    ensures goes { Goes result (state em.new) ((all_prompted (stmts stmt_tree first.now) ▸ shown (stmt_tree last.now)) (state em.old)) }
-    ensures same { Same result (rest em.new) (rest em.old) }
+    ensures { Emits result (all_prompted (stmts stmt_tree first.now) ▸ shown (stmt_tree last.now)) em.old em.new }
 {
     compile_prompted(em, first)?;
     compile_shown(em, last)
@@ -48,8 +45,7 @@ fn compile_single_parts(em: &mut Emitter, first: &[Stmt], last: &Stmt) -> Result
 /// Emits statements at a prompt that others follow.
 fn compile_prompted(em: &mut Emitter, body: &[Stmt]) -> Result<(), CodegenError>
     requires loops { AreMade (rest em.old).context.loop_blocks }
-    ensures goes { Goes result (state em.new) (all_prompted (stmts stmt_tree body.now) (state em.old)) }
-    ensures same { Same result (rest em.new) (rest em.old) }
+    ensures { Emits result (all_prompted (stmts stmt_tree body.now)) em.old em.new }
 {
     for statement in body {
         compile_prompted_one(em, statement)?;
@@ -61,8 +57,7 @@ fn compile_prompted(em: &mut Emitter, body: &[Stmt]) -> Result<(), CodegenError>
 #[tactic(auto, using(py_tree::proofs::View::trees))]
 fn compile_prompted_one(em: &mut Emitter, statement: &Stmt) -> Result<(), CodegenError>
     requires loops { AreMade (rest em.old).context.loop_blocks }
-    ensures goes { Goes result (state em.new) (prompted (stmt_tree statement.now) (state em.old)) }
-    ensures same { Same result (rest em.new) (rest em.old) }
+    ensures { Emits result (prompted (stmt_tree statement.now)) em.old em.new }
 {
     match statement {
         Stmt::Expr(s) => print_value(em, &s.value),
@@ -72,8 +67,7 @@ fn compile_prompted_one(em: &mut Emitter, statement: &Stmt) -> Result<(), Codege
 
 /// Emits a value and what prints it.
 pub(crate) fn print_value(em: &mut Emitter, value: &Expr) -> Result<(), CodegenError>
-    ensures goes { Goes result (state em.new) ((emission (expr_tree value.now) ▸ emitting Instruction.PrintExpr 0) (state em.old)) }
-    ensures same { Same result (rest em.new) (rest em.old) }
+    ensures { Emits result (emission (expr_tree value.now) ▸ emitting Instruction.PrintExpr 0) em.old em.new }
 {
     compile_expression(em, value)?;
     emit!(em, Instruction::PrintExpr);
@@ -84,8 +78,7 @@ pub(crate) fn print_value(em: &mut Emitter, value: &Expr) -> Result<(), CodegenE
 #[tactic(auto, using(py_tree::proofs::View::trees))]
 fn compile_shown(em: &mut Emitter, statement: &Stmt) -> Result<(), CodegenError>
     requires loops { AreMade (rest em.old).context.loop_blocks }
-    ensures goes { Goes result (state em.new) (shown (stmt_tree statement.now) (state em.old)) }
-    ensures same { Same result (rest em.new) (rest em.old) }
+    ensures { Emits result (shown (stmt_tree statement.now)) em.old em.new }
 {
     match statement {
         Stmt::Expr(s) => show_value(em, &s.value),
@@ -95,8 +88,7 @@ fn compile_shown(em: &mut Emitter, statement: &Stmt) -> Result<(), CodegenError>
 
 /// Emits a value, what prints it, and its return.
 fn show_value(em: &mut Emitter, value: &Expr) -> Result<(), CodegenError>
-    ensures goes { Goes result (state em.new) ((emission (expr_tree value.now) ▸ emitting Instruction.Duplicate 0 ▸ emitting Instruction.PrintExpr 0 ▸ emitting Instruction.ReturnValue 0) (state em.old)) }
-    ensures same { Same result (rest em.new) (rest em.old) }
+    ensures { Emits result (emission (expr_tree value.now) ▸ emitting Instruction.Duplicate 0 ▸ emitting Instruction.PrintExpr 0 ▸ emitting Instruction.ReturnValue 0) em.old em.new }
 {
     compile_expression(em, value)?;
     emit!(em, Instruction::Duplicate);
@@ -109,8 +101,7 @@ fn show_value(em: &mut Emitter, value: &Expr) -> Result<(), CodegenError>
 #[tactic(auto, using(py_bytecode::proofs::View::views))]
 fn compile_ended(em: &mut Emitter, statement: &Stmt) -> Result<(), CodegenError>
     requires loops { AreMade (rest em.old).context.loop_blocks }
-    ensures goes { Goes result (state em.new) ((emission_of_stmt (stmt_tree statement.now) ▸ emit_constant Instruction.ReturnConst none) (state em.old)) }
-    ensures same { Same result (rest em.new) (rest em.old) }
+    ensures { Emits result (emission_of_stmt (stmt_tree statement.now) ▸ emit_constant Instruction.ReturnConst none) em.old em.new }
 {
     compile_statement(em, statement)?;
     em.return_const(ConstantData::None)
@@ -124,8 +115,7 @@ fn compile_ended(em: &mut Emitter, statement: &Stmt) -> Result<(), CodegenError>
 #[tactic(auto, using(py_bytecode::proofs::View::views))]
 pub(crate) fn compile_block(em: &mut Emitter, body: &[Stmt]) -> Result<(), CodegenError>
     requires loops { AreMade (rest em.old).context.loop_blocks }
-    ensures goes { Goes result (state em.new) (emission_of_block (stmts stmt_tree body.now) (state em.old)) }
-    ensures same { Same result (rest em.new) (rest em.old) }
+    ensures { Emits result (emission_of_block (stmts stmt_tree body.now)) em.old em.new }
 {
     let count = body.len();
     if count == 0 {
@@ -137,8 +127,7 @@ pub(crate) fn compile_block(em: &mut Emitter, body: &[Stmt]) -> Result<(), Codeg
 /// Emits a block, the last statement of which is given apart.
 fn compile_block_parts(em: &mut Emitter, first: &[Stmt], last: &Stmt) -> Result<(), CodegenError>
     requires loops { AreMade (rest em.old).context.loop_blocks }
-    ensures goes { Goes result (state em.new) ((emission_of_stmts (stmts stmt_tree first.now) ▸ emission_of_value (stmt_tree last.now)) (state em.old)) }
-    ensures same { Same result (rest em.new) (rest em.old) }
+    ensures { Emits result (emission_of_stmts (stmts stmt_tree first.now) ▸ emission_of_value (stmt_tree last.now)) em.old em.new }
 {
     compile_statements(em, first)?;
     compile_value(em, last)
@@ -148,8 +137,7 @@ fn compile_block_parts(em: &mut Emitter, first: &[Stmt], last: &Stmt) -> Result<
 #[tactic(auto, using(py_tree::proofs::View::trees, crate::proofs::Steps::steps))]
 fn compile_value(em: &mut Emitter, statement: &Stmt) -> Result<(), CodegenError>
     requires loops { AreMade (rest em.old).context.loop_blocks }
-    ensures goes { Goes result (state em.new) (emission_of_value (stmt_tree statement.now) (state em.old)) }
-    ensures same { Same result (rest em.new) (rest em.old) }
+    ensures { Emits result (emission_of_value (stmt_tree statement.now)) em.old em.new }
 {
     match statement {
         Stmt::Expr(s) => {
@@ -165,8 +153,7 @@ fn compile_value(em: &mut Emitter, statement: &Stmt) -> Result<(), CodegenError>
 /// Emits a function that is stored and returned.
 #[tactic(auto, using(crate::proofs::Steps::steps))]
 fn return_function(em: &mut Emitter, s: &StmtFunctionDef) -> Result<(), CodegenError>
-    ensures goes { Goes result (state em.new) (emission_of_value (function_def_tree s.now) (state em.old)) }
-    ensures same { Same result (rest em.new) (rest em.old) }
+    ensures { Emits result (emission_of_value (function_def_tree s.now)) em.old em.new }
 {
     em.set_location(s.location);
     functions::compile_decorated(em, s)?;
@@ -176,8 +163,7 @@ fn return_function(em: &mut Emitter, s: &StmtFunctionDef) -> Result<(), CodegenE
 /// Emits a class that is stored and returned.
 #[tactic(auto, using(crate::proofs::Steps::steps))]
 fn return_class(em: &mut Emitter, s: &StmtClassDef) -> Result<(), CodegenError>
-    ensures goes { Goes result (state em.new) (emission_of_value (class_def_tree s.now) (state em.old)) }
-    ensures same { Same result (rest em.new) (rest em.old) }
+    ensures { Emits result (emission_of_value (class_def_tree s.now)) em.old em.new }
 {
     em.set_location(s.location);
     classes::compile_decorated(em, s)?;
@@ -186,8 +172,7 @@ fn return_class(em: &mut Emitter, s: &StmtClassDef) -> Result<(), CodegenError>
 
 /// Emits what stores a value under a name and returns it.
 fn store_and_return(em: &mut Emitter, name: &str) -> Result<(), CodegenError>
-    ensures goes { Goes result (state em.new) (stored_and_returned name.now (state em.old)) }
-    ensures same { Same result (rest em.new) (rest em.old) }
+    ensures { Emits result (stored_and_returned name.now) em.old em.new }
 {
     emit!(em, Instruction::Duplicate);
     em.compile_name(NameUsage::Store, name)?;

@@ -1,10 +1,10 @@
 //! Loops, and what leaves them.
 ghost use Rattle.std.specs.Prelude.{◌≡◌, ◌<◌};
-ghost use Rattle.py_tree.specs.View.{break_tree, continue_tree, expr_tree, for_tree, stmt_tree, stmts, while_tree};
+ghost use Rattle.py_tree.specs.View.{expr_tree, stmt_tree, stmts, while_tree};
 ghost use Rattle.py_steps.specs.Emitting.{in_loop};
 ghost use Rattle.py_emission.specs.Emission.{emission, emission_of_store};
 ghost use Rattle.py_meaning.specs.EmissionStmts.{emission_of_stmt, emission_of_stmts, leave_loop};
-ghost use Rattle.py_emit.specs.States.{AreMade, Goes, Same, rest, state};
+ghost use Rattle.py_emit.specs.States.{AreMade, Emits, Goes, rest, state};
 ghost use Rattle.py_stmt.specs.Parts.{each_begun, each_by_parts, each_ended, each_turn};
 
 use crate::statements::compile_statements;
@@ -13,26 +13,14 @@ use py_emit::{Emitter, emit, refuse};
 use py_expr::{compile_expression, compile_jump_if, compile_store};
 use py_forms::{CodegenError, CodegenErrorType};
 use py_ir::BlockIdx;
-use py_tree::{Expr, Stmt, StmtBreak, StmtContinue, StmtFor, StmtWhile};
+use py_tree::{Expr, Stmt, StmtFor, StmtWhile};
 
 /// Emits a loop over the values of an iterator. Its else part runs where there are no more, and stands outside its block.
 #[cycle(code)]
 #[tactic(auto, using(crate::proofs::Steps::steps))]
 pub(crate) fn compile_for(em: &mut Emitter, s: &StmtFor) -> Result<(), CodegenError>
     requires loops { AreMade (rest em.old).context.loop_blocks }
-    ensures goes { Goes result (state em.new) (emission_of_stmt (for_tree s.now) (state em.old)) }
-    ensures same { Same result (rest em.new) (rest em.old) }
-{
-    em.set_location(s.location);
-    compile_each(em, s)
-}
-
-#[cycle(code)]
-#[tactic(auto, using(crate::proofs::Steps::steps))]
-fn compile_each(em: &mut Emitter, s: &StmtFor) -> Result<(), CodegenError>
-    requires loops { AreMade (rest em.old).context.loop_blocks }
-    ensures goes { Goes result (state em.new) (each_by_parts (emission (expr_tree s.now.iter.value)) (emission_of_store (expr_tree s.now.target.value)) (emission_of_stmts (stmts stmt_tree s.now.body)) (emission_of_stmts (stmts stmt_tree s.now.orelse)) (state em.old)) }
-    ensures same { Same result (rest em.new) (rest em.old) }
+    ensures { Emits result (each_by_parts (emission (expr_tree s.now.iter.value)) (emission_of_store (expr_tree s.now.target.value)) (emission_of_stmts (stmts stmt_tree s.now.body)) (emission_of_stmts (stmts stmt_tree s.now.orelse))) em.old em.new }
 {
     let start = em.new_block()?;
     let other = em.new_block()?;
@@ -48,8 +36,7 @@ fn compile_each(em: &mut Emitter, s: &StmtFor) -> Result<(), CodegenError>
 
 /// Emits what takes the iterator of a value, in a block of its own.
 fn begin_each(em: &mut Emitter, iter: &Expr) -> Result<(), CodegenError>
-    ensures goes { Goes result (state em.new) (each_begun (emission (expr_tree iter.now)) (state em.old)) }
-    ensures same { Same result (rest em.new) (rest em.old) }
+    ensures { Emits result (each_begun (emission (expr_tree iter.now))) em.old em.new }
 {
     emit!(em, Instruction::SetupLoop);
     compile_expression(em, iter)?;
@@ -69,8 +56,7 @@ fn compile_turn(
     requires start { start.0 < 0xffff_ffff }
     requires other { other.0 < 0xffff_ffff }
     requires end { end.0 < 0xffff_ffff }
-    ensures goes { Goes result (state em.new) (each_turn (emission_of_store (expr_tree s.now.target.value)) (emission_of_stmts (stmts stmt_tree s.now.body)) start.0 other.0 end.0 (state em.old)) }
-    ensures same { Same result (rest em.new) (rest em.old) }
+    ensures { Emits result (each_turn (emission_of_store (expr_tree s.now.target.value)) (emission_of_stmts (stmts stmt_tree s.now.body)) start.0 other.0 end.0) em.old em.new }
 {
     emit!(em, Instruction::ForIter => other);
     compile_store(em, &s.target)?;
@@ -83,8 +69,7 @@ fn compile_turn(
 #[cycle(code)]
 fn end_each(em: &mut Emitter, orelse: &[Stmt]) -> Result<(), CodegenError>
     requires loops { AreMade (rest em.old).context.loop_blocks }
-    ensures goes { Goes result (state em.new) (each_ended (emission_of_stmts (stmts stmt_tree orelse.now)) (state em.old)) }
-    ensures same { Same result (rest em.new) (rest em.old) }
+    ensures { Emits result (each_ended (emission_of_stmts (stmts stmt_tree orelse.now))) em.old em.new }
 {
     emit!(em, Instruction::PopBlock);
     compile_statements(em, orelse)
@@ -95,10 +80,9 @@ fn end_each(em: &mut Emitter, orelse: &[Stmt]) -> Result<(), CodegenError>
 #[tactic(auto, using(crate::proofs::Steps::steps))]
 pub(crate) fn compile_while(em: &mut Emitter, s: &StmtWhile) -> Result<(), CodegenError>
     requires loops { AreMade (rest em.old).context.loop_blocks }
-    ensures goes { Goes result (state em.new) (emission_of_stmt (while_tree s.now) (state em.old)) }
-    ensures same { Same result (rest em.new) (rest em.old) }
+    requires at { (state em.old).location ≡ s.now.location }
+    ensures { Emits result (emission_of_stmt (while_tree s.now)) em.old em.new }
 {
-    em.set_location(s.location);
     let start = em.new_block()?;
     let other = em.new_block()?;
     let end = em.new_block()?;
@@ -125,8 +109,7 @@ fn compile_loop_body(
 ) -> Result<(), CodegenError>
     requires start { start.0 < 0xffff_ffff }
     requires end { end.0 < 0xffff_ffff }
-    ensures goes { Goes result (state em.new) (in_loop (record { on_break = end.0; on_continue = start.0 }) (emission_of_stmts (stmts stmt_tree body.now)) (state em.old)) }
-    ensures same { Same result (rest em.new) (rest em.old) }
+    ensures { Emits result (in_loop (record { on_break = end.0; on_continue = start.0 }) (emission_of_stmts (stmts stmt_tree body.now))) em.old em.new }
 {
     let around = em.set_loops(Some((start, end)));
     compile_statements(em, body)?;
@@ -134,22 +117,11 @@ fn compile_loop_body(
     Ok(())
 }
 
-#[tactic(auto, using(crate::proofs::Steps::steps))]
-pub(crate) fn compile_break(em: &mut Emitter, s: &StmtBreak) -> Result<(), CodegenError>
-    requires loops { AreMade (rest em.old).context.loop_blocks }
-    ensures goes { Goes result (state em.new) (emission_of_stmt (break_tree s.now) (state em.old)) }
-    ensures same { Same result (rest em.new) (rest em.old) }
-{
-    em.set_location(s.location);
-    break_loop(em)
-}
-
 /// Leaves the innermost loop of the scope, where there is one.
 #[tactic(auto, unfolding(py_emit::specs::States::rest), using(crate::proofs::Steps::steps))]
-fn break_loop(em: &mut Emitter) -> Result<(), CodegenError>
+pub(crate) fn compile_break(em: &mut Emitter) -> Result<(), CodegenError>
     requires loops { AreMade (rest em.old).context.loop_blocks }
-    ensures goes { Goes result (state em.new) (leave_loop Instruction.Break (λ x. x.on_break) CodegenErrorType.InvalidBreak (state em.old).around.loops (state em.old)) }
-    ensures same { Same result (rest em.new) (rest em.old) }
+    ensures { Emits result (leave_loop Instruction.Break (λ x. x.on_break) CodegenErrorType.InvalidBreak (state em.old).around.loops) em.old em.new }
 {
     match em.context().loop_blocks {
         Some((_, end)) => {
@@ -160,22 +132,11 @@ fn break_loop(em: &mut Emitter) -> Result<(), CodegenError>
     }
 }
 
-#[tactic(auto, using(crate::proofs::Steps::steps))]
-pub(crate) fn compile_continue(em: &mut Emitter, s: &StmtContinue) -> Result<(), CodegenError>
-    requires loops { AreMade (rest em.old).context.loop_blocks }
-    ensures goes { Goes result (state em.new) (emission_of_stmt (continue_tree s.now) (state em.old)) }
-    ensures same { Same result (rest em.new) (rest em.old) }
-{
-    em.set_location(s.location);
-    continue_loop(em)
-}
-
 /// Goes to the next turn of the innermost loop of the scope, where there is one.
 #[tactic(auto, unfolding(py_emit::specs::States::rest), using(crate::proofs::Steps::steps))]
-fn continue_loop(em: &mut Emitter) -> Result<(), CodegenError>
+pub(crate) fn compile_continue(em: &mut Emitter) -> Result<(), CodegenError>
     requires loops { AreMade (rest em.old).context.loop_blocks }
-    ensures goes { Goes result (state em.new) (leave_loop Instruction.Continue (λ x. x.on_continue) CodegenErrorType.InvalidContinue (state em.old).around.loops (state em.old)) }
-    ensures same { Same result (rest em.new) (rest em.old) }
+    ensures { Emits result (leave_loop Instruction.Continue (λ x. x.on_continue) CodegenErrorType.InvalidContinue (state em.old).around.loops) em.old em.new }
 {
     match em.context().loop_blocks {
         Some((start, _)) => {

@@ -5,7 +5,7 @@ ghost use Rattle.py_steps.specs.Children.{some_emitted, some_flag};
 ghost use Rattle.py_steps.specs.EmissionParts.{built, in_turn};
 ghost use Rattle.py_meaning.specs.EmissionDefs.{arg_notes, emission_of_note, emission_of_text, notes, opt_arg_note, opt_note};
 ghost use Rattle.py_texts.specs.Annotation.{annotation as annotation_of};
-ghost use Rattle.py_emit.specs.States.{Goes, Same, rest, state};
+ghost use Rattle.py_emit.specs.States.{Emits, rest};
 ghost use Rattle.py_expr.specs.Functions.{flag_if};
 
 use crate::assignments::load_mangled;
@@ -24,8 +24,7 @@ pub(crate) fn compile_notes(
     returns: &Option<Box<Expr>>,
 ) -> Result<bool, CodegenError>
     ensures any { IfOk result (λ any. some_flag 0x02 (notes (arguments expr_tree params.now) (opt_box expr_tree returns.now)) ≡ flag_if 0x02 any) }
-    ensures goes { Goes result (state em.new) (some_emitted (built Instruction.BuildMap) (notes (arguments expr_tree params.now) (opt_box expr_tree returns.now)) (state em.old)) }
-    ensures same { Same result (rest em.new) (rest em.old) }
+    ensures emits { Emits result (some_emitted (built Instruction.BuildMap) (notes (arguments expr_tree params.now) (opt_box expr_tree returns.now))) em.old em.new }
 {
     let count = compile_each_note(em, params, returns)?;
     build_some(em, Instruction::BuildMap, count)
@@ -39,8 +38,7 @@ fn compile_each_note(
     returns: &Option<Box<Expr>>,
 ) -> Result<usize, CodegenError>
     ensures count { IfOk result (λ n. n ≡ length (notes (arguments expr_tree params.now) (opt_box expr_tree returns.now))) }
-    ensures goes { Goes result (state em.new) (in_turn (notes (arguments expr_tree params.now) (opt_box expr_tree returns.now)) (state em.old)) }
-    ensures same { Same result (rest em.new) (rest em.old) }
+    ensures emits { Emits result (in_turn (notes (arguments expr_tree params.now) (opt_box expr_tree returns.now))) em.old em.new }
 {
     let count = compile_note(em, "return", returns, 0)?;
     let count = compile_arg_notes(em, params.posonlyargs.as_slice(), count)?;
@@ -57,8 +55,7 @@ fn compile_arg_notes(
     count: usize,
 ) -> Result<usize, CodegenError>
     ensures count { IfOk result (λ n. n ≡ count + length (arg_notes (args expr_tree items.now))) }
-    ensures goes { Goes result (state em.new) (in_turn (arg_notes (args expr_tree items.now)) (state em.old)) }
-    ensures same { Same result (rest em.new) (rest em.old) }
+    ensures emits { Emits result (in_turn (arg_notes (args expr_tree items.now))) em.old em.new }
 {
     let mut sum = count;
     for item in items {
@@ -74,8 +71,7 @@ fn compile_opt_note(
     count: usize,
 ) -> Result<usize, CodegenError>
     ensures count { IfOk result (λ n. n ≡ count + length (opt_arg_note (opt_arg expr_tree param.now))) }
-    ensures goes { Goes result (state em.new) (in_turn (opt_arg_note (opt_arg expr_tree param.now)) (state em.old)) }
-    ensures same { Same result (rest em.new) (rest em.old) }
+    ensures emits { Emits result (in_turn (opt_arg_note (opt_arg expr_tree param.now))) em.old em.new }
 {
     match param {
         Some(param) => compile_note(em, param.arg.as_str(), &param.annotation, count),
@@ -92,8 +88,7 @@ fn compile_note(
     count: usize,
 ) -> Result<usize, CodegenError>
     ensures count { IfOk result (λ n. n ≡ count + length (opt_note name.now (opt_box expr_tree annotation.now))) }
-    ensures goes { Goes result (state em.new) (in_turn (opt_note name.now (opt_box expr_tree annotation.now)) (state em.old)) }
-    ensures same { Same result (rest em.new) (rest em.old) }
+    ensures emits { Emits result (in_turn (opt_note name.now (opt_box expr_tree annotation.now))) em.old em.new }
 {
     let Some(annotation) = annotation else {
         return Ok(count);
@@ -109,8 +104,7 @@ fn compile_note(
 /// Emits an annotation, or its text where annotations are postponed.
 #[tactic(auto, unfolding(py_steps::specs::Emitting::by_context, py_emit::specs::States::rest))]
 pub(crate) fn compile_noted(em: &mut Emitter, annotation: &Expr) -> Result<(), CodegenError>
-    ensures goes { Goes result (state em.new) (emission_of_note (expr_tree annotation.now) (state em.old)) }
-    ensures same { Same result (rest em.new) (rest em.old) }
+    ensures { Emits result (emission_of_note (expr_tree annotation.now)) em.old em.new }
 {
     if em.context().future_annotations {
         return load_annotation(em, annotation);
@@ -121,8 +115,7 @@ pub(crate) fn compile_noted(em: &mut Emitter, annotation: &Expr) -> Result<(), C
 /// Emits the load of the text of an annotation, and refuses an f-string, which has none.
 #[tactic(auto, using(py_bytecode::proofs::View::views, py_expr::proofs::Steps::refuse_goes))]
 fn load_annotation(em: &mut Emitter, annotation: &Expr) -> Result<(), CodegenError>
-    ensures goes { Goes result (state em.new) (emission_of_text (annotation_of (expr_tree annotation.now)) (state em.old)) }
-    ensures same { Same result (rest em.new) (rest em.old) }
+    ensures { Emits result (emission_of_text (annotation_of (expr_tree annotation.now))) em.old em.new }
 {
     match annotation_text(em.alloc(), annotation) {
         Ok(text) => em.load_const(ConstantData::Str {

@@ -3,7 +3,7 @@ ghost use Rattle.std.specs.Prelude.{◌+◌};
 ghost use Rattle.py_counts.specs.Counts.{IsSum, scopes_in, scopes_in_annotation as scopes_in_note, scopes_in_opt};
 ghost use Rattle.py_tree.specs.View.{expr_tree, opt_box};
 ghost use Rattle.py_steps.specs.EmissionParts.{pass_scopes};
-ghost use Rattle.py_emit.specs.States.{Goes, Same, rest, state};
+ghost use Rattle.py_emit.specs.States.{Emits, rest};
 
 use py_counts::{scopes_in_expr, scopes_in_opt};
 use py_emit::Emitter;
@@ -17,8 +17,7 @@ use py_tree::{Expr, StmtAssert};
 /// OutOfMemory alone.
 #[tactic(auto, unfolding(py_emit::specs::States::rest))]
 pub(crate) fn pass_expression(em: &mut Emitter, e: &Expr) -> Result<(), CodegenError>
-    ensures goes { Goes result (state em.new) (pass_scopes (λ postponed. scopes_in postponed (expr_tree e.now)) (state em.old)) }
-    ensures same { Same result (rest em.new) (rest em.old) }
+    ensures { Emits result (pass_scopes (λ postponed. scopes_in postponed (expr_tree e.now))) em.old em.new }
 {
     let postponed = em.context().future_annotations;
     let next = scopes_in_expr(e, postponed, em.next_scope());
@@ -31,8 +30,7 @@ pub(crate) fn pass_expression(em: &mut Emitter, e: &Expr) -> Result<(), CodegenE
 /// OutOfMemory alone.
 #[tactic(auto, unfolding(py_emit::specs::States::rest))]
 pub(crate) fn pass_annotation(em: &mut Emitter, e: &Expr) -> Result<(), CodegenError>
-    ensures goes { Goes result (state em.new) (pass_scopes (λ postponed. scopes_in_note postponed (expr_tree e.now)) (state em.old)) }
-    ensures same { Same result (rest em.new) (rest em.old) }
+    ensures { Emits result (pass_scopes (λ postponed. scopes_in_note postponed (expr_tree e.now))) em.old em.new }
 {
     let postponed = em.context().future_annotations;
     let next = scopes_in_annotation(e, postponed, em.next_scope());
@@ -56,8 +54,7 @@ fn scopes_in_annotation(e: &Expr, postponed: bool, count: usize) -> Option<usize
 /// OutOfMemory alone.
 #[tactic(auto, unfolding(py_emit::specs::States::rest))]
 pub(crate) fn pass_assertion(em: &mut Emitter, s: &StmtAssert) -> Result<(), CodegenError>
-    ensures goes { Goes result (state em.new) (pass_scopes (λ postponed. scopes_in postponed (expr_tree s.now.test.value) + scopes_in_opt postponed (opt_box expr_tree s.now.msg)) (state em.old)) }
-    ensures same { Same result (rest em.new) (rest em.old) }
+    ensures { Emits result (pass_scopes (λ postponed. scopes_in postponed (expr_tree s.now.test.value) + scopes_in_opt postponed (opt_box expr_tree s.now.msg))) em.old em.new }
 {
     let postponed = em.context().future_annotations;
     let next = scopes_in_assertion(s, postponed, em.next_scope());

@@ -1,12 +1,12 @@
 //! What raises an exception: `raise` and `assert`.
 ghost use Rattle.std.specs.Prelude.{◌≡◌};
 ghost use Rattle.py_tree.specs.Tree.{some_expr};
-ghost use Rattle.py_tree.specs.View.{assert_tree, expr_tree, opt_box, raise_tree};
+ghost use Rattle.py_tree.specs.View.{expr_tree, opt_box, raise_tree};
 ghost use Rattle.py_emission.specs.Emission.{emission_of_test};
 ghost use Rattle.py_meaning.specs.ControlEmissions.{asserted};
 ghost use Rattle.py_meaning.specs.EmissionStmts.{emission_of_assert, emission_of_message, emission_of_raise, emission_of_stmt};
 ghost use Rattle.py_meaning.specs.StmtParts.{message_count};
-ghost use Rattle.py_emit.specs.States.{Goes, Same, rest, state};
+ghost use Rattle.py_emit.specs.States.{Emits, rest, state};
 
 use crate::passed::pass_assertion;
 use py_bytecode::Instruction;
@@ -17,10 +17,9 @@ use py_tree::{Expr, StmtAssert, StmtRaise};
 
 #[tactic(auto, using(crate::proofs::Steps::steps))]
 pub(crate) fn compile_raise(em: &mut Emitter, s: &StmtRaise) -> Result<(), CodegenError>
-    ensures goes { Goes result (state em.new) (emission_of_stmt (raise_tree s.now) (state em.old)) }
-    ensures same { Same result (rest em.new) (rest em.old) }
+    requires at { (state em.old).location ≡ s.now.location }
+    ensures { Emits result (emission_of_stmt (raise_tree s.now)) em.old em.new }
 {
-    em.set_location(s.location);
     match &s.exc {
         None => {
             emit!(em, Instruction::Raise, 2);
@@ -32,8 +31,7 @@ pub(crate) fn compile_raise(em: &mut Emitter, s: &StmtRaise) -> Result<(), Codeg
 
 /// Emits an exception and its cause, where it has one, and what raises it.
 fn raise_value(em: &mut Emitter, exc: &Expr, cause: &Option<Box<Expr>>) -> Result<(), CodegenError>
-    ensures goes { Goes result (state em.new) (emission_of_raise (some_expr (expr_tree exc.now)) (opt_box expr_tree cause.now) (state em.old)) }
-    ensures same { Same result (rest em.new) (rest em.old) }
+    ensures { Emits result (emission_of_raise (some_expr (expr_tree exc.now)) (opt_box expr_tree cause.now)) em.old em.new }
 {
     compile_expression(em, exc)?;
     match cause {
@@ -47,19 +45,9 @@ fn raise_value(em: &mut Emitter, exc: &Expr, cause: &Option<Box<Expr>>) -> Resul
 }
 
 /// Emits an assertion, at level 0. Above it is only scanned.
-#[tactic(auto, using(crate::proofs::Steps::steps))]
-pub(crate) fn compile_assert(em: &mut Emitter, s: &StmtAssert) -> Result<(), CodegenError>
-    ensures goes { Goes result (state em.new) (emission_of_stmt (assert_tree s.now) (state em.old)) }
-    ensures same { Same result (rest em.new) (rest em.old) }
-{
-    em.set_location(s.location);
-    compile_assertion(em, s)
-}
-
 #[tactic(auto, unfolding(py_emit::specs::States::rest))]
-fn compile_assertion(em: &mut Emitter, s: &StmtAssert) -> Result<(), CodegenError>
-    ensures goes { Goes result (state em.new) (emission_of_assert (expr_tree s.now.test.value) (opt_box expr_tree s.now.msg) (state em.old).around.context.level (state em.old)) }
-    ensures same { Same result (rest em.new) (rest em.old) }
+pub(crate) fn compile_assert(em: &mut Emitter, s: &StmtAssert) -> Result<(), CodegenError>
+    ensures { Emits result (emission_of_assert (expr_tree s.now.test.value) (opt_box expr_tree s.now.msg) (state em.old).around.context.level) em.old em.new }
 {
     if em.opts().optimize == 0 {
         return compile_asserted(em, s);
@@ -69,8 +57,7 @@ fn compile_assertion(em: &mut Emitter, s: &StmtAssert) -> Result<(), CodegenErro
 
 #[tactic(auto, using(crate::proofs::Steps::steps))]
 fn compile_asserted(em: &mut Emitter, s: &StmtAssert) -> Result<(), CodegenError>
-    ensures goes { Goes result (state em.new) (asserted (emission_of_test (expr_tree s.now.test.value)) (emission_of_message (opt_box expr_tree s.now.msg)) (message_count (opt_box expr_tree s.now.msg)) (state em.old)) }
-    ensures same { Same result (rest em.new) (rest em.old) }
+    ensures { Emits result (asserted (emission_of_test (expr_tree s.now.test.value)) (emission_of_message (opt_box expr_tree s.now.msg)) (message_count (opt_box expr_tree s.now.msg))) em.old em.new }
 {
     let end = em.new_block()?;
     compile_jump_if(em, &s.test, true, end)?;
@@ -84,8 +71,7 @@ fn compile_asserted(em: &mut Emitter, s: &StmtAssert) -> Result<(), CodegenError
 
 /// Emits the message of an assertion, where there is one.
 fn compile_message(em: &mut Emitter, msg: &Option<Box<Expr>>) -> Result<(), CodegenError>
-    ensures goes { Goes result (state em.new) (emission_of_message (opt_box expr_tree msg.now) (state em.old)) }
-    ensures same { Same result (rest em.new) (rest em.old) }
+    ensures { Emits result (emission_of_message (opt_box expr_tree msg.now)) em.old em.new }
 {
     match msg {
         None => Ok(()),

@@ -1,10 +1,10 @@
 //! `try`, its handlers and its last part.
-ghost use Rattle.std.specs.Prelude.{◌<◌};
+ghost use Rattle.std.specs.Prelude.{◌≡◌, ◌<◌};
 ghost use Rattle.py_tree.specs.View.{expr_tree, handlers as handler_trees, opt_box, stmt_tree, stmts, try_tree};
 ghost use Rattle.py_emission.specs.Emission.{emission};
 ghost use Rattle.py_meaning.specs.ControlEmissions.{before_last, caught, finally_do, forgotten, named_body, to_last, typed_match};
 ghost use Rattle.py_meaning.specs.EmissionStmts.{emission_of_handlers, emission_of_last, emission_of_stmt, emission_of_stmts};
-ghost use Rattle.py_emit.specs.States.{AreMade, Goes, Same, rest, state};
+ghost use Rattle.py_emit.specs.States.{AreMade, Emits, rest, state};
 ghost use Rattle.py_stmt.specs.Parts.{emission_of_caught, emission_of_handler, emission_of_match, guarded, handled, try_by_parts, unguarded};
 
 use crate::statements::compile_statements;
@@ -20,10 +20,9 @@ use py_tree::{ExceptHandler, Expr, Stmt, StmtTry, Text};
 #[tactic(auto, using(crate::proofs::Steps::steps))]
 pub(crate) fn compile_try(em: &mut Emitter, s: &StmtTry) -> Result<(), CodegenError>
     requires loops { AreMade (rest em.old).context.loop_blocks }
-    ensures goes { Goes result (state em.new) (emission_of_stmt (try_tree s.now) (state em.old)) }
-    ensures same { Same result (rest em.new) (rest em.old) }
+    requires at { (state em.old).location ≡ s.now.location }
+    ensures { Emits result (emission_of_stmt (try_tree s.now)) em.old em.new }
 {
-    em.set_location(s.location);
     compile_parts(em, s, !s.finalbody.is_empty())
 }
 
@@ -32,8 +31,7 @@ pub(crate) fn compile_try(em: &mut Emitter, s: &StmtTry) -> Result<(), CodegenEr
 #[tactic(auto, using(crate::proofs::Steps::steps))]
 fn compile_parts(em: &mut Emitter, s: &StmtTry, last: bool) -> Result<(), CodegenError>
     requires loops { AreMade (rest em.old).context.loop_blocks }
-    ensures goes { Goes result (state em.new) (try_by_parts last (emission_of_stmts (stmts stmt_tree s.now.body)) (emission_of_handlers (handler_trees stmt_tree s.now.handlers) last) (emission_of_stmts (stmts stmt_tree s.now.orelse)) (emission_of_last (stmts stmt_tree s.now.finalbody) (emission_of_stmts (stmts stmt_tree s.now.finalbody))) (state em.old)) }
-    ensures same { Same result (rest em.new) (rest em.old) }
+    ensures { Emits result (try_by_parts last (emission_of_stmts (stmts stmt_tree s.now.body)) (emission_of_handlers (handler_trees stmt_tree s.now.handlers) last) (emission_of_stmts (stmts stmt_tree s.now.orelse)) (emission_of_last (stmts stmt_tree s.now.finalbody) (emission_of_stmts (stmts stmt_tree s.now.finalbody)))) em.old em.new }
 {
     let catch = em.new_block()?;
     let other = em.new_block()?;
@@ -60,8 +58,7 @@ fn compile_guarded(
     requires catch { blocks.0.0 < 0xffff_ffff }
     requires other { blocks.1.0 < 0xffff_ffff }
     requires end { blocks.2.0 < 0xffff_ffff }
-    ensures goes { Goes result (state em.new) (guarded last (emission_of_stmts (stmts stmt_tree body.now)) blocks.0.0 blocks.1.0 blocks.2.0 (state em.old)) }
-    ensures same { Same result (rest em.new) (rest em.old) }
+    ensures { Emits result (guarded last (emission_of_stmts (stmts stmt_tree body.now)) blocks.0.0 blocks.1.0 blocks.2.0) em.old em.new }
 {
     let (catch, other, end) = blocks;
     set_up_last(em, last, end)?;
@@ -76,8 +73,7 @@ fn compile_guarded(
 #[cycle(code)]
 fn compile_unguarded(em: &mut Emitter, orelse: &[Stmt], last: bool) -> Result<(), CodegenError>
     requires loops { AreMade (rest em.old).context.loop_blocks }
-    ensures goes { Goes result (state em.new) (unguarded last (emission_of_stmts (stmts stmt_tree orelse.now)) (state em.old)) }
-    ensures same { Same result (rest em.new) (rest em.old) }
+    ensures { Emits result (unguarded last (emission_of_stmts (stmts stmt_tree orelse.now))) em.old em.new }
 {
     compile_statements(em, orelse)?;
     enter_last(em, last)
@@ -86,8 +82,7 @@ fn compile_unguarded(em: &mut Emitter, orelse: &[Stmt], last: bool) -> Result<()
 /// Emits what sets a last part up, where there is one.
 fn set_up_last(em: &mut Emitter, last: bool, end: BlockIdx) -> Result<(), CodegenError>
     requires end { end.0 < 0xffff_ffff }
-    ensures goes { Goes result (state em.new) (before_last last end.0 (state em.old)) }
-    ensures same { Same result (rest em.new) (rest em.old) }
+    ensures { Emits result (before_last last end.0) em.old em.new }
 {
     if last {
         emit!(em, Instruction::SetupFinally => end);
@@ -97,8 +92,7 @@ fn set_up_last(em: &mut Emitter, last: bool, end: BlockIdx) -> Result<(), Codege
 
 /// Emits what enters a last part, where there is one.
 fn enter_last(em: &mut Emitter, last: bool) -> Result<(), CodegenError>
-    ensures goes { Goes result (state em.new) (to_last last (state em.old)) }
-    ensures same { Same result (rest em.new) (rest em.old) }
+    ensures { Emits result (to_last last) em.old em.new }
 {
     if last {
         emit!(em, Instruction::PopBlock);
@@ -111,8 +105,7 @@ fn enter_last(em: &mut Emitter, last: bool) -> Result<(), CodegenError>
 #[cycle(code)]
 fn compile_last(em: &mut Emitter, body: &[Stmt]) -> Result<(), CodegenError>
     requires loops { AreMade (rest em.old).context.loop_blocks }
-    ensures goes { Goes result (state em.new) (emission_of_last (stmts stmt_tree body.now) (emission_of_stmts (stmts stmt_tree body.now)) (state em.old)) }
-    ensures same { Same result (rest em.new) (rest em.old) }
+    ensures { Emits result (emission_of_last (stmts stmt_tree body.now) (emission_of_stmts (stmts stmt_tree body.now))) em.old em.new }
 {
     if body.is_empty() {
         return Ok(());
@@ -132,8 +125,7 @@ fn compile_handlers(
 ) -> Result<(), CodegenError>
     requires loops { AreMade (rest em.old).context.loop_blocks }
     requires end { end.0 < 0xffff_ffff }
-    ensures goes { Goes result (state em.new) (emission_of_handlers (handler_trees stmt_tree handlers.now) last end.0 (state em.old)) }
-    ensures same { Same result (rest em.new) (rest em.old) }
+    ensures { Emits result (emission_of_handlers (handler_trees stmt_tree handlers.now) last end.0) em.old em.new }
 {
     for handler in handlers {
         compile_handler(em, handler, last, end)?;
@@ -153,8 +145,7 @@ fn compile_handler(
 ) -> Result<(), CodegenError>
     requires loops { AreMade (rest em.old).context.loop_blocks }
     requires end { end.0 < 0xffff_ffff }
-    ensures goes { Goes result (state em.new) (emission_of_handler (opt_box expr_tree handler.now.type_) handler.now.name (stmts stmt_tree handler.now.body) last end.0 (state em.old)) }
-    ensures same { Same result (rest em.new) (rest em.old) }
+    ensures { Emits result (emission_of_handler (opt_box expr_tree handler.now.type_) handler.now.name (stmts stmt_tree handler.now.body) last end.0) em.old em.new }
 {
     let next = em.new_block()?;
     compile_match(em, &handler.type_, &handler.name, next)?;
@@ -172,8 +163,7 @@ fn compile_match(
     next: BlockIdx,
 ) -> Result<(), CodegenError>
     requires next { next.0 < 0xffff_ffff }
-    ensures goes { Goes result (state em.new) (emission_of_match (opt_box expr_tree type_.now) name.now next.0 (state em.old)) }
-    ensures same { Same result (rest em.new) (rest em.old) }
+    ensures { Emits result (emission_of_match (opt_box expr_tree type_.now) name.now next.0) em.old em.new }
 {
     match type_ {
         None => {
@@ -191,8 +181,7 @@ fn compile_typed(
     next: BlockIdx,
 ) -> Result<(), CodegenError>
     requires next { next.0 < 0xffff_ffff }
-    ensures goes { Goes result (state em.new) (typed_match (emission (expr_tree type_.now)) (caught name.now) next.0 (state em.old)) }
-    ensures same { Same result (rest em.new) (rest em.old) }
+    ensures { Emits result (typed_match (emission (expr_tree type_.now)) (caught name.now) next.0) em.old em.new }
 {
     emit!(em, Instruction::Duplicate);
     compile_expression(em, type_)?;
@@ -203,8 +192,7 @@ fn compile_typed(
 
 /// Emits what stores the exception to the name of a handler, or drops it.
 fn store_caught(em: &mut Emitter, name: &Option<Text>) -> Result<(), CodegenError>
-    ensures goes { Goes result (state em.new) (caught name.now (state em.old)) }
-    ensures same { Same result (rest em.new) (rest em.old) }
+    ensures { Emits result (caught name.now) em.old em.new }
 {
     match name {
         None => {
@@ -219,8 +207,7 @@ fn store_caught(em: &mut Emitter, name: &Option<Text>) -> Result<(), CodegenErro
 #[cycle(code)]
 fn compile_caught(em: &mut Emitter, handler: &ExceptHandler) -> Result<(), CodegenError>
     requires loops { AreMade (rest em.old).context.loop_blocks }
-    ensures goes { Goes result (state em.new) (emission_of_caught (opt_box expr_tree handler.now.type_) handler.now.name (emission_of_stmts (stmts stmt_tree handler.now.body)) (state em.old)) }
-    ensures same { Same result (rest em.new) (rest em.old) }
+    ensures { Emits result (emission_of_caught (opt_box expr_tree handler.now.type_) handler.now.name (emission_of_stmts (stmts stmt_tree handler.now.body))) em.old em.new }
 {
     match &handler.type_ {
         None => compile_statements(em, handler.body.as_slice()),
@@ -232,8 +219,7 @@ fn compile_caught(em: &mut Emitter, handler: &ExceptHandler) -> Result<(), Codeg
 #[cycle(code)]
 fn compile_named(em: &mut Emitter, name: &Option<Text>, body: &[Stmt]) -> Result<(), CodegenError>
     requires loops { AreMade (rest em.old).context.loop_blocks }
-    ensures goes { Goes result (state em.new) (named_body name.now (emission_of_stmts (stmts stmt_tree body.now)) (state em.old)) }
-    ensures same { Same result (rest em.new) (rest em.old) }
+    ensures { Emits result (named_body name.now (emission_of_stmts (stmts stmt_tree body.now))) em.old em.new }
 {
     match name {
         None => compile_statements(em, body),
@@ -245,8 +231,7 @@ fn compile_named(em: &mut Emitter, name: &Option<Text>, body: &[Stmt]) -> Result
 #[tactic(auto, using(crate::proofs::Steps::steps))]
 fn compile_forgetting(em: &mut Emitter, name: &Text, body: &[Stmt]) -> Result<(), CodegenError>
     requires loops { AreMade (rest em.old).context.loop_blocks }
-    ensures goes { Goes result (state em.new) (finally_do (emission_of_stmts (stmts stmt_tree body.now)) (forgotten name.now) (state em.old)) }
-    ensures same { Same result (rest em.new) (rest em.old) }
+    ensures { Emits result (finally_do (emission_of_stmts (stmts stmt_tree body.now)) (forgotten name.now)) em.old em.new }
 {
     let end = em.new_block()?;
     emit!(em, Instruction::SetupFinally => end);
@@ -261,8 +246,7 @@ fn compile_forgetting(em: &mut Emitter, name: &Text, body: &[Stmt]) -> Result<()
 /// Emits what sets a name to None and deletes it.
 #[tactic(auto, using(py_bytecode::proofs::View::views))]
 fn forget(em: &mut Emitter, name: &Text) -> Result<(), CodegenError>
-    ensures goes { Goes result (state em.new) (forgotten name.now (state em.old)) }
-    ensures same { Same result (rest em.new) (rest em.old) }
+    ensures { Emits result (forgotten name.now) em.old em.new }
 {
     em.load_const(ConstantData::None)?;
     em.access(NameUsage::Store, name.as_str())?;
@@ -272,8 +256,7 @@ fn forget(em: &mut Emitter, name: &Text) -> Result<(), CodegenError>
 /// Emits the way out of a handler.
 fn leave_handler(em: &mut Emitter, last: bool, end: BlockIdx) -> Result<(), CodegenError>
     requires end { end.0 < 0xffff_ffff }
-    ensures goes { Goes result (state em.new) (handled last end.0 (state em.old)) }
-    ensures same { Same result (rest em.new) (rest em.old) }
+    ensures { Emits result (handled last end.0) em.old em.new }
 {
     emit!(em, Instruction::PopException);
     enter_last(em, last)?;

@@ -1,9 +1,9 @@
 //! `with`: what is entered before a body and left on every way out of it.
 ghost use Rattle.std.specs.Prelude.{◌≡◌, ◌<◌, [], ◌∷◌, ◌++◌, IfErr, IfOk, OnOk};
-ghost use Rattle.py_tree.specs.View.{expr_tree, opt_box, stmt_tree, stmts, with_items, with_tree};
+ghost use Rattle.py_tree.specs.View.{expr_tree, opt_box, stmt_tree, stmts, with_items};
 ghost use Rattle.py_emission.specs.Emission.{emission};
-ghost use Rattle.py_meaning.specs.EmissionStmts.{emission_of_item, emission_of_items, emission_of_stmt};
-ghost use Rattle.py_emit.specs.States.{AreMade, Goes, IsStarved, Same, rest, state};
+ghost use Rattle.py_meaning.specs.EmissionStmts.{emission_of_item, emission_of_items};
+ghost use Rattle.py_emit.specs.States.{AreMade, Emits, IsStarved, Same, rest, state};
 ghost use Rattle.py_emit.specs.Steps.{IsOpen};
 ghost use Rattle.py_stmt.specs.Managing.{AllOpen, AreEntered, IsRefusing, entered, full_body, left, left_all, some_items, stored_at};
 
@@ -15,23 +15,11 @@ use py_forms::{CodegenError, CodegenErrorType};
 use py_ir::BlockIdx;
 use py_tree::{Expr, List, SourceLocation, Stmt, StmtWith, WithItem};
 
-#[cycle(code)]
-#[tactic(auto, using(crate::proofs::Steps::steps))]
-pub(crate) fn compile_with(em: &mut Emitter, s: &StmtWith) -> Result<(), CodegenError>
-    requires loops { AreMade (rest em.old).context.loop_blocks }
-    ensures goes { Goes result (state em.new) (emission_of_stmt (with_tree s.now) (state em.old)) }
-    ensures same { Same result (rest em.new) (rest em.old) }
-{
-    em.set_location(s.location);
-    compile_some_items(em, s)
-}
-
 /// Emits what enters the items, of which there has to be one, the body, and what leaves the items.
 #[cycle(code)]
-fn compile_some_items(em: &mut Emitter, s: &StmtWith) -> Result<(), CodegenError>
+pub(crate) fn compile_with(em: &mut Emitter, s: &StmtWith) -> Result<(), CodegenError>
     requires loops { AreMade (rest em.old).context.loop_blocks }
-    ensures goes { Goes result (state em.new) (some_items s.now.location (with_items s.now.items) (full_body (stmts stmt_tree s.now.body)) (state em.old)) }
-    ensures same { Same result (rest em.new) (rest em.old) }
+    ensures { Emits result (some_items s.now.location (with_items s.now.items) (full_body (stmts stmt_tree s.now.body))) em.old em.new }
 {
     if s.items.is_empty() {
         refuse!(em, CodegenErrorType::EmptyWithItems);
@@ -43,8 +31,7 @@ fn compile_some_items(em: &mut Emitter, s: &StmtWith) -> Result<(), CodegenError
 #[cycle(code)]
 fn compile_managed(em: &mut Emitter, s: &StmtWith) -> Result<(), CodegenError>
     requires loops { AreMade (rest em.old).context.loop_blocks }
-    ensures goes { Goes result (state em.new) (emission_of_items s.now.location (with_items s.now.items) (full_body (stmts stmt_tree s.now.body)) (state em.old)) }
-    ensures same { Same result (rest em.new) (rest em.old) }
+    ensures { Emits result (emission_of_items s.now.location (with_items s.now.items) (full_body (stmts stmt_tree s.now.body))) em.old em.new }
 {
     let ends = enter_items(em, &s.location, s.items.as_slice())?;
     compile_body(em, s.body.as_slice())?;
@@ -55,8 +42,7 @@ fn compile_managed(em: &mut Emitter, s: &StmtWith) -> Result<(), CodegenError>
 #[cycle(code)]
 fn compile_body(em: &mut Emitter, body: &[Stmt]) -> Result<(), CodegenError>
     requires loops { AreMade (rest em.old).context.loop_blocks }
-    ensures goes { Goes result (state em.new) (full_body (stmts stmt_tree body.now) (state em.old)) }
-    ensures same { Same result (rest em.new) (rest em.old) }
+    ensures { Emits result (full_body (stmts stmt_tree body.now)) em.old em.new }
 {
     if body.is_empty() {
         refuse!(em, CodegenErrorType::EmptyWithBody);
@@ -105,8 +91,7 @@ fn enter_item(
     ensures number { IfOk result (λ end. end.0 ≡ (state em.old).blocks) }
     ensures below { IfOk result (λ end. end.0 < 0xffff_ffff) }
     ensures open { IfOk result (λ end. IsOpen end.0 (state em.new)) }
-    ensures goes { Goes result (state em.new) (entered location.now (emission (expr_tree item.now.context_expr.value)) (emission_of_item (opt_box expr_tree item.now.optional_vars)) (state em.old)) }
-    ensures same { Same result (rest em.new) (rest em.old) }
+    ensures emits { Emits result (entered location.now (emission (expr_tree item.now.context_expr.value)) (emission_of_item (opt_box expr_tree item.now.optional_vars))) em.old em.new }
 {
     let end = em.new_block()?;
     compile_expression(em, &item.context_expr)?;
@@ -118,8 +103,7 @@ fn enter_item(
 
 /// Emits what stores the value that an item gives to its target, or drops it.
 fn store_entered(em: &mut Emitter, target: &Option<Box<Expr>>) -> Result<(), CodegenError>
-    ensures goes { Goes result (state em.new) (emission_of_item (opt_box expr_tree target.now) (state em.old)) }
-    ensures same { Same result (rest em.new) (rest em.old) }
+    ensures { Emits result (emission_of_item (opt_box expr_tree target.now)) em.old em.new }
 {
     match target {
         None => {
@@ -133,8 +117,7 @@ fn store_entered(em: &mut Emitter, target: &Option<Box<Expr>>) -> Result<(), Cod
 /// Emits the store to a target, which stands where the target does.
 #[tactic(auto, using(crate::proofs::Steps::steps))]
 fn store_at(em: &mut Emitter, target: &Expr) -> Result<(), CodegenError>
-    ensures goes { Goes result (state em.new) (stored_at (expr_tree target.now) (state em.old)) }
-    ensures same { Same result (rest em.new) (rest em.old) }
+    ensures { Emits result (stored_at (expr_tree target.now)) em.old em.new }
 {
     em.set_location(target.location());
     compile_store(em, target)
@@ -147,8 +130,7 @@ fn leave_items(
     ends: List<BlockIdx>,
 ) -> Result<(), CodegenError>
     requires open { AllOpen ends (state em.old) }
-    ensures goes { Goes result (state em.new) (left_all location.now ends (state em.old)) }
-    ensures same { Same result (rest em.new) (rest em.old) }
+    ensures { Emits result (left_all location.now ends) em.old em.new }
 {
     let mut ends = ends;
     while let Some(end) = ends.pop() {
@@ -166,8 +148,7 @@ fn leave_item(
 ) -> Result<(), CodegenError>
     requires open { IsOpen end.0 (state em.old) }
     requires below { end.0 < 0xffff_ffff }
-    ensures goes { Goes result (state em.new) (left location.now end.0 (state em.old)) }
-    ensures same { Same result (rest em.new) (rest em.old) }
+    ensures { Emits result (left location.now end.0) em.old em.new }
 {
     em.set_location(*location);
     emit!(em, Instruction::PopBlock);

@@ -13,20 +13,21 @@ use Rattle.py_forms.specs.declared.errors.CodegenErrorType.TheVariants as error
 use Rattle.py_steps.specs.TableParts.{deciding}
 use Rattle.py_tree.specs.View.{expr_tree, exprs, opt_exprs}
 use Rattle.py_steps.specs.Elements.{Callee, Element}
-use Rattle.py_steps.specs.Emitting.{Emission, emit_count}
+use Rattle.py_steps.specs.Emitting.{Emission, emit_count, located}
 use Rattle.py_steps.specs.EmissionParts.{Emissions, elements, in_turn, some_test, some_values, values}
-use Rattle.py_emission.specs.Emission.{all_emissions, emissions, opt_emissions}
+use Rattle.py_emission.specs.Emission.{all_emissions, emission, emission_of_return, emissions, opt_emissions}
 use Rattle.py_emit.specs.States.{state}
 use Rattle.py_emit.proofs.Joined.{first_refuses, goes_as, refuses_as, same_error, went}
 use Rattle.py_expr.specs.Calling.{callee_value, is_method}
 use Rattle.py_expr.specs.Turns.{element_behind, group_count, group_rest, groups_by, run_behind}
-use Rattle.py_expr.proofs.+code.Answers.CallSteps.{call_goes, named_goes, plain_goes, positional_plain, tuple_plain, type_taken}
+use Rattle.py_expr.proofs.+code.Answers.CallSteps.{call_entered, named_goes, plain_goes, positional_plain, tuple_plain, type_taken}
 use Rattle.py_expr.proofs.+code.Answers.ClauseSteps.{clause_begins, clause_refused, clauses_go_on, condition_refused, conditions_go_on, end_is, end_waits, start_waits}
 use Rattle.py_expr.proofs.+code.Answers.ComprehensionSteps.{body_refused, clauses_closed, clauses_refused, clauses_wait, comprehension_awaits, comprehension_called, comprehension_goes, comprehension_inner, comprehension_left, comprehension_made, comprehension_refused, dict_goes, function_refused, generator_goes, iterable_refused, no_generator, turn_refused, unstarred_done, unstarred_refused}
 use Rattle.py_expr.proofs.+code.Answers.LambdaSteps.{defaults_refused, lambda_goes, lambda_inner, lambda_left, lambda_not_begun, lambda_refused, scope_refused}
 use Rattle.py_expr.proofs.+code.Answers.MapLoops.{keyword_refused, map_alone, map_refused, maps_begin, maps_go_on, maps_joined}
 use Rattle.py_expr.proofs.+code.Answers.StoreLoops.{attribute_stored, element_stored, store_refused, stores_go_on}
 use Rattle.py_expr.proofs.+code.Answers.PairLoops.{begin_refused, end_refused, entries_begin, entries_done, entries_go_on, value_refused}
+use Rattle.py_expr.proofs.Entering.{entering, entering_return}
 use Rattle.py_expr.proofs.Mapping.{values_at}
 use Rattle.py_expr.proofs.Groups.{display_plain, elements_at, few_groups, groups_count, groups_rest, many_values, none_more}
 use Rattle.py_expr.proofs.Otherwise.{function_callee, plain_element, truth_test, value_return}
@@ -35,6 +36,24 @@ use Rattle.py_expr.proofs.Signatures.{inside_function}
 use Rattle.py_expr.proofs.Steps.{many_emissions}
 use Rattle.py_expr.proofs.Turns.{a_chain, either_jump, even_dict, if_not, if_so, links_at, many_keys, no_operand, one_comparison, other_test, path_of, refused_shape, shorts_at, tests_at, uneven_dict, uneven_lists}
 use Rattle.py_expr.proofs.+code.Goals as goal
+
+pub expressions::compile_expression-returns : goal.expressions::compile_expression-returns
+expressions::compile_expression-returns t c = record {
+  goes =
+      let e = expr_tree c.args.expr.now in
+      let s = state c.args.em.now in
+      goes_as _ _ _ _ (entering e s ∙ ap (λ at. emission e (located at s)) (sym c.location.ensures) ∙ ap (emission e) (sym c.set_location.ensures.state)) c.compile_entered.ensures.goes;
+  same = search rules;
+}
+
+pub returns::compile_return-returns : goal.returns::compile_return-returns
+returns::compile_return-returns t c = record {
+  goes =
+      let e = expr_tree c.args.expr.now in
+      let s = state c.args.em.now in
+      goes_as _ _ _ _ (entering_return e s ∙ ap (λ at. emission_of_return e (located at s)) (sym c.location.ensures) ∙ ap (emission_of_return e) (sym c.set_location.ensures.state)) c.return_entered.ensures.goes;
+  same = search rules;
+}
 
 pub conditions::compile_bool_value-returns-then-is_empty : goal.conditions::compile_bool_value-returns-then-is_empty
 conditions::compile_bool_value-returns-then-is_empty t c =
@@ -108,27 +127,27 @@ expressions::compile_if_exp-switch_to_block-requires-2 t c =
     let g = begin_opens _ _ _ out (λ e. other (sym e)) c.switch_to_block.ensures.state j in
     record { made = expr_opens (expr_tree c.deref-3.result.now) _ _ _ c.in_ok-compile_expression-2.ensures.goes g; below = c.in_ok-end.ensures.below }
 
-pub comparisons::compile_comparisons-returns : goal.comparisons::compile_comparisons-returns
-comparisons::compile_comparisons-returns t c =
+pub comparisons::compile_compare-returns : goal.comparisons::compile_compare-returns
+comparisons::compile_compare-returns t c =
     let es = all_emissions (exprs expr_tree c.args.e.now.comparators) in
     let long = c.len-count.ensures in
     let wide = c.len.ensures ∙ sym (many_emissions c.args.e.now.comparators) in
     record { goes = goes_as _ _ _ _ (ap (λ (f : Emission). f (state c.args.em.now)) (one_comparison (emissions (expr_tree c.args.e.now.left.value)).value c.args.e.now.ops es (λ e. c.if-count-eq0.false (long ∙ e)) (sym long ∙ c.if-count-len.false ∙ wide) (λ h. absurd (let g = c.if-count-gt1.false in omega (arith, h, g, long))))) c.compile_one_comparison.ensures.goes; same = c.compile_one_comparison.ensures.same }
 
-pub comparisons::compile_comparisons-returns-then-count-eq0 : goal.comparisons::compile_comparisons-returns-then-count-eq0
-comparisons::compile_comparisons-returns-then-count-eq0 t c =
+pub comparisons::compile_compare-returns-then-count-eq0 : goal.comparisons::compile_compare-returns-then-count-eq0
+comparisons::compile_compare-returns-then-count-eq0 t c =
     let es = all_emissions (exprs expr_tree c.args.e.now.comparators) in
     record { goes = λ n. ap (λ (f : Emission). f (state c.args.em.now)) (no_operand (emissions (expr_tree c.args.e.now.left.value)).value c.args.e.now.ops es (sym c.len-count.ensures ∙ c.if-count-eq0.true)) ∙ refused_shape _ (state c.args.em.now) _ c.refuse-error.result c.refuse-error.ensures; same = path_of _ (state c.args.em.now) _ c.refuse-error.result c.refuse-error.ensures }
 
-pub comparisons::compile_comparisons-returns-then-count-gt1 : goal.comparisons::compile_comparisons-returns-then-count-gt1
-comparisons::compile_comparisons-returns-then-count-gt1 t c =
+pub comparisons::compile_compare-returns-then-count-gt1 : goal.comparisons::compile_compare-returns-then-count-gt1
+comparisons::compile_compare-returns-then-count-gt1 t c =
     let es = all_emissions (exprs expr_tree c.args.e.now.comparators) in
     let long = c.len-count.ensures in
     let wide = c.len.ensures ∙ sym (many_emissions c.args.e.now.comparators) in
     record { goes = goes_as _ _ _ _ (ap (λ (f : Emission). f (state c.args.em.now)) (a_chain (emissions (expr_tree c.args.e.now.left.value)).value c.args.e.now.ops es (λ e. c.if-count-eq0.false (long ∙ e)) (sym long ∙ c.if-count-len.false ∙ wide) (subst (λ n. 1 < n) long c.if-count-gt1.true))) c.compile_chain.ensures.goes; same = c.compile_chain.ensures.same }
 
-pub comparisons::compile_comparisons-returns-then-count-len : goal.comparisons::compile_comparisons-returns-then-count-len
-comparisons::compile_comparisons-returns-then-count-len t c =
+pub comparisons::compile_compare-returns-then-count-len : goal.comparisons::compile_compare-returns-then-count-len
+comparisons::compile_compare-returns-then-count-len t c =
     let es = all_emissions (exprs expr_tree c.args.e.now.comparators) in
     let long = c.len-count.ensures in
     let wide = c.len.ensures ∙ sym (many_emissions c.args.e.now.comparators) in
@@ -185,8 +204,10 @@ calls::compile_callee-returns-in_ok-compile_expression-in_default t c =
     let f = function_callee c.args.func.now c.in_default.not-Attribute in
     record {
       method = sym (ap is_method f);
-      goes = ap (λ (v : Callee Emission). callee_value v (state c.args.em.now)) f ∙ c.in_ok-compile_expression-in_default.ensures.goes;
-      same = c.in_ok-compile_expression-in_default.ensures.same;
+      emits = record {
+        goes = ap (λ (v : Callee Emission). callee_value v (state c.args.em.now)) f ∙ c.in_ok-compile_expression-in_default.ensures.goes;
+        same = c.in_ok-compile_expression-in_default.ensures.same;
+      };
     }
 
 pub calls::compile_callee-returns-in_err-compile_expression-in_default : goal.calls::compile_callee-returns-in_err-compile_expression-in_default
@@ -195,8 +216,10 @@ calls::compile_callee-returns-in_err-compile_expression-in_default t c =
     let r : c.from_residual-in_err-compile_expression-in_default.result ≡ Err c.in_err-compile_expression-in_default.field-0.0 = grind arith in
     record {
       method = grind arith;
-      goes = refuses_as _ _ _ _ _ r (ap (λ (v : Callee Emission). callee_value v (state c.args.em.now)) f) c.in_err-compile_expression-in_default.ensures.goes;
-      same = same_error _ _ _ _ _ r c.in_err-compile_expression-in_default.ensures.same refl;
+      emits = record {
+        goes = refuses_as _ _ _ _ _ r (ap (λ (v : Callee Emission). callee_value v (state c.args.em.now)) f) c.in_err-compile_expression-in_default.ensures.goes;
+        same = same_error _ _ _ _ _ r c.in_err-compile_expression-in_default.ensures.same refl;
+      };
     }
 
 pub elements::compile_element-returns-in_ok-compile_expression-in_default : goal.elements::compile_element-returns-in_ok-compile_expression-in_default
@@ -204,8 +227,10 @@ elements::compile_element-returns-in_ok-compile_expression-in_default t c =
     let f = plain_element c.args.elt.now c.in_default.not-Starred in
     record {
       count = sym (ap (groups_by c.args.run) f);
-      goes = ap (λ (v : Element Emission Emission). element_behind c.args.run v (state c.args.em.now)) f ∙ c.in_ok-compile_expression-in_default.ensures.goes;
-      same = c.in_ok-compile_expression-in_default.ensures.same;
+      emits = record {
+        goes = ap (λ (v : Element Emission Emission). element_behind c.args.run v (state c.args.em.now)) f ∙ c.in_ok-compile_expression-in_default.ensures.goes;
+        same = c.in_ok-compile_expression-in_default.ensures.same;
+      };
     }
 
 pub elements::compile_element-returns-in_err-compile_expression-in_default : goal.elements::compile_element-returns-in_err-compile_expression-in_default
@@ -214,34 +239,45 @@ elements::compile_element-returns-in_err-compile_expression-in_default t c =
     let r : c.from_residual-in_err-compile_expression-in_default.result ≡ Err c.in_err-compile_expression-in_default.field-0.0 = grind arith in
     record {
       count = grind arith;
-      goes = refuses_as _ _ _ _ _ r (ap (λ (v : Element Emission Emission). element_behind c.args.run v (state c.args.em.now)) f) c.in_err-compile_expression-in_default.ensures.goes;
-      same = same_error _ _ _ _ _ r c.in_err-compile_expression-in_default.ensures.same refl;
+      emits = record {
+        goes = refuses_as _ _ _ _ _ r (ap (λ (v : Element Emission Emission). element_behind c.args.run v (state c.args.em.now)) f) c.in_err-compile_expression-in_default.ensures.goes;
+        same = same_error _ _ _ _ _ r c.in_err-compile_expression-in_default.ensures.same refl;
+      };
     }
 
 pub conditions::compile_test-returns-in_default : goal.conditions::compile_test-returns-in_default
 conditions::compile_test-returns-in_default t c = record {
-  goes = goes_as _ _ _ _ (ap (λ (f : Emission). f (state c.args.em.now)) (truth_test c.args.expr.now c.in_default.not-BoolOp c.in_default.not-UnaryOp c.args.jump.now.truth c.args.jump.now.block.0)) c.compile_truth.ensures.goes;
-  same = c.compile_truth.ensures.same;
+  goes = goes_as _ _ _ _ (ap (λ (f : Emission). f (state c.args.em.now)) (truth_test c.args.expr.now c.in_default.not-BoolOp c.in_default.not-UnaryOp c.args.jump.now.truth c.args.jump.now.block.0)) c.compile_truth-in_default.ensures.goes;
+  same = c.compile_truth-in_default.ensures.same;
 }
 
-pub displays::compile_display-returns-clause-goes : goal.displays::compile_display-returns-clause-goes
-displays::compile_display-returns-clause-goes t c =
-    goes_as _ _ _ _
-    (ap (λ (f : Emission). f (state c.args.em.now)) (display_plain c.args.elts.now c.args.build c.args.unpack (sym c.has_star.ensures ∙ c.if-has_star.false))
-    ∙ went _ (emit_count c.args.build (length c.args.elts.now)) _ c.in_ok-compile_expressions.ensures.goes)
-    c.emit_count.ensures.goes
+pub displays::compile_display-returns : goal.displays::compile_display-returns
+displays::compile_display-returns t c = record {
+  goes =
+      goes_as _ _ _ _
+      (ap (λ (f : Emission). f (state c.args.em.now)) (display_plain c.args.elts.now c.args.build c.args.unpack (sym c.has_star.ensures ∙ c.if-has_star.false))
+      ∙ went _ (emit_count c.args.build (length c.args.elts.now)) _ c.in_ok-compile_expressions.ensures.goes)
+      c.emit_count.ensures.goes;
+  same = search rules;
+}
 
-pub displays::compile_display-returns-in_err-compile_expressions-clause-goes : goal.displays::compile_display-returns-in_err-compile_expressions-clause-goes
-displays::compile_display-returns-in_err-compile_expressions-clause-goes t c =
-    let r : c.from_residual.result ≡ Err c.in_err-compile_expressions.field-0.0 = grind arith in
-    first_refuses _ _ _ _ _ (emit_count c.args.build (length c.args.elts.now)) r (ap (λ (f : Emission). f (state c.args.em.now)) (display_plain c.args.elts.now c.args.build c.args.unpack (sym c.has_star.ensures ∙ c.if-has_star.false))) c.in_err-compile_expressions.ensures.goes
+pub displays::compile_display-returns-in_err-compile_expressions : goal.displays::compile_display-returns-in_err-compile_expressions
+displays::compile_display-returns-in_err-compile_expressions t c = record {
+  goes =
+      let r : c.from_residual.result ≡ Err c.in_err-compile_expressions.field-0.0 = grind arith in
+      first_refuses _ _ _ _ _ (emit_count c.args.build (length c.args.elts.now)) r (ap (λ (f : Emission). f (state c.args.em.now)) (display_plain c.args.elts.now c.args.build c.args.unpack (sym c.has_star.ensures ∙ c.if-has_star.false))) c.in_err-compile_expressions.ensures.goes;
+  same = search rules;
+}
 
-pub texts::compile_parts-returns-clause-goes : goal.texts::compile_parts-returns-clause-goes
-texts::compile_parts-returns-clause-goes t c =
-    goes_as _ _ _ _
-    (went _ (emit_count op.BuildString (length (values (all_emissions (exprs expr_tree c.args.parts.now))))) _ c.in_ok-compile_expressions.ensures.goes
-    ∙ ap (λ n. emit_count op.BuildString n (state c.compile_expressions.new.em)) (many_values c.args.parts.now))
-    c.emit_count.ensures.goes
+pub texts::compile_parts-returns : goal.texts::compile_parts-returns
+texts::compile_parts-returns t c = record {
+  goes =
+      goes_as _ _ _ _
+      (went _ (emit_count op.BuildString (length (values (all_emissions (exprs expr_tree c.args.parts.now))))) _ c.in_ok-compile_expressions.ensures.goes
+      ∙ ap (λ n. emit_count op.BuildString n (state c.compile_expressions.new.em)) (many_values c.args.parts.now))
+      c.emit_count.ensures.goes;
+  same = search rules;
+}
 
 pub elements::compile_groups-loop-elt-init : goal.elements::compile_groups-loop-elt-init
 elements::compile_groups-loop-elt-init t c =
@@ -260,32 +296,35 @@ elements::compile_groups-loop-elt-preserved t c =
     let most = c.loop-elt.invariant.3 in
     let next = ap (group_count c.loop-elt.run) here in
     let last = ap (λ n. group_count n left) behind in (
-      c.in_ok-groups.ensures.same ∙ c.loop-elt.invariant.0,
+      c.in_ok-groups.ensures.emits.same ∙ c.loop-elt.invariant.0,
       c.loop-elt.invariant.1
           ∙ ap (λ (es : List (Element Emission Emission)). group_rest c.loop-elt.run es (state c.loop-elt.em)) here
-          ∙ went _ (group_rest (run_behind c.loop-elt.run e) left) _ c.in_ok-groups.ensures.goes
+          ∙ went _ (group_rest (run_behind c.loop-elt.run e) left) _ c.in_ok-groups.ensures.emits.goes
           ∙ ap (λ n. group_rest n left (state c.compile_element.new.em)) (sym behind),
       omega (arith, all, next, many, last),
       omega (arith, most, few, many, behind),
     )
 
-pub elements::compile_groups-returns-in_err-groups-clause-goes : goal.elements::compile_groups-returns-in_err-groups-clause-goes
-elements::compile_groups-returns-in_err-groups-clause-goes t c =
-    let r : c.from_residual.result ≡ Err c.in_err-groups.field-0.0 = grind arith in
-    first_refuses _ _ _ _ _ _ r
-    (c.loop-elt.invariant.1 ∙ ap (λ (es : List (Element Emission Emission)). group_rest c.loop-elt.run es (state c.loop-elt.em)) (elements_at c.args.elts.now c.loop-elt.elt-index _ c.elt-item.result c.elt-item.is c.loop-elt-test.true))
-    c.in_err-groups.ensures.goes
+pub elements::compile_groups-returns-in_err-groups-clause-emits : goal.elements::compile_groups-returns-in_err-groups-clause-emits
+elements::compile_groups-returns-in_err-groups-clause-emits t c = record {
+  goes =
+      let r : c.from_residual.result ≡ Err c.in_err-groups.field-0.0 = grind arith in
+      first_refuses _ _ _ _ _ _ r
+      (c.loop-elt.invariant.1 ∙ ap (λ (es : List (Element Emission Emission)). group_rest c.loop-elt.run es (state c.loop-elt.em)) (elements_at c.args.elts.now c.loop-elt.elt-index _ c.elt-item.result c.elt-item.is c.loop-elt-test.true))
+      c.in_err-groups.ensures.emits.goes;
+  same = search rules;
+}
 
-pub displays::compile_dict_display-returns-then-count-len : goal.displays::compile_dict_display-returns-then-count-len
-displays::compile_dict_display-returns-then-count-len t c =
+pub displays::compile_dict-returns-then-count-len : goal.displays::compile_dict-returns-then-count-len
+displays::compile_dict-returns-then-count-len t c =
     let ks = opt_emissions (opt_exprs expr_tree c.args.e.now.keys) in
     let vs = values (all_emissions (exprs expr_tree c.args.e.now.values)) in
     let long = c.len-count.ensures ∙ sym (many_keys c.args.e.now.keys) in
     let wide = c.len.ensures ∙ sym (many_values c.args.e.now.values) in
     record { goes = λ n. ap (λ (f : Emission). f (state c.args.em.now)) (uneven_dict ks vs (λ e. c.if-count-len.true (long ∙ e ∙ sym wide))) ∙ refused_shape _ (state c.args.em.now) _ c.refuse-error.result c.refuse-error.ensures; same = path_of _ (state c.args.em.now) _ c.refuse-error.result c.refuse-error.ensures }
 
-pub displays::compile_dict_display-returns : goal.displays::compile_dict_display-returns
-displays::compile_dict_display-returns t c =
+pub displays::compile_dict-returns : goal.displays::compile_dict-returns
+displays::compile_dict-returns t c =
     let ks = opt_emissions (opt_exprs expr_tree c.args.e.now.keys) in
     let vs = values (all_emissions (exprs expr_tree c.args.e.now.values)) in
     let long = c.len-count.ensures ∙ sym (many_keys c.args.e.now.keys) in
@@ -298,29 +337,29 @@ displays::compile_entries-loop-i-init = entries_begin
 pub displays::compile_entries-loop-i-preserved : goal.displays::compile_entries-loop-i-preserved
 displays::compile_entries-loop-i-preserved = entries_go_on
 
-pub displays::compile_entries-returns-clause-goes : goal.displays::compile_entries-returns-clause-goes
-displays::compile_entries-returns-clause-goes = entries_done
+pub displays::compile_entries-returns : goal.displays::compile_entries-returns
+displays::compile_entries-returns = entries_done
 
-pub displays::compile_entries-returns-in_err-begin_entry-clause-goes : goal.displays::compile_entries-returns-in_err-begin_entry-clause-goes
-displays::compile_entries-returns-in_err-begin_entry-clause-goes = begin_refused
+pub displays::compile_entries-returns-in_err-begin_entry : goal.displays::compile_entries-returns-in_err-begin_entry
+displays::compile_entries-returns-in_err-begin_entry = begin_refused
 
-pub displays::compile_entries-returns-in_err-compile_expression-clause-goes : goal.displays::compile_entries-returns-in_err-compile_expression-clause-goes
-displays::compile_entries-returns-in_err-compile_expression-clause-goes = value_refused
+pub displays::compile_entries-returns-in_err-compile_expression : goal.displays::compile_entries-returns-in_err-compile_expression
+displays::compile_entries-returns-in_err-compile_expression = value_refused
 
-pub displays::compile_entries-returns-in_err-end_entry-clause-goes : goal.displays::compile_entries-returns-in_err-end_entry-clause-goes
-displays::compile_entries-returns-in_err-end_entry-clause-goes = end_refused
+pub displays::compile_entries-returns-in_err-end_entry : goal.displays::compile_entries-returns-in_err-end_entry
+displays::compile_entries-returns-in_err-end_entry = end_refused
 
 pub targets::compile_stores-loop-elt-preserved : goal.targets::compile_stores-loop-elt-preserved
 targets::compile_stores-loop-elt-preserved = stores_go_on
 
-pub targets::compile_stores-returns-in_err-compile_element_store-clause-goes : goal.targets::compile_stores-returns-in_err-compile_element_store-clause-goes
-targets::compile_stores-returns-in_err-compile_element_store-clause-goes = store_refused
+pub targets::compile_stores-returns-in_err-compile_element_store : goal.targets::compile_stores-returns-in_err-compile_element_store
+targets::compile_stores-returns-in_err-compile_element_store = store_refused
 
 pub targets::compile_element_store-returns-in_default : goal.targets::compile_element_store-returns-in_default
 targets::compile_element_store-returns-in_default = element_stored
 
-pub targets::compile_store-returns-in-Attribute-clause-goes : goal.targets::compile_store-returns-in-Attribute-clause-goes
-targets::compile_store-returns-in-Attribute-clause-goes = attribute_stored
+pub targets::compile_store-returns-in-Attribute : goal.targets::compile_store-returns-in-Attribute
+targets::compile_store-returns-in-Attribute = attribute_stored
 
 pub keywords::compile_maps-loop-keyword-init : goal.keywords::compile_maps-loop-keyword-init
 keywords::compile_maps-loop-keyword-init = maps_begin
@@ -328,26 +367,26 @@ keywords::compile_maps-loop-keyword-init = maps_begin
 pub keywords::compile_maps-loop-keyword-preserved : goal.keywords::compile_maps-loop-keyword-preserved
 keywords::compile_maps-loop-keyword-preserved = maps_go_on
 
-pub keywords::compile_maps-returns-in_err-maps-clause-goes : goal.keywords::compile_maps-returns-in_err-maps-clause-goes
-keywords::compile_maps-returns-in_err-maps-clause-goes = keyword_refused
+pub keywords::compile_maps-returns-in_err-maps-clause-emits : goal.keywords::compile_maps-returns-in_err-maps-clause-emits
+keywords::compile_maps-returns-in_err-maps-clause-emits = keyword_refused
 
-pub keywords::compile_keyword_map-returns-then-maps-gt1-clause-goes : goal.keywords::compile_keyword_map-returns-then-maps-gt1-clause-goes
-keywords::compile_keyword_map-returns-then-maps-gt1-clause-goes = maps_joined
+pub keywords::compile_keyword_map-returns-then-maps-gt1 : goal.keywords::compile_keyword_map-returns-then-maps-gt1
+keywords::compile_keyword_map-returns-then-maps-gt1 = maps_joined
 
-pub keywords::compile_keyword_map-returns-clause-goes : goal.keywords::compile_keyword_map-returns-clause-goes
-keywords::compile_keyword_map-returns-clause-goes = map_alone
+pub keywords::compile_keyword_map-returns : goal.keywords::compile_keyword_map-returns
+keywords::compile_keyword_map-returns = map_alone
 
-pub keywords::compile_keyword_map-returns-in_err-maps-clause-goes : goal.keywords::compile_keyword_map-returns-in_err-maps-clause-goes
-keywords::compile_keyword_map-returns-in_err-maps-clause-goes = map_refused
+pub keywords::compile_keyword_map-returns-in_err-maps : goal.keywords::compile_keyword_map-returns-in_err-maps
+keywords::compile_keyword_map-returns-in_err-maps = map_refused
 
-pub keywords::compile_named_values-returns-clause-goes : goal.keywords::compile_named_values-returns-clause-goes
-keywords::compile_named_values-returns-clause-goes = named_goes
+pub keywords::compile_named_values-returns : goal.keywords::compile_named_values-returns
+keywords::compile_named_values-returns = named_goes
 
-pub calls::compile_call-returns-clause-goes : goal.calls::compile_call-returns-clause-goes
-calls::compile_call-returns-clause-goes = call_goes
+pub expressions::compile_entered-returns-in-Call : goal.expressions::compile_entered-returns-in-Call
+expressions::compile_entered-returns-in-Call = call_entered
 
-pub calls::compile_plain-returns-clause-goes : goal.calls::compile_plain-returns-clause-goes
-calls::compile_plain-returns-clause-goes = plain_goes
+pub calls::compile_plain-returns : goal.calls::compile_plain-returns
+calls::compile_plain-returns = plain_goes
 
 pub calls::compile_argument_tuple-compile_plain-requires : goal.calls::compile_argument_tuple-compile_plain-requires
 calls::compile_argument_tuple-compile_plain-requires = tuple_plain
@@ -358,13 +397,16 @@ calls::compile_call_arguments-compile_positional-requires = positional_plain
 pub calls::compile_call_arguments-returns-clause-call : goal.calls::compile_call_arguments-returns-clause-call
 calls::compile_call_arguments-returns-clause-call = type_taken
 
-pub keywords::compile_values-returns-in_err-compile_expression-clause-goes : goal.keywords::compile_values-returns-in_err-compile_expression-clause-goes
-keywords::compile_values-returns-in_err-compile_expression-clause-goes t c =
-    let r : c.from_residual.result ≡ Err c.in_err-compile_expression.field-0.0 = grind arith in
-    first_refuses _ _ _ _ _ _ r (c.loop-keyword.invariant.1 ∙ ap (λ (f : Emission). f (state c.loop-keyword.em)) (values_at c.args.keywords.now c.loop-keyword.keyword-index _ c.keyword-item.result c.keyword-item.is c.loop-keyword-test.true)) c.in_err-compile_expression.ensures.goes
+pub keywords::compile_values-returns-in_err-compile_expression : goal.keywords::compile_values-returns-in_err-compile_expression
+keywords::compile_values-returns-in_err-compile_expression t c = record {
+  goes =
+      let r : c.from_residual.result ≡ Err c.in_err-compile_expression.field-0.0 = grind arith in
+      first_refuses _ _ _ _ _ _ r (c.loop-keyword.invariant.1 ∙ ap (λ (f : Emission). f (state c.loop-keyword.em)) (values_at c.args.keywords.now c.loop-keyword.keyword-index _ c.keyword-item.result c.keyword-item.is c.loop-keyword-test.true)) c.in_err-compile_expression.ensures.goes;
+  same = search rules;
+}
 
-pub returns::compile_return-returns-in_default : goal.returns::compile_return-returns-in_default
-returns::compile_return-returns-in_default t c = record {
+pub returns::return_entered-returns-in_default : goal.returns::return_entered-returns-in_default
+returns::return_entered-returns-in_default t c = record {
   goes = goes_as _ _ _ _ (ap (λ (f : Emission). f (state c.args.em.now)) (value_return c.args.expr.now c.in_default.not-JoinedStr c.in_default.not-Constant c.in_default.not-Name)) c.return_value.ensures.goes;
   same = c.return_value.ensures.same;
 }
@@ -381,30 +423,42 @@ functions::compile_lambda_scope-returns-in_err-begin_function = lambda_not_begun
 pub functions::compile_lambda_scope-returns-in_err-compile_return : goal.functions::compile_lambda_scope-returns-in_err-compile_return
 functions::compile_lambda_scope-returns-in_err-compile_return = lambda_refused
 
-pub functions::compile_lambda_value-returns-clause-goes : goal.functions::compile_lambda_value-returns-clause-goes
-functions::compile_lambda_value-returns-clause-goes = lambda_goes
+pub functions::compile_lambda-returns : goal.functions::compile_lambda-returns
+functions::compile_lambda-returns = lambda_goes
 
-pub functions::compile_lambda_value-returns-in_err-defaults-clause-goes : goal.functions::compile_lambda_value-returns-in_err-defaults-clause-goes
-functions::compile_lambda_value-returns-in_err-defaults-clause-goes = defaults_refused
+pub functions::compile_lambda-returns-in_err-defaults : goal.functions::compile_lambda-returns-in_err-defaults
+functions::compile_lambda-returns-in_err-defaults = defaults_refused
 
-pub functions::compile_lambda_value-returns-in_err-code-clause-goes : goal.functions::compile_lambda_value-returns-in_err-code-clause-goes
-functions::compile_lambda_value-returns-in_err-code-clause-goes = scope_refused
+pub functions::compile_lambda-returns-in_err-code : goal.functions::compile_lambda-returns-in_err-code
+functions::compile_lambda-returns-in_err-code = scope_refused
 
-pub yields::yield_within-returns-clause-goes : goal.yields::yield_within-returns-clause-goes
-yields::yield_within-returns-clause-goes t c = goes_as _ _ _ _ (inside_function error.InvalidYield _ (state c.args.em.now) ∙ went _ _ _ c.in_ok-check_in_function.ensures.goes) c.yield_value.ensures.goes
+pub yields::yield_within-returns : goal.yields::yield_within-returns
+yields::yield_within-returns t c = record {
+  goes = goes_as _ _ _ _ (inside_function error.InvalidYield _ (state c.args.em.now) ∙ went _ _ _ c.in_ok-check_in_function.ensures.goes) c.yield_value.ensures.goes;
+  same = search rules;
+}
 
-pub yields::yield_within-returns-in_err-check_in_function-clause-goes : goal.yields::yield_within-returns-in_err-check_in_function-clause-goes
-yields::yield_within-returns-in_err-check_in_function-clause-goes t c =
-    let r : c.from_residual.result ≡ Err c.in_err-check_in_function.field-0.0 = grind arith in
-    first_refuses _ _ _ _ _ _ r (inside_function error.InvalidYield _ (state c.args.em.now)) c.in_err-check_in_function.ensures.goes
+pub yields::yield_within-returns-in_err-check_in_function : goal.yields::yield_within-returns-in_err-check_in_function
+yields::yield_within-returns-in_err-check_in_function t c = record {
+  goes =
+      let r : c.from_residual.result ≡ Err c.in_err-check_in_function.field-0.0 = grind arith in
+      first_refuses _ _ _ _ _ _ r (inside_function error.InvalidYield _ (state c.args.em.now)) c.in_err-check_in_function.ensures.goes;
+  same = search rules;
+}
 
-pub yields::yield_all_within-returns-clause-goes : goal.yields::yield_all_within-returns-clause-goes
-yields::yield_all_within-returns-clause-goes t c = goes_as _ _ _ _ (inside_function error.InvalidYieldFrom _ (state c.args.em.now) ∙ went _ _ _ c.in_ok-check_in_function.ensures.goes) c.yield_all.ensures.goes
+pub yields::yield_all_within-returns : goal.yields::yield_all_within-returns
+yields::yield_all_within-returns t c = record {
+  goes = goes_as _ _ _ _ (inside_function error.InvalidYieldFrom _ (state c.args.em.now) ∙ went _ _ _ c.in_ok-check_in_function.ensures.goes) c.yield_all.ensures.goes;
+  same = search rules;
+}
 
-pub yields::yield_all_within-returns-in_err-check_in_function-clause-goes : goal.yields::yield_all_within-returns-in_err-check_in_function-clause-goes
-yields::yield_all_within-returns-in_err-check_in_function-clause-goes t c =
-    let r : c.from_residual.result ≡ Err c.in_err-check_in_function.field-0.0 = grind arith in
-    first_refuses _ _ _ _ _ _ r (inside_function error.InvalidYieldFrom _ (state c.args.em.now)) c.in_err-check_in_function.ensures.goes
+pub yields::yield_all_within-returns-in_err-check_in_function : goal.yields::yield_all_within-returns-in_err-check_in_function
+yields::yield_all_within-returns-in_err-check_in_function t c = record {
+  goes =
+      let r : c.from_residual.result ≡ Err c.in_err-check_in_function.field-0.0 = grind arith in
+      first_refuses _ _ _ _ _ _ r (inside_function error.InvalidYieldFrom _ (state c.args.em.now)) c.in_err-check_in_function.ensures.goes;
+  same = search rules;
+}
 
 pub clauses::open_clauses-loop-clause-preserved : goal.clauses::open_clauses-loop-clause-preserved
 clauses::open_clauses-loop-clause-preserved = clauses_go_on
@@ -427,8 +481,8 @@ clauses::begin_clause-switch_to_block-requires = start_waits
 pub clauses::compile_conditions-loop-condition-preserved : goal.clauses::compile_conditions-loop-condition-preserved
 clauses::compile_conditions-loop-condition-preserved = conditions_go_on
 
-pub clauses::compile_conditions-returns-in_err-compile_test-clause-goes : goal.clauses::compile_conditions-returns-in_err-compile_test-clause-goes
-clauses::compile_conditions-returns-in_err-compile_test-clause-goes = condition_refused
+pub clauses::compile_conditions-returns-in_err-compile_test : goal.clauses::compile_conditions-returns-in_err-compile_test
+clauses::compile_conditions-returns-in_err-compile_test = condition_refused
 
 pub comprehensions::compile_comprehension_scope-returns : goal.comprehensions::compile_comprehension_scope-returns
 comprehensions::compile_comprehension_scope-returns = comprehension_left
@@ -439,50 +493,50 @@ comprehensions::compile_comprehension_scope-leave_scope-requires = comprehension
 pub comprehensions::compile_comprehension_scope-returns-in_err-compile_turns : goal.comprehensions::compile_comprehension_scope-returns-in_err-compile_turns
 comprehensions::compile_comprehension_scope-returns-in_err-compile_turns = comprehension_refused
 
-pub comprehensions::make_comprehension-returns-clause-goes : goal.comprehensions::make_comprehension-returns-clause-goes
-comprehensions::make_comprehension-returns-clause-goes = comprehension_made
+pub comprehensions::make_comprehension-returns : goal.comprehensions::make_comprehension-returns
+comprehensions::make_comprehension-returns = comprehension_made
 
-pub comprehensions::make_comprehension-returns-in_err-code-clause-goes : goal.comprehensions::make_comprehension-returns-in_err-code-clause-goes
-comprehensions::make_comprehension-returns-in_err-code-clause-goes = body_refused
+pub comprehensions::make_comprehension-returns-in_err-code : goal.comprehensions::make_comprehension-returns-in_err-code
+comprehensions::make_comprehension-returns-in_err-code = body_refused
 
-pub comprehensions::call_comprehension-returns-clause-goes : goal.comprehensions::call_comprehension-returns-clause-goes
-comprehensions::call_comprehension-returns-clause-goes = comprehension_called
+pub comprehensions::call_comprehension-returns : goal.comprehensions::call_comprehension-returns
+comprehensions::call_comprehension-returns = comprehension_called
 
-pub comprehensions::call_comprehension-returns-in_err-make_comprehension-clause-goes : goal.comprehensions::call_comprehension-returns-in_err-make_comprehension-clause-goes
-comprehensions::call_comprehension-returns-in_err-make_comprehension-clause-goes = function_refused
+pub comprehensions::call_comprehension-returns-in_err-make_comprehension : goal.comprehensions::call_comprehension-returns-in_err-make_comprehension
+comprehensions::call_comprehension-returns-in_err-make_comprehension = function_refused
 
-pub comprehensions::call_comprehension-returns-in_err-compile_iterator-clause-goes : goal.comprehensions::call_comprehension-returns-in_err-compile_iterator-clause-goes
-comprehensions::call_comprehension-returns-in_err-compile_iterator-clause-goes = iterable_refused
+pub comprehensions::call_comprehension-returns-in_err-compile_iterator : goal.comprehensions::call_comprehension-returns-in_err-compile_iterator
+comprehensions::call_comprehension-returns-in_err-compile_iterator = iterable_refused
 
 pub comprehensions::compile_comprehension-returns-then-is_empty : goal.comprehensions::compile_comprehension-returns-then-is_empty
 comprehensions::compile_comprehension-returns-then-is_empty = no_generator
 
-pub comprehensions::compile_comprehension-returns-then-is_awaited-clause-goes : goal.comprehensions::compile_comprehension-returns-then-is_awaited-clause-goes
-comprehensions::compile_comprehension-returns-then-is_awaited-clause-goes = comprehension_awaits
+pub comprehensions::compile_comprehension-returns-then-is_awaited : goal.comprehensions::compile_comprehension-returns-then-is_awaited
+comprehensions::compile_comprehension-returns-then-is_awaited = comprehension_awaits
 
-pub comprehensions::compile_comprehension-returns-clause-goes : goal.comprehensions::compile_comprehension-returns-clause-goes
-comprehensions::compile_comprehension-returns-clause-goes = comprehension_goes
+pub comprehensions::compile_comprehension-returns : goal.comprehensions::compile_comprehension-returns
+comprehensions::compile_comprehension-returns = comprehension_goes
 
 pub comprehensions::compile_clauses-close_clauses-requires : goal.comprehensions::compile_clauses-close_clauses-requires
 comprehensions::compile_clauses-close_clauses-requires = clauses_wait
 
-pub comprehensions::compile_clauses-returns-clause-goes : goal.comprehensions::compile_clauses-returns-clause-goes
-comprehensions::compile_clauses-returns-clause-goes = clauses_closed
+pub comprehensions::compile_clauses-returns : goal.comprehensions::compile_clauses-returns
+comprehensions::compile_clauses-returns = clauses_closed
 
-pub comprehensions::compile_clauses-returns-in_err-blocks-clause-goes : goal.comprehensions::compile_clauses-returns-in_err-blocks-clause-goes
-comprehensions::compile_clauses-returns-in_err-blocks-clause-goes = clauses_refused
+pub comprehensions::compile_clauses-returns-in_err-blocks : goal.comprehensions::compile_clauses-returns-in_err-blocks
+comprehensions::compile_clauses-returns-in_err-blocks = clauses_refused
 
-pub comprehensions::compile_clauses-returns-in_err-compile_turn-clause-goes : goal.comprehensions::compile_clauses-returns-in_err-compile_turn-clause-goes
-comprehensions::compile_clauses-returns-in_err-compile_turn-clause-goes = turn_refused
+pub comprehensions::compile_clauses-returns-in_err-compile_turn : goal.comprehensions::compile_clauses-returns-in_err-compile_turn
+comprehensions::compile_clauses-returns-in_err-compile_turn = turn_refused
 
-pub comprehensions::compile_unstarred-returns-in-Ok-clause-goes : goal.comprehensions::compile_unstarred-returns-in-Ok-clause-goes
-comprehensions::compile_unstarred-returns-in-Ok-clause-goes = unstarred_done
+pub comprehensions::compile_unstarred-returns-in-Ok : goal.comprehensions::compile_unstarred-returns-in-Ok
+comprehensions::compile_unstarred-returns-in-Ok = unstarred_done
 
-pub comprehensions::compile_unstarred-returns-in-Err-clause-goes : goal.comprehensions::compile_unstarred-returns-in-Err-clause-goes
-comprehensions::compile_unstarred-returns-in-Err-clause-goes = unstarred_refused
+pub comprehensions::compile_unstarred-returns-in-Err : goal.comprehensions::compile_unstarred-returns-in-Err
+comprehensions::compile_unstarred-returns-in-Err = unstarred_refused
 
-pub comprehensions::compile_dict_comp-returns-clause-goes : goal.comprehensions::compile_dict_comp-returns-clause-goes
-comprehensions::compile_dict_comp-returns-clause-goes = dict_goes
+pub comprehensions::compile_dict_comp-returns : goal.comprehensions::compile_dict_comp-returns
+comprehensions::compile_dict_comp-returns = dict_goes
 
-pub comprehensions::compile_generator_exp-returns-clause-goes : goal.comprehensions::compile_generator_exp-returns-clause-goes
-comprehensions::compile_generator_exp-returns-clause-goes = generator_goes
+pub comprehensions::compile_generator_exp-returns : goal.comprehensions::compile_generator_exp-returns
+comprehensions::compile_generator_exp-returns = generator_goes

@@ -5,21 +5,22 @@ mod Hidden
 mod Iterating
 mod Managing
 mod Trying
-use Rattle.std.proofs.Common.{Option, ap, false, sym, ◌∙◌}
+use Rattle.std.proofs.Common.{rules, Option, ap, false, sym, ◌∙◌}
 use Rattle.std.specs.Prelude.{if◌then◌else◌}
 use Rattle.py_bytecode.specs.declared.instruction.Instruction.TheVariants as op
 use Rattle.py_tree.specs.View.{expr_tree, stmt_tree, stmts}
 use Rattle.py_steps.specs.Emitting.{Done, Emission, State, go_on, in_loop, located, with_loops}
 use Rattle.py_steps.specs.EmissionParts.{choice, only}
 use Rattle.py_emission.specs.Emission.{emission_of_test}
-use Rattle.py_meaning.specs.EmissionStmts.{emission_of_stmts}
+use Rattle.py_meaning.specs.EmissionStmts.{emission_of_stmt, emission_of_stmts}
 use Rattle.py_meaning.specs.StmtParts.{none}
 use Rattle.py_emit.specs.States.{loop_blocks, rest, state}
 use Rattle.py_walks.specs.declared.info.BlockIdx.{BlockIdx}
 use Rattle.py_emit.proofs.Joined.{goes_as, went}
 use Rattle.py_expr.proofs.Turns.{if_not}
+use Rattle.py_stmt.proofs.Entering.{entering}
 use Rattle.py_stmt.proofs.Steps.{none_is}
-use Rattle.py_expr.proofs.Steps.{move_goes}
+use Rattle.py_expr.proofs.Steps.{stays}
 use Rattle.py_expr.proofs.Opening.{apart, begin_opens, block_opens, emit_opens, jump_opens, test_opens}
 use Rattle.py_stmt.proofs.Opening.{loop_opens, stmts_open}
 use Rattle.py_stmt.proofs.+code.Answers.Around.{each_around, last_around, unguarded_around, while_around}
@@ -86,42 +87,56 @@ loops::compile_while-switch_to_block-requires-3 t c =
     let q = emit_opens op.PopBlock 0 _ _ _ c.in_Continue-emit-emit-3.ensures.goes p in
     record { made = stmts_open (stmts stmt_tree c.as_slice-2.result.now) _ _ _ c.in_ok-compile_statements.ensures.goes q; below = c.in_ok-end.ensures.below }
 
-pub statements::compile_if-returns-clause-goes : goal.statements::compile_if-returns-clause-goes
-statements::compile_if-returns-clause-goes t c =
-    let test = emission_of_test (expr_tree c.args.s.now.test.value) in
-    let body = emission_of_stmts (stmts stmt_tree c.args.s.now.body) in
-    let orelse = emission_of_stmts (stmts stmt_tree c.args.s.now.orelse) in
-    let some = none_is c.args.s.now.orelse c.is_empty.result c.is_empty.ensures.0 c.is_empty.ensures.1 ∙ c.if-is_empty.false in
-    goes_as _ _ _ _
-    (went _ (if none (stmts stmt_tree c.args.s.now.orelse) then only test body else choice test body orelse) _ (move_goes c.args.s.now.location (state c.args.em.now))
-    ∙ ap (λ (f : Emission). f (located c.args.s.now.location (state c.args.em.now))) (if_not _ (only test body) (choice test body orelse) some)
-    ∙ ap (choice test body orelse) (sym c.set_location.ensures.state))
-    c.compile_choice.ensures.goes
+pub statements::compile_if-returns : goal.statements::compile_if-returns
+statements::compile_if-returns t c = record {
+  goes =
+      let test = emission_of_test (expr_tree c.args.s.now.test.value) in
+      let body = emission_of_stmts (stmts stmt_tree c.args.s.now.body) in
+      let orelse = emission_of_stmts (stmts stmt_tree c.args.s.now.orelse) in
+      let some = none_is c.args.s.now.orelse c.is_empty.result c.is_empty.ensures.0 c.is_empty.ensures.1 ∙ c.if-is_empty.false in
+      goes_as _ _ _ _
+      (went _ (if none (stmts stmt_tree c.args.s.now.orelse) then only test body else choice test body orelse) _ (stays c.args.s.now.location (state c.args.em.now) c.requires.at)
+      ∙ ap (λ (f : Emission). f (state c.args.em.now)) (if_not _ (only test body) (choice test body orelse) some))
+      c.compile_choice.ensures.goes;
+  same = search rules;
+}
 
 -- the loop of before stands around again
-pub loops::compile_loop_body-returns-clause-goes : goal.loops::compile_loop_body-returns-clause-goes
+pub loops::compile_loop_body-returns : goal.loops::compile_loop_body-returns
 unfolding in_loop rest
-loops::compile_loop_body-returns-clause-goes t c =
-    let behind : Emission = λ r. Done (with_loops (state c.args.em.now).around.loops r) in
-    ap (λ (s : State). go_on (emission_of_stmts (stmts stmt_tree c.args.body.now) s) behind) (sym c.set_loops-around.ensures.state)
-    ∙ went _ behind _ c.in_ok-compile_statements.ensures.goes
-    ∙ ap (λ (x : Option (BlockIdx × BlockIdx)). Done (with_loops (loop_blocks x) (state c.compile_statements.new.em))) (sym c.set_loops-around.ensures.old)
-    ∙ ap Done (sym c.set_loops.ensures.state)
+loops::compile_loop_body-returns t c = record {
+  goes =
+      let behind : Emission = λ r. Done (with_loops (state c.args.em.now).around.loops r) in
+      ap (λ (s : State). go_on (emission_of_stmts (stmts stmt_tree c.args.body.now) s) behind) (sym c.set_loops-around.ensures.state)
+      ∙ went _ behind _ c.in_ok-compile_statements.ensures.goes
+      ∙ ap (λ (x : Option (BlockIdx × BlockIdx)). Done (with_loops (loop_blocks x) (state c.compile_statements.new.em))) (sym c.set_loops-around.ensures.old)
+      ∙ ap Done (sym c.set_loops.ensures.state);
+  same = search rules;
+}
 
-pub loops::compile_for-returns-clause-goes : goal.loops::compile_for-returns-clause-goes
-loops::compile_for-returns-clause-goes = for_goes
+pub statements::compile_statement-returns : goal.statements::compile_statement-returns
+statements::compile_statement-returns t c = record {
+  goes =
+      let x = stmt_tree c.args.statement.now in
+      let s = state c.args.em.now in
+      goes_as _ _ _ _ (entering x s ∙ ap (λ at. emission_of_stmt x (located at s)) (sym c.location.ensures) ∙ ap (emission_of_stmt x) (sym c.set_location.ensures.state)) c.compile_entered.ensures.goes;
+  same = search rules;
+}
 
-pub loops::compile_each-switch_to_block-requires : goal.loops::compile_each-switch_to_block-requires
-loops::compile_each-switch_to_block-requires = turn_begins
+pub statements::compile_entered-returns-in-For : goal.statements::compile_entered-returns-in-For
+statements::compile_entered-returns-in-For = for_goes
 
-pub loops::compile_each-switch_to_block-requires-2 : goal.loops::compile_each-switch_to_block-requires-2
-loops::compile_each-switch_to_block-requires-2 = other_begins
+pub loops::compile_for-switch_to_block-requires : goal.loops::compile_for-switch_to_block-requires
+loops::compile_for-switch_to_block-requires = turn_begins
 
-pub loops::compile_each-switch_to_block-requires-3 : goal.loops::compile_each-switch_to_block-requires-3
-loops::compile_each-switch_to_block-requires-3 = end_begins
+pub loops::compile_for-switch_to_block-requires-2 : goal.loops::compile_for-switch_to_block-requires-2
+loops::compile_for-switch_to_block-requires-2 = other_begins
 
-pub tries::compile_try-returns-clause-goes : goal.tries::compile_try-returns-clause-goes
-tries::compile_try-returns-clause-goes = try_goes
+pub loops::compile_for-switch_to_block-requires-3 : goal.loops::compile_for-switch_to_block-requires-3
+loops::compile_for-switch_to_block-requires-3 = end_begins
+
+pub tries::compile_try-returns : goal.tries::compile_try-returns
+tries::compile_try-returns = try_goes
 
 pub tries::compile_parts-switch_to_block-requires : goal.tries::compile_parts-switch_to_block-requires
 tries::compile_parts-switch_to_block-requires = catch_begins
@@ -141,38 +156,38 @@ tries::compile_forgetting-switch_to_block-requires = forgetting_begins
 pub tries::compile_handlers-loop-handler-preserved : goal.tries::compile_handlers-loop-handler-preserved
 tries::compile_handlers-loop-handler-preserved = handlers_go_on
 
-pub tries::compile_handlers-returns-in_err-compile_handler-clause-goes : goal.tries::compile_handlers-returns-in_err-compile_handler-clause-goes
-tries::compile_handlers-returns-in_err-compile_handler-clause-goes = handler_refused
+pub tries::compile_handlers-returns-in_err-compile_handler : goal.tries::compile_handlers-returns-in_err-compile_handler
+tries::compile_handlers-returns-in_err-compile_handler = handler_refused
 
-pub withs::compile_some_items-returns-then-is_empty-clause-goes : goal.withs::compile_some_items-returns-then-is_empty-clause-goes
-withs::compile_some_items-returns-then-is_empty-clause-goes = no_items
+pub withs::compile_with-returns-then-is_empty : goal.withs::compile_with-returns-then-is_empty
+withs::compile_with-returns-then-is_empty = no_items
 
-pub withs::compile_some_items-returns-clause-goes : goal.withs::compile_some_items-returns-clause-goes
-withs::compile_some_items-returns-clause-goes = some_items
+pub withs::compile_with-returns : goal.withs::compile_with-returns
+withs::compile_with-returns = some_items
 
-pub withs::compile_body-returns-then-is_empty-clause-goes : goal.withs::compile_body-returns-then-is_empty-clause-goes
-withs::compile_body-returns-then-is_empty-clause-goes = no_body
+pub withs::compile_body-returns-then-is_empty : goal.withs::compile_body-returns-then-is_empty
+withs::compile_body-returns-then-is_empty = no_body
 
-pub withs::compile_body-returns-clause-goes : goal.withs::compile_body-returns-clause-goes
-withs::compile_body-returns-clause-goes = some_body
+pub withs::compile_body-returns : goal.withs::compile_body-returns
+withs::compile_body-returns = some_body
 
 pub withs::compile_managed-leave_items-requires : goal.withs::compile_managed-leave_items-requires
 withs::compile_managed-leave_items-requires = left_open
 
-pub loops::compile_each-returns-in_err-compile_turn-clause-goes : goal.loops::compile_each-returns-in_err-compile_turn-clause-goes
-loops::compile_each-returns-in_err-compile_turn-clause-goes = turn_refused
+pub loops::compile_for-returns-in_err-compile_turn : goal.loops::compile_for-returns-in_err-compile_turn
+loops::compile_for-returns-in_err-compile_turn = turn_refused
 
-pub loops::compile_each-returns-in_err-end_each-clause-goes : goal.loops::compile_each-returns-in_err-end_each-clause-goes
-loops::compile_each-returns-in_err-end_each-clause-goes = end_refused
+pub loops::compile_for-returns-in_err-end_each : goal.loops::compile_for-returns-in_err-end_each
+loops::compile_for-returns-in_err-end_each = end_refused
 
-pub tries::compile_last-returns-clause-goes : goal.tries::compile_last-returns-clause-goes
-tries::compile_last-returns-clause-goes = last_refused
+pub tries::compile_last-returns : goal.tries::compile_last-returns
+tries::compile_last-returns = last_refused
 
-pub tries::compile_last-returns-2-clause-goes : goal.tries::compile_last-returns-2-clause-goes
-tries::compile_last-returns-2-clause-goes = last_goes
+pub tries::compile_last-returns-2 : goal.tries::compile_last-returns-2
+tries::compile_last-returns-2 = last_goes
 
-pub loops::compile_each-end_each-requires : goal.loops::compile_each-end_each-requires
-loops::compile_each-end_each-requires = each_around
+pub loops::compile_for-end_each-requires : goal.loops::compile_for-end_each-requires
+loops::compile_for-end_each-requires = each_around
 
 pub loops::compile_while-compile_statements-requires : goal.loops::compile_while-compile_statements-requires
 loops::compile_while-compile_statements-requires = while_around
@@ -195,32 +210,32 @@ functions::compile_function_scope-returns-in_err-compile_inner = scope_refused
 pub functions::compile_function_scope-compile_inner-requires : goal.functions::compile_function_scope-compile_inner-requires
 functions::compile_function_scope-compile_inner-requires = scope_unlooped
 
-pub functions::compile_inner-returns-clause-goes : goal.functions::compile_inner-returns-clause-goes
-functions::compile_inner-returns-clause-goes = inner_goes
+pub functions::compile_inner-returns : goal.functions::compile_inner-returns
+functions::compile_inner-returns = inner_goes
 
-pub functions::compile_inner-returns-in_err-begin_function-clause-goes : goal.functions::compile_inner-returns-in_err-begin_function-clause-goes
-functions::compile_inner-returns-in_err-begin_function-clause-goes = inner_refused
+pub functions::compile_inner-returns-in_err-begin_function : goal.functions::compile_inner-returns-in_err-begin_function
+functions::compile_inner-returns-in_err-begin_function = inner_refused
 
-pub functions::compile_made-returns-clause-goes : goal.functions::compile_made-returns-clause-goes
-functions::compile_made-returns-clause-goes = made_goes
+pub functions::compile_made-returns : goal.functions::compile_made-returns
+functions::compile_made-returns = made_goes
 
-pub functions::compile_made-returns-in_err-code-clause-goes : goal.functions::compile_made-returns-in_err-code-clause-goes
-functions::compile_made-returns-in_err-code-clause-goes = made_refused
+pub functions::compile_made-returns-in_err-code : goal.functions::compile_made-returns-in_err-code
+functions::compile_made-returns-in_err-code = made_refused
 
-pub functions::compile_plain-returns-in_err-defaults-clause-goes : goal.functions::compile_plain-returns-in_err-defaults-clause-goes
-functions::compile_plain-returns-in_err-defaults-clause-goes = defaults_refused
+pub functions::compile_plain-returns-in_err-defaults : goal.functions::compile_plain-returns-in_err-defaults
+functions::compile_plain-returns-in_err-defaults = defaults_refused
 
-pub functions::compile_plain-returns-clause-goes : goal.functions::compile_plain-returns-clause-goes
-functions::compile_plain-returns-clause-goes = plain_goes
+pub functions::compile_plain-returns : goal.functions::compile_plain-returns
+functions::compile_plain-returns = plain_goes
 
-pub functions::compile_value-returns-in_err-compile_made-clause-goes : goal.functions::compile_value-returns-in_err-compile_made-clause-goes
-functions::compile_value-returns-in_err-compile_made-clause-goes = value_refused
+pub functions::compile_value-returns-in_err-compile_made : goal.functions::compile_value-returns-in_err-compile_made
+functions::compile_value-returns-in_err-compile_made = value_refused
 
-pub functions::compile_function-returns-in-len1-up-clause-goes : goal.functions::compile_function-returns-in-len1-up-clause-goes
-functions::compile_function-returns-in-len1-up-clause-goes = some_goes
+pub functions::compile_function-returns-in-len1-up : goal.functions::compile_function-returns-in-len1-up
+functions::compile_function-returns-in-len1-up = some_goes
 
-pub functions::compile_function_def-returns-in_err-compile_decorated-clause-goes : goal.functions::compile_function_def-returns-in_err-compile_decorated-clause-goes
-functions::compile_function_def-returns-in_err-compile_decorated-clause-goes = decorated_refused
+pub functions::compile_function_def-returns-in_err-compile_decorated : goal.functions::compile_function_def-returns-in_err-compile_decorated
+functions::compile_function_def-returns-in_err-compile_decorated = decorated_refused
 
 pub functions::compile_hidden_scope-returns : goal.functions::compile_hidden_scope-returns
 functions::compile_hidden_scope-returns = hidden.scope_left
@@ -231,26 +246,26 @@ functions::compile_hidden_scope-leave_scope-requires = hidden.scope_inner
 pub functions::compile_hidden_scope-returns-in_err-return_value : goal.functions::compile_hidden_scope-returns-in_err-return_value
 functions::compile_hidden_scope-returns-in_err-return_value = hidden.scope_refused
 
-pub functions::make_around-returns-clause-goes : goal.functions::make_around-returns-clause-goes
-functions::make_around-returns-clause-goes = hidden.around_goes
+pub functions::make_around-returns : goal.functions::make_around-returns
+functions::make_around-returns = hidden.around_goes
 
-pub functions::make_around-returns-in_err-code-clause-goes : goal.functions::make_around-returns-in_err-code-clause-goes
-functions::make_around-returns-in_err-code-clause-goes = hidden.around_refused
+pub functions::make_around-returns-in_err-code : goal.functions::make_around-returns-in_err-code
+functions::make_around-returns-in_err-code = hidden.around_refused
 
-pub functions::compile_generic-returns-clause-goes : goal.functions::compile_generic-returns-clause-goes
-functions::compile_generic-returns-clause-goes = hidden.generic_goes
+pub functions::compile_generic-returns : goal.functions::compile_generic-returns
+functions::compile_generic-returns = hidden.generic_goes
 
-pub functions::compile_generic-returns-in_err-make_around-clause-goes : goal.functions::compile_generic-returns-in_err-make_around-clause-goes
-functions::compile_generic-returns-in_err-make_around-clause-goes = hidden.generic_refused
+pub functions::compile_generic-returns-in_err-make_around : goal.functions::compile_generic-returns-in_err-make_around
+functions::compile_generic-returns-in_err-make_around = hidden.generic_refused
 
 pub functions::compile_rest-loop-i-preserved : goal.functions::compile_rest-loop-i-preserved
 functions::compile_rest-loop-i-preserved = rest_goes_on
 
-pub functions::compile_rest-returns-in_err-compile_statement-clause-goes : goal.functions::compile_rest-returns-in_err-compile_statement-clause-goes
-functions::compile_rest-returns-in_err-compile_statement-clause-goes = rest_refused
+pub functions::compile_rest-returns-in_err-compile_statement : goal.functions::compile_rest-returns-in_err-compile_statement
+functions::compile_rest-returns-in_err-compile_statement = rest_refused
 
-pub functions::compile_rest-returns-clause-goes : goal.functions::compile_rest-returns-clause-goes
-functions::compile_rest-returns-clause-goes = rest_done
+pub functions::compile_rest-returns : goal.functions::compile_rest-returns
+functions::compile_rest-returns = rest_done
 
 pub classes::compile_class_scope-returns : goal.classes::compile_class_scope-returns
 classes::compile_class_scope-returns = class.scope_left
@@ -264,23 +279,23 @@ classes::compile_class_scope-returns-in_err-compile_inner = class.scope_refused
 pub classes::compile_class_scope-compile_inner-requires : goal.classes::compile_class_scope-compile_inner-requires
 classes::compile_class_scope-compile_inner-requires = class.scope_begins
 
-pub classes::compile_class_function-returns-clause-goes : goal.classes::compile_class_function-returns-clause-goes
-classes::compile_class_function-returns-clause-goes = class.function_goes
+pub classes::compile_class_function-returns : goal.classes::compile_class_function-returns
+classes::compile_class_function-returns = class.function_goes
 
-pub classes::compile_class_function-returns-in_err-code-clause-goes : goal.classes::compile_class_function-returns-in_err-code-clause-goes
-classes::compile_class_function-returns-in_err-code-clause-goes = class.function_refused
+pub classes::compile_class_function-returns-in_err-code : goal.classes::compile_class_function-returns-in_err-code
+classes::compile_class_function-returns-in_err-code = class.function_refused
 
-pub classes::compile_part-returns-clause-goes : goal.classes::compile_part-returns-clause-goes
-classes::compile_part-returns-clause-goes = class.part_goes
+pub classes::compile_part-returns : goal.classes::compile_part-returns
+classes::compile_part-returns = class.part_goes
 
-pub classes::compile_class-returns-clause-goes : goal.classes::compile_class-returns-clause-goes
-classes::compile_class-returns-clause-goes = class.class_goes
+pub classes::compile_class-returns : goal.classes::compile_class-returns
+classes::compile_class-returns = class.class_goes
 
-pub classes::compile_placed-returns-in-len1-up-clause-goes : goal.classes::compile_placed-returns-in-len1-up-clause-goes
-classes::compile_placed-returns-in-len1-up-clause-goes = class.some_goes
+pub classes::compile_placed-returns-in-len1-up : goal.classes::compile_placed-returns-in-len1-up
+classes::compile_placed-returns-in-len1-up = class.some_goes
 
-pub classes::compile_class_def-returns-in_err-compile_decorated-clause-goes : goal.classes::compile_class_def-returns-in_err-compile_decorated-clause-goes
-classes::compile_class_def-returns-in_err-compile_decorated-clause-goes = class.decorated_refused
+pub classes::compile_class_def-returns-in_err-compile_decorated : goal.classes::compile_class_def-returns-in_err-compile_decorated
+classes::compile_class_def-returns-in_err-compile_decorated = class.decorated_refused
 
 pub classes::compile_hidden_scope-returns : goal.classes::compile_hidden_scope-returns
 classes::compile_hidden_scope-returns = hidden.class_left
@@ -291,8 +306,8 @@ classes::compile_hidden_scope-leave_scope-requires = hidden.class_inner
 pub classes::compile_hidden_scope-returns-in_err-return_built : goal.classes::compile_hidden_scope-returns-in_err-return_built
 classes::compile_hidden_scope-returns-in_err-return_built = hidden.class_refused
 
-pub classes::make_around-returns-clause-goes : goal.classes::make_around-returns-clause-goes
-classes::make_around-returns-clause-goes = hidden.class_around_goes
+pub classes::make_around-returns : goal.classes::make_around-returns
+classes::make_around-returns = hidden.class_around_goes
 
-pub classes::make_around-returns-in_err-code-clause-goes : goal.classes::make_around-returns-in_err-code-clause-goes
-classes::make_around-returns-in_err-code-clause-goes = hidden.class_around_refused
+pub classes::make_around-returns-in_err-code : goal.classes::make_around-returns-in_err-code
+classes::make_around-returns-in_err-code = hidden.class_around_refused

@@ -1,34 +1,51 @@
 -- The steps of a call.
 use Rattle.std.proofs.Common.{rules, subst, ◌≡◌, ◌∙◌, ap, length, sym}
 use Rattle.std.specs.Prelude.{IfOk}
+use Rattle.py_tree.specs.Tree as tree
 use Rattle.py_tree.specs.View.{expr_tree, exprs, keywords}
-use Rattle.py_steps.specs.Emitting.{Emission, move}
+use Rattle.py_tree.proofs.View.{tree_Call}
+use Rattle.py_steps.specs.Emitting.{Emission}
 use Rattle.py_steps.specs.EmissionParts.{elements, emission_of_call, in_turn}
-use Rattle.py_emission.specs.Emission.{all_emissions, emissions, keyword_emissions}
+use Rattle.py_emission.specs.Emission.{all_emissions, emission, emissions, keyword_emissions}
 use Rattle.py_emit.specs.States.{state}
 use Rattle.py_emit.proofs.Joined.{goes_as, went}
-use Rattle.py_expr.specs.Calling.{called, taken}
+use Rattle.py_expr.specs.Calling.{taken}
 use Rattle.py_expr.specs.declared.calls.CallType.{CallType}
 use Rattle.py_expr.proofs.Calling.{call_is, first_false, not_empty, some_named, type_is}
 use Rattle.py_expr.proofs.Groups.{plain_elements}
 use Rattle.py_expr.proofs.Mapping.{many_keywords}
-use Rattle.py_expr.proofs.Steps.{move_goes}
+use Rattle.py_expr.proofs.Steps.{stays}
 use Rattle.py_expr.proofs.+code.Goals as goal
 
-pub call_goes : goal.calls::compile_call-returns-clause-goes
-call_goes t c =
-    let e = c.args.e.now in
-    let callee = (emissions (expr_tree e.func.value)).callee in
-    let es = elements (all_emissions (exprs expr_tree e.args)) in
-    let ks = keyword_emissions (keywords expr_tree e.keywords) in
-    goes_as _ _ _ _ (went _ (emission_of_call callee es ks) _ (move_goes e.location (state c.args.em.now)) ∙ ap (emission_of_call callee es ks) (sym c.set_location.ensures.state) ∙ ap (λ (f : Emission). f (state c.set_location.new.self)) (call_is callee es ks)) c.compile_called.ensures.goes
+pub call_entered : goal.expressions::compile_entered-returns-in-Call
+call_entered t c = record {
+  goes =
+      let e = c.in-Call.e in
+      let s = state c.args.em.now in
+      let callee = (emissions (expr_tree e.func.value)).callee in
+      let es = elements (all_emissions (exprs expr_tree e.args)) in
+      let ks = keyword_emissions (keywords expr_tree e.keywords) in
+      let is = ap expr_tree c.in-Call.is ∙ tree_Call e in
+      goes_as _ _ _ _
+      (ap (λ (x : tree.Expr). emission x s) is
+      ∙ went _ (emission_of_call callee es ks) _ (stays e.location s (c.requires.at ∙ ap tree.expr_location is))
+      ∙ ap (λ (f : Emission). f s) (call_is callee es ks))
+      c.compile_call.ensures.goes;
+  same = search rules;
+}
 
-pub plain_goes : goal.calls::compile_plain-returns-clause-goes
-plain_goes t c = goes_as _ _ _ _ (ap (λ vs. in_turn vs (state c.args.em.now)) (plain_elements (exprs expr_tree c.args.args.now) c.requires.plain)) c.compile_expressions.ensures.goes
+pub plain_goes : goal.calls::compile_plain-returns
+plain_goes t c = record {
+  goes = goes_as _ _ _ _ (ap (λ vs. in_turn vs (state c.args.em.now)) (plain_elements (exprs expr_tree c.args.args.now) c.requires.plain)) c.compile_expressions.ensures.goes;
+  same = search rules;
+}
 
-pub named_goes : goal.keywords::compile_named_values-returns-clause-goes
-named_goes t c =
-    goes_as _ _ _ _ (ap (λ (f : Emission). f (state c.args.em.now)) (some_named (keyword_emissions (keywords expr_tree c.args.keywords.now)) (λ z. not_empty (length c.args.keywords.now) (sym c.is_empty.ensures ∙ c.if-is_empty.false) (sym (many_keywords c.args.keywords.now) ∙ z)))) c.compile_some_named.ensures.goes
+pub named_goes : goal.keywords::compile_named_values-returns
+named_goes t c = record {
+  goes =
+      goes_as _ _ _ _ (ap (λ (f : Emission). f (state c.args.em.now)) (some_named (keyword_emissions (keywords expr_tree c.args.keywords.now)) (λ z. not_empty (length c.args.keywords.now) (sym c.is_empty.ensures ∙ c.if-is_empty.false) (sym (many_keywords c.args.keywords.now) ∙ z)))) c.compile_some_named.ensures.goes;
+  same = search rules;
+}
 
 pub tuple_plain : goal.calls::compile_argument_tuple-compile_plain-requires
 tuple_plain t c = (search rules, sym c.has_star.ensures ∙ c.if-has_star.false)

@@ -1,11 +1,10 @@
 -- The clauses of a comprehension.
-use Rattle.std.proofs.Common.{◌≡◌, ◌+◌, ◌∙◌, [], ◌∷◌, ◌++◌, Bool, false, Err, ap, drop, subst, sym, arith, rules}
-use Rattle.std.specs.Prelude.{IfErr, IfOk}
-use Rattle.py_tree.specs.View.{expr_tree, exprs, generators}
+use Rattle.std.proofs.Common.{◌≡◌, ◌+◌, ◌∙◌, [], ◌∷◌, ◌++◌, Bool, Err, ap, drop, subst, sym, arith, rules}
+use Rattle.std.specs.Prelude.{IfErr}
+use Rattle.py_tree.specs.View.{expr_tree, generators}
 use Rattle.py_tree.specs.declared.expressions.Expr.{Expr}
-use Rattle.py_steps.specs.Comprehensions.{ClauseEmissions, conditions}
 use Rattle.py_steps.specs.Emitting.{Done, Emission, Refused, State, ◌▸◌, with_block}
-use Rattle.py_emission.specs.Emission.{all_emissions, clause_emissions, emission}
+use Rattle.py_emission.specs.Emission.{clause_emissions, emission}
 use Rattle.py_emit.specs.States.{rest, state}
 use Rattle.py_emit.proofs.Joined.{first_refuses, went}
 use Rattle.py_expr.specs.Clauses.{AllOpen, AreRefused, clause_of, clauses_by, closed, iterator_of}
@@ -27,15 +26,15 @@ clauses_go_on t c =
     let so = none_is bs first c.is_empty-first.ensures.0 c.is_empty-first.ensures.1 in
     let pushed = c.in_ok-keep_blocks.ensures.kept in
     let same : state c.keep_blocks.new.em ≡ after = ap state c.in_ok-keep_blocks.ensures.same in (
-      ap rest c.in_ok-keep_blocks.ensures.same ∙ c.in_ok-next.ensures.same ∙ c.loop-clause.invariant.0,
+      ap rest c.in_ok-keep_blocks.ensures.same ∙ c.in_ok-next.ensures.emits.same ∙ c.loop-clause.invariant.0,
       subst (λ ys. AllOpen ys (state c.keep_blocks.new.em)) (sym pushed)
           (subst (AllOpen (bs ++ next ∷ [])) (sym same)
-          (opens_push bs next now after (λ b. clause_opens first x now after b c.in_ok-next.ensures.goes) c.in_ok-next.ensures.end c.in_ok-next.ensures.open c.loop-clause.invariant.1)),
+          (opens_push bs next now after (λ b. clause_opens first x now after b c.in_ok-next.ensures.emits.goes) c.in_ok-next.ensures.end c.in_ok-next.ensures.open c.loop-clause.invariant.1)),
       λ within.
           c.loop-clause.invariant.2 within
           ∙ ap (λ (f : Bool). (clauses_by f all within ▸ closed bs) now) so
           ∙ ap (λ ys. (clauses_by first ys within ▸ closed bs) now) here
-          ∙ opened_more first (clause_of x) left within bs now next after c.in_ok-next.ensures.goes c.in_ok-next.ensures.start c.in_ok-next.ensures.end
+          ∙ opened_more first (clause_of x) left within bs now next after c.in_ok-next.ensures.emits.goes c.in_ok-next.ensures.start c.in_ok-next.ensures.end
           ∙ ap (λ (f : Bool). (clauses_by f left within ▸ closed (bs ++ next ∷ [])) after) (sym (some_open bs next))
           ∙ ap (λ ys. (clauses_by (none_open ys) left within ▸ closed ys) after) (sym pushed)
           ∙ ap (clauses_by (none_open c.keep_blocks.new.blocks) left within ▸ closed c.keep_blocks.new.blocks) (sym same),
@@ -58,7 +57,7 @@ clause_refused t c =
           c.loop-clause.invariant.2 within
           ∙ ap (λ (f : Bool). (clauses_by f all within ▸ closed bs) now) so
           ∙ ap (λ ys. (clauses_by first ys within ▸ closed bs) now) here
-          ∙ opened_to first (clause_of x) left within bs now (Refused e.error e.location) (c.in_err-next.ensures.goes n);
+          ∙ opened_to first (clause_of x) left within bs now (Refused e.error e.location) (c.in_err-next.ensures.emits.goes n);
     })
 
 pub end_waits : goal.clauses::open_clause-returns-clause-open
@@ -91,9 +90,12 @@ conditions_go_on t c = (
   c.loop-condition.invariant.1 ∙ ap (λ (f : Emission). f (state c.loop-condition.em)) (conditions_at c.args.start.0 c.args.ifs.now c.loop-condition.condition-index _ c.condition-item.result c.condition-item.is c.loop-condition-test.true) ∙ went _ _ _ c.in_ok-compile_test.ensures.goes,
 )
 
-pub condition_refused : goal.clauses::compile_conditions-returns-in_err-compile_test-clause-goes
-condition_refused t c =
-    let r : c.from_residual.result ≡ Err c.in_err-compile_test.field-0.0 = grind arith in
-    first_refuses _ _ _ _ _ _ r
-    (c.loop-condition.invariant.1 ∙ ap (λ (f : Emission). f (state c.loop-condition.em)) (conditions_at c.args.start.0 c.args.ifs.now c.loop-condition.condition-index _ c.condition-item.result c.condition-item.is c.loop-condition-test.true))
-    c.in_err-compile_test.ensures.goes
+pub condition_refused : goal.clauses::compile_conditions-returns-in_err-compile_test
+condition_refused t c = record {
+  goes =
+      let r : c.from_residual.result ≡ Err c.in_err-compile_test.field-0.0 = grind arith in
+      first_refuses _ _ _ _ _ _ r
+      (c.loop-condition.invariant.1 ∙ ap (λ (f : Emission). f (state c.loop-condition.em)) (conditions_at c.args.start.0 c.args.ifs.now c.loop-condition.condition-index _ c.condition-item.result c.condition-item.is c.loop-condition-test.true))
+      c.in_err-compile_test.ensures.goes;
+  same = search rules;
+}

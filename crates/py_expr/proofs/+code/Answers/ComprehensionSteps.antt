@@ -1,5 +1,5 @@
 -- A comprehension: whether it is refused, its scope, its call, and its element.
-use Rattle.std.proofs.Common.{◌≡◌, ◌∙◌, Err, List, ap, get_or, sym, refl, arith}
+use Rattle.std.proofs.Common.{rules, ◌≡◌, ◌∙◌, Err, List, ap, get_or, sym, refl, arith}
 use Rattle.std.specs.Prelude.{◌||◌, codes}
 use Rattle.py_bytecode.specs.declared.instruction.Instruction.TheVariants as op
 use Rattle.py_forms.specs.declared.errors.CodegenErrorType.TheVariants as error
@@ -22,7 +22,7 @@ use Rattle.py_expr.specs.Comprehensions.{added, element_of, first_iterable, name
 use Rattle.py_expr.proofs.OpenClauses.{all_stay, many_clauses}
 use Rattle.py_expr.proofs.Comprehending.{called_is, first_is, no_clause, scope_as, some_clause, told_done, told_refused, turn_opens}
 use Rattle.py_expr.proofs.Scopes.{left_gives, left_keeps, refused_gives, same_path}
-use Rattle.py_expr.proofs.Steps.{move_goes}
+use Rattle.py_expr.proofs.Steps.{stays}
 use Rattle.py_expr.proofs.Turns.{if_not, if_so, path_of, refused_by, refused_shape}
 use Rattle.py_expr.proofs.+code.Goals as goal
 
@@ -56,129 +56,167 @@ comprehension_refused t c =
       same = same_path kind.Comprehension naming.AsAround h c.args.em.now entry begins entry entry c.in_ok-enter_comprehension.ensures.rest refl c.from_residual-in_err-compile_turns.result x _ r c.in_err-compile_turns.ensures.same;
     }
 
-pub comprehension_made : goal.comprehensions::make_comprehension-returns-clause-goes
-comprehension_made t c =
-    let e = c.args.element.now in
-    let v = scope_of (clause_emissions (generators expr_tree c.args.generators.now)) e in
-    goes_as _ _ _ _
-    (scope_as v (made 0 (name_of e)) c.in_ok-name.name (name_of e) c.args.em.now c.text.new.self (c.in_ok-name.ensures.data ∙ c.scope_name.ensures) c.in_ok-name.ensures.same ∙ c.in_ok-code.ensures.goes (made 0 (name_of e)))
-    c.make_named.ensures.goes
+pub comprehension_made : goal.comprehensions::make_comprehension-returns
+comprehension_made t c = record {
+  goes =
+      let e = c.args.element.now in
+      let v = scope_of (clause_emissions (generators expr_tree c.args.generators.now)) e in
+      goes_as _ _ _ _
+      (scope_as v (made 0 (name_of e)) c.in_ok-name.name (name_of e) c.args.em.now c.text.new.self (c.in_ok-name.ensures.data ∙ c.scope_name.ensures) c.in_ok-name.ensures.same ∙ c.in_ok-code.ensures.goes (made 0 (name_of e)))
+      c.make_named.ensures.goes;
+  same = search rules;
+}
 
-pub body_refused : goal.comprehensions::make_comprehension-returns-in_err-code-clause-goes
-body_refused t c =
-    let e = c.args.element.now in
-    let v = scope_of (clause_emissions (generators expr_tree c.args.generators.now)) e in
-    let x = c.in_err-code.field-0.0 in
-    let r : c.from_residual-in_err-code.result ≡ Err x = grind arith in
-    refuses_as _ x _ _ _ r (scope_as v (made 0 (name_of e)) c.in_ok-name.name (name_of e) c.args.em.now c.text.new.self (c.in_ok-name.ensures.data ∙ c.scope_name.ensures) c.in_ok-name.ensures.same) (λ n. c.in_err-code.ensures.goes (made 0 (name_of e)) n)
+pub body_refused : goal.comprehensions::make_comprehension-returns-in_err-code
+body_refused t c = record {
+  goes =
+      let e = c.args.element.now in
+      let v = scope_of (clause_emissions (generators expr_tree c.args.generators.now)) e in
+      let x = c.in_err-code.field-0.0 in
+      let r : c.from_residual-in_err-code.result ≡ Err x = grind arith in
+      refuses_as _ x _ _ _ r (scope_as v (made 0 (name_of e)) c.in_ok-name.name (name_of e) c.args.em.now c.text.new.self (c.in_ok-name.ensures.data ∙ c.scope_name.ensures) c.in_ok-name.ensures.same) (λ n. c.in_err-code.ensures.goes (made 0 (name_of e)) n);
+  same = search rules;
+}
 
-pub comprehension_called : goal.comprehensions::call_comprehension-returns-clause-goes
-comprehension_called t c =
-    let e = c.args.element.now in
-    let cs = clause_emissions (generators expr_tree c.args.generators.now) in
-    let d = c.index-generators-0.result in
-    let here = first_is c.args.generators.now d (get_or c.args.generators.now 0 d) refl c.requires ∙ ap (λ (y : Expr). emission (expr_tree y)) (sym c.deref.ensures) in
-    goes_as _ _ _ _
-    (ap (λ (f : Emission). f (state c.args.em.now)) (ap (called_at_once (name_of e) (scope_of cs e)) here ∙ called_is (name_of e) (scope_of cs e) (emission (expr_tree c.deref.result.now)))
-    ∙ went _ _ _ c.in_ok-make_comprehension.ensures.goes
-    ∙ went _ (emit_count op.CallFunctionPositional 1) _ c.in_ok-compile_iterator.ensures.goes)
-    c.emit_count.ensures.goes
+pub comprehension_called : goal.comprehensions::call_comprehension-returns
+comprehension_called t c = record {
+  goes =
+      let e = c.args.element.now in
+      let cs = clause_emissions (generators expr_tree c.args.generators.now) in
+      let d = c.index-generators-0.result in
+      let here = first_is c.args.generators.now d (get_or c.args.generators.now 0 d) refl c.requires ∙ ap (λ (y : Expr). emission (expr_tree y)) (sym c.deref.ensures) in
+      goes_as _ _ _ _
+      (ap (λ (f : Emission). f (state c.args.em.now)) (ap (called_at_once (name_of e) (scope_of cs e)) here ∙ called_is (name_of e) (scope_of cs e) (emission (expr_tree c.deref.result.now)))
+      ∙ went _ _ _ c.in_ok-make_comprehension.ensures.goes
+      ∙ went _ (emit_count op.CallFunctionPositional 1) _ c.in_ok-compile_iterator.ensures.goes)
+      c.emit_count.ensures.goes;
+  same = search rules;
+}
 
-pub function_refused : goal.comprehensions::call_comprehension-returns-in_err-make_comprehension-clause-goes
-function_refused t c =
-    let e = c.args.element.now in
-    let cs = clause_emissions (generators expr_tree c.args.generators.now) in
-    let r : c.from_residual.result ≡ Err c.in_err-make_comprehension.field-0.0 = grind arith in
-    first_refuses _ _ _ _ _ _ r (ap (λ (f : Emission). f (state c.args.em.now)) (called_is (name_of e) (scope_of cs e) (first_iterable cs))) c.in_err-make_comprehension.ensures.goes
+pub function_refused : goal.comprehensions::call_comprehension-returns-in_err-make_comprehension
+function_refused t c = record {
+  goes =
+      let e = c.args.element.now in
+      let cs = clause_emissions (generators expr_tree c.args.generators.now) in
+      let r : c.from_residual.result ≡ Err c.in_err-make_comprehension.field-0.0 = grind arith in
+      first_refuses _ _ _ _ _ _ r (ap (λ (f : Emission). f (state c.args.em.now)) (called_is (name_of e) (scope_of cs e) (first_iterable cs))) c.in_err-make_comprehension.ensures.goes;
+  same = search rules;
+}
 
-pub iterable_refused : goal.comprehensions::call_comprehension-returns-in_err-compile_iterator-clause-goes
-iterable_refused t c =
-    let e = c.args.element.now in
-    let cs = clause_emissions (generators expr_tree c.args.generators.now) in
-    let d = c.index-generators-0.result in
-    let here = first_is c.args.generators.now d (get_or c.args.generators.now 0 d) refl c.requires ∙ ap (λ (y : Expr). emission (expr_tree y)) (sym c.deref.ensures) in
-    let r : c.from_residual-in_err-compile_iterator.result ≡ Err c.in_err-compile_iterator.field-0.0 = grind arith in
-    first_refuses _ _ _ _ _ (emit_count op.CallFunctionPositional 1) r
-    (ap (λ (f : Emission). f (state c.args.em.now)) (ap (called_at_once (name_of e) (scope_of cs e)) here ∙ called_is (name_of e) (scope_of cs e) (emission (expr_tree c.deref.result.now)))
-    ∙ went _ _ _ c.in_ok-make_comprehension.ensures.goes)
-    c.in_err-compile_iterator.ensures.goes
+pub iterable_refused : goal.comprehensions::call_comprehension-returns-in_err-compile_iterator
+iterable_refused t c = record {
+  goes =
+      let e = c.args.element.now in
+      let cs = clause_emissions (generators expr_tree c.args.generators.now) in
+      let d = c.index-generators-0.result in
+      let here = first_is c.args.generators.now d (get_or c.args.generators.now 0 d) refl c.requires ∙ ap (λ (y : Expr). emission (expr_tree y)) (sym c.deref.ensures) in
+      let r : c.from_residual-in_err-compile_iterator.result ≡ Err c.in_err-compile_iterator.field-0.0 = grind arith in
+      first_refuses _ _ _ _ _ (emit_count op.CallFunctionPositional 1) r
+      (ap (λ (f : Emission). f (state c.args.em.now)) (ap (called_at_once (name_of e) (scope_of cs e)) here ∙ called_is (name_of e) (scope_of cs e) (emission (expr_tree c.deref.result.now)))
+      ∙ went _ _ _ c.in_ok-make_comprehension.ensures.goes)
+      c.in_err-compile_iterator.ensures.goes;
+  same = search rules;
+}
 
 pub no_generator : goal.comprehensions::compile_comprehension-returns-then-is_empty
 no_generator t c =
     let none = sym c.is_empty.ensures ∙ c.if-is_empty.true in
     record { goes = λ n. ap (λ (f : Emission). f (state c.args.em.now)) (no_clause c.args.generators.now c.args.element.now none) ∙ refused_shape _ (state c.args.em.now) _ c.refuse-error.result c.refuse-error.ensures; same = path_of _ (state c.args.em.now) _ c.refuse-error.result c.refuse-error.ensures }
 
-pub comprehension_awaits : goal.comprehensions::compile_comprehension-returns-then-is_awaited-clause-goes
-comprehension_awaits t c =
-    let some = sym c.is_empty.ensures ∙ c.if-is_empty.false in
-    λ n. ap (λ (f : Emission). f (state c.args.em.now)) (some_clause c.args.generators.now c.args.element.now some ∙ if_so _ _ _ (sym c.is_awaited.ensures ∙ c.if-is_awaited.true)) ∙ refused_by error.NotImplementedYet (state c.args.em.now) _ c.refuse-error-then-is_awaited.result c.refuse-error-then-is_awaited.ensures
+pub comprehension_awaits : goal.comprehensions::compile_comprehension-returns-then-is_awaited
+comprehension_awaits t c = record {
+  goes =
+      let some = sym c.is_empty.ensures ∙ c.if-is_empty.false in
+      λ n. ap (λ (f : Emission). f (state c.args.em.now)) (some_clause c.args.generators.now c.args.element.now some ∙ if_so _ _ _ (sym c.is_awaited.ensures ∙ c.if-is_awaited.true)) ∙ refused_by error.NotImplementedYet (state c.args.em.now) _ c.refuse-error-then-is_awaited.result c.refuse-error-then-is_awaited.ensures;
+  same = search rules;
+}
 
-pub comprehension_goes : goal.comprehensions::compile_comprehension-returns-clause-goes
-comprehension_goes t c =
-    let some = sym c.is_empty.ensures ∙ c.if-is_empty.false in
-    goes_as _ _ _ _ (ap (λ (f : Emission). f (state c.args.em.now)) (some_clause c.args.generators.now c.args.element.now some ∙ if_not _ _ _ (sym c.is_awaited.ensures ∙ c.if-is_awaited.false))) c.call_comprehension.ensures.goes
+pub comprehension_goes : goal.comprehensions::compile_comprehension-returns
+comprehension_goes t c = record {
+  goes =
+      let some = sym c.is_empty.ensures ∙ c.if-is_empty.false in
+      goes_as _ _ _ _ (ap (λ (f : Emission). f (state c.args.em.now)) (some_clause c.args.generators.now c.args.element.now some ∙ if_not _ _ _ (sym c.is_awaited.ensures ∙ c.if-is_awaited.false))) c.call_comprehension.ensures.goes;
+  same = search rules;
+}
 
 pub clauses_wait : goal.comprehensions::compile_clauses-close_clauses-requires
 clauses_wait t c = record { «open» = all_stay c.in_ok-blocks.blocks _ _ (λ b. turn_opens c.args.element.now _ _ _ b c.in_ok-compile_turn.ensures.goes) c.in_ok-blocks.ensures.open }
 
-pub clauses_closed : goal.comprehensions::compile_clauses-returns-clause-goes
-clauses_closed t c =
-    let e = c.args.element.now in
-    let xs = c.args.generators.now in
-    let cs = clause_emissions (generators expr_tree xs) in
-    let many = many_clauses xs in
-    goes_as _ _ _ _
-    (c.in_ok-blocks.ensures.opened.goes (turn cs e)
-    ∙ ap (λ n. ((element_of e ▸ added e n) ▸ closed c.in_ok-blocks.blocks) (state c.open_clauses.new.em)) many
-    ∙ went _ (closed c.in_ok-blocks.blocks) _ c.in_ok-compile_turn.ensures.goes)
-    c.close_clauses.ensures.goes
+pub clauses_closed : goal.comprehensions::compile_clauses-returns
+clauses_closed t c = record {
+  goes =
+      let e = c.args.element.now in
+      let xs = c.args.generators.now in
+      let cs = clause_emissions (generators expr_tree xs) in
+      let many = many_clauses xs in
+      goes_as _ _ _ _
+      (c.in_ok-blocks.ensures.opened.goes (turn cs e)
+      ∙ ap (λ n. ((element_of e ▸ added e n) ▸ closed c.in_ok-blocks.blocks) (state c.open_clauses.new.em)) many
+      ∙ went _ (closed c.in_ok-blocks.blocks) _ c.in_ok-compile_turn.ensures.goes)
+      c.close_clauses.ensures.goes;
+  same = search rules;
+}
 
-pub clauses_refused : goal.comprehensions::compile_clauses-returns-in_err-blocks-clause-goes
-clauses_refused t c =
-    let cs = clause_emissions (generators expr_tree c.args.generators.now) in
-    let x = c.in_err-blocks.field-0.0 in
-    let r : c.from_residual.result ≡ Err x = grind arith in
-    refuses_as _ x _ _ _ r refl (c.in_err-blocks.ensures.refused.goes (turn cs c.args.element.now))
+pub clauses_refused : goal.comprehensions::compile_clauses-returns-in_err-blocks
+clauses_refused t c = record {
+  goes =
+      let cs = clause_emissions (generators expr_tree c.args.generators.now) in
+      let x = c.in_err-blocks.field-0.0 in
+      let r : c.from_residual.result ≡ Err x = grind arith in
+      refuses_as _ x _ _ _ r refl (c.in_err-blocks.ensures.refused.goes (turn cs c.args.element.now));
+  same = search rules;
+}
 
-pub turn_refused : goal.comprehensions::compile_clauses-returns-in_err-compile_turn-clause-goes
-turn_refused t c =
-    let e = c.args.element.now in
-    let xs = c.args.generators.now in
-    let cs = clause_emissions (generators expr_tree xs) in
-    let many = many_clauses xs in
-    let r : c.from_residual-in_err-compile_turn.result ≡ Err c.in_err-compile_turn.field-0.0 = grind arith in
-    first_refuses _ _ _ _ _ (closed c.in_ok-blocks.blocks) r
-    (c.in_ok-blocks.ensures.opened.goes (turn cs e)
-    ∙ ap (λ n. ((element_of e ▸ added e n) ▸ closed c.in_ok-blocks.blocks) (state c.open_clauses.new.em)) many)
-    c.in_err-compile_turn.ensures.goes
+pub turn_refused : goal.comprehensions::compile_clauses-returns-in_err-compile_turn
+turn_refused t c = record {
+  goes =
+      let e = c.args.element.now in
+      let xs = c.args.generators.now in
+      let cs = clause_emissions (generators expr_tree xs) in
+      let many = many_clauses xs in
+      let r : c.from_residual-in_err-compile_turn.result ≡ Err c.in_err-compile_turn.field-0.0 = grind arith in
+      first_refuses _ _ _ _ _ (closed c.in_ok-blocks.blocks) r
+      (c.in_ok-blocks.ensures.opened.goes (turn cs e)
+      ∙ ap (λ n. ((element_of e ▸ added e n) ▸ closed c.in_ok-blocks.blocks) (state c.open_clauses.new.em)) many)
+      c.in_err-compile_turn.ensures.goes;
+  same = search rules;
+}
 
-pub unstarred_done : goal.comprehensions::compile_unstarred-returns-in-Ok-clause-goes
-unstarred_done t c = told_done (emission (expr_tree c.args.elt.now)) (state c.args.em.now) _ c.in-Ok.ensures.goes
+pub unstarred_done : goal.comprehensions::compile_unstarred-returns-in-Ok
+unstarred_done t c = record {
+  goes = told_done (emission (expr_tree c.args.elt.now)) (state c.args.em.now) _ c.in-Ok.ensures.goes;
+  same = search rules;
+}
 
-pub unstarred_refused : goal.comprehensions::compile_unstarred-returns-in-Err-clause-goes
-unstarred_refused t c =
-    let e = c.in-Err.error in
-    let f = c.retell.ensures.error in
-    let g = c.retell.ensures.location in
-    λ n. told_refused (emission (expr_tree c.args.elt.now)) (state c.args.em.now) e.error e.location (c.in-Err.ensures.goes (λ q. n (f n ∙ ap retold q))) ∙ (λ i. Refused (sym (f n) i) (sym (g n) i))
+pub unstarred_refused : goal.comprehensions::compile_unstarred-returns-in-Err
+unstarred_refused t c = record {
+  goes =
+      let e = c.in-Err.error in
+      let f = c.retell.ensures.error in
+      let g = c.retell.ensures.location in
+      λ n. told_refused (emission (expr_tree c.args.elt.now)) (state c.args.em.now) e.error e.location (c.in-Err.ensures.goes (λ q. n (f n ∙ ap retold q))) ∙ (λ i. Refused (sym (f n) i) (sym (g n) i));
+  same = search rules;
+}
 
 -- a dict comprehension, of a key and a value
 abbrev dict_value : (key value : tree.Expr) → tree.Generators → Emission
 dict_value key value gs = comprehension (some_async gs) (codes "<dictcomp>") (clause_emissions gs) (gathered op.BuildMap op.MapAdd (clause_emissions gs) (emission key ▸ emission value))
 
-pub dict_goes : goal.comprehensions::compile_dict_comp-returns-clause-goes
-dict_goes t c =
-    let e = c.args.e.now in
-    let gs = generators expr_tree e.generators in
-    let now = state c.set_location.new.self in
-    let v = dict_value (expr_tree e.key.value) (expr_tree e.value.value) gs in
-    goes_as _ _ _ _
-    (went _ v _ (move_goes e.location (state c.args.em.now))
-    ∙ ap v (sym c.set_location.ensures.state)
-    ∙ ap (λ (y : Expr). dict_value (expr_tree y) (expr_tree e.value.value) gs now) (sym c.deref.ensures)
-    ∙ ap (λ (y : Expr). dict_value (expr_tree c.deref.result.now) (expr_tree y) gs now) (sym c.deref-2.ensures)
-    ∙ ap (λ (ys : List (ComprehensionOf Expr)). dict_value (expr_tree c.deref.result.now) (expr_tree c.deref-2.result.now) (generators expr_tree ys) now) (sym c.as_slice.ensures))
-    c.compile_comprehension.ensures.goes
+pub dict_goes : goal.comprehensions::compile_dict_comp-returns
+dict_goes t c = record {
+  goes =
+      let e = c.args.e.now in
+      let gs = generators expr_tree e.generators in
+      let now = state c.args.em.now in
+      let v = dict_value (expr_tree e.key.value) (expr_tree e.value.value) gs in
+      goes_as _ _ _ _
+      (went _ v _ (stays e.location now c.requires.at)
+      ∙ ap (λ (y : Expr). dict_value (expr_tree y) (expr_tree e.value.value) gs now) (sym c.deref.ensures)
+      ∙ ap (λ (y : Expr). dict_value (expr_tree c.deref.result.now) (expr_tree y) gs now) (sym c.deref-2.ensures)
+      ∙ ap (λ (ys : List (ComprehensionOf Expr)). dict_value (expr_tree c.deref.result.now) (expr_tree c.deref-2.result.now) (generators expr_tree ys) now) (sym c.as_slice.ensures))
+      c.compile_comprehension.ensures.goes;
+  same = search rules;
+}
 
 -- a generator, whose scope begins with nothing
 first_kept : (v : Emission) → v ≡ keep ▸ v
@@ -190,17 +228,19 @@ generator_scope elt gs = generated (clause_emissions gs) (as_element (emission e
 abbrev generator_value : (elt : tree.Expr) → tree.Generators → (scope : Emission) → Emission
 generator_value elt gs scope = comprehension (some_async gs || awaits elt) (codes "<genexpr>") (clause_emissions gs) scope
 
-pub generator_goes : goal.comprehensions::compile_generator_exp-returns-clause-goes
-generator_goes t c =
-    let e = c.args.e.now in
-    let gs = generators expr_tree e.generators in
-    let elt = expr_tree e.elt.value in
-    let now = state c.set_location.new.self in
-    let v = generator_value elt gs (generator_scope elt gs) in
-    goes_as _ _ _ _
-    (went _ v _ (move_goes e.location (state c.args.em.now))
-    ∙ ap v (sym c.set_location.ensures.state)
-    ∙ ap (λ (y : Expr). generator_value (expr_tree y) gs (generator_scope (expr_tree y) gs) now) (sym c.deref.ensures)
-    ∙ ap (λ (ys : List (ComprehensionOf Expr)). generator_value (expr_tree c.deref.result.now) (generators expr_tree ys) (generator_scope (expr_tree c.deref.result.now) (generators expr_tree ys)) now) (sym c.as_slice.ensures)
-    ∙ ap (λ (w : Emission). generator_value (expr_tree c.deref.result.now) (generators expr_tree c.as_slice.result.now) w now) (first_kept (generator_scope (expr_tree c.deref.result.now) (generators expr_tree c.as_slice.result.now))))
-    c.compile_comprehension.ensures.goes
+pub generator_goes : goal.comprehensions::compile_generator_exp-returns
+generator_goes t c = record {
+  goes =
+      let e = c.args.e.now in
+      let gs = generators expr_tree e.generators in
+      let elt = expr_tree e.elt.value in
+      let now = state c.args.em.now in
+      let v = generator_value elt gs (generator_scope elt gs) in
+      goes_as _ _ _ _
+      (went _ v _ (stays e.location now c.requires.at)
+      ∙ ap (λ (y : Expr). generator_value (expr_tree y) gs (generator_scope (expr_tree y) gs) now) (sym c.deref.ensures)
+      ∙ ap (λ (ys : List (ComprehensionOf Expr)). generator_value (expr_tree c.deref.result.now) (generators expr_tree ys) (generator_scope (expr_tree c.deref.result.now) (generators expr_tree ys)) now) (sym c.as_slice.ensures)
+      ∙ ap (λ (w : Emission). generator_value (expr_tree c.deref.result.now) (generators expr_tree c.as_slice.result.now) w now) (first_kept (generator_scope (expr_tree c.deref.result.now) (generators expr_tree c.as_slice.result.now))))
+      c.compile_comprehension.ensures.goes;
+  same = search rules;
+}

@@ -1,5 +1,5 @@
 -- The scope of a lambda.
-use Rattle.std.proofs.Common.{Err, Result, refl, ◌≡◌, ◌∙◌, arith, subst}
+use Rattle.std.proofs.Common.{rules, Err, Result, refl, ◌≡◌, ◌∙◌, arith, subst}
 use Rattle.py_base.specs.declared.location.LocatedError.{LocatedError}
 use Rattle.py_bytecode.specs.View.{object}
 use Rattle.py_forms.specs.declared.errors.CodegenErrorType.{CodegenErrorType}
@@ -12,7 +12,7 @@ use Rattle.py_scope.specs.declared.table_type.SymbolTableType.TheVariants as kin
 use Rattle.py_steps.specs.Children.{function_scope}
 use Rattle.py_emission.specs.Emission.{default_emissions, emission_of_return, lambda_value}
 use Rattle.py_emission.specs.Parameters.{function_shape, parameters}
-use Rattle.py_emit.specs.States.{Goes, rest, state}
+use Rattle.py_emit.specs.States.{Goes, state}
 use Rattle.py_emit.specs.declared.emitter.Emitter.{Emitter}
 use Rattle.py_emit.proofs.Joined.{goes_as, refuses_as}
 use Rattle.py_emit.specs.declared.context.Naming.TheVariants as naming
@@ -77,42 +77,51 @@ module _ {A : Type 0} (r : Result A (LocatedError CodegenErrorType)) (s : State)
       subst (λ (b : Expr). Goes r s (lambda_value (arguments expr_tree e.args.value) (default_emissions (arguments expr_tree e.args.value)) (emission_of_return (expr_tree b)) (state em))) is_body
       (subst (λ (p : ArgumentsOf Expr). Goes r s (lambda_value (arguments expr_tree p) (default_emissions (arguments expr_tree p)) (emission_of_return (expr_tree body)) (state em))) is_params h)
 
-pub lambda_goes : goal.functions::compile_lambda_value-returns-clause-goes
-lambda_goes t c =
-    let params = c.deref-params.result.now in
-    let body = c.deref-body.result.now in
-    let p = arguments expr_tree params in
-    let v = emission_of_return (expr_tree body) in
-    let d = default_emissions p in
-    let x = c.compile_defaults.new.em in
-    let y = c.text.new.self in
-    let name = c.in_ok-name.name in
-    by_parts c.make_lambda.result _ c.args.em.now c.args.e.now params body c.deref-params.ensures c.deref-body.ensures
-    (goes_as _ _ _ _
-    (lambda_done p v d _ (state c.args.em.now) (state x) (state c.compile_lambda_scope.new.em) (object c.in_ok-code.code) c.in_ok-defaults.ensures.flags c.in_ok-defaults.ensures.goes (λ k. scope_as p v name x y k c.in_ok-name.ensures.data c.in_ok-name.ensures.same ∙ c.in_ok-code.ensures.goes k))
-    c.make_lambda.ensures.goes)
+pub lambda_goes : goal.functions::compile_lambda-returns
+lambda_goes t c = record {
+  goes =
+      let params = c.deref-params.result.now in
+      let body = c.deref-body.result.now in
+      let p = arguments expr_tree params in
+      let v = emission_of_return (expr_tree body) in
+      let d = default_emissions p in
+      let x = c.compile_defaults.new.em in
+      let y = c.text.new.self in
+      let name = c.in_ok-name.name in
+      by_parts c.make_lambda.result _ c.args.em.now c.args.e.now params body c.deref-params.ensures c.deref-body.ensures
+      (goes_as _ _ _ _
+      (lambda_done p v d _ (state c.args.em.now) (state x) (state c.compile_lambda_scope.new.em) (object c.in_ok-code.code) c.in_ok-defaults.ensures.flags c.in_ok-defaults.ensures.emits.goes (λ k. scope_as p v name x y k c.in_ok-name.ensures.data c.in_ok-name.ensures.same ∙ c.in_ok-code.ensures.goes k))
+      c.make_lambda.ensures.goes);
+  same = search rules;
+}
 
-pub defaults_refused : goal.functions::compile_lambda_value-returns-in_err-defaults-clause-goes
-defaults_refused t c =
-    let params = c.deref-params.result.now in
-    let body = c.deref-body.result.now in
-    let p = arguments expr_tree params in
-    let v = emission_of_return (expr_tree body) in
-    let e = c.in_err-defaults.field-0.0 in
-    let r : c.from_residual.result ≡ Err e = grind arith in
-    by_parts c.from_residual.result _ c.args.em.now c.args.e.now params body c.deref-params.ensures c.deref-body.ensures
-    (refuses_as _ e _ _ _ r refl (λ n. defaults_refuse p v (default_emissions p) (state c.args.em.now) e.error e.location (c.in_err-defaults.ensures.goes n)))
+pub defaults_refused : goal.functions::compile_lambda-returns-in_err-defaults
+defaults_refused t c = record {
+  goes =
+      let params = c.deref-params.result.now in
+      let body = c.deref-body.result.now in
+      let p = arguments expr_tree params in
+      let v = emission_of_return (expr_tree body) in
+      let e = c.in_err-defaults.field-0.0 in
+      let r : c.from_residual.result ≡ Err e = grind arith in
+      by_parts c.from_residual.result _ c.args.em.now c.args.e.now params body c.deref-params.ensures c.deref-body.ensures
+      (refuses_as _ e _ _ _ r refl (λ n. defaults_refuse p v (default_emissions p) (state c.args.em.now) e.error e.location (c.in_err-defaults.ensures.emits.goes n)));
+  same = search rules;
+}
 
-pub scope_refused : goal.functions::compile_lambda_value-returns-in_err-code-clause-goes
-scope_refused t c =
-    let params = c.deref-params.result.now in
-    let body = c.deref-body.result.now in
-    let p = arguments expr_tree params in
-    let v = emission_of_return (expr_tree body) in
-    let x = c.compile_defaults.new.em in
-    let y = c.text.new.self in
-    let name = c.in_ok-name.name in
-    let e = c.in_err-code.field-0.0 in
-    let r : c.from_residual-in_err-code.result ≡ Err e = grind arith in
-    by_parts c.from_residual-in_err-code.result _ c.args.em.now c.args.e.now params body c.deref-params.ensures c.deref-body.ensures
-    (refuses_as _ e _ _ _ r refl (λ n. scope_refuses p v (default_emissions p) (state c.args.em.now) (state x) e.error e.location c.in_ok-defaults.ensures.goes (λ k. scope_as p v name x y k c.in_ok-name.ensures.data c.in_ok-name.ensures.same ∙ c.in_err-code.ensures.goes k n)))
+pub scope_refused : goal.functions::compile_lambda-returns-in_err-code
+scope_refused t c = record {
+  goes =
+      let params = c.deref-params.result.now in
+      let body = c.deref-body.result.now in
+      let p = arguments expr_tree params in
+      let v = emission_of_return (expr_tree body) in
+      let x = c.compile_defaults.new.em in
+      let y = c.text.new.self in
+      let name = c.in_ok-name.name in
+      let e = c.in_err-code.field-0.0 in
+      let r : c.from_residual-in_err-code.result ≡ Err e = grind arith in
+      by_parts c.from_residual-in_err-code.result _ c.args.em.now c.args.e.now params body c.deref-params.ensures c.deref-body.ensures
+      (refuses_as _ e _ _ _ r refl (λ n. scope_refuses p v (default_emissions p) (state c.args.em.now) (state x) e.error e.location c.in_ok-defaults.ensures.emits.goes (λ k. scope_as p v name x y k c.in_ok-name.ensures.data c.in_ok-name.ensures.same ∙ c.in_err-code.ensures.goes k n)));
+  same = search rules;
+}

@@ -1,5 +1,5 @@
 -- The maps that keywords give.
-use Rattle.std.proofs.Common.{arith, [], Err, refl, ◌≡◌, ◌+◌, ◌∙◌, ap, drop, length, sym}
+use Rattle.std.proofs.Common.{rules, arith, [], Err, refl, ◌≡◌, ◌+◌, ◌∙◌, ap, drop, length, sym}
 use Rattle.py_tree.specs.View.{expr_tree, keywords}
 use Rattle.py_bytecode.specs.declared.instruction.Instruction.TheVariants as op
 use Rattle.py_steps.specs.Elements.{groups}
@@ -32,42 +32,54 @@ maps_go_on t c =
     let most = c.loop-keyword.invariant.3 in
     let next = ap (group_count c.loop-keyword.run) here in
     let last = ap (λ n. group_count n left) behind in (
-      c.in_ok-maps.ensures.same ∙ c.loop-keyword.invariant.0,
+      c.in_ok-maps.ensures.emits.same ∙ c.loop-keyword.invariant.0,
       c.loop-keyword.invariant.1
           ∙ ap (λ (es : Keywords). map_rest c.loop-keyword.run es (state c.loop-keyword.em)) here
-          ∙ went _ (map_rest (run_behind c.loop-keyword.run e) left) _ c.in_ok-maps.ensures.goes
+          ∙ went _ (map_rest (run_behind c.loop-keyword.run e) left) _ c.in_ok-maps.ensures.emits.goes
           ∙ ap (λ n. map_rest n left (state c.compile_keyword.new.em)) (sym behind),
       omega (arith, all, next, many, last),
       omega (arith, most, few, many, behind),
     )
 
-pub keyword_refused : goal.keywords::compile_maps-returns-in_err-maps-clause-goes
-keyword_refused t c =
-    let r : c.from_residual.result ≡ Err c.in_err-maps.field-0.0 = grind arith in
-    first_refuses _ _ _ _ _ _ r
-    (c.loop-keyword.invariant.1 ∙ ap (λ (es : Keywords). map_rest c.loop-keyword.run es (state c.loop-keyword.em)) (keywords_at c.args.keywords.now c.loop-keyword.keyword-index _ c.keyword-item.result c.keyword-item.is c.loop-keyword-test.true))
-    c.in_err-maps.ensures.goes
+pub keyword_refused : goal.keywords::compile_maps-returns-in_err-maps-clause-emits
+keyword_refused t c = record {
+  goes =
+      let r : c.from_residual.result ≡ Err c.in_err-maps.field-0.0 = grind arith in
+      first_refuses _ _ _ _ _ _ r
+      (c.loop-keyword.invariant.1 ∙ ap (λ (es : Keywords). map_rest c.loop-keyword.run es (state c.loop-keyword.em)) (keywords_at c.args.keywords.now c.loop-keyword.keyword-index _ c.keyword-item.result c.keyword-item.is c.loop-keyword-test.true))
+      c.in_err-maps.ensures.emits.goes;
+  same = search rules;
+}
 
-pub maps_joined : goal.keywords::compile_keyword_map-returns-then-maps-gt1-clause-goes
-maps_joined t c =
-    let vs = groups map_of [] (keyword_emissions (keywords expr_tree c.args.keywords.now)) in
-    let n = c.in_ok-maps.ensures.count in
-    let more = c.if-maps-gt1.true in
-    goes_as _ _ _ _
-    (ap (λ (f : Emission). f (state c.args.em.now)) (many_maps vs (omega (arith, n, more)))
-    ∙ went _ (emit_count op.BuildMapForCall (length vs)) _ c.in_ok-maps.ensures.goes
-    ∙ ap (λ m. emit_count op.BuildMapForCall m (state c.compile_maps.new.em)) (sym n))
-    c.emit_count.ensures.goes
+pub maps_joined : goal.keywords::compile_keyword_map-returns-then-maps-gt1
+maps_joined t c = record {
+  goes =
+      let vs = groups map_of [] (keyword_emissions (keywords expr_tree c.args.keywords.now)) in
+      let n = c.in_ok-maps.ensures.count in
+      let more = c.if-maps-gt1.true in
+      goes_as _ _ _ _
+      (ap (λ (f : Emission). f (state c.args.em.now)) (many_maps vs (omega (arith, n, more)))
+      ∙ went _ (emit_count op.BuildMapForCall (length vs)) _ c.in_ok-maps.ensures.emits.goes
+      ∙ ap (λ m. emit_count op.BuildMapForCall m (state c.compile_maps.new.em)) (sym n))
+      c.emit_count.ensures.goes;
+  same = search rules;
+}
 
-pub map_alone : goal.keywords::compile_keyword_map-returns-clause-goes
-map_alone t c =
-    let vs = groups map_of [] (keyword_emissions (keywords expr_tree c.args.keywords.now)) in
-    let n = c.in_ok-maps.ensures.count in
-    let few = c.if-maps-gt1.false in
-    ap (λ (f : Emission). f (state c.args.em.now)) (few_maps vs (omega (arith, n, few))) ∙ c.in_ok-maps.ensures.goes
+pub map_alone : goal.keywords::compile_keyword_map-returns
+map_alone t c = record {
+  goes =
+      let vs = groups map_of [] (keyword_emissions (keywords expr_tree c.args.keywords.now)) in
+      let n = c.in_ok-maps.ensures.count in
+      let few = c.if-maps-gt1.false in
+      ap (λ (f : Emission). f (state c.args.em.now)) (few_maps vs (omega (arith, n, few))) ∙ c.in_ok-maps.ensures.emits.goes;
+  same = search rules;
+}
 
-pub map_refused : goal.keywords::compile_keyword_map-returns-in_err-maps-clause-goes
-map_refused t c =
-    let r : c.from_residual.result ≡ Err c.in_err-maps.field-0.0 = grind arith in
-    let j = joined_as (groups map_of [] (keyword_emissions (keywords expr_tree c.args.keywords.now))) in
-    first_refuses _ _ _ _ _ j.0 r (ap (λ (f : Emission). f (state c.args.em.now)) j.1) c.in_err-maps.ensures.goes
+pub map_refused : goal.keywords::compile_keyword_map-returns-in_err-maps
+map_refused t c = record {
+  goes =
+      let r : c.from_residual.result ≡ Err c.in_err-maps.field-0.0 = grind arith in
+      let j = joined_as (groups map_of [] (keyword_emissions (keywords expr_tree c.args.keywords.now))) in
+      first_refuses _ _ _ _ _ j.0 r (ap (λ (f : Emission). f (state c.args.em.now)) j.1) c.in_err-maps.ensures.emits.goes;
+  same = search rules;
+}

@@ -1,5 +1,5 @@
 -- The loop over the entries of a dict display.
-use Rattle.std.proofs.Common.{arith, ◌<◌, Bool, Err, ℕ, List, Option, refl, ◌≡◌, ◌+◌, ◌∙◌, ap, drop, get_or, length, sym}
+use Rattle.std.proofs.Common.{rules, arith, ◌<◌, Bool, Err, ℕ, List, Option, refl, ◌≡◌, ◌+◌, ◌∙◌, ap, drop, get_or, length, sym}
 use Rattle.py_tree.specs.View.{expr_tree, opt_expr}
 use Rattle.py_steps.specs.Elements.{Element}
 use Rattle.py_steps.specs.Emitting.{Emission, ◌▸◌}
@@ -55,71 +55,83 @@ entries_go_on t c =
       omega (arith, most, more, many),
     )
 
-pub entries_done : goal.displays::compile_entries-returns-clause-goes
-entries_done t c =
-    let begun =
-    ap (λ (vs : List Expr). dict_value (pairs_of c.args.e.now.keys vs) (state c.args.em.now)) (sym c.as_slice-values.ensures)
-    ∙ ap (λ (ks : List (Option Expr)). dict_value (pairs_of ks c.as_slice-values.result.now) (state c.args.em.now)) (sym c.as_slice-keys.ensures)
-    ∙ c.loop-i.invariant.1 in
-    let none = pairs_over c.args.e.now.keys c.as_slice-keys.result.now c.args.e.now.values c.as_slice-values.result.now c.loop-i.i c.pair_count-i-end.result c.as_slice-keys.ensures c.as_slice-values.ensures c.loop-i-test.false c.loop-i.auto.i-end c.pair_count-i-end.ensures.all in
-    goes_as _ _ _ _ (begun ∙ ap (λ (es : Entries). dict_rest c.loop-i.begun c.loop-i.run es (state c.loop-i.em)) none) c.close_pairs.ensures.goes
+pub entries_done : goal.displays::compile_entries-returns
+entries_done t c = record {
+  goes =
+      let begun =
+      ap (λ (vs : List Expr). dict_value (pairs_of c.args.e.now.keys vs) (state c.args.em.now)) (sym c.as_slice-values.ensures)
+      ∙ ap (λ (ks : List (Option Expr)). dict_value (pairs_of ks c.as_slice-values.result.now) (state c.args.em.now)) (sym c.as_slice-keys.ensures)
+      ∙ c.loop-i.invariant.1 in
+      let none = pairs_over c.args.e.now.keys c.as_slice-keys.result.now c.args.e.now.values c.as_slice-values.result.now c.loop-i.i c.pair_count-i-end.result c.as_slice-keys.ensures c.as_slice-values.ensures c.loop-i-test.false c.loop-i.auto.i-end c.pair_count-i-end.ensures.all in
+      goes_as _ _ _ _ (begun ∙ ap (λ (es : Entries). dict_rest c.loop-i.begun c.loop-i.run es (state c.loop-i.em)) none) c.close_pairs.ensures.goes;
+  same = search rules;
+}
 
-pub begin_refused : goal.displays::compile_entries-returns-in_err-begin_entry-clause-goes
-begin_refused t c =
-    let i = c.loop-i.i in
-    let ks = c.as_slice-keys.result.now in
-    let vs = c.as_slice-values.result.now in
-    let m : i < length ks = omega (arith, c.pair_count-i-end.ensures.keys, c.loop-i-test.true, ap (length {A = Option Expr}) c.as_slice-keys.ensures) in
-    let n : i < length vs = omega (arith, c.pair_count-i-end.ensures.values, c.loop-i-test.true, ap (length {A = Expr}) c.as_slice-values.ensures) in
-    let begun =
-    ap (λ (ys : List Expr). dict_value (pairs_of c.args.e.now.keys ys) (state c.args.em.now)) (sym c.as_slice-values.ensures)
-    ∙ ap (λ (xs : List (Option Expr)). dict_value (pairs_of xs vs) (state c.args.em.now)) (sym c.as_slice-keys.ensures)
-    ∙ c.loop-i.invariant.1 in
-    let r : c.from_residual.result ≡ Err c.in_err-begin_entry.field-0.0 = grind arith in
-    let v = first vs i n in
-    first_refuses _ _ _ _ _ _ r
-    (begun ∙ ap (λ (f : Emission). f (state c.loop-i.em)) (entry_at c.loop-i.begun c.loop-i.run ks vs i _ c.index-keys-i.result v (get_or vs i v) c.index-keys-i.is refl m n))
-    c.in_err-begin_entry.ensures.goes
+pub begin_refused : goal.displays::compile_entries-returns-in_err-begin_entry
+begin_refused t c = record {
+  goes =
+      let i = c.loop-i.i in
+      let ks = c.as_slice-keys.result.now in
+      let vs = c.as_slice-values.result.now in
+      let m : i < length ks = omega (arith, c.pair_count-i-end.ensures.keys, c.loop-i-test.true, ap (length {A = Option Expr}) c.as_slice-keys.ensures) in
+      let n : i < length vs = omega (arith, c.pair_count-i-end.ensures.values, c.loop-i-test.true, ap (length {A = Expr}) c.as_slice-values.ensures) in
+      let begun =
+      ap (λ (ys : List Expr). dict_value (pairs_of c.args.e.now.keys ys) (state c.args.em.now)) (sym c.as_slice-values.ensures)
+      ∙ ap (λ (xs : List (Option Expr)). dict_value (pairs_of xs vs) (state c.args.em.now)) (sym c.as_slice-keys.ensures)
+      ∙ c.loop-i.invariant.1 in
+      let r : c.from_residual.result ≡ Err c.in_err-begin_entry.field-0.0 = grind arith in
+      let v = first vs i n in
+      first_refuses _ _ _ _ _ _ r
+      (begun ∙ ap (λ (f : Emission). f (state c.loop-i.em)) (entry_at c.loop-i.begun c.loop-i.run ks vs i _ c.index-keys-i.result v (get_or vs i v) c.index-keys-i.is refl m n))
+      c.in_err-begin_entry.ensures.goes;
+  same = search rules;
+}
 
-pub value_refused : goal.displays::compile_entries-returns-in_err-compile_expression-clause-goes
-value_refused t c =
-    let i = c.loop-i.i in
-    let ks = c.as_slice-keys.result.now in
-    let vs = c.as_slice-values.result.now in
-    let m : i < length ks = omega (arith, c.pair_count-i-end.ensures.keys, c.loop-i-test.true, ap (length {A = Option Expr}) c.as_slice-keys.ensures) in
-    let n : i < length vs = omega (arith, c.pair_count-i-end.ensures.values, c.loop-i-test.true, ap (length {A = Expr}) c.as_slice-values.ensures) in
-    let k = c.index-keys-i.result in
-    let v = c.index-values-i.result in
-    let behind : Emission = left_behind c.loop-i.begun c.loop-i.run k v ks vs i in
-    let begun =
-    ap (λ (ys : List Expr). dict_value (pairs_of c.args.e.now.keys ys) (state c.args.em.now)) (sym c.as_slice-values.ensures)
-    ∙ ap (λ (xs : List (Option Expr)). dict_value (pairs_of xs vs) (state c.args.em.now)) (sym c.as_slice-keys.ensures)
-    ∙ c.loop-i.invariant.1 in
-    let r : c.from_residual-in_err-compile_expression.result ≡ Err c.in_err-compile_expression.field-0.0 = grind arith in
-    first_refuses _ _ _ _ _ (entry_ended (opt_expr expr_tree k) ▸ behind) r
-    (begun
-    ∙ ap (λ (f : Emission). f (state c.loop-i.em)) (entry_at c.loop-i.begun c.loop-i.run ks vs i _ k _ v c.index-keys-i.is c.index-values-i.is m n)
-    ∙ went _ (emission (expr_tree v) ▸ entry_ended (opt_expr expr_tree k) ▸ behind) _ c.in_ok-begin_entry.ensures.goes)
-    c.in_err-compile_expression.ensures.goes
+pub value_refused : goal.displays::compile_entries-returns-in_err-compile_expression
+value_refused t c = record {
+  goes =
+      let i = c.loop-i.i in
+      let ks = c.as_slice-keys.result.now in
+      let vs = c.as_slice-values.result.now in
+      let m : i < length ks = omega (arith, c.pair_count-i-end.ensures.keys, c.loop-i-test.true, ap (length {A = Option Expr}) c.as_slice-keys.ensures) in
+      let n : i < length vs = omega (arith, c.pair_count-i-end.ensures.values, c.loop-i-test.true, ap (length {A = Expr}) c.as_slice-values.ensures) in
+      let k = c.index-keys-i.result in
+      let v = c.index-values-i.result in
+      let behind : Emission = left_behind c.loop-i.begun c.loop-i.run k v ks vs i in
+      let begun =
+      ap (λ (ys : List Expr). dict_value (pairs_of c.args.e.now.keys ys) (state c.args.em.now)) (sym c.as_slice-values.ensures)
+      ∙ ap (λ (xs : List (Option Expr)). dict_value (pairs_of xs vs) (state c.args.em.now)) (sym c.as_slice-keys.ensures)
+      ∙ c.loop-i.invariant.1 in
+      let r : c.from_residual-in_err-compile_expression.result ≡ Err c.in_err-compile_expression.field-0.0 = grind arith in
+      first_refuses _ _ _ _ _ (entry_ended (opt_expr expr_tree k) ▸ behind) r
+      (begun
+      ∙ ap (λ (f : Emission). f (state c.loop-i.em)) (entry_at c.loop-i.begun c.loop-i.run ks vs i _ k _ v c.index-keys-i.is c.index-values-i.is m n)
+      ∙ went _ (emission (expr_tree v) ▸ entry_ended (opt_expr expr_tree k) ▸ behind) _ c.in_ok-begin_entry.ensures.goes)
+      c.in_err-compile_expression.ensures.goes;
+  same = search rules;
+}
 
-pub end_refused : goal.displays::compile_entries-returns-in_err-end_entry-clause-goes
-end_refused t c =
-    let i = c.loop-i.i in
-    let ks = c.as_slice-keys.result.now in
-    let vs = c.as_slice-values.result.now in
-    let m : i < length ks = omega (arith, c.pair_count-i-end.ensures.keys, c.loop-i-test.true, ap (length {A = Option Expr}) c.as_slice-keys.ensures) in
-    let n : i < length vs = omega (arith, c.pair_count-i-end.ensures.values, c.loop-i-test.true, ap (length {A = Expr}) c.as_slice-values.ensures) in
-    let k = c.index-keys-i.result in
-    let v = c.index-values-i.result in
-    let behind : Emission = left_behind c.loop-i.begun c.loop-i.run k v ks vs i in
-    let begun =
-    ap (λ (ys : List Expr). dict_value (pairs_of c.args.e.now.keys ys) (state c.args.em.now)) (sym c.as_slice-values.ensures)
-    ∙ ap (λ (xs : List (Option Expr)). dict_value (pairs_of xs vs) (state c.args.em.now)) (sym c.as_slice-keys.ensures)
-    ∙ c.loop-i.invariant.1 in
-    let r : c.from_residual-in_err-end_entry.result ≡ Err c.in_err-end_entry.field-0.0 = grind arith in
-    first_refuses _ _ _ _ _ behind r
-    (begun
-    ∙ ap (λ (f : Emission). f (state c.loop-i.em)) (entry_at c.loop-i.begun c.loop-i.run ks vs i _ k _ v c.index-keys-i.is c.index-values-i.is m n)
-    ∙ went _ (emission (expr_tree v) ▸ entry_ended (opt_expr expr_tree k) ▸ behind) _ c.in_ok-begin_entry.ensures.goes
-    ∙ went _ (entry_ended (opt_expr expr_tree k) ▸ behind) _ c.in_ok-compile_expression.ensures.goes)
-    c.in_err-end_entry.ensures.goes
+pub end_refused : goal.displays::compile_entries-returns-in_err-end_entry
+end_refused t c = record {
+  goes =
+      let i = c.loop-i.i in
+      let ks = c.as_slice-keys.result.now in
+      let vs = c.as_slice-values.result.now in
+      let m : i < length ks = omega (arith, c.pair_count-i-end.ensures.keys, c.loop-i-test.true, ap (length {A = Option Expr}) c.as_slice-keys.ensures) in
+      let n : i < length vs = omega (arith, c.pair_count-i-end.ensures.values, c.loop-i-test.true, ap (length {A = Expr}) c.as_slice-values.ensures) in
+      let k = c.index-keys-i.result in
+      let v = c.index-values-i.result in
+      let behind : Emission = left_behind c.loop-i.begun c.loop-i.run k v ks vs i in
+      let begun =
+      ap (λ (ys : List Expr). dict_value (pairs_of c.args.e.now.keys ys) (state c.args.em.now)) (sym c.as_slice-values.ensures)
+      ∙ ap (λ (xs : List (Option Expr)). dict_value (pairs_of xs vs) (state c.args.em.now)) (sym c.as_slice-keys.ensures)
+      ∙ c.loop-i.invariant.1 in
+      let r : c.from_residual-in_err-end_entry.result ≡ Err c.in_err-end_entry.field-0.0 = grind arith in
+      first_refuses _ _ _ _ _ behind r
+      (begun
+      ∙ ap (λ (f : Emission). f (state c.loop-i.em)) (entry_at c.loop-i.begun c.loop-i.run ks vs i _ k _ v c.index-keys-i.is c.index-values-i.is m n)
+      ∙ went _ (emission (expr_tree v) ▸ entry_ended (opt_expr expr_tree k) ▸ behind) _ c.in_ok-begin_entry.ensures.goes
+      ∙ went _ (entry_ended (opt_expr expr_tree k) ▸ behind) _ c.in_ok-compile_expression.ensures.goes)
+      c.in_err-end_entry.ensures.goes;
+  same = search rules;
+}

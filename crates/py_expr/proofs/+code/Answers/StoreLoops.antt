@@ -1,5 +1,5 @@
 -- Targets, alone and one after the other.
-use Rattle.std.proofs.Common.{arith, Err, ◌≡◌, ◌+◌, ◌∙◌, ap}
+use Rattle.std.proofs.Common.{rules, arith, Err, ◌≡◌, ◌∙◌, ap}
 use Rattle.py_tree.specs.View.{expr_tree}
 use Rattle.py_tree.proofs.View.{tree_Attribute}
 use Rattle.py_tree.specs.Tree as tree
@@ -19,10 +19,13 @@ stores_go_on t c = (
   c.loop-elt.invariant.1 ∙ ap (λ (f : Emission). f (state c.loop-elt.em)) (stored_at c.args.elts.now c.loop-elt.elt-index _ c.elt-item.result c.elt-item.is c.loop-elt-test.true) ∙ went _ _ _ c.in_ok-compile_element_store.ensures.goes,
 )
 
-pub store_refused : goal.targets::compile_stores-returns-in_err-compile_element_store-clause-goes
-store_refused t c =
-    let r : c.from_residual.result ≡ Err c.in_err-compile_element_store.field-0.0 = grind arith in
-    first_refuses _ _ _ _ _ _ r (c.loop-elt.invariant.1 ∙ ap (λ (f : Emission). f (state c.loop-elt.em)) (stored_at c.args.elts.now c.loop-elt.elt-index _ c.elt-item.result c.elt-item.is c.loop-elt-test.true)) c.in_err-compile_element_store.ensures.goes
+pub store_refused : goal.targets::compile_stores-returns-in_err-compile_element_store
+store_refused t c = record {
+  goes =
+      let r : c.from_residual.result ≡ Err c.in_err-compile_element_store.field-0.0 = grind arith in
+      first_refuses _ _ _ _ _ _ r (c.loop-elt.invariant.1 ∙ ap (λ (f : Emission). f (state c.loop-elt.em)) (stored_at c.args.elts.now c.loop-elt.elt-index _ c.elt-item.result c.elt-item.is c.loop-elt-test.true)) c.in_err-compile_element_store.ensures.goes;
+  same = search rules;
+}
 
 pub element_stored : goal.targets::compile_element_store-returns-in_default
 element_stored t c =
@@ -32,6 +35,9 @@ element_stored t c =
       same = c.compile_store-in_default.ensures.same;
     }
 
-pub attribute_stored : goal.targets::compile_store-returns-in-Attribute-clause-goes
-attribute_stored t c =
-    goes_as _ _ _ _ (ap (λ (x : Expr). emission_of_store (expr_tree x) (state c.args.em.now)) c.in-Attribute.is ∙ ap (λ (u : tree.Expr). emission_of_store u (state c.args.em.now)) (tree_Attribute c.in-Attribute.e)) c.compile_attribute_change.ensures.goes
+pub attribute_stored : goal.targets::compile_store-returns-in-Attribute
+attribute_stored t c = record {
+  goes =
+      goes_as _ _ _ _ (ap (λ (x : Expr). emission_of_store (expr_tree x) (state c.args.em.now)) c.in-Attribute.is ∙ ap (λ (u : tree.Expr). emission_of_store u (state c.args.em.now)) (tree_Attribute c.in-Attribute.e)) c.compile_attribute_change.ensures.goes;
+  same = search rules;
+}

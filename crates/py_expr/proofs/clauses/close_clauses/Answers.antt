@@ -1,4 +1,4 @@
-use Rattle.std.proofs.Common.{◌≡◌, ◌∙◌, Err, ap, subst, arith}
+use Rattle.std.proofs.Common.{rules, ◌≡◌, ◌∙◌, Err, ap, subst, arith}
 use Rattle.py_steps.specs.Emitting.{Emission}
 use Rattle.py_emit.specs.States.{state}
 use Rattle.py_emit.proofs.Joined.{first_refuses, went}
@@ -20,8 +20,11 @@ loop-clause-preserved c =
           ∙ went _ _ _ c.in_ok-close_clause.ensures.goes,
     )
 
-pub returns-in_err-close_clause-clause-goes : goal.returns-in_err-close_clause-clause-goes
-returns-in_err-close_clause-clause-goes c =
-    let now = state c.loop-clause.em in
-    let r : c.from_residual.result ≡ Err c.in_err-close_clause.field-0.0 = grind arith in
-    first_refuses _ _ _ _ _ _ r (c.loop-clause.invariant.2 ∙ ap (λ bs. closed bs now) c.in-Some.ensures ∙ ap (λ (f : Emission). f now) (closed_push c.pop.new.self c.in-Some.clause)) c.in_err-close_clause.ensures.goes
+pub returns-in_err-close_clause : goal.returns-in_err-close_clause
+returns-in_err-close_clause c = record {
+  goes =
+      let now = state c.loop-clause.em in
+      let r : c.from_residual.result ≡ Err c.in_err-close_clause.field-0.0 = grind arith in
+      first_refuses _ _ _ _ _ _ r (c.loop-clause.invariant.2 ∙ ap (λ bs. closed bs now) c.in-Some.ensures ∙ ap (λ (f : Emission). f now) (closed_push c.pop.new.self c.in-Some.clause)) c.in_err-close_clause.ensures.goes;
+  same = search rules;
+}

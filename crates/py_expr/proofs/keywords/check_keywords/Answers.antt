@@ -1,17 +1,17 @@
-use Rattle.std.proofs.Common.{◌≡◌, ◌+◌, Err, ap, ◌∙◌, drop, arith}
-use Rattle.py_tree.specs.View.{expr_tree, keywords}
+use Rattle.std.proofs.Common.{rules, ◌≡◌, Err, ap, ◌∙◌, arith}
 use Rattle.py_steps.specs.Emitting.{Emission}
-use Rattle.py_steps.specs.EmissionParts.{checked}
-use Rattle.py_emission.specs.Emission.{keyword_emissions}
 use Rattle.py_emit.specs.States.{state}
 use Rattle.py_emit.proofs.Joined.{first_refuses, went}
 use Rattle.py_expr.proofs.Mapping.{checked_at}
 use Rattle.py_expr.proofs.keywords.check_keywords.Goals as goal
 
-pub returns-in_err-check_keyword-clause-goes : goal.returns-in_err-check_keyword-clause-goes
-returns-in_err-check_keyword-clause-goes c =
-    let r : c.from_residual.result ≡ Err c.in_err-check_keyword.field-0.0 = grind arith in
-    first_refuses _ _ _ _ _ _ r (c.loop-keyword.invariant.1 ∙ ap (λ (f : Emission). f (state c.loop-keyword.em)) (checked_at c.args.keywords.now c.loop-keyword.keyword-index c.keyword-item.result c.keyword-item.result c.keyword-item.is c.loop-keyword-test.true)) c.in_err-check_keyword.ensures.goes
+pub returns-in_err-check_keyword : goal.returns-in_err-check_keyword
+returns-in_err-check_keyword c = record {
+  goes =
+      let r : c.from_residual.result ≡ Err c.in_err-check_keyword.field-0.0 = grind arith in
+      first_refuses _ _ _ _ _ _ r (c.loop-keyword.invariant.1 ∙ ap (λ (f : Emission). f (state c.loop-keyword.em)) (checked_at c.args.keywords.now c.loop-keyword.keyword-index c.keyword-item.result c.keyword-item.result c.keyword-item.is c.loop-keyword-test.true)) c.in_err-check_keyword.ensures.goes;
+  same = search rules;
+}
 
 pub loop-keyword-preserved : goal.loop-keyword-preserved
 loop-keyword-preserved c = (

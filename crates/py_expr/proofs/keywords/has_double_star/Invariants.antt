@@ -1,4 +1,4 @@
-use Rattle.std.proofs.Common.{◌≡◌, ℕ, drop}
+use Rattle.std.proofs.Common.{◌≡◌, drop}
 use Rattle.py_tree.specs.View.{expr_tree, keywords}
 use Rattle.py_steps.specs.Elements.{starred}
 use Rattle.py_emission.specs.Emission.{keyword_emissions}

@@ -1,4 +1,4 @@
-use Rattle.std.proofs.Common.{◌∙◌, ap}
+use Rattle.std.proofs.Common.{rules, ◌∙◌, ap}
 use Rattle.py_tree.specs.View.{expr_tree}
 use Rattle.py_tree.proofs.View.{tree_Attribute}
 use Rattle.py_tree.specs.Tree as tree
@@ -8,6 +8,9 @@ use Rattle.py_emit.specs.States.{state}
 use Rattle.py_emit.proofs.Joined.{goes_as}
 use Rattle.py_expr.proofs.targets.+deletions.Goals as goal
 
-pub compile_delete-returns-in-Attribute-clause-goes : goal.compile_delete-returns-in-Attribute-clause-goes
-compile_delete-returns-in-Attribute-clause-goes t c =
-    goes_as _ _ _ _ (ap (λ (x : Expr). emission_of_delete (expr_tree x) (state c.args.em.now)) c.in-Attribute.is ∙ ap (λ (u : tree.Expr). emission_of_delete u (state c.args.em.now)) (tree_Attribute c.in-Attribute.e)) c.compile_attribute_change.ensures.goes
+pub compile_delete-returns-in-Attribute : goal.compile_delete-returns-in-Attribute
+compile_delete-returns-in-Attribute t c = record {
+  goes =
+      goes_as _ _ _ _ (ap (λ (x : Expr). emission_of_delete (expr_tree x) (state c.args.em.now)) c.in-Attribute.is ∙ ap (λ (u : tree.Expr). emission_of_delete u (state c.args.em.now)) (tree_Attribute c.in-Attribute.e)) c.compile_attribute_change.ensures.goes;
+  same = search rules;
+}

@@ -1,4 +1,4 @@
-use Rattle.std.proofs.Common.{◌≡◌, ◌≤◌, ◌+◌, ℕ, drop}
+use Rattle.std.proofs.Common.{◌≡◌, ◌≤◌, ◌+◌, drop}
 use Rattle.py_tree.specs.View.{expr_tree, exprs}
 use Rattle.py_steps.specs.Elements.{before_star}
 use Rattle.py_emission.specs.Emission.{all_stores}

@@ -1,4 +1,4 @@
-use Rattle.std.proofs.Common.{ap, sym, ◌∙◌}
+use Rattle.std.proofs.Common.{rules, ap, sym, ◌∙◌}
 use Rattle.py_steps.specs.Context.{is_function}
 use Rattle.py_steps.specs.Emitting.{keep}
 use Rattle.py_emit.specs.States.{rest, state}
@@ -6,8 +6,11 @@ use Rattle.py_expr.proofs.Signatures.{outside_function, within_function}
 use Rattle.py_expr.proofs.Turns.{placed_path, refused_so}
 use Rattle.py_expr.proofs.yields.check_in_function.Goals as goal
 
-pub returns-then-is_function-clause-goes : goal.returns-then-is_function-clause-goes
-returns-then-is_function-clause-goes c = within_function c.args.error keep (state c.args.em.now) (ap is_function (sym c.scope_type.ensures) ∙ sym c.is_function.ensures ∙ c.if-is_function.true)
+pub returns-then-is_function : goal.returns-then-is_function
+returns-then-is_function c = record {
+  goes = within_function c.args.error keep (state c.args.em.now) (ap is_function (sym c.scope_type.ensures) ∙ sym c.is_function.ensures ∙ c.if-is_function.true);
+  same = search rules;
+}
 
 pub returns : goal.returns
 returns c = record {

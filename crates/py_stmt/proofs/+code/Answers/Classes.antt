@@ -16,7 +16,7 @@ use Rattle.py_emit.proofs.Joined.{first_refuses, goes_as, refuses_as, went}
 use Rattle.py_emit.proofs.Within.{inner}
 use Rattle.py_expr.specs.Functions.{Gives}
 use Rattle.py_expr.proofs.Scopes.{left_gives, left_keeps, refused_gives, same_path}
-use Rattle.py_expr.proofs.Steps.{move_goes}
+use Rattle.py_expr.proofs.Steps.{stays}
 use Rattle.py_stmt.specs.Classes.{class_body, class_emission, class_params, function_emission, own_emission, own_scope, placed}
 use Rattle.py_stmt.specs.Generics.{params_flag, some_params}
 use Rattle.py_stmt.proofs.Building.{class_is, some_params_placed}
@@ -76,58 +76,76 @@ scope_begins t c =
     (search rules, (made, path))
 
 -- a function is made of its code
-pub function_goes : goal.classes::compile_class_function-returns-clause-goes
-function_goes t c =
-    goes_as _ _ _ _
-    (c.in_ok-code.ensures.goes (made c.args.flags.0 c.args.name.now))
-    c.make_class.ensures.goes
+pub function_goes : goal.classes::compile_class_function-returns
+function_goes t c = record {
+  goes =
+      goes_as _ _ _ _
+      (c.in_ok-code.ensures.goes (made c.args.flags.0 c.args.name.now))
+      c.make_class.ensures.goes;
+  same = search rules;
+}
 
-pub function_refused : goal.classes::compile_class_function-returns-in_err-code-clause-goes
-function_refused t c =
-    let r : c.from_residual.result ≡ Err c.in_err-code.field-0.0 = grind arith in
-    refuses_as _ _ _ _ _ r refl (c.in_err-code.ensures.goes (made c.args.flags.0 c.args.name.now))
+pub function_refused : goal.classes::compile_class_function-returns-in_err-code
+function_refused t c = record {
+  goes =
+      let r : c.from_residual.result ≡ Err c.in_err-code.field-0.0 = grind arith in
+      refuses_as _ _ _ _ _ r refl (c.in_err-code.ensures.goes (made c.args.flags.0 c.args.name.now));
+  same = search rules;
+}
 
 -- type parameters come before it
-pub part_goes : goal.classes::compile_part-returns-clause-goes
-part_goes t c =
-    let s = c.args.s.now in
-    let path = c.args.path in
-    let now = state c.args.em.now in
-    let mid = state c.compile_some_params.new.em in
-    let body = class_body s in
-    let flag = c.params_flag-flags.ensures ∙ ap (λ (xs : List TypeParam). params_flag (type_params xs)) c.as_slice-2.ensures in
-    let k : Emission = function_emission path (params_flag (class_params s)) s.name body in
-    goes_as _ _ _ _
-    (ap (λ (xs : List TypeParam). go_on (some_params (type_params xs) now) k) (sym c.as_slice.ensures)
-    ∙ went _ k _ c.in_ok-compile_some_params.ensures.goes
-    ∙ ap (λ n. function_emission path n s.name body mid) (sym flag)
-    ∙ ap (λ y. function_emission path c.params_flag-flags.result.0 y body mid) (sym c.as_str.ensures))
-    c.compile_class_function.ensures.goes
+pub part_goes : goal.classes::compile_part-returns
+part_goes t c = record {
+  goes =
+      let s = c.args.s.now in
+      let path = c.args.path in
+      let now = state c.args.em.now in
+      let mid = state c.compile_some_params.new.em in
+      let body = class_body s in
+      let flag = c.params_flag-flags.ensures ∙ ap (λ (xs : List TypeParam). params_flag (type_params xs)) c.as_slice-2.ensures in
+      let k : Emission = function_emission path (params_flag (class_params s)) s.name body in
+      goes_as _ _ _ _
+      (ap (λ (xs : List TypeParam). go_on (some_params (type_params xs) now) k) (sym c.as_slice.ensures)
+      ∙ went _ k _ c.in_ok-compile_some_params.ensures.goes
+      ∙ ap (λ n. function_emission path n s.name body mid) (sym flag)
+      ∙ ap (λ y. function_emission path c.params_flag-flags.result.0 y body mid) (sym c.as_str.ensures))
+      c.compile_class_function.ensures.goes;
+  same = search rules;
+}
 
 -- its qualified name is that of the scope around
-pub class_goes : goal.classes::compile_class-returns-clause-goes
+pub class_goes : goal.classes::compile_class-returns
 unfolding by_context
-class_goes t c =
-    let s = c.args.s.now in
-    let path = c.in_ok-path.ensures.data ∙ ap (class_path (state c.args.em.now).around.context) c.as_str.ensures in
-    goes_as _ _ _ _
-    (ap (λ (f : Emission). f (state c.args.em.now)) (class_is s)
-    ∙ ap (λ p. placed p s (class_params s) (state c.args.em.now)) (sym path)
-    ∙ ap (λ (e : Emitter). placed c.in_ok-path.path s (class_params s) (state e)) (sym c.in_ok-path.ensures.same))
-    c.compile_placed.ensures.goes
+class_goes t c = record {
+  goes =
+      let s = c.args.s.now in
+      let path = c.in_ok-path.ensures.data ∙ ap (class_path (state c.args.em.now).around.context) c.as_str.ensures in
+      goes_as _ _ _ _
+      (ap (λ (f : Emission). f (state c.args.em.now)) (class_is s)
+      ∙ ap (λ p. placed p s (class_params s) (state c.args.em.now)) (sym path)
+      ∙ ap (λ (e : Emitter). placed c.in_ok-path.path s (class_params s) (state e)) (sym c.in_ok-path.ensures.same))
+      c.compile_placed.ensures.goes;
+  same = search rules;
+}
 
 -- one with type parameters
-pub some_goes : goal.classes::compile_placed-returns-in-len1-up-clause-goes
-some_goes t c =
-    let s = c.args.s.now in
-    let many : 1 ≤ length s.type_params = subst (λ (xs : List TypeParam). 1 ≤ length xs) c.as_slice.ensures c.in-len1-up.len_at_least in
-    goes_as _ _ _ _ (ap (λ (f : Emission). f (state c.args.em.now)) (some_params_placed s c.args.path many)) c.compile_generic.ensures.goes
+pub some_goes : goal.classes::compile_placed-returns-in-len1-up
+some_goes t c = record {
+  goes =
+      let s = c.args.s.now in
+      let many : 1 ≤ length s.type_params = subst (λ (xs : List TypeParam). 1 ≤ length xs) c.as_slice.ensures c.in-len1-up.len_at_least in
+      goes_as _ _ _ _ (ap (λ (f : Emission). f (state c.args.em.now)) (some_params_placed s c.args.path many)) c.compile_generic.ensures.goes;
+  same = search rules;
+}
 
 -- a refusal of a class or of its decorators
-pub decorated_refused : goal.classes::compile_class_def-returns-in_err-compile_decorated-clause-goes
-decorated_refused t c =
-    let s = c.args.s.now in
-    let d = decorated (values (all_emissions (exprs expr_tree s.decorator_list))) (class_emission s) in
-    let w = d ▸ emission_of_stored s.name in
-    let r : c.from_residual.result ≡ Err c.in_err-compile_decorated.field-0.0 = grind arith in
-    first_refuses _ _ _ _ _ (emission_of_stored s.name) r (ap (λ o. go_on o w) (move_goes s.location (state c.args.em.now)) ∙ ap w (sym c.set_location.ensures.state)) c.in_err-compile_decorated.ensures.goes
+pub decorated_refused : goal.classes::compile_class_def-returns-in_err-compile_decorated
+decorated_refused t c = record {
+  goes =
+      let s = c.args.s.now in
+      let d = decorated (values (all_emissions (exprs expr_tree s.decorator_list))) (class_emission s) in
+      let w = d ▸ emission_of_stored s.name in
+      let r : c.from_residual.result ≡ Err c.in_err-compile_decorated.field-0.0 = grind arith in
+      first_refuses _ _ _ _ _ (emission_of_stored s.name) r (ap (λ o. go_on o w) (stays s.location (state c.args.em.now) c.requires.at)) c.in_err-compile_decorated.ensures.goes;
+  same = search rules;
+}

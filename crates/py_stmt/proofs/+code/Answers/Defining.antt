@@ -23,7 +23,7 @@ use Rattle.py_emit.proofs.Joined.{first_refuses, goes_as, joined, refuses_as, we
 use Rattle.py_emit.specs.declared.context.Naming.{Naming}
 use Rattle.py_emit.specs.declared.context.Naming.TheVariants as naming
 use Rattle.py_emit.proofs.Within.{inner}
-use Rattle.py_expr.proofs.Steps.{move_goes}
+use Rattle.py_expr.proofs.Steps.{stays}
 use Rattle.py_expr.proofs.Scopes.{left_gives, left_keeps, refused_gives, same_path}
 use Rattle.py_stmt.specs.Functions.{body_emission, body_of, def_emission, inner_emission, made_emission, params_of, plain_emission, scope_emission, value_emission}
 use Rattle.py_stmt.specs.Generics.{given_flags}
@@ -82,40 +82,52 @@ inner_as s p r is =
     ap (λ (f : Emission). f r) (sym (joined (enter_parameters (parameters (params_of s))) (add_constant const.none) (body_emission (body_of s))))
     ∙ ap (λ (x : ArgumentsOf Expr). go_on ((enter_parameters (parameters (arguments expr_tree x)) ▸ add_constant const.none) r) (body_emission (body_of s))) (sym is)
 
-pub inner_goes : goal.functions::compile_inner-returns-clause-goes
-inner_goes t c =
-    let v = body_emission (body_of c.args.s.now) in
-    goes_as _ _ _ _ (inner_as c.args.s.now c.deref.result.now (state c.args.em.now) c.deref.ensures ∙ went _ v _ c.in_ok-begin_function.ensures.goes) c.compile_body.ensures.goes
+pub inner_goes : goal.functions::compile_inner-returns
+inner_goes t c = record {
+  goes =
+      let v = body_emission (body_of c.args.s.now) in
+      goes_as _ _ _ _ (inner_as c.args.s.now c.deref.result.now (state c.args.em.now) c.deref.ensures ∙ went _ v _ c.in_ok-begin_function.ensures.goes) c.compile_body.ensures.goes;
+  same = search rules;
+}
 
-pub inner_refused : goal.functions::compile_inner-returns-in_err-begin_function-clause-goes
-inner_refused t c =
-    let r : c.from_residual.result ≡ Err c.in_err-begin_function.field-0.0 = grind arith in
-    first_refuses _ _ _ _ _ (body_emission (body_of c.args.s.now)) r (inner_as c.args.s.now c.deref.result.now (state c.args.em.now) c.deref.ensures) c.in_err-begin_function.ensures.goes
+pub inner_refused : goal.functions::compile_inner-returns-in_err-begin_function
+inner_refused t c = record {
+  goes =
+      let r : c.from_residual.result ≡ Err c.in_err-begin_function.field-0.0 = grind arith in
+      first_refuses _ _ _ _ _ (body_emission (body_of c.args.s.now)) r (inner_as c.args.s.now c.deref.result.now (state c.args.em.now) c.deref.ensures) c.in_err-begin_function.ensures.goes;
+  same = search rules;
+}
 
 -- the scope stands where the function's qualified name says
-pub made_goes : goal.functions::compile_made-returns-clause-goes
-made_goes t c =
-    let s = c.args.s.now in
-    let k = made_emission (given_flags c.args.defaults c.args.generic) s in
-    let same = c.in_ok-path.ensures.same ∙ c.in_ok-name.ensures.same in
-    let path = c.in_ok-path.ensures.data ∙ ap (function_path (state c.text.new.self).around.context) c.as_str-2.ensures ∙ ap (λ (e : Emitter). function_path (state e).around.context s.name) (sym c.in_ok-path.ensures.same) in
-    goes_as _ _ _ _
-    (ap (λ (e : Emitter). scope_emission (function_inside s.name) s.name s k (state e)) (sym same)
-    ∙ scope_as s _ _ k _ (c.in_ok-name.ensures.data ∙ c.as_str.ensures) path
-    ∙ c.in_ok-code.ensures.goes k)
-    c.make_noted.ensures.goes
+pub made_goes : goal.functions::compile_made-returns
+made_goes t c = record {
+  goes =
+      let s = c.args.s.now in
+      let k = made_emission (given_flags c.args.defaults c.args.generic) s in
+      let same = c.in_ok-path.ensures.same ∙ c.in_ok-name.ensures.same in
+      let path = c.in_ok-path.ensures.data ∙ ap (function_path (state c.text.new.self).around.context) c.as_str-2.ensures ∙ ap (λ (e : Emitter). function_path (state e).around.context s.name) (sym c.in_ok-path.ensures.same) in
+      goes_as _ _ _ _
+      (ap (λ (e : Emitter). scope_emission (function_inside s.name) s.name s k (state e)) (sym same)
+      ∙ scope_as s _ _ k _ (c.in_ok-name.ensures.data ∙ c.as_str.ensures) path
+      ∙ c.in_ok-code.ensures.goes k)
+      c.make_noted.ensures.goes;
+  same = search rules;
+}
 
-pub made_refused : goal.functions::compile_made-returns-in_err-code-clause-goes
-made_refused t c =
-    let s = c.args.s.now in
-    let k = made_emission (given_flags c.args.defaults c.args.generic) s in
-    let same = c.in_ok-path.ensures.same ∙ c.in_ok-name.ensures.same in
-    let path = c.in_ok-path.ensures.data ∙ ap (function_path (state c.text.new.self).around.context) c.as_str-2.ensures ∙ ap (λ (e : Emitter). function_path (state e).around.context s.name) (sym c.in_ok-path.ensures.same) in
-    let r : c.from_residual-in_err-code.result ≡ Err c.in_err-code.field-0.0 = grind arith in
-    refuses_as _ _ _ _ _ r
-    (ap (λ (e : Emitter). scope_emission (function_inside s.name) s.name s k (state e)) (sym same)
-    ∙ scope_as s _ _ k _ (c.in_ok-name.ensures.data ∙ c.as_str.ensures) path)
-    (c.in_err-code.ensures.goes k)
+pub made_refused : goal.functions::compile_made-returns-in_err-code
+made_refused t c = record {
+  goes =
+      let s = c.args.s.now in
+      let k = made_emission (given_flags c.args.defaults c.args.generic) s in
+      let same = c.in_ok-path.ensures.same ∙ c.in_ok-name.ensures.same in
+      let path = c.in_ok-path.ensures.data ∙ ap (function_path (state c.text.new.self).around.context) c.as_str-2.ensures ∙ ap (λ (e : Emitter). function_path (state e).around.context s.name) (sym c.in_ok-path.ensures.same) in
+      let r : c.from_residual-in_err-code.result ≡ Err c.in_err-code.field-0.0 = grind arith in
+      refuses_as _ _ _ _ _ r
+      (ap (λ (e : Emitter). scope_emission (function_inside s.name) s.name s k (state e)) (sym same)
+      ∙ scope_as s _ _ k _ (c.in_ok-name.ensures.data ∙ c.as_str.ensures) path)
+      (c.in_err-code.ensures.goes k);
+  same = search rules;
+}
 
 -- a function without type parameters is made behind its defaults
 def_is : (s : StmtFunctionDefOf Stmt) → plain_emission s ≡ emission_of_defaults (default_emissions (params_of s)) ▸ value_emission (flags_of_defaults (default_emissions (params_of s))) s
@@ -127,45 +139,60 @@ def_as s p r is =
     ap (λ (f : Emission). f r) (def_is s)
     ∙ ap (λ (x : ArgumentsOf Expr). go_on (emission_of_defaults (default_emissions (arguments expr_tree x)) r) (value_emission (flags_of_defaults (default_emissions (arguments expr_tree x))) s)) (sym is)
 
-pub defaults_refused : goal.functions::compile_plain-returns-in_err-defaults-clause-goes
-defaults_refused t c =
-    let s = c.args.s.now in
-    let r : c.from_residual.result ≡ Err c.in_err-defaults.field-0.0 = grind arith in
-    first_refuses _ _ _ _ _ (value_emission (flags_of_defaults (default_emissions (arguments expr_tree c.deref.result.now))) s) r (def_as s c.deref.result.now (state c.args.em.now) c.deref.ensures) c.in_err-defaults.ensures.goes
+pub defaults_refused : goal.functions::compile_plain-returns-in_err-defaults
+defaults_refused t c = record {
+  goes =
+      let s = c.args.s.now in
+      let r : c.from_residual.result ≡ Err c.in_err-defaults.field-0.0 = grind arith in
+      first_refuses _ _ _ _ _ (value_emission (flags_of_defaults (default_emissions (arguments expr_tree c.deref.result.now))) s) r (def_as s c.deref.result.now (state c.args.em.now) c.deref.ensures) c.in_err-defaults.ensures.emits.goes;
+  same = search rules;
+}
 
-pub plain_goes : goal.functions::compile_plain-returns-clause-goes
-plain_goes t c =
-    let s = c.args.s.now in
-    let d = c.in_ok-defaults.defaults in
-    let flags = c.in_ok-defaults.ensures.flags ∙ sym (plain_flags d) in
-    goes_as _ _ _ _
-    (def_as s c.deref.result.now (state c.args.em.now) c.deref.ensures
-    ∙ went _ (value_emission (flags_of_defaults (default_emissions (arguments expr_tree c.deref.result.now))) s) _ c.in_ok-defaults.ensures.goes
-    ∙ ap (λ n. value_emission n s (state c.compile_defaults.new.em)) flags)
-    c.compile_value.ensures.goes
+pub plain_goes : goal.functions::compile_plain-returns
+plain_goes t c = record {
+  goes =
+      let s = c.args.s.now in
+      let d = c.in_ok-defaults.defaults in
+      let flags = c.in_ok-defaults.ensures.flags ∙ sym (plain_flags d) in
+      goes_as _ _ _ _
+      (def_as s c.deref.result.now (state c.args.em.now) c.deref.ensures
+      ∙ went _ (value_emission (flags_of_defaults (default_emissions (arguments expr_tree c.deref.result.now))) s) _ c.in_ok-defaults.ensures.emits.goes
+      ∙ ap (λ n. value_emission n s (state c.compile_defaults.new.em)) flags)
+      c.compile_value.ensures.goes;
+  same = search rules;
+}
 
 -- a refusal of what a function's own scope holds
-pub value_refused : goal.functions::compile_value-returns-in_err-compile_made-clause-goes
-value_refused t c =
-    let s = c.args.s.now in
-    let r : c.from_residual.result ≡ Err c.in_err-compile_made.field-0.0 = grind arith in
-    first_refuses _ _ _ _ _ (by_level (λ l. documented (doc_of l (body_of s)))) r refl c.in_err-compile_made.ensures.goes
+pub value_refused : goal.functions::compile_value-returns-in_err-compile_made
+value_refused t c = record {
+  goes =
+      let s = c.args.s.now in
+      let r : c.from_residual.result ≡ Err c.in_err-compile_made.field-0.0 = grind arith in
+      first_refuses _ _ _ _ _ (by_level (λ l. documented (doc_of l (body_of s)))) r refl c.in_err-compile_made.ensures.goes;
+  same = search rules;
+}
 
 -- a function with type parameters
-pub some_goes : goal.functions::compile_function-returns-in-len1-up-clause-goes
-some_goes t c =
-    let s = c.args.s.now in
-    let many : 1 ≤ length s.type_params = subst (λ (xs : List TypeParam). 1 ≤ length xs) c.as_slice.ensures c.in-len1-up.len_at_least in
-    goes_as _ _ _ _ (ap (λ (f : Emission). f (state c.args.em.now)) (some_generic s many)) c.compile_generic.ensures.goes
+pub some_goes : goal.functions::compile_function-returns-in-len1-up
+some_goes t c = record {
+  goes =
+      let s = c.args.s.now in
+      let many : 1 ≤ length s.type_params = subst (λ (xs : List TypeParam). 1 ≤ length xs) c.as_slice.ensures c.in-len1-up.len_at_least in
+      goes_as _ _ _ _ (ap (λ (f : Emission). f (state c.args.em.now)) (some_generic s many)) c.compile_generic.ensures.goes;
+  same = search rules;
+}
 
 -- a refusal of a function or of its decorators
-pub decorated_refused : goal.functions::compile_function_def-returns-in_err-compile_decorated-clause-goes
-decorated_refused t c =
-    let s = c.args.s.now in
-    let d = decorated (values (all_emissions (exprs expr_tree s.decorator_list))) (def_emission s) in
-    let w = d ▸ emission_of_stored s.name in
-    let r : c.from_residual.result ≡ Err c.in_err-compile_decorated.field-0.0 = grind arith in
-    first_refuses _ _ _ _ _ (emission_of_stored s.name) r (ap (λ o. go_on o w) (move_goes s.location (state c.args.em.now)) ∙ ap w (sym c.set_location.ensures.state)) c.in_err-compile_decorated.ensures.goes
+pub decorated_refused : goal.functions::compile_function_def-returns-in_err-compile_decorated
+decorated_refused t c = record {
+  goes =
+      let s = c.args.s.now in
+      let d = decorated (values (all_emissions (exprs expr_tree s.decorator_list))) (def_emission s) in
+      let w = d ▸ emission_of_stored s.name in
+      let r : c.from_residual.result ≡ Err c.in_err-compile_decorated.field-0.0 = grind arith in
+      first_refuses _ _ _ _ _ (emission_of_stored s.name) r (ap (λ o. go_on o w) (stays s.location (state c.args.em.now) c.requires.at)) c.in_err-compile_decorated.ensures.goes;
+  same = search rules;
+}
 
 -- the statements behind a docstring
 pub rest_goes_on : goal.functions::compile_rest-loop-i-preserved
@@ -175,13 +202,19 @@ rest_goes_on t c =
       c.loop-i.invariant.1 ∙ ap (λ (f : Emission). f (state c.loop-i.em)) (statement_at c.args.body.now c.loop-i.i _ c.index-body-i.result c.index-body-i.is lt) ∙ went _ _ _ c.in_ok-compile_statement.ensures.goes,
     )
 
-pub rest_refused : goal.functions::compile_rest-returns-in_err-compile_statement-clause-goes
-rest_refused t c =
-    let lt : c.loop-i.i < length c.args.body.now = omega (arith, c.loop-i-test.true) in
-    let r : c.from_residual.result ≡ Err c.in_err-compile_statement.field-0.0 = grind arith in
-    first_refuses _ _ _ _ _ _ r (c.loop-i.invariant.1 ∙ ap (λ (f : Emission). f (state c.loop-i.em)) (statement_at c.args.body.now c.loop-i.i _ c.index-body-i.result c.index-body-i.is lt)) c.in_err-compile_statement.ensures.goes
+pub rest_refused : goal.functions::compile_rest-returns-in_err-compile_statement
+rest_refused t c = record {
+  goes =
+      let lt : c.loop-i.i < length c.args.body.now = omega (arith, c.loop-i-test.true) in
+      let r : c.from_residual.result ≡ Err c.in_err-compile_statement.field-0.0 = grind arith in
+      first_refuses _ _ _ _ _ _ r (c.loop-i.invariant.1 ∙ ap (λ (f : Emission). f (state c.loop-i.em)) (statement_at c.args.body.now c.loop-i.i _ c.index-body-i.result c.index-body-i.is lt)) c.in_err-compile_statement.ensures.goes;
+  same = search rules;
+}
 
-pub rest_done : goal.functions::compile_rest-returns-clause-goes
-rest_done t c =
-    let last : c.loop-i.i ≡ length c.args.body.now = omega (arith, c.loop-i-test.false, c.loop-i.auto.i-end) in
-    c.loop-i.invariant.1 ∙ ap (λ (f : Emission). f (state c.loop-i.em)) (none_left c.args.body.now c.loop-i.i last)
+pub rest_done : goal.functions::compile_rest-returns
+rest_done t c = record {
+  goes =
+      let last : c.loop-i.i ≡ length c.args.body.now = omega (arith, c.loop-i-test.false, c.loop-i.auto.i-end) in
+      c.loop-i.invariant.1 ∙ ap (λ (f : Emission). f (state c.loop-i.em)) (none_left c.args.body.now c.loop-i.i last);
+  same = search rules;
+}

@@ -1,5 +1,5 @@
 -- Hidden scopes around functions and classes.
-use Rattle.std.proofs.Common.{◌≡◌, ℕ, List, length, Err, refl, sym, ap, ◌∙◌, arith}
+use Rattle.std.proofs.Common.{rules, ◌≡◌, ℕ, List, length, Err, refl, sym, ap, ◌∙◌, arith}
 use Rattle.py_tree.specs.View.{arguments, expr_tree}
 use Rattle.py_tree.specs.declared.expressions.ArgumentsOf.{ArgumentsOf}
 use Rattle.py_tree.specs.declared.expressions.Expr.{Expr}
@@ -62,42 +62,54 @@ scope_refused t c =
     }
 
 -- a function is made of the scope's code
-pub around_goes : goal.functions::make_around-returns-clause-goes
-around_goes t c =
-    let s = c.args.s.now in
-    goes_as _ _ _ _
-    (c.in_ok-code.ensures.goes (made 0 (hidden_name s.name))
-    ∙ ap (λ x. made 0 (hidden_name x) (object c.in_ok-code.code) (state c.compile_hidden_scope.new.em)) (sym c.as_str.ensures))
-    c.make_hidden.ensures.goes
+pub around_goes : goal.functions::make_around-returns
+around_goes t c = record {
+  goes =
+      let s = c.args.s.now in
+      goes_as _ _ _ _
+      (c.in_ok-code.ensures.goes (made 0 (hidden_name s.name))
+      ∙ ap (λ x. made 0 (hidden_name x) (object c.in_ok-code.code) (state c.compile_hidden_scope.new.em)) (sym c.as_str.ensures))
+      c.make_hidden.ensures.goes;
+  same = search rules;
+}
 
-pub around_refused : goal.functions::make_around-returns-in_err-code-clause-goes
-around_refused t c =
-    let s = c.args.s.now in
-    let r : c.from_residual.result ≡ Err c.in_err-code.field-0.0 = grind arith in
-    refuses_as _ _ _ _ _ r refl (c.in_err-code.ensures.goes (made 0 (hidden_name s.name)))
+pub around_refused : goal.functions::make_around-returns-in_err-code
+around_refused t c = record {
+  goes =
+      let s = c.args.s.now in
+      let r : c.from_residual.result ≡ Err c.in_err-code.field-0.0 = grind arith in
+      refuses_as _ _ _ _ _ r refl (c.in_err-code.ensures.goes (made 0 (hidden_name s.name)));
+  same = search rules;
+}
 
 -- and called
-pub generic_goes : goal.functions::compile_generic-returns-clause-goes
-generic_goes t c =
-    let s = c.args.s.now in
-    let d = c.given_defaults-defaults.result in
-    let is = c.given_defaults-defaults.ensures ∙ ap (λ (p : ArgumentsOf Expr). defaults_of (arguments expr_tree p)) c.deref.ensures in
-    let whole : Defaults → Emission = λ e. hidden_function e s ▸ hidden_called (params_of s) (length (handed_by e)) in
-    goes_as _ _ _ _
-    (ap (λ (f : Emission). f (state c.args.em.now)) (generic_is s ∙ ap whole (sym is))
-    ∙ went _ (hidden_called (params_of s) (length (handed_by d))) _ c.in_ok-make_around.ensures.goes
-    ∙ ap (λ (p : ArgumentsOf Expr). hidden_called (arguments expr_tree p) (length (handed_by d)) (state c.make_around.new.em)) (sym c.deref-2.ensures)
-    ∙ ap (λ n. hidden_called (arguments expr_tree c.deref-2.result.now) n (state c.make_around.new.em)) (sym c.handed_count.ensures))
-    c.call_hidden.ensures.goes
+pub generic_goes : goal.functions::compile_generic-returns
+generic_goes t c = record {
+  goes =
+      let s = c.args.s.now in
+      let d = c.given_defaults-defaults.result in
+      let is = c.given_defaults-defaults.ensures ∙ ap (λ (p : ArgumentsOf Expr). defaults_of (arguments expr_tree p)) c.deref.ensures in
+      let whole : Defaults → Emission = λ e. hidden_function e s ▸ hidden_called (params_of s) (length (handed_by e)) in
+      goes_as _ _ _ _
+      (ap (λ (f : Emission). f (state c.args.em.now)) (generic_is s ∙ ap whole (sym is))
+      ∙ went _ (hidden_called (params_of s) (length (handed_by d))) _ c.in_ok-make_around.ensures.goes
+      ∙ ap (λ (p : ArgumentsOf Expr). hidden_called (arguments expr_tree p) (length (handed_by d)) (state c.make_around.new.em)) (sym c.deref-2.ensures)
+      ∙ ap (λ n. hidden_called (arguments expr_tree c.deref-2.result.now) n (state c.make_around.new.em)) (sym c.handed_count.ensures))
+      c.call_hidden.ensures.goes;
+  same = search rules;
+}
 
-pub generic_refused : goal.functions::compile_generic-returns-in_err-make_around-clause-goes
-generic_refused t c =
-    let s = c.args.s.now in
-    let d = c.given_defaults-defaults.result in
-    let is = c.given_defaults-defaults.ensures ∙ ap (λ (p : ArgumentsOf Expr). defaults_of (arguments expr_tree p)) c.deref.ensures in
-    let whole : Defaults → Emission = λ e. hidden_function e s ▸ hidden_called (params_of s) (length (handed_by e)) in
-    let r : c.from_residual.result ≡ Err c.in_err-make_around.field-0.0 = grind arith in
-    first_refuses _ _ _ _ _ (hidden_called (params_of s) (length (handed_by d))) r (ap (λ (f : Emission). f (state c.args.em.now)) (generic_is s ∙ ap whole (sym is))) c.in_err-make_around.ensures.goes
+pub generic_refused : goal.functions::compile_generic-returns-in_err-make_around
+generic_refused t c = record {
+  goes =
+      let s = c.args.s.now in
+      let d = c.given_defaults-defaults.result in
+      let is = c.given_defaults-defaults.ensures ∙ ap (λ (p : ArgumentsOf Expr). defaults_of (arguments expr_tree p)) c.deref.ensures in
+      let whole : Defaults → Emission = λ e. hidden_function e s ▸ hidden_called (params_of s) (length (handed_by e)) in
+      let r : c.from_residual.result ≡ Err c.in_err-make_around.field-0.0 = grind arith in
+      first_refuses _ _ _ _ _ (hidden_called (params_of s) (length (handed_by d))) r (ap (λ (f : Emission). f (state c.args.em.now)) (generic_is s ∙ ap whole (sym is))) c.in_err-make_around.ensures.goes;
+  same = search rules;
+}
 
 -- the same of a class
 pub class_left : goal.classes::compile_hidden_scope-returns
@@ -136,16 +148,22 @@ class_refused t c =
       same = same_path kind.TypeParams naming.AsAround h first entry begins entry entry into refl out x _ r c.in_err-return_built.ensures.same;
     }
 
-pub class_around_goes : goal.classes::make_around-returns-clause-goes
-class_around_goes t c =
-    let s = c.args.s.now in
-    goes_as _ _ _ _
-    (c.in_ok-code.ensures.goes (made 0 (hidden_name s.name))
-    ∙ ap (λ x. made 0 (hidden_name x) (object c.in_ok-code.code) (state c.compile_hidden_scope.new.em)) (sym c.as_str.ensures))
-    c.make_hidden.ensures.goes
+pub class_around_goes : goal.classes::make_around-returns
+class_around_goes t c = record {
+  goes =
+      let s = c.args.s.now in
+      goes_as _ _ _ _
+      (c.in_ok-code.ensures.goes (made 0 (hidden_name s.name))
+      ∙ ap (λ x. made 0 (hidden_name x) (object c.in_ok-code.code) (state c.compile_hidden_scope.new.em)) (sym c.as_str.ensures))
+      c.make_hidden.ensures.goes;
+  same = search rules;
+}
 
-pub class_around_refused : goal.classes::make_around-returns-in_err-code-clause-goes
-class_around_refused t c =
-    let s = c.args.s.now in
-    let r : c.from_residual.result ≡ Err c.in_err-code.field-0.0 = grind arith in
-    refuses_as _ _ _ _ _ r refl (c.in_err-code.ensures.goes (made 0 (hidden_name s.name)))
+pub class_around_refused : goal.classes::make_around-returns-in_err-code
+class_around_refused t c = record {
+  goes =
+      let s = c.args.s.now in
+      let r : c.from_residual.result ≡ Err c.in_err-code.field-0.0 = grind arith in
+      refuses_as _ _ _ _ _ r refl (c.in_err-code.ensures.goes (made 0 (hidden_name s.name)));
+  same = search rules;
+}

@@ -1,40 +1,48 @@
 -- Loops over iterators.
-use Rattle.std.proofs.Common.{◌≡◌, ◌∙◌, Err, List, ap, arith, sym}
+use Rattle.std.proofs.Common.{rules, ◌≡◌, ◌∙◌, Err, List, ap, arith, sym}
 use Rattle.py_tree.specs.declared.expressions.Expr.{Expr}
 use Rattle.py_tree.specs.declared.statements.Stmt.{Stmt}
+use Rattle.py_tree.specs.Tree as tree
 use Rattle.py_tree.specs.View.{expr_tree, stmt_tree, stmts}
+use Rattle.py_tree.proofs.View.{tree_For}
 use Rattle.py_steps.specs.Emitting.{Emission, ◌▸◌, begin, located}
 use Rattle.py_emission.specs.Emission.{emission, emission_of_store}
 use Rattle.py_meaning.specs.ControlEmissions.{for_each}
-use Rattle.py_meaning.specs.EmissionStmts.{emission_of_stmts}
+use Rattle.py_meaning.specs.EmissionStmts.{emission_of_stmt, emission_of_stmts}
 use Rattle.py_emit.specs.States.{state}
 use Rattle.py_emit.proofs.Joined.{first_refuses, goes_as, went}
 use Rattle.py_expr.proofs.Opening.{apart, begin_opens, block_opens}
-use Rattle.py_expr.proofs.Steps.{begin_goes, move_goes}
+use Rattle.py_expr.proofs.Steps.{begin_goes, stays}
 use Rattle.py_stmt.specs.Parts.{each_begun, each_by_parts, each_ended, each_turn}
 use Rattle.py_stmt.proofs.Opening.{each_begun_opens, each_ended_opens, each_turn_opens}
 use Rattle.py_stmt.proofs.Parts.{each_parts, three_blocks}
 use Rattle.py_stmt.proofs.+code.Goals as goal
 
-pub for_goes : goal.loops::compile_for-returns-clause-goes
-for_goes t c =
-    let iter = emission (expr_tree c.args.s.now.iter.value) in
-    let store = emission_of_store (expr_tree c.args.s.now.target.value) in
-    let body = emission_of_stmts (stmts stmt_tree c.args.s.now.body) in
-    let orelse = emission_of_stmts (stmts stmt_tree c.args.s.now.orelse) in
-    goes_as _ _ _ _
-    (went _ (for_each iter store body orelse) _ (move_goes c.args.s.now.location (state c.args.em.now))
-    ∙ ap (λ (f : Emission). f (located c.args.s.now.location (state c.args.em.now))) (each_parts iter store body orelse)
-    ∙ ap (each_by_parts iter store body orelse) (sym c.set_location.ensures.state))
-    c.compile_each.ensures.goes
+pub for_goes : goal.statements::compile_entered-returns-in-For
+for_goes t c = record {
+  goes =
+      let x = c.in-For.s in
+      let s = state c.args.em.now in
+      let iter = emission (expr_tree x.iter.value) in
+      let store = emission_of_store (expr_tree x.target.value) in
+      let body = emission_of_stmts (stmts stmt_tree x.body) in
+      let orelse = emission_of_stmts (stmts stmt_tree x.orelse) in
+      let is = ap stmt_tree c.in-For.is ∙ tree_For x in
+      goes_as _ _ _ _
+      (ap (λ (y : tree.Stmt). emission_of_stmt y s) is
+      ∙ went _ (for_each iter store body orelse) _ (stays x.location s (c.requires.at ∙ ap tree.stmt_location is))
+      ∙ ap (λ (f : Emission). f s) (each_parts iter store body orelse))
+      c.compile_for.ensures.goes;
+  same = search rules;
+}
 
-pub turn_begins : goal.loops::compile_each-switch_to_block-requires
+pub turn_begins : goal.loops::compile_for-switch_to_block-requires
 turn_begins t c =
     let a = block_opens _ _ _ c.in_ok-other.ensures.ok c.in_ok-start.ensures.made in
     let e = block_opens _ _ _ c.in_ok-end.ensures.ok a in
     record { made = each_begun_opens (expr_tree c.deref.result.now) _ _ _ c.in_ok-begin_each.ensures.goes e; below = c.in_ok-start.ensures.below }
 
-pub other_begins : goal.loops::compile_each-switch_to_block-requires-2
+pub other_begins : goal.loops::compile_for-switch_to_block-requires-2
 other_begins t c =
     let start = c.in_ok-start.start.0 in
     let other = c.in_ok-other.other.0 in
@@ -45,7 +53,7 @@ other_begins t c =
     let g = begin_opens _ _ _ start (λ e. first (sym e)) c.switch_to_block.ensures.state e in
     record { made = each_turn_opens (expr_tree c.args.s.now.target.value) (stmts stmt_tree c.args.s.now.body) start other end _ _ _ c.in_ok-compile_turn.ensures.goes g; below = c.in_ok-other.ensures.below }
 
-pub end_begins : goal.loops::compile_each-switch_to_block-requires-3
+pub end_begins : goal.loops::compile_for-switch_to_block-requires-3
 end_begins t c =
     let start = c.in_ok-start.start.0 in
     let other = c.in_ok-other.other.0 in
@@ -59,48 +67,54 @@ end_begins t c =
     let m = begin_opens _ _ _ other (λ e. second (sym e)) c.switch_to_block-2.ensures.state j in
     record { made = each_ended_opens (stmts stmt_tree c.as_slice.result.now) _ _ _ c.in_ok-end_each.ensures.goes m; below = c.in_ok-end.ensures.below }
 
-pub turn_refused : goal.loops::compile_each-returns-in_err-compile_turn-clause-goes
-turn_refused t c =
-    let start = c.in_ok-start.start.0 in
-    let other = c.in_ok-other.other.0 in
-    let end = c.in_ok-end.end.0 in
-    let iter = emission (expr_tree c.deref.result.now) in
-    let store = emission_of_store (expr_tree c.args.s.now.target.value) in
-    let body = emission_of_stmts (stmts stmt_tree c.args.s.now.body) in
-    let orelse = emission_of_stmts (stmts stmt_tree c.args.s.now.orelse) in
-    let rest = begin other ▸ each_ended orelse ▸ begin end in
-    let turn = each_turn store body start other end in
-    let r : c.from_residual-in_err-compile_turn.result ≡ Err c.in_err-compile_turn.field-0.0 = grind arith in
-    first_refuses _ _ _ _ _ rest r
-    (ap (λ (x : Expr). each_by_parts (emission (expr_tree x)) store body orelse (state c.args.em.now)) (sym c.deref.ensures)
-    ∙ three_blocks (λ x y z. each_begun iter ▸ begin x ▸ each_turn store body x y z ▸ begin y ▸ each_ended orelse ▸ begin z) (state c.args.em.now) _ _ _ start other end
-    c.in_ok-start.ensures.ok c.in_ok-start.ensures.number c.in_ok-other.ensures.ok c.in_ok-other.ensures.number c.in_ok-end.ensures.ok c.in_ok-end.ensures.number
-    ∙ went _ (begin start ▸ turn ▸ rest) _ c.in_ok-begin_each.ensures.goes
-    ∙ went _ (turn ▸ rest) _ (begin_goes start _)
-    ∙ ap (turn ▸ rest) (sym c.switch_to_block.ensures.state))
-    c.in_err-compile_turn.ensures.goes
+pub turn_refused : goal.loops::compile_for-returns-in_err-compile_turn
+turn_refused t c = record {
+  goes =
+      let start = c.in_ok-start.start.0 in
+      let other = c.in_ok-other.other.0 in
+      let end = c.in_ok-end.end.0 in
+      let iter = emission (expr_tree c.deref.result.now) in
+      let store = emission_of_store (expr_tree c.args.s.now.target.value) in
+      let body = emission_of_stmts (stmts stmt_tree c.args.s.now.body) in
+      let orelse = emission_of_stmts (stmts stmt_tree c.args.s.now.orelse) in
+      let rest = begin other ▸ each_ended orelse ▸ begin end in
+      let turn = each_turn store body start other end in
+      let r : c.from_residual-in_err-compile_turn.result ≡ Err c.in_err-compile_turn.field-0.0 = grind arith in
+      first_refuses _ _ _ _ _ rest r
+      (ap (λ (x : Expr). each_by_parts (emission (expr_tree x)) store body orelse (state c.args.em.now)) (sym c.deref.ensures)
+      ∙ three_blocks (λ x y z. each_begun iter ▸ begin x ▸ each_turn store body x y z ▸ begin y ▸ each_ended orelse ▸ begin z) (state c.args.em.now) _ _ _ start other end
+      c.in_ok-start.ensures.ok c.in_ok-start.ensures.number c.in_ok-other.ensures.ok c.in_ok-other.ensures.number c.in_ok-end.ensures.ok c.in_ok-end.ensures.number
+      ∙ went _ (begin start ▸ turn ▸ rest) _ c.in_ok-begin_each.ensures.goes
+      ∙ went _ (turn ▸ rest) _ (begin_goes start _)
+      ∙ ap (turn ▸ rest) (sym c.switch_to_block.ensures.state))
+      c.in_err-compile_turn.ensures.goes;
+  same = search rules;
+}
 
-pub end_refused : goal.loops::compile_each-returns-in_err-end_each-clause-goes
-end_refused t c =
-    let start = c.in_ok-start.start.0 in
-    let other = c.in_ok-other.other.0 in
-    let end = c.in_ok-end.end.0 in
-    let iter = emission (expr_tree c.deref.result.now) in
-    let store = emission_of_store (expr_tree c.args.s.now.target.value) in
-    let body = emission_of_stmts (stmts stmt_tree c.args.s.now.body) in
-    let orelse = emission_of_stmts (stmts stmt_tree c.as_slice.result.now) in
-    let last = each_ended orelse ▸ begin end in
-    let turn = each_turn store body start other end in
-    let r : c.from_residual-in_err-end_each.result ≡ Err c.in_err-end_each.field-0.0 = grind arith in
-    first_refuses _ _ _ _ _ (begin end) r
-    (ap (λ (x : Expr). each_by_parts (emission (expr_tree x)) store body (emission_of_stmts (stmts stmt_tree c.args.s.now.orelse)) (state c.args.em.now)) (sym c.deref.ensures)
-    ∙ ap (λ (xs : List Stmt). each_by_parts iter store body (emission_of_stmts (stmts stmt_tree xs)) (state c.args.em.now)) (sym c.as_slice.ensures)
-    ∙ three_blocks (λ x y z. each_begun iter ▸ begin x ▸ each_turn store body x y z ▸ begin y ▸ each_ended orelse ▸ begin z) (state c.args.em.now) _ _ _ start other end
-    c.in_ok-start.ensures.ok c.in_ok-start.ensures.number c.in_ok-other.ensures.ok c.in_ok-other.ensures.number c.in_ok-end.ensures.ok c.in_ok-end.ensures.number
-    ∙ went _ (begin start ▸ turn ▸ begin other ▸ last) _ c.in_ok-begin_each.ensures.goes
-    ∙ went _ (turn ▸ begin other ▸ last) _ (begin_goes start _)
-    ∙ ap (turn ▸ begin other ▸ last) (sym c.switch_to_block.ensures.state)
-    ∙ went _ (begin other ▸ last) _ c.in_ok-compile_turn.ensures.goes
-    ∙ went _ last _ (begin_goes other _)
-    ∙ ap last (sym c.switch_to_block-2.ensures.state))
-    c.in_err-end_each.ensures.goes
+pub end_refused : goal.loops::compile_for-returns-in_err-end_each
+end_refused t c = record {
+  goes =
+      let start = c.in_ok-start.start.0 in
+      let other = c.in_ok-other.other.0 in
+      let end = c.in_ok-end.end.0 in
+      let iter = emission (expr_tree c.deref.result.now) in
+      let store = emission_of_store (expr_tree c.args.s.now.target.value) in
+      let body = emission_of_stmts (stmts stmt_tree c.args.s.now.body) in
+      let orelse = emission_of_stmts (stmts stmt_tree c.as_slice.result.now) in
+      let last = each_ended orelse ▸ begin end in
+      let turn = each_turn store body start other end in
+      let r : c.from_residual-in_err-end_each.result ≡ Err c.in_err-end_each.field-0.0 = grind arith in
+      first_refuses _ _ _ _ _ (begin end) r
+      (ap (λ (x : Expr). each_by_parts (emission (expr_tree x)) store body (emission_of_stmts (stmts stmt_tree c.args.s.now.orelse)) (state c.args.em.now)) (sym c.deref.ensures)
+      ∙ ap (λ (xs : List Stmt). each_by_parts iter store body (emission_of_stmts (stmts stmt_tree xs)) (state c.args.em.now)) (sym c.as_slice.ensures)
+      ∙ three_blocks (λ x y z. each_begun iter ▸ begin x ▸ each_turn store body x y z ▸ begin y ▸ each_ended orelse ▸ begin z) (state c.args.em.now) _ _ _ start other end
+      c.in_ok-start.ensures.ok c.in_ok-start.ensures.number c.in_ok-other.ensures.ok c.in_ok-other.ensures.number c.in_ok-end.ensures.ok c.in_ok-end.ensures.number
+      ∙ went _ (begin start ▸ turn ▸ begin other ▸ last) _ c.in_ok-begin_each.ensures.goes
+      ∙ went _ (turn ▸ begin other ▸ last) _ (begin_goes start _)
+      ∙ ap (turn ▸ begin other ▸ last) (sym c.switch_to_block.ensures.state)
+      ∙ went _ (begin other ▸ last) _ c.in_ok-compile_turn.ensures.goes
+      ∙ went _ last _ (begin_goes other _)
+      ∙ ap last (sym c.switch_to_block-2.ensures.state))
+      c.in_err-end_each.ensures.goes;
+  same = search rules;
+}

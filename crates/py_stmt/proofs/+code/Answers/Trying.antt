@@ -10,27 +10,29 @@ use Rattle.py_meaning.specs.StmtParts.{none}
 use Rattle.py_emit.specs.States.{state}
 use Rattle.py_emit.proofs.Joined.{first_refuses, goes_as, went}
 use Rattle.py_expr.proofs.Opening.{apart, begin_opens, block_opens, jump_opens}
-use Rattle.py_expr.proofs.Steps.{move_goes}
+use Rattle.py_expr.proofs.Steps.{stays}
 use Rattle.py_stmt.specs.Parts.{try_by_parts}
 use Rattle.py_stmt.proofs.Opening.{caught_opens, guarded_opens, handled_opens, handlers_open, match_opens, stmts_open, to_last_opens, unguarded_opens}
 use Rattle.py_stmt.proofs.Parts.{handlers_at, last_some, try_parts}
 use Rattle.py_stmt.proofs.Steps.{none_is}
 use Rattle.py_stmt.proofs.+code.Goals as goal
 
-pub try_goes : goal.tries::compile_try-returns-clause-goes
-try_goes t c =
-    let body = emission_of_stmts (stmts stmt_tree c.args.s.now.body) in
-    let catches = handlers stmt_tree c.args.s.now.handlers in
-    let orelse = emission_of_stmts (stmts stmt_tree c.args.s.now.orelse) in
-    let final = stmts stmt_tree c.args.s.now.finalbody in
-    let last = emission_of_last final (emission_of_stmts final) in
-    let here = none_is c.args.s.now.finalbody c.is_empty.result c.is_empty.ensures.0 c.is_empty.ensures.1 in
-    goes_as _ _ _ _
-    (went _ (try_body (not (none final)) body (emission_of_handlers catches (not (none final))) orelse last) _ (move_goes c.args.s.now.location (state c.args.em.now))
-    ∙ ap (λ (f : Emission). f (located c.args.s.now.location (state c.args.em.now)))
-    (try_parts (not (none final)) body (emission_of_handlers catches (not (none final))) orelse last ∙ ap (λ b. try_by_parts (not b) body (emission_of_handlers catches (not b)) orelse last) here)
-    ∙ ap (try_by_parts (not c.is_empty.result) body (emission_of_handlers catches (not c.is_empty.result)) orelse last) (sym c.set_location.ensures.state))
-    c.compile_parts.ensures.goes
+pub try_goes : goal.tries::compile_try-returns
+try_goes t c = record {
+  goes =
+      let body = emission_of_stmts (stmts stmt_tree c.args.s.now.body) in
+      let catches = handlers stmt_tree c.args.s.now.handlers in
+      let orelse = emission_of_stmts (stmts stmt_tree c.args.s.now.orelse) in
+      let final = stmts stmt_tree c.args.s.now.finalbody in
+      let last = emission_of_last final (emission_of_stmts final) in
+      let here = none_is c.args.s.now.finalbody c.is_empty.result c.is_empty.ensures.0 c.is_empty.ensures.1 in
+      goes_as _ _ _ _
+      (went _ (try_body (not (none final)) body (emission_of_handlers catches (not (none final))) orelse last) _ (stays c.args.s.now.location (state c.args.em.now) c.requires.at)
+      ∙ ap (λ (f : Emission). f (state c.args.em.now))
+      (try_parts (not (none final)) body (emission_of_handlers catches (not (none final))) orelse last ∙ ap (λ b. try_by_parts (not b) body (emission_of_handlers catches (not b)) orelse last) here))
+      c.compile_parts.ensures.goes;
+  same = search rules;
+}
 
 pub catch_begins : goal.tries::compile_parts-switch_to_block-requires
 catch_begins t c =
@@ -86,21 +88,30 @@ handlers_go_on t c = (
       ∙ went _ _ _ c.in_ok-compile_handler.ensures.goes,
 )
 
-pub handler_refused : goal.tries::compile_handlers-returns-in_err-compile_handler-clause-goes
-handler_refused t c =
-    let r : c.from_residual.result ≡ Err c.in_err-compile_handler.field-0.0 = grind arith in
-    first_refuses _ _ _ _ _ _ r
-    (c.loop-handler.invariant.1 ∙ ap (λ (f : Emission). f (state c.loop-handler.em)) (handlers_at c.args.handlers.now c.loop-handler.handler-index _ c.handler-item.result c.args.last c.args.end.0 c.handler-item.is c.loop-handler-test.true))
-    c.in_err-compile_handler.ensures.goes
+pub handler_refused : goal.tries::compile_handlers-returns-in_err-compile_handler
+handler_refused t c = record {
+  goes =
+      let r : c.from_residual.result ≡ Err c.in_err-compile_handler.field-0.0 = grind arith in
+      first_refuses _ _ _ _ _ _ r
+      (c.loop-handler.invariant.1 ∙ ap (λ (f : Emission). f (state c.loop-handler.em)) (handlers_at c.args.handlers.now c.loop-handler.handler-index _ c.handler-item.result c.args.last c.args.end.0 c.handler-item.is c.loop-handler-test.true))
+      c.in_err-compile_handler.ensures.goes;
+  same = search rules;
+}
 
-pub last_refused : goal.tries::compile_last-returns-clause-goes
-last_refused t c =
-    let some = sym c.is_empty.ensures ∙ c.if-is_empty.false in
-    goes_as _ _ _ _ (ap (λ (f : Emission). f (state c.args.em.now)) (last_some c.args.body.now (emission_of_stmts (stmts stmt_tree c.args.body.now)) some)) (search rules)
+pub last_refused : goal.tries::compile_last-returns
+last_refused t c = record {
+  goes =
+      let some = sym c.is_empty.ensures ∙ c.if-is_empty.false in
+      goes_as _ _ _ _ (ap (λ (f : Emission). f (state c.args.em.now)) (last_some c.args.body.now (emission_of_stmts (stmts stmt_tree c.args.body.now)) some)) (search rules);
+  same = search rules;
+}
 
-pub last_goes : goal.tries::compile_last-returns-2-clause-goes
-last_goes t c =
-    let some = sym c.is_empty.ensures ∙ c.if-is_empty.false in
-    ap (λ (f : Emission). f (state c.args.em.now)) (last_some c.args.body.now (emission_of_stmts (stmts stmt_tree c.args.body.now)) some)
-    ∙ went _ (emit op.EndFinally 0) _ c.in_ok-compile_statements.ensures.goes
-    ∙ c.in_Continue-emit-emit.ensures.goes
+pub last_goes : goal.tries::compile_last-returns-2
+last_goes t c = record {
+  goes =
+      let some = sym c.is_empty.ensures ∙ c.if-is_empty.false in
+      ap (λ (f : Emission). f (state c.args.em.now)) (last_some c.args.body.now (emission_of_stmts (stmts stmt_tree c.args.body.now)) some)
+      ∙ went _ (emit op.EndFinally 0) _ c.in_ok-compile_statements.ensures.goes
+      ∙ c.in_Continue-emit-emit.ensures.goes;
+  same = search rules;
+}

@@ -1,4 +1,4 @@
-use Rattle.std.proofs.Common.{List, sym, ap, ◌∙◌}
+use Rattle.std.proofs.Common.{rules, List, sym, ap, ◌∙◌}
 use Rattle.py_tree.specs.View.{expr_tree, type_params}
 use Rattle.py_tree.specs.declared.expressions.Expr.{Expr}
 use Rattle.py_tree.specs.declared.statements.TypeParam.{TypeParam}
@@ -6,18 +6,20 @@ use Rattle.py_steps.specs.Emitting.{Emission}
 use Rattle.py_meaning.specs.EmissionDefs.{emission_of_alias}
 use Rattle.py_emit.specs.States.{state}
 use Rattle.py_emit.proofs.Joined.{goes_as, went}
-use Rattle.py_expr.proofs.Steps.{move_goes}
+use Rattle.py_expr.proofs.Steps.{stays}
 use Rattle.py_stmt.proofs.aliases.compile_type_alias.Goals as goal
 
-pub returns-clause-goes : goal.returns-clause-goes
-returns-clause-goes c =
-    let s = c.args.s.now in
-    let now = state c.set_location.new.self in
-    let v : Emission = emission_of_alias (expr_tree s.name.value) (type_params s.type_params) (expr_tree s.value.value) in
-    goes_as _ _ _ _
-    (went _ v _ (move_goes s.location (state c.args.em.now))
-    ∙ ap v (sym c.set_location.ensures.state)
-    ∙ ap (λ (y : Expr). emission_of_alias (expr_tree y) (type_params s.type_params) (expr_tree s.value.value) now) (sym c.deref.ensures)
-    ∙ ap (λ (ys : List TypeParam). emission_of_alias (expr_tree c.deref.result.now) (type_params ys) (expr_tree s.value.value) now) (sym c.as_slice.ensures)
-    ∙ ap (λ (y : Expr). emission_of_alias (expr_tree c.deref.result.now) (type_params c.as_slice.result.now) (expr_tree y) now) (sym c.deref-2.ensures))
-    c.compile_alias.ensures.goes
+pub returns : goal.returns
+returns c = record {
+  goes =
+      let s = c.args.s.now in
+      let now = state c.args.em.now in
+      let v : Emission = emission_of_alias (expr_tree s.name.value) (type_params s.type_params) (expr_tree s.value.value) in
+      goes_as _ _ _ _
+      (went _ v _ (stays s.location now c.requires.at)
+      ∙ ap (λ (y : Expr). emission_of_alias (expr_tree y) (type_params s.type_params) (expr_tree s.value.value) now) (sym c.deref.ensures)
+      ∙ ap (λ (ys : List TypeParam). emission_of_alias (expr_tree c.deref.result.now) (type_params ys) (expr_tree s.value.value) now) (sym c.as_slice.ensures)
+      ∙ ap (λ (y : Expr). emission_of_alias (expr_tree c.deref.result.now) (type_params c.as_slice.result.now) (expr_tree y) now) (sym c.deref-2.ensures))
+      c.compile_alias.ensures.goes;
+  same = search rules;
+}

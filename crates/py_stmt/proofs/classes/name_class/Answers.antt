@@ -1,4 +1,4 @@
-use Rattle.std.proofs.Common.{◌≡◌, Err, ◌∙◌, arith}
+use Rattle.std.proofs.Common.{rules, ◌≡◌, Err, ◌∙◌, arith}
 use Rattle.std.specs.Prelude.{codes}
 use Rattle.py_steps.specs.Classes.{doc_const}
 use Rattle.py_emit.specs.States.{state}
@@ -7,18 +7,27 @@ use Rattle.py_stmt.specs.Classes.{stored_as}
 use Rattle.py_stmt.proofs.ClassParts.{module_first, titles, titles_next}
 use Rattle.py_stmt.proofs.classes.name_class.Goals as goal
 
-pub returns-in_err-copy_name-clause-goes : goal.returns-in_err-copy_name-clause-goes
-returns-in_err-copy_name-clause-goes c =
-    let r : c.from_residual.result ≡ Err c.in_err-copy_name.field-0.0 = grind arith in
-    first_refuses _ _ _ _ _ (titles c.args.doc) r (module_first c.args.doc (state c.args.em.now)) c.in_err-copy_name.ensures.goes
+pub returns-in_err-copy_name : goal.returns-in_err-copy_name
+returns-in_err-copy_name c = record {
+  goes =
+      let r : c.from_residual.result ≡ Err c.in_err-copy_name.field-0.0 = grind arith in
+      first_refuses _ _ _ _ _ (titles c.args.doc) r (module_first c.args.doc (state c.args.em.now)) c.in_err-copy_name.ensures.goes;
+  same = search rules;
+}
 
-pub returns-in_err-store_text-clause-goes : goal.returns-in_err-store_text-clause-goes
-returns-in_err-store_text-clause-goes c =
-    let r : c.from_residual-in_err-store_text.result ≡ Err c.in_err-store_text.field-0.0 = grind arith in
-    first_refuses _ _ _ _ _ (stored_as (codes "__doc__") (doc_const c.args.doc)) r (titles_next c.args.doc c.args.path (state c.args.em.now) _ c.requires.path c.in_ok-copy_name.ensures.goes) c.in_err-store_text.ensures.goes
+pub returns-in_err-store_text : goal.returns-in_err-store_text
+returns-in_err-store_text c = record {
+  goes =
+      let r : c.from_residual-in_err-store_text.result ≡ Err c.in_err-store_text.field-0.0 = grind arith in
+      first_refuses _ _ _ _ _ (stored_as (codes "__doc__") (doc_const c.args.doc)) r (titles_next c.args.doc c.args.path (state c.args.em.now) _ c.requires.path c.in_ok-copy_name.ensures.goes) c.in_err-store_text.ensures.goes;
+  same = search rules;
+}
 
-pub returns-clause-goes : goal.returns-clause-goes
-returns-clause-goes c =
-    goes_as _ _ _ _
-    (titles_next c.args.doc c.args.path (state c.args.em.now) _ c.requires.path c.in_ok-copy_name.ensures.goes ∙ went _ (stored_as (codes "__doc__") (doc_const c.args.doc)) _ c.in_ok-store_text.ensures.goes)
-    c.store_doc.ensures.goes
+pub returns : goal.returns
+returns c = record {
+  goes =
+      goes_as _ _ _ _
+      (titles_next c.args.doc c.args.path (state c.args.em.now) _ c.requires.path c.in_ok-copy_name.ensures.goes ∙ went _ (stored_as (codes "__doc__") (doc_const c.args.doc)) _ c.in_ok-store_text.ensures.goes)
+      c.store_doc.ensures.goes;
+  same = search rules;
+}

@@ -1,4 +1,4 @@
-use Rattle.std.proofs.Common.{Option, ◌∙◌, ap, sym}
+use Rattle.std.proofs.Common.{rules, Option, ◌∙◌, ap, sym}
 use Rattle.std.specs.declared.alloc.Global.{Global}
 use Rattle.std.specs.declared.boxed.Box.{Box}
 use Rattle.py_tree.specs.Tree as tree
@@ -11,12 +11,15 @@ use Rattle.py_emit.specs.States.{state}
 use Rattle.py_emit.proofs.Joined.{goes_as}
 use Rattle.py_stmt.proofs.generics.compile_type_var.Goals as goal
 
-pub returns-in-Some-clause-goes : goal.returns-in-Some-clause-goes
-returns-in-Some-clause-goes c =
-    let p = c.args.p.now in
-    let s = state c.args.em.now in
-    goes_as _ _ _ _
-    (ap (λ (v : Option (Box Expr Global)). emission_of_param (tree.TypeVar p.location p.name (opt_box expr_tree v)) s) c.in-Some.is
-    ∙ ap (λ (x : Expr). bounded (emission (expr_tree x)) p.name s) (sym c.deref.ensures)
-    ∙ ap (λ y. bounded (emission (expr_tree c.deref.result.now)) y s) (sym c.as_str.ensures))
-    c.compile_bounded.ensures.goes
+pub returns-in-Some : goal.returns-in-Some
+returns-in-Some c = record {
+  goes =
+      let p = c.args.p.now in
+      let s = state c.args.em.now in
+      goes_as _ _ _ _
+      (ap (λ (v : Option (Box Expr Global)). emission_of_param (tree.TypeVar p.location p.name (opt_box expr_tree v)) s) c.in-Some.is
+      ∙ ap (λ (x : Expr). bounded (emission (expr_tree x)) p.name s) (sym c.deref.ensures)
+      ∙ ap (λ y. bounded (emission (expr_tree c.deref.result.now)) y s) (sym c.as_str.ensures))
+      c.compile_bounded.ensures.goes;
+  same = search rules;
+}

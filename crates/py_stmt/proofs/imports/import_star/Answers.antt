@@ -1,5 +1,5 @@
 use Rattle.std.specs.Prelude.{if◌then◌else◌}
-use Rattle.std.proofs.Common.{◌≡◌, true, ◌∙◌, ap, sym}
+use Rattle.std.proofs.Common.{rules, ◌≡◌, true, ◌∙◌, ap, sym}
 use Rattle.py_base.specs.declared.location.LocatedError.{LocatedError}
 use Rattle.py_bytecode.specs.declared.instruction.Instruction.TheVariants as op
 use Rattle.py_forms.specs.declared.errors.CodegenErrorType.{CodegenErrorType}
@@ -12,11 +12,14 @@ use Rattle.py_emit.specs.States.{state}
 use Rattle.py_expr.proofs.Turns.{refused_as}
 use Rattle.py_stmt.proofs.imports.import_star.Goals as goal
 
-pub returns-then-is_function-clause-goes : goal.returns-then-is_function-clause-goes
+pub returns-then-is_function : goal.returns-then-is_function
 unfolding by_context
-returns-then-is_function-clause-goes c =
-    let s = state c.args.em.now in
-    let i = c.args.s.now in
-    let within : is_function s.around.context.typ ≡ true = ap is_function (sym c.scope_type.ensures) ∙ sym c.is_function.ensures ∙ c.if-is_function.true in
-    λ n. ap (λ b. (if b then refuse error.FunctionImportStar else emission_of_module i.«module» i.level asked_all ▸ emit op.ImportStar 0) s) within
-    ∙ refused_as error.FunctionImportStar s c.refuse-error.result (ap (λ (x : LocatedError CodegenErrorType). x.error) c.refuse-error.ensures) (ap (λ (x : LocatedError CodegenErrorType). x.location) c.refuse-error.ensures)
+returns-then-is_function c = record {
+  goes =
+      let s = state c.args.em.now in
+      let i = c.args.s.now in
+      let within : is_function s.around.context.typ ≡ true = ap is_function (sym c.scope_type.ensures) ∙ sym c.is_function.ensures ∙ c.if-is_function.true in
+      λ n. ap (λ b. (if b then refuse error.FunctionImportStar else emission_of_module i.«module» i.level asked_all ▸ emit op.ImportStar 0) s) within
+      ∙ refused_as error.FunctionImportStar s c.refuse-error.result (ap (λ (x : LocatedError CodegenErrorType). x.error) c.refuse-error.ensures) (ap (λ (x : LocatedError CodegenErrorType). x.location) c.refuse-error.ensures);
+  same = search rules;
+}

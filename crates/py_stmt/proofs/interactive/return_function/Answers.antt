@@ -1,4 +1,4 @@
-use Rattle.std.proofs.Common.{◌≡◌, Err, sym, ap, ◌∙◌, arith}
+use Rattle.std.proofs.Common.{rules, ◌≡◌, Err, sym, ap, ◌∙◌, arith}
 use Rattle.py_tree.specs.View.{expr_tree, exprs}
 use Rattle.py_steps.specs.Children.{decorated}
 use Rattle.py_steps.specs.Emitting.{◌▸◌, go_on}
@@ -11,9 +11,12 @@ use Rattle.py_expr.proofs.Steps.{move_goes}
 use Rattle.py_stmt.specs.Functions.{def_emission}
 use Rattle.py_stmt.proofs.interactive.return_function.Goals as goal
 
-pub returns-in_err-compile_decorated-clause-goes : goal.returns-in_err-compile_decorated-clause-goes
-returns-in_err-compile_decorated-clause-goes c =
-    let s = c.args.s.now in
-    let w = decorated (values (all_emissions (exprs expr_tree s.decorator_list))) (def_emission s) ▸ stored_and_returned s.name in
-    let r : c.from_residual.result ≡ Err c.in_err-compile_decorated.field-0.0 = grind arith in
-    first_refuses _ _ _ _ _ (stored_and_returned s.name) r (ap (λ o. go_on o w) (move_goes s.location (state c.args.em.now)) ∙ ap w (sym c.set_location.ensures.state)) c.in_err-compile_decorated.ensures.goes
+pub returns-in_err-compile_decorated : goal.returns-in_err-compile_decorated
+returns-in_err-compile_decorated c = record {
+  goes =
+      let s = c.args.s.now in
+      let w = decorated (values (all_emissions (exprs expr_tree s.decorator_list))) (def_emission s) ▸ stored_and_returned s.name in
+      let r : c.from_residual.result ≡ Err c.in_err-compile_decorated.field-0.0 = grind arith in
+      first_refuses _ _ _ _ _ (stored_and_returned s.name) r (ap (λ o. go_on o w) (move_goes s.location (state c.args.em.now)) ∙ ap w (sym c.set_location.ensures.state)) c.in_err-compile_decorated.ensures.goes;
+  same = search rules;
+}

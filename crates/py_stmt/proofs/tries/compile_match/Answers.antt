@@ -1,4 +1,4 @@
-use Rattle.std.proofs.Common.{Option, ◌∙◌, ap, sym}
+use Rattle.std.proofs.Common.{rules, Option, ◌∙◌, ap, sym}
 use Rattle.std.specs.declared.alloc.Global.{Global}
 use Rattle.std.specs.declared.boxed.Box.{Box}
 use Rattle.py_tree.specs.declared.expressions.Expr.{Expr}
@@ -10,9 +10,12 @@ use Rattle.py_emit.proofs.Joined.{goes_as}
 use Rattle.py_stmt.specs.Parts.{emission_of_match}
 use Rattle.py_stmt.proofs.tries.compile_match.Goals as goal
 
-pub returns-in-Some-clause-goes : goal.returns-in-Some-clause-goes
-returns-in-Some-clause-goes c =
-    goes_as _ _ _ _
-    (ap (λ (v : Option (Box Expr Global)). emission_of_match (opt_box expr_tree v) c.args.name.now c.args.next.0 (state c.args.em.now)) c.in-Some.is
-    ∙ ap (λ (x : Expr). typed_match (emission (expr_tree x)) (caught c.args.name.now) c.args.next.0 (state c.args.em.now)) (sym c.deref.ensures))
-    c.compile_typed.ensures.goes
+pub returns-in-Some : goal.returns-in-Some
+returns-in-Some c = record {
+  goes =
+      goes_as _ _ _ _
+      (ap (λ (v : Option (Box Expr Global)). emission_of_match (opt_box expr_tree v) c.args.name.now c.args.next.0 (state c.args.em.now)) c.in-Some.is
+      ∙ ap (λ (x : Expr). typed_match (emission (expr_tree x)) (caught c.args.name.now) c.args.next.0 (state c.args.em.now)) (sym c.deref.ensures))
+      c.compile_typed.ensures.goes;
+  same = search rules;
+}

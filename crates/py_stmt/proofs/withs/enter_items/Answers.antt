@@ -23,7 +23,7 @@ returns-in_err-end-clause-refused c =
       goes = λ body n.
           c.loop-item.invariant.2 body
           ∙ ap (λ ws. (emission_of_items at ws body ▸ left_all at c.loop-item.ends) (state c.loop-item.em)) here
-          ∙ entered_refused at e v ts body c.loop-item.ends (state c.loop-item.em) (Refused x.error x.location) (c.in_err-end.ensures.goes n);
+          ∙ entered_refused at e v ts body c.loop-item.ends (state c.loop-item.em) (Refused x.error x.location) (c.in_err-end.ensures.emits.goes n);
     })
 
 pub loop-item-preserved : goal.loop-item-preserved
@@ -38,14 +38,14 @@ loop-item-preserved c =
     let here = items_at c.args.items.now c.loop-item.item-index _ item c.item-item.is c.loop-item-test.true in
     let pushed = c.in_ok-keep_end.ensures.kept in
     let next : state c.keep_end.new.em ≡ state c.enter_item.new.em = ap state c.in_ok-keep_end.ensures.same in (
-      ap rest c.in_ok-keep_end.ensures.same ∙ c.in_ok-end.ensures.same ∙ c.loop-item.invariant.0,
+      ap rest c.in_ok-keep_end.ensures.same ∙ c.in_ok-end.ensures.emits.same ∙ c.loop-item.invariant.0,
       subst (λ bs. AllOpen bs (state c.keep_end.new.em)) (sym pushed)
           (subst (AllOpen (c.loop-item.ends ++ end ∷ [])) (sym next)
-          (opens_push c.loop-item.ends end now (state c.enter_item.new.em) (λ b. items_entered at e v now (state c.enter_item.new.em) b c.in_ok-end.ensures.goes) c.in_ok-end.ensures.number c.in_ok-end.ensures.open c.in_ok-end.ensures.below c.loop-item.invariant.1)),
+          (opens_push c.loop-item.ends end now (state c.enter_item.new.em) (λ b. items_entered at e v now (state c.enter_item.new.em) b c.in_ok-end.ensures.emits.goes) c.in_ok-end.ensures.number c.in_ok-end.ensures.open c.in_ok-end.ensures.below c.loop-item.invariant.1)),
       λ body.
           c.loop-item.invariant.2 body
           ∙ ap (λ ws. (emission_of_items at ws body ▸ left_all at c.loop-item.ends) now) here
-          ∙ entered_more at e v ts body c.loop-item.ends end now (state c.enter_item.new.em) c.in_ok-end.ensures.goes c.in_ok-end.ensures.number
+          ∙ entered_more at e v ts body c.loop-item.ends end now (state c.enter_item.new.em) c.in_ok-end.ensures.emits.goes c.in_ok-end.ensures.number
           ∙ ap (λ bs. (emission_of_items at ts body ▸ left_all at bs) (state c.enter_item.new.em)) (sym pushed)
           ∙ ap (emission_of_items at ts body ▸ left_all at c.keep_end.new.ends) (sym next),
     )

@@ -1,4 +1,4 @@
-use Rattle.std.proofs.Common.{◌≡◌, ◌∙◌, Err, ap, subst, arith}
+use Rattle.std.proofs.Common.{rules, ◌≡◌, ◌∙◌, Err, ap, subst, arith}
 use Rattle.py_steps.specs.Emitting.{Emission}
 use Rattle.py_emit.specs.States.{state}
 use Rattle.py_emit.proofs.Joined.{first_refuses, went}
@@ -24,9 +24,12 @@ loop-end-preserved c =
           ∙ went _ _ _ c.in_ok-leave_item.ensures.goes,
     )
 
-pub returns-in_err-leave_item-clause-goes : goal.returns-in_err-leave_item-clause-goes
-returns-in_err-leave_item-clause-goes c =
-    let at = c.args.location.now in
-    let now = state c.loop-end.em in
-    let r : c.from_residual.result ≡ Err c.in_err-leave_item.field-0.0 = grind arith in
-    first_refuses _ _ _ _ _ _ r (c.loop-end.invariant.2 ∙ ap (λ bs. left_all at bs now) c.in-Some.ensures ∙ ap (λ (f : Emission). f now) (left_push at c.pop.new.self c.in-Some.end)) c.in_err-leave_item.ensures.goes
+pub returns-in_err-leave_item : goal.returns-in_err-leave_item
+returns-in_err-leave_item c = record {
+  goes =
+      let at = c.args.location.now in
+      let now = state c.loop-end.em in
+      let r : c.from_residual.result ≡ Err c.in_err-leave_item.field-0.0 = grind arith in
+      first_refuses _ _ _ _ _ _ r (c.loop-end.invariant.2 ∙ ap (λ bs. left_all at bs now) c.in-Some.ensures ∙ ap (λ (f : Emission). f now) (left_push at c.pop.new.self c.in-Some.end)) c.in_err-leave_item.ensures.goes;
+  same = search rules;
+}
