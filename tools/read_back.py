@@ -606,10 +606,9 @@ def pieces_of(body, source):
 def library_rows(folder):
     """The rows of the files of a folder, without installed packages."""
     import rows
+    import stdlib
 
-    for file in sorted(folder.glob("**/*.py")):
-        if "site-packages" in file.parts:
-            continue
+    for file in stdlib.library_files(folder):
         try:
             text = rows.text_of(file.read_bytes())
             tree = rows.tree_of(text, "exec")
