@@ -7,11 +7,10 @@ use crate::cases::{
     push_binary, push_compare, push_conversion, push_raise_kind, push_test, push_unary,
 };
 use crate::constants::push_constant;
-use crate::quote::push_quote;
+use crate::quote::{push_number, push_quote};
 use crate::{CodeObject, ConstantData, OperandKind};
 use py_base::Text;
 use std::alloc::AllocError;
-use std::fmt::Write;
 
 /// Appends what a whole operand names, after a space: a constant, a name, a place or a case.
 #[tactic(auto, using(crate::proofs::View::views, crate::proofs::Joining::constant_entry))]
@@ -46,7 +45,8 @@ pub fn push_detail(
 fn push_label(out: &mut String, whole: u32) -> Result<(), AllocError>
     ensures { OnOk result (string_bytes out.new ≡ string_bytes out.old ++ codes " to " ++ decimal whole) }
 {
-    write!(out, " to {whole}")
+    out.push_str(" to ")?;
+    push_number(out, whole)
 }
 
 fn push_constant_entry(

@@ -7,7 +7,7 @@ ghost use Rattle.py_bytecode.specs.View.{constants_of, head_of, object};
 
 use crate::constants::{push_joined, push_separator};
 use crate::details::push_detail;
-use crate::quote::{push_quote, push_text};
+use crate::quote::{push_number, push_quote, push_text};
 use crate::{CodeObject, CodeUnit, ConstantData, Instruction, OperandKind};
 use bitflags::Flags;
 use py_base::{List, OneIndexed, SourceLocation, Text};
@@ -172,7 +172,8 @@ fn push_unit(
 fn push_offset(out: &mut String, at: usize) -> Result<(), AllocError>
     ensures { OnOk result (string_bytes out.new ≡ string_bytes out.old ++ (decimal at ++ codes " ")) }
 {
-    write!(out, "{at} ")
+    push_number(out, at)?;
+    out.push_str(" ")
 }
 
 fn push_location(
@@ -184,9 +185,9 @@ fn push_location(
 {
     match locations.get(at) {
         Some(location) => {
-            let row = location.row.get();
-            let column = location.column.get();
-            write!(out, "{row}:{column}")
+            push_number(out, location.row.get())?;
+            out.push_str(":")?;
+            push_number(out, location.column.get())
         }
         None => out.push_str("-:-"),
     }
@@ -197,6 +198,9 @@ fn push_byte(out: &mut String, kind: OperandKind, byte: u8) -> Result<(), AllocE
 {
     match kind {
         OperandKind::None => Ok(()),
-        _ => write!(out, " {byte}"),
+        _ => {
+            out.push_str(" ")?;
+            push_number(out, byte)
+        }
     }
 }

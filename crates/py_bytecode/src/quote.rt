@@ -3,6 +3,7 @@ ghost use Rattle.std.specs.Char.{encode_utf8};
 ghost use Rattle.std.specs.Fmt.{digit_glyph};
 ghost use Rattle.py_bytecode.specs.Quote.{hex_digits, quote, quote_byte, quote_bytes, quote_char};
 
+use itoa::{Buffer, Integer};
 use std::alloc::AllocError;
 
 /// Appends the text as it is.
@@ -10,6 +11,14 @@ pub fn push_text(out: &mut String, text: &str) -> Result<(), AllocError>
     ensures { OnOk result (string_bytes out.new ≡ string_bytes out.old ++ text.now) }
 {
     out.push_str(text)
+}
+
+/// Appends a number in decimal digits.
+pub fn push_number<I: Integer>(out: &mut String, number: I) -> Result<(), AllocError>
+    ensures { OnOk result (string_bytes out.new ≡ string_bytes out.old ++ I.text number) }
+{
+    let mut buffer = Buffer::new();
+    out.push_str(buffer.format(number))
 }
 
 /// Appends the text in quotes, with what could not stand there escaped. What stands for itself is appended a run at a

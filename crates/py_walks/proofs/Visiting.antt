@@ -1,6 +1,6 @@
 -- Going on from one place.
-use Rattle.std.proofs.Common.{◌≡◌, ◌≢◌, ℕ, suc, ◌+◌, ◌-◌, ◌^◌, ◌<◌, ◌≤◌, List, [], ◌∷◌, length, get_or, Bool, true, false, Option, Some, None, refl, sym, inl, inr, ap, ◌∙◌, subst, arith, add-one}
-use Rattle.std.specs.Prelude.{slice_get, nat_lt, if◌then◌else◌, ◌&&◌}
+use Rattle.std.proofs.Common.{◌≡◌, ◌≢◌, ◌⊎◌, ℕ, suc, ◌+◌, ◌-◌, ◌^◌, ◌<◌, ◌≤◌, List, [], ◌∷◌, length, get_or, Bool, true, false, Option, Some, None, refl, sym, inl, inr, ap, ◌∙◌, subst, arith, add-one}
+use Rattle.std.specs.Prelude.{slice_get, nat_lt, if◌then◌else◌, ◌&&◌, ◌||◌}
 use Rattle.std.specs.Option.{IfSome, option_map}
 use Rattle.std.proofs.lemmas.Option.{same_Some, slice_get-get_or, slice_get_within, slice_get_past}
 use Rattle.std.proofs.lemmas.Bool.{cases_lt}
@@ -12,7 +12,7 @@ use Rattle.py_walks.specs.declared.known.Refused.{Refused}
 use Rattle.py_walks.specs.Walks.{Shape, State, state, height_of, enough, falls_enough, jumps_enough, falls_to, jumps_to, Seen, Edge, Falls, Jumps, LeavesEnd}
 use Rattle.py_walks.specs.Flat.{is_jump, named_place, jump_place, sees, look_at}
 use Rattle.py_walks.specs.Known.{state_of, known_at, state_at, flow_in, jumps_within, Passes, FailsAs, FallIs, JumpIs, Moves, combined}
-use Rattle.py_walks.specs.Shown.{Shown, One, Covered, Closed, Closed_at, AllShown, RefusalAt, Steps, Settled}
+use Rattle.py_walks.specs.Shown.{Shown, One, Covered, Closed, Closed_at, AllShown, Grows, RefusalAt, SameBut, SameTo, Steps, Settled}
 use Rattle.py_walks.proofs.Stepping.{moves_combine}
 use Rattle.py_walks.proofs.Reaching.{shown_edge}
 use Rattle.py_walks.proofs.Refusing.{lacks, outside, ends, falls_outside, jumps_outside}
@@ -33,8 +33,34 @@ both_nothing Change.Marks Change.Marks e = absurd (cc)
 both_nothing Change.Marks Change.Place e = absurd (cc)
 both_nothing Change.Place b e = absurd (cc)
 
-no_move : (c : Change) (old new : List (Option KnownState)) → Moves c old new → c ≡ Change.Nothing → new ≡ old
-no_move c old new m e = subst (λ z. Moves z old new) e m
+-- a change of either is one of both
+pub either_changes : (a b : Change) → (a ≢ Change.Nothing) ⊎ (b ≢ Change.Nothing) → combined a b ≢ Change.Nothing
+either_changes a b (inl n) e = n (both_nothing a b e).0
+either_changes a b (inr n) e = n (both_nothing a b e).1
+
+pub none_behind : (a b : Bool) → (a || b) ≡ false → (a ≡ false) × (b ≡ false)
+none_behind true b e = absurd (cc)
+none_behind false b e = (refl, e)
+
+pub some_behind : (a b : Bool) (c d : Change) → (a ≡ true → c ≢ Change.Nothing) → (b ≡ true → d ≢ Change.Nothing) → (a || b) ≡ true → combined c d ≢ Change.Nothing
+some_behind true b c d h k e = either_changes c d (inl (h refl))
+some_behind false b c d h k e = either_changes c d (inr (k e))
+
+still_covered : (old new : List (Option KnownState)) (k : ℕ) (o : Option KnownState) → Grows old new → IfSome o (λ n. Covered (state_at old) k (state_of n)) → IfSome o (λ n. Covered (state_at new) k (state_of n))
+still_covered old new k None g c = tt
+still_covered old new k (Some n) g c = g k (state_of n) c
+
+-- what goes on to the next place, and jumps to none up to here, leaves all up to here as they are
+pub same_to : (c : Change) (old mid new : List (Option KnownState)) (k to : ℕ) → SameBut (k + 1) old mid → SameBut to mid new → Moves c mid new → (c ≢ Change.Nothing → k < to) → SameTo k old new
+same_to c old mid new k to f j m ahead i l = jumped c m ahead ∙ f i (λ e. omega (arith, e, l))
+  where
+    away : k < to → i ≢ to
+    away lt e = omega (arith, e, l, lt)
+
+    jumped : (c : Change) → Moves c mid new → (c ≢ Change.Nothing → k < to) → state_at new i ≡ state_at mid i
+    jumped Change.Nothing m a = ap (λ ks. state_at ks i) m
+    jumped Change.Marks m a = j i (away (a (λ e. cc)))
+    jumped Change.Place m a = j i (away (a (λ e. cc)))
 
 and_left : (a b : Bool) → (a && b) ≡ true → a ≡ true
 and_left true b e = refl
@@ -96,8 +122,8 @@ module _ (starts : List ℕ) (items : List InstructionInfo) where
       subst (λ p. Covered st p (jumps_to (flow_in x).branch s)) (t g.0 ∙ g.1) (subst (Covered st to) f.1 c)
 
   module _ (old mid new : List (Option KnownState)) (k to : ℕ) (s : State) (x : InstructionInfo) (fall jump : Option KnownState) where
-    closed_here : Passes x s → FallIs x s fall → JumpIs x s jump → (is_jump x.instr ≡ true → to ≡ named_place starts x) → IfSome fall (λ n. Covered (state_at mid) (k + 1) (state_of n)) → IfSome jump (λ n. Covered (state_at new) to (state_of n)) → new ≡ mid → Closed_at (state_at new) s (sees starts k x)
-    closed_here p f j t cf cj e = record {
+    closed_here : Passes x s → FallIs x s fall → JumpIs x s jump → (is_jump x.instr ≡ true → to ≡ named_place starts x) → IfSome fall (λ n. Covered (state_at new) (k + 1) (state_of n)) → IfSome jump (λ n. Covered (state_at new) to (state_of n)) → Closed_at (state_at new) s (sees starts k x)
+    closed_here p f j t cf cj = record {
       block = p.block;
       falls = and_left (falls_enough (flow_in x) s.height s.shape) _ p.falls;
       jumps = λ n. enough_of (flow_in x).branch s.height s.shape (p.jumps (not_none x (is_jump x.instr) refl n));
@@ -105,17 +131,14 @@ module _ (starts : List ℕ) (items : List InstructionInfo) where
     }
       where
         go : (k1 : ℕ) (t1 : State) → Edge (sees starts k x) s k1 t1 → Covered (state_at new) k1 t1
-        go k1 t1 (Falls l) = subst (λ z. Covered (state_at z) (suc k) (falls_to (flow_in x) s)) (sym e) (fall_covered (state_at mid) k s x fall f l cf)
+        go k1 t1 (Falls l) = fall_covered (state_at new) k s x fall f l cf
         go k1 t1 (Jumps q l) = jump_covered (state_at new) to s x jump q t j l cj
 
-    pub settled_here : (a b : Change) → state_at old k ≡ Some s → look k ≡ Some (sees starts k x) → Passes x s → FallIs x s fall → JumpIs x s jump → (is_jump x.instr ≡ true → to ≡ named_place starts x) → IfSome fall (λ n. Covered (state_at mid) (k + 1) (state_of n)) → IfSome jump (λ n. Covered (state_at new) to (state_of n)) → Moves a old mid → Moves b mid new → combined a b ≡ Change.Nothing → Settled look new k
-    settled_here a b es ex p f j t cf cj ma mb c s1 x1 es1 ex1 =
-        let n = both_nothing a b c in
-        let e1 : mid ≡ old = no_move a old mid ma n.0 in
-        let e2 : new ≡ mid = no_move b mid new mb n.1 in
-        let qs : s ≡ s1 = same_Some s s1 (sym es ∙ subst (λ z. state_at z k ≡ Some s1) (e2 ∙ e1) es1) in
+    pub settled_here : state_at old k ≡ Some s → look k ≡ Some (sees starts k x) → Passes x s → FallIs x s fall → JumpIs x s jump → (is_jump x.instr ≡ true → to ≡ named_place starts x) → IfSome fall (λ n. Covered (state_at mid) (k + 1) (state_of n)) → IfSome jump (λ n. Covered (state_at new) to (state_of n)) → Grows mid new → SameTo k old new → Settled look new k
+    settled_here es ex p f j t cf cj g same s1 x1 es1 ex1 =
+        let qs : s ≡ s1 = same_Some s s1 (sym es ∙ sym (same k (omega arith)) ∙ es1) in
         let qx : sees starts k x ≡ x1 = same_Some (sees starts k x) x1 (sym ex ∙ ex1) in
-        subst (λ z. Closed_at (state_at new) z x1) qs (subst (λ z. Closed_at (state_at new) s z) qx (closed_here p f j t cf cj e2))
+        subst (λ z. Closed_at (state_at new) z x1) qs (subst (λ z. Closed_at (state_at new) s z) qx (closed_here p f j t (still_covered mid new (k + 1) fall g cf) cj))
 
   pub steps_combine : (old mid new : List (Option KnownState)) (a b c : Change) → Steps look (length items) old mid a → Steps look (length items) mid new b → c ≡ combined a b → Steps look (length items) old new c
   steps_combine old mid new a b c h k e = record {
@@ -124,10 +147,15 @@ module _ (starts : List ℕ) (items : List InstructionInfo) where
     moves = subst (λ z. Moves z old new) (sym e) (moves_combine a b old mid new h.moves k.moves);
   }
 
-  pub settled_more : (mid new : List (Option KnownState)) (k : ℕ) (a b c : Change) → (a ≡ Change.Nothing → (j : ℕ) → j < k → Settled look mid j) → Moves b mid new → (b ≡ Change.Nothing → Settled look new k) → c ≡ combined a b → c ≡ Change.Nothing → (j : ℕ) → j < k + 1 → Settled look new j
-  settled_more mid new k a b c h m hk ec n j jl = elim (cases_lt j k) [
-    | inl l ↦ let z = both_nothing a b (sym ec ∙ n) in subst (λ ks. Settled look ks j) (sym (no_move b mid new m z.1)) (h z.0 j l)
-    | inr l ↦ let z = both_nothing a b (sym ec ∙ n) in let e : k ≡ j = omega arith in subst (λ p. Settled look new p) e (hk z.1)
+  still_settled : (old new : List (Option KnownState)) (j : ℕ) → Grows old new → state_at new j ≡ state_at old j → Settled look old j → Settled look new j
+  still_settled old new j g e h s x es ex =
+      let c = h s x (sym e ∙ es) ex in
+      record { block = c.block; falls = c.falls; jumps = c.jumps; edges = λ k1 t i. g k1 t (c.edges k1 t i) }
+
+  pub settled_more : (old new : List (Option KnownState)) (k : ℕ) → ((j : ℕ) → j < k → Settled look old j) → Grows old new → SameTo k old new → Settled look new k → (j : ℕ) → j < k + 1 → Settled look new j
+  settled_more old new k h g same hk j jl = elim (cases_lt j k) [
+    | inl l ↦ still_settled old new j g (same j (omega (arith, l))) (h j l)
+    | inr l ↦ let e : k ≡ j = omega arith in subst (λ p. Settled look new p) e hk
   ]
 
   -- from settled places all walks are covered

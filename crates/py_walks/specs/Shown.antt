@@ -1,5 +1,5 @@
 -- What walks show of a place, and states that follow from one another.
-use Rattle.std.specs.Prelude.{◌≡◌, ◌≢◌, ℕ, ◌^◌, List, [], length, true, Option, Some, None}
+use Rattle.std.specs.Prelude.{◌≡◌, ◌≢◌, ℕ, ◌≤◌, ◌^◌, List, [], length, true, Option, Some, None}
 use Rattle.py_walks.specs.declared.known.KnownState.{KnownState}
 use Rattle.py_walks.specs.declared.known.Refused.{Refused}
 use Rattle.py_walks.specs.declared.known.Change.{Change}
@@ -63,3 +63,11 @@ pub record Steps (look : ℕ → Option (Seen ℕ)) (count : ℕ) (old new : Lis
 -- nothing is left to do at a place
 abbrev pub Settled : (ℕ → Option (Seen ℕ)) → List (Option KnownState) → ℕ → Type 0
 Settled look ks k = (s : State) (x : Seen ℕ) → state_at ks k ≡ Some s → look k ≡ Some x → Closed_at (state_at ks) s x
+
+-- all places but one have their state
+abbrev pub SameBut : ℕ → List (Option KnownState) → List (Option KnownState) → Type 0
+SameBut place old new = (k : ℕ) → k ≢ place → state_at new k ≡ state_at old k
+
+-- each place up to this one has its state
+abbrev pub SameTo : ℕ → List (Option KnownState) → List (Option KnownState) → Type 0
+SameTo last old new = (k : ℕ) → k ≤ last → state_at new k ≡ state_at old k

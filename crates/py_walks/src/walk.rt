@@ -1,9 +1,9 @@
-ghost use Rattle.std.specs.Prelude.{ℕ, ◌≡◌, ◌+◌, ◌<◌, ◌≤◌, ◌⊎◌, [], All, None, Some, true, false, IfErr, IfOk, length, replicate, slice_index_or};
+ghost use Rattle.std.specs.Prelude.{ℕ, ◌≡◌, ◌≢◌, ◌+◌, ◌<◌, ◌≤◌, ◌⊎◌, ◌||◌, [], All, None, Some, true, false, IfErr, IfOk, length, replicate, slice_index_or};
 ghost use Rattle.std.specs.Option.{IfNone, IfSome};
 ghost use Rattle.py_walks.specs.Walks.{IsDepth, Sound, state};
 ghost use Rattle.py_walks.specs.Flat.{IsCode, IsLinked, is_jump, look_at, named_place};
-ghost use Rattle.py_walks.specs.Known.{height_known, state_at, state_of, unknown};
-ghost use Rattle.py_walks.specs.Shown.{AllShown, Covered, Grows, RefusalAt, Settled, Shown, Steps};
+ghost use Rattle.py_walks.specs.Known.{combined, height_known, state_at, state_of, unknown};
+ghost use Rattle.py_walks.specs.Shown.{AllShown, Covered, Grows, RefusalAt, SameBut, SameTo, Settled, Shown, Steps};
 
 use crate::InstructionInfo;
 use crate::known::{Change, KnownState, Refused, arrive, combine, nexts_of};
@@ -28,6 +28,7 @@ fn reach(
     requires shown { AllShown (look_at _starts.now items.now) (length items.now) states.old }
     requires arriving { Shown (look_at _starts.now items.now) to (state_of arriving) }
     ensures steps { IfOk result (λ change. Steps (look_at _starts.now items.now) (length items.now) states.old states.new change) }
+    ensures elsewhere { IfOk result (λ _. SameBut to states.old states.new) }
     ensures covered { IfOk result (λ _. Covered (state_at states.new) to (state_of arriving)) }
     ensures refused { IfErr result (λ fault. RefusalAt (look_at _starts.now items.now) fault.refused fault.place) }
 {
@@ -61,6 +62,7 @@ fn reach_if(
     requires shown { AllShown (look_at starts.now items.now) (length items.now) states.old }
     requires arriving { IfSome arriving (λ k. Shown (look_at starts.now items.now) to (state_of k)) }
     ensures steps { IfOk result (λ change. Steps (look_at starts.now items.now) (length items.now) states.old states.new change) }
+    ensures elsewhere { IfOk result (λ _. SameBut to states.old states.new) }
     ensures covered { IfOk result (λ _. IfSome arriving (λ k. Covered (state_at states.new) to (state_of k))) }
     ensures refused { IfErr result (λ fault. RefusalAt (look_at starts.now items.now) fault.refused fault.place) }
 {
@@ -82,6 +84,41 @@ fn target_place(starts: &[usize], item: &InstructionInfo) -> usize
     }
 }
 
+/// What going on from places changed, and whether that is a place from which it had gone on.
+#[derive(Clone, Copy)]
+struct Visited {
+    change: Change,
+    behind: bool,
+}
+
+impl Visited {
+    fn nothing() -> Visited
+        ensures { result ≡ record { change = Change.Nothing; behind = false } }
+    {
+        Visited {
+            change: Change::Nothing,
+            behind: false,
+        }
+    }
+
+    fn and(self, next: Visited) -> Visited
+        ensures { result ≡ record { change = combined self.change next.change; behind = self.behind || next.behind } }
+    {
+        Visited {
+            change: combine(self.change, next.change),
+            behind: self.behind || next.behind,
+        }
+    }
+}
+
+// Whether a jump from a place changed it, or one before it.
+fn goes_back(k: usize, target: usize, jumped: Change) -> bool
+    ensures ahead { result ≡ false → jumped ≢ Change.Nothing → k < target }
+    ensures back { result ≡ true → jumped ≢ Change.Nothing }
+{
+    target <= k && !matches!(jumped, Change::Nothing)
+}
+
 // Goes on from a place.
 fn visit(
     alloc: Global,
@@ -89,12 +126,14 @@ fn visit(
     items: &[InstructionInfo],
     states: &mut [Option<KnownState>],
     k: usize,
-) -> Result<Change, Fault>
+) -> Result<Visited, Fault>
     requires code { IsCode starts.now items.now }
     requires shown { AllShown (look_at starts.now items.now) (length items.now) states.old }
     requires inside { k < length items.now }
-    ensures steps { IfOk result (λ change. Steps (look_at starts.now items.now) (length items.now) states.old states.new change) }
-    ensures settled { IfOk result (λ change. change ≡ Change.Nothing → Settled (look_at starts.now items.now) states.new k) }
+    ensures steps { IfOk result (λ visited. Steps (look_at starts.now items.now) (length items.now) states.old states.new visited.change) }
+    ensures before { IfOk result (λ visited. visited.behind ≡ false → SameTo k states.old states.new) }
+    ensures settled { IfOk result (λ visited. visited.behind ≡ false → Settled (look_at starts.now items.now) states.new k) }
+    ensures behind { IfOk result (λ visited. visited.behind ≡ true → visited.change ≢ Change.Nothing) }
     ensures refused { IfErr result (λ fault. RefusalAt (look_at starts.now items.now) fault.refused fault.place) }
 {
     let item = &items[k];
@@ -103,33 +142,37 @@ fn visit(
             Ok(nexts) => nexts,
             Err(refused) => return Err(fault_at(refused, k)),
         },
-        None => return Ok(Change::Nothing),
+        None => return Ok(Visited::nothing()),
     };
     let target = target_place(starts, item);
     let fell = reach_if(alloc, starts, items, states, k + 1, nexts.fall)?;
     let jumped = reach_if(alloc, starts, items, states, target, nexts.jump)?;
-    Ok(combine(fell, jumped))
+    Ok(Visited {
+        change: combine(fell, jumped),
+        behind: goes_back(k, target, jumped),
+    })
 }
 
-// Goes on once from each place that is known.
+// Goes on once from each place that is known, in order: where no place behind changes, all are settled.
 fn round(
     alloc: Global,
     starts: &[usize],
     items: &[InstructionInfo],
     states: &mut [Option<KnownState>],
-) -> Result<Change, Fault>
+) -> Result<Visited, Fault>
     requires code { IsCode starts.now items.now }
     requires shown { AllShown (look_at starts.now items.now) (length items.now) states.old }
-    ensures steps { IfOk result (λ change. Steps (look_at starts.now items.now) (length items.now) states.old states.new change) }
-    ensures settled { IfOk result (λ change. change ≡ Change.Nothing → (k : ℕ) → k < length items.now → Settled (look_at starts.now items.now) states.new k) }
+    ensures steps { IfOk result (λ visited. Steps (look_at starts.now items.now) (length items.now) states.old states.new visited.change) }
+    ensures settled { IfOk result (λ visited. visited.behind ≡ false → (k : ℕ) → k < length items.now → Settled (look_at starts.now items.now) states.new k) }
+    ensures behind { IfOk result (λ visited. visited.behind ≡ true → visited.change ≢ Change.Nothing) }
     ensures refused { IfErr result (λ fault. RefusalAt (look_at starts.now items.now) fault.refused fault.place) }
 {
-    let mut change = Change::Nothing;
+    let mut all = Visited::nothing();
     for k in 0..items.len() {
-        let more = visit(alloc, starts, items, states, k)?;
-        change = combine(change, more);
+        let visited = visit(alloc, starts, items, states, k)?;
+        all = all.and(visited);
     }
-    Ok(change)
+    Ok(all)
 }
 
 // Goes on until no mark is added, or a place becomes known; says whether one did.
@@ -147,10 +190,12 @@ fn spread(
     ensures refused { IfErr result (λ fault. RefusalAt (look_at starts.now items.now) fault.refused fault.place) }
 {
     loop {
-        match round(alloc, starts, items, states)? {
-            Change::Nothing => return Ok(false),
-            Change::Marks => (),
-            Change::Place => return Ok(true),
+        let visited = round(alloc, starts, items, states)?;
+        if !visited.behind {
+            return Ok(false);
+        }
+        if matches!(visited.change, Change::Place) {
+            return Ok(true);
         }
     }
 }

@@ -15,6 +15,9 @@ returns-in-Ok-clause-steps c = record {
   moves = c.in-Ok.ensures.moves;
 }
 
+pub returns-in-Ok-clause-elsewhere : goal.returns-in-Ok-clause-elsewhere
+returns-in-Ok-clause-elsewhere c = c.in-Ok.ensures.arrives.others
+
 pub returns-in-Ok-clause-covered : goal.returns-in-Ok-clause-covered
 returns-in-Ok-clause-covered c = arrives_covers (look_at c.args._starts.now c.args.items.now) (length c.args.items.now) c.args.states.now c.arrive.new.states c.args.to (state_of c.args.arriving) c.in-Ok.ensures.arrives
 

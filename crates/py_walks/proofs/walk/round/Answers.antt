@@ -1,12 +1,20 @@
-use Rattle.std.proofs.Common.{arith}
-use Rattle.py_walks.proofs.Visiting.{steps_combine, settled_more}
+use Rattle.std.proofs.Common.{◌≢◌, sym, ap, subst, ◌∙◌, arith}
+use Rattle.py_walks.specs.declared.known.Change.TheVariants as Change
+use Rattle.py_walks.specs.declared.walk.Visited.{Visited}
+use Rattle.py_walks.proofs.Visiting.{none_behind, some_behind, steps_combine, settled_more}
 use Rattle.py_walks.proofs.walk.round.Goals as goal
 
 pub loop-k-preserved : goal.loop-k-preserved
-loop-k-preserved c = record {
-  steps = steps_combine c.args.starts.now c.args.items.now c.args.states.now c.loop-k.states c.visit.new.states c.loop-k.change c.in_ok-more.more c.combine-change.result c.loop-k.invariant.steps c.in_ok-more.ensures.steps c.combine-change.ensures;
-  settled = settled_more c.args.starts.now c.args.items.now c.loop-k.states c.visit.new.states c.loop-k.k c.loop-k.change c.in_ok-more.more c.combine-change.result c.loop-k.invariant.settled c.in_ok-more.ensures.steps.moves c.in_ok-more.ensures.settled c.combine-change.ensures;
-}
+loop-k-preserved c =
+    let changes = ap (λ (v : Visited). v.change) c.and-all.ensures in
+    let behind = sym (ap (λ (v : Visited). v.behind) c.and-all.ensures) in
+    record {
+      steps = steps_combine c.args.starts.now c.args.items.now c.args.states.now c.loop-k.states c.visit.new.states c.loop-k.all.change c.in_ok-visited.visited.change c.and-all.result.change c.loop-k.invariant.steps c.in_ok-visited.ensures.steps changes;
+      settled = λ e.
+          let still = none_behind c.loop-k.all.behind c.in_ok-visited.visited.behind (behind ∙ e) in
+          settled_more c.args.starts.now c.args.items.now c.loop-k.states c.visit.new.states c.loop-k.k (c.loop-k.invariant.settled still.0) c.in_ok-visited.ensures.steps.grows (c.in_ok-visited.ensures.before still.1) (c.in_ok-visited.ensures.settled still.1);
+      behind = λ e. subst (λ z. z ≢ Change.Nothing) (sym changes) (some_behind c.loop-k.all.behind c.in_ok-visited.visited.behind c.loop-k.all.change c.in_ok-visited.visited.change c.loop-k.invariant.behind c.in_ok-visited.ensures.behind (behind ∙ e));
+    }
 
 pub returns-clause-settled : goal.returns-clause-settled
 returns-clause-settled c = λ n k l. c.loop-k.invariant.settled n k (omega arith)

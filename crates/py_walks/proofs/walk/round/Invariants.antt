@@ -1,4 +1,4 @@
-use Rattle.std.proofs.Common.{◌≡◌, ◌<◌, ℕ, length}
+use Rattle.std.proofs.Common.{◌≡◌, ◌≢◌, ◌<◌, ℕ, length, true, false}
 use Rattle.py_walks.specs.declared.known.Change.TheVariants as Change
 use Rattle.py_walks.specs.Shown.{Steps, Settled}
 use Rattle.py_walks.specs.Flat.{look_at}
@@ -6,6 +6,7 @@ use Rattle.py_walks.proofs.walk.round.Given as goal
 
 abbrev pub invariant-loop-k : goal.invariant-loop-k
 invariant-loop-k l = record {
-  steps : Steps (look_at l.starts l.items) (length l.items) l.initial.states l.states l.change;
-  settled : l.change ≡ Change.Nothing → (j : ℕ) → j < l.k → Settled (look_at l.starts l.items) l.states j;
+  steps : Steps (look_at l.starts l.items) (length l.items) l.initial.states l.states l.all.change;
+  settled : l.all.behind ≡ false → (j : ℕ) → j < l.k → Settled (look_at l.starts l.items) l.states j;
+  behind : l.all.behind ≡ true → l.all.change ≢ Change.Nothing;
 }

@@ -1,4 +1,5 @@
+use Rattle.std.proofs.lemmas.Bool.{not-true}
 use Rattle.py_walks.proofs.walk.spread.Goals as goal
 
-pub returns-in-Nothing-clause-settled : goal.returns-in-Nothing-clause-settled
-returns-in-Nothing-clause-settled c = λ _. c.in_ok-round.ensures.settled c.in-Nothing.is
+pub returns-then-not-visited-clause-settled : goal.returns-then-not-visited-clause-settled
+returns-then-not-visited-clause-settled c = λ _. c.in_ok-visited.ensures.settled (not-true c.in_ok-visited.visited.behind c.if-not-visited.true)

@@ -4,12 +4,12 @@ use Rattle.py_walks.specs.Shown.{AllShown, Grows}
 use Rattle.py_walks.specs.Flat.{look_at}
 use Rattle.py_walks.proofs.walk.spread.Given as goal
 
-abbrev pub invariant-loop : goal.invariant-loop
-invariant-loop l = record {
+abbrev pub invariant-loop-visited : goal.invariant-loop-visited
+invariant-loop-visited l = record {
   shown : AllShown (look_at l.starts l.items) (length l.items) l.states;
   grows : Grows l.initial.states l.states;
   unknown_as_before : unknown l.states ≡ unknown l.initial.states;
 }
 
-abbrev pub decreases-loop : goal.decreases-loop
-decreases-loop l = missing l.states
+abbrev pub decreases-loop-visited : goal.decreases-loop-visited
+decreases-loop-visited l = missing l.states
