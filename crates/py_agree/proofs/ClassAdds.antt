@@ -73,11 +73,6 @@ end_cells c = go (list_any (text_eq (codes "__class__")) c.cells)
     go true = omega arith
     go false = omega arith
 
--- the context of a class does not see the path of the source
-pathless_within : (path name : List ℕ) (c : Context) (k : ℕ) → pathless (class_within path name c k) ≡ class_within path name (pathless c) k
-unfolding inside with_path within_class
-pathless_within path name c k = refl
-
 -- other items and another count that are the same
 added_so : (s t : State) (is js : List (Item Scope)) (m n : ℕ) (ps : List (Object × Scope)) → is ≡ js → m ≡ n → Added s t is m ps → Added s t js n ps
 added_so s t is js m n ps e f a = subst (λ xs. Added s t xs n ps) e (subst (λ j. Added s t is j ps) f a)

@@ -26,7 +26,7 @@ use Rattle.py_steps.specs.Emitting.{Around, Emission, LoopBlocks, ◌▸◌, by_
 use Rattle.py_steps.specs.EmissionParts.{no_assignment, only_in_function, pass_scopes}
 use Rattle.py_emission.specs.Emission.{emission, emission_of_store, emission_of_test}
 use Rattle.py_meaning.specs.ControlEmissions.{asserted, caught, forgotten, named_body}
-use Rattle.py_meaning.specs.EmissionStmts.{emission_of_assert, emission_of_handlers, emission_of_item, emission_of_items, emission_of_message, emission_of_raise, emission_of_returned, emission_of_stmt, emission_of_stmts, leave_loop}
+use Rattle.py_meaning.specs.EmissionStmts.{emission_of_assert, emission_of_handlers, emission_of_item, emission_of_items, emission_of_message, emission_of_raise, emission_of_returned, emission_of_stmts, leave_loop}
 use Rattle.py_adds.proofs.Emitting.{Gives, Yields, after_these, context_gives, from_as, gives_as, keep_yields, level_gives, loops_give, looping, move_yields, moved_gives, moved_refused, next_as, refused_gives, regroup, scopes_as, so, then_gives, then_these}
 use Rattle.py_adds.proofs.Instructions.{break_adds, constant_adds, continue_adds, return_adds}
 use Rattle.py_adds.proofs.AccessAdds.{accessed_adds}
@@ -280,10 +280,6 @@ mutual
   pub rest_give : (ts : tree.Stmts) → stmts_size ts < 2 ^ 22 → RestAdd ts
   rest_give tree.no_stmts few c k b n w = after_these keep_yields (return_adds const.none refl c n k)
   rest_give (tree.more_stmts s ss) few c k b n w = rest_more s ss (stmt_gives s (omega (arith, few))) (ended_give ss (omega (arith, few))) c k b n w
-
--- a statement, and one after another
-pub stmt_adds : (c : Around) (k : ℕ) (s : tree.Stmt) → stmt_size s < 2 ^ 22 → (b : Loops) (n : ℕ) → InLoop c.loops b n → Controls c b n k (scopes_in_stmt c.context.postponed s) (emission_of_stmt s) (stmt_form (told c) k s)
-stmt_adds c k s few b n w = stmt_gives s few c k b n w
 
 pub stmts_add : (c : Around) (k : ℕ) (ss : tree.Stmts) → stmts_size ss < 2 ^ 22 → (b : Loops) (n : ℕ) → InLoop c.loops b n → Controls c b n k (scopes_in_stmts c.context.postponed ss) (emission_of_stmts ss) (stmts_form (told c) k ss)
 stmts_add c k ss few b n w = stmts_give ss few c k b n w

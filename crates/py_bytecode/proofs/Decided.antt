@@ -53,8 +53,5 @@ mutual
 pub same_is_equal : (c d : Const) → c ≡ d → const_eq c d ≡ true
 same_is_equal c d e = ap (λ (x : Const). const_eq c x) (sym e) ∙ const_full c
 
-pub same_lists_are_equal : (cs ds : Consts) → cs ≡ ds → consts_eq cs ds ≡ true
-same_lists_are_equal cs ds e = ap (λ (x : Consts). consts_eq cs x) (sym e) ∙ consts_full cs
-
 pub same_objects_are_equal : (o p : Object) → o ≡ p → object_eq o p ≡ true
 same_objects_are_equal o p e = ap (λ (x : Object). object_eq o x) (sym e) ∙ object_full o

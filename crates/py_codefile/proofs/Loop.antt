@@ -15,10 +15,6 @@ module _ {A : Type 0} (item : Reading A) where
   regroup front x (Ok xs) = ap (λ (ys : List A). Ok (ys, xs.1)) (simp append_assoc)
   regroup front x (Err e) = refl
 
-  pub begins : (total : Read (List A)) → with_front [] total ≡ total
-  begins (Ok xs) = refl
-  begins (Err e) = refl
-
   pub goes_on : (front : List A) (count i : ℕ) (p : Place) (x : A) (after : Place) (total : Read (List A)) → i < count → item p ≡ Ok (x, after)
       → with_front front (many item (count - i) p) ≡ total → with_front (front ++ x ∷ []) (many item (count - (i + 1)) after) ≡ total
   unfolding many

@@ -1,5 +1,5 @@
 -- Texts one after the other, and constants in order.
-use Rattle.std.proofs.Common.{◌≡◌, ℕ, suc, ◌+◌, ◌<◌, Bool, true, false, List, [], ◌∷◌, ◌++◌, length, drop, take, map, get_or, Option, Some, None, refl, sym, ap, ◌∙◌, append_assoc, append-nil, arith}
+use Rattle.std.proofs.Common.{◌≡◌, ℕ, suc, ◌+◌, ◌<◌, Bool, true, false, List, [], ◌∷◌, ◌++◌, length, drop, take, map, get_or, Option, Some, None, refl, sym, ap, ◌∙◌, append_assoc, arith}
 use Rattle.std.proofs.Math.Seq.{drop-cons}
 use Rattle.std.proofs.lemmas.List.{map-append, take_more}
 use Rattle.py_tree.specs.declared.expressions.Constant.{Constant}
@@ -28,9 +28,6 @@ joined_next a b (Some x) (Some y) e = ap Some (sym (append_assoc a x y) ∙ ap (
 pub joined_none : (a : List ℕ) (t : Option (List ℕ)) → joined (Some a) t ≡ None → t ≡ None
 joined_none a None e = refl
 joined_none a (Some x) e = absurd cc
-
-pub joined_end : (a : List ℕ) → joined (Some a) (Some []) ≡ Some a
-joined_end a = ap Some (append-nil a)
 
 pub joined_first : (t : Option (List ℕ)) (b : List ℕ) → joined (Some []) t ≡ Some b → t ≡ Some b
 joined_first None b e = absurd cc

@@ -50,20 +50,6 @@ pub many_keywords : (xs : List (KeywordOf Expr)) → length (keyword_emissions (
 many_keywords [] = refl
 many_keywords (x ∷ xs) = ap length (one_keyword x.arg (expr_tree x.value) (keywords expr_tree xs)) ∙ ap suc (many_keywords xs)
 
--- the names from a place on
-names_next_some : (name : List ℕ) (e : tree.Expr) (ks : Keywords) → names_in (keyword_emission (Some name) e ∷ ks) ≡ more_consts (const.str name) (names_in ks)
-names_next_some name e ks = refl
-
-pub name_at : (xs : List (KeywordOf Expr)) (i : ℕ) (d x : KeywordOf Expr) (name : List ℕ) → x ≡ get_or xs i d → i < length xs → x.arg ≡ Some name → listed (names_in (keyword_emissions (keywords expr_tree (drop i xs)))) ≡ const.str name ∷ listed (names_in (keyword_emissions (keywords expr_tree (drop (i + 1) xs))))
-name_at xs i d x name is lt some =
-    ap (λ ks. listed (names_in ks)) (keywords_at xs i d x is lt)
-    ∙ ap (λ arg. listed (names_in (keyword_emission arg (expr_tree x.value) ∷ keyword_emissions (keywords expr_tree (drop (i + 1) xs))))) some
-
-pub no_name_at : (xs : List (KeywordOf Expr)) (i : ℕ) (d x : KeywordOf Expr) → x ≡ get_or xs i d → i < length xs → x.arg ≡ None → names_in (keyword_emissions (keywords expr_tree (drop i xs))) ≡ names_in (keyword_emissions (keywords expr_tree (drop (i + 1) xs)))
-no_name_at xs i d x is lt none =
-    ap names_in (keywords_at xs i d x is lt)
-    ∙ ap (λ arg. names_in (keyword_emission arg (expr_tree x.value) ∷ keyword_emissions (keywords expr_tree (drop (i + 1) xs)))) none
-
 pub consts_listed : (cs : Consts) → consts_of (listed cs) ≡ cs
 consts_listed no_consts = refl
 consts_listed (more_consts c cs) = ap (more_consts c) (consts_listed cs)

@@ -75,11 +75,6 @@ module _ (first : Bool) (c : ClauseEmissions) (cs : List ClauseEmissions) (withi
       ∙ (λ i. (further_clauses cs within ▸ (jump op.Jump (sym m i) ▸ begin (sym n i)) ▸ closed bs) r)
       ∙ ap (λ w. (further_clauses cs within ▸ w) r) (sym (closed_push bs b))
 
--- behind the last clause
-pub all_opened : (first : Bool) (within : Emission) (bs : List ClauseBlocks) → clauses_by first [] within ▸ closed bs ≡ within ▸ closed bs
-all_opened true within bs = refl
-all_opened false within bs = refl
-
 one_more : (i : ℕ) → suc i ≡ i + 1
 one_more i = omega arith
 

@@ -107,13 +107,6 @@ links_at out ops o xs i d x is even lt =
     ∙ ap (λ j. linked out (get_or ops i o) b (expr_tree (get_or xs i d)) ▸ links out (drop j ops) (all_emissions (exprs expr_tree (drop j xs)))) (one_more i)
     ∙ ap (λ y. linked out (get_or ops i o) b (expr_tree y) ▸ links out (drop (i + 1) ops) (all_emissions (exprs expr_tree (drop (i + 1) xs)))) (sym is)
 
--- where the deciding truth is the one that jumps
-pub same_test : (stop c : Bool) (es : List Emissions) (to : ℕ) → c ≡ stop → some_test stop c es to ≡ tests stop to c to es
-same_test false false es to e = refl
-same_test true true es to e = refl
-same_test false true es to e = absurd cc
-same_test true false es to e = absurd cc
-
 pub other_test : (stop c : Bool) (es : List Emissions) (to : ℕ) → beq c stop ≡ false → some_test stop c es to ≡ past_tests stop c es to
 other_test false false es to e = absurd cc
 other_test true true es to e = absurd cc

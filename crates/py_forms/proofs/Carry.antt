@@ -137,10 +137,6 @@ module _ {K L : Type 0} (c : K → L) (v : View) where
   pub next_to : (x : Value K) (w : World K) → next_of (value_to c v x) (world_to c v w) ≡ got_to c v (slot_to c v) (next_of x w)
   next_to x w = ask_to (AsksNext x) _ (slot_to c v) fits_next fits_next refl fits_next_to w
 
-  -- the shapes
-  abbrev same_value : Value K → Value L
-  same_value = value_to c v
-
   abbrev Runs1 : {A B : Type 0} → (A → B) → (World K → Got K A) → (World L → Got L B) → Type 0
   Runs1 {A} {B} f m m1 = (w : World K) → m1 (world_to c v w) ≡ got_to c v f (m w)
 

@@ -7,7 +7,7 @@ use Rattle.py_bytecode.specs.Machine.{Instr, at_places, Found, RaiseOf, Block, L
 use Rattle.py_forms.specs.Fit.{IsFit, IsWithin, Loops, leave}
 use Rattle.py_forms.specs.Code.{Item, Do, Label, size}
 use Rattle.py_forms.specs.Live.{live}
-use Rattle.py_forms.proofs.Reach.{Ground, Reaches, same, more, follow, one}
+use Rattle.py_forms.proofs.Reach.{Ground, Reaches, more, follow, one}
 use Rattle.py_forms.proofs.Falls.{falls, surely, live_if, Never}
 
 pub fit_more : {K P : Type 0} (v : Entry K) (s : List (Entry K)) (bs : List (Block K P)) → IsFit s bs → IsFit (v ∷ s) bs
@@ -168,9 +168,6 @@ module _ {K P : Type 0} (g : Ground K P) where
         more g (size a + size b) _ _ _ (omega (arith, size-append a b))
         (get_then (m w) k (size a) (size b) _ (λ x w1. At r.0 (mid x s) bs slot w1) (λ x w1. At q (post x s) bs slot w1) (raise s bs slot) (fa.by p r.0 r.1 s bs slot fit w) (λ x w1. (fb x).by r.0 q r.2 s bs slot fit w1));
   }
-
-  pub moves_none : {A : Type 0} (a : A) (pre : List (Entry K) → List (Entry K)) → Moves [] pre (λ w. Fine a w) (λ x s. pre s)
-  moves_none a pre = record { by = λ p q st s bs slot fit w. same g _ _ (ap (λ n. At n (pre s) bs slot w) st) }
 
   -- an instruction, and what follows it
   pub moves_do : {A B : Type 0} (i : Instr K ℕ) (b : List (Item K)) (pre : List (Entry K) → List (Entry K)) (mid : A → List (Entry K) → List (Entry K)) (post : B → List (Entry K) → List (Entry K)) (m : World K → Got K A) (k : A → World K → Got K B) → ((n : P) (s : List (Entry K)) (bs : List (Block K P)) (slot : Option (Value K)) (w : World K) → IsFit s bs → act (at_places g.spot i) n (pre s) bs slot w ≡ on_got (m w) (λ x w1. At n (mid x s) bs slot w1) (raise s bs slot) stopped) → ((x : A) → Moves b (mid x) (k x) post) → Moves (Do i ∷ b) pre (λ w. then_get (m w) k) post

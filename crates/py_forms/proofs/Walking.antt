@@ -1,6 +1,6 @@
 -- The laws by which the walks of forms compose, and the walk of each shape.
 use Rattle.py_bytecode.specs.Values.{Operation}
-use Rattle.std.proofs.Common.{◌≡◌, ◌≤◌, ℕ, suc, ◌+◌, List, [], ◌∷◌, ◌++◌, Bool, true, Option, Some, None, inl, inr, refl, sym, ap, ◌∙◌, subst, arith}
+use Rattle.std.proofs.Common.{◌≡◌, ◌≤◌, ℕ, suc, ◌+◌, List, [], ◌∷◌, ◌++◌, Bool, true, Option, Some, inl, inr, refl, sym, ap, ◌∙◌, subst, arith}
 use Rattle.py_bytecode.specs.Machine.{Instr, Operate, Append, Unpack, JumpIf, JumpIfOrPop}
 use Rattle.py_forms.specs.Code.{Item, Do, Label, choice_code, if_code, link_code, chain_code, while_code, for_code, each_code, tail_code, try_code, any_code, typed_code, last_code, with_code, augment_code}
 use Rattle.py_forms.specs.Walks.{LoopSort, ExceptSort, FinallySort, ExitSort, HandlerSort, LastSort, CleanupSort, OpenSort, Mark, Shape, shape, mark, floor, Then, Falls, Never, after, Joins, IsFine, Walks}
@@ -61,9 +61,6 @@ module _ (K : Type 0) (at : ℕ → Option Shape) where
     -- an operation on what its parts gave
     pub operate_walks : (o : Operation) (n k : ℕ) → WalksOn (Do (Operate o n (Some k)) ∷ []) (up n) (up k)
     operate_walks o n k = walk_do (up k) (omega (arith, low)) (level _ _ ms (omega arith)) (walk_none (up k))
-
-    pub raise_walks : (o : Operation) (n : ℕ) → WalksOn (Do (Operate o n None) ∷ []) (up n) here
-    raise_walks o n = walk_do here (omega (arith, low)) tt (walk_none here)
 
     pub choice_walks : (test a b : List (Item K)) (other end : ℕ) (u : Shape) → at other ≡ Some here → at end ≡ Some u → WalksOn test here here → WalksOn a here u → WalksOn b here u → WalksOn (choice_code other end test a b) here u
     choice_walks test a b other end u eo ee ht ha hb =

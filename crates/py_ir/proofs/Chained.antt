@@ -51,9 +51,6 @@ module _ (given : List Block) (cs : List ℕ) (chain : IsChain (map plain given)
   apart : (j k : ℕ) → j < k → k < length cs → get_or cs j 0 ≢ get_or cs k 0
   apart j k l m = chain.path.distinct j k 0 l m
 
-  given_at : (k : ℕ) → Block
-  given_at k = get_or given (get_or cs k 0) empty_block
-
   next_of : (k : ℕ) → k < length cs → (blk (map plain given) (get_or cs k 0)).next ≡ block_number (get_or given (get_or cs k 0) empty_block).next.0
   next_of k l = ap (λ (b : Blk). b.next) (blk_plain given (get_or cs k 0) empty_block (in_given k l))
 

@@ -8,7 +8,7 @@ use Rattle.std.proofs.lemmas.List.Sums.{sum_by-set}
 use Rattle.std.proofs.lemmas.List.Elements.{All-push, Contains-push, Contains-append_left}
 use Rattle.std.proofs.lemmas.Option.{slice_get-map, slice_get-get_or}
 use Rattle.py_ir.specs.declared.blocks.Block.{Block}
-use Rattle.py_ir.specs.Chain.{Blk, blk, blk_of, plain, IsPath, IsChain, BrokenChain}
+use Rattle.py_ir.specs.Chain.{Blk, blk, blk_of, plain, IsPath, BrokenChain}
 
 pub blk_plain : (blocks : List Block) (b : ℕ) (d : Block) → b < length blocks → blk (map plain blocks) b ≡ plain (get_or blocks b d)
 blk_plain blocks b d h = ap blk_of (slice_get-map plain blocks b) ∙ ap (λ o. blk_of (elim o [ Some x ↦ Some (plain x) | None ↦ None ])) (slice_get-get_or blocks b d h)
@@ -110,6 +110,3 @@ module _ (bs : List Blk) (cs : List ℕ) (block : ℕ) (met : List Bool) (h : Fo
 
   pub breaks : (n : ℕ) → (blk bs block).next ≡ Some n → (length bs ≤ n) ⊎ (get_or (set met block true) n false ≡ true) → BrokenChain bs block
   breaks n e b = record { path = cs ++ block ∷ []; leads_here = h.path; here = last_push cs block; next = n; next_is = e; broken = elim b [ inl l ↦ inl l | inr m ↦ inr (now_there n m) ] }
-
-pub chain_ends : (bs : List Blk) (cs : List ℕ) (block : ℕ) (met : List Bool) → Following bs cs block met → (blk bs block).next ≡ None → IsChain bs (cs ++ block ∷ [])
-chain_ends bs cs block met h e = record { path = h.path; ends = ap (λ b. (blk bs b).next) (last_push cs block) ∙ e }

@@ -20,7 +20,7 @@ use Rattle.py_walks.proofs.Codes.{unit_proper}
 use Rattle.py_bytecode.specs.Operands.{units_for}
 use Rattle.py_layout.specs.declared.widths.Need.TheVariants.{Fixed, Jump}
 use Rattle.py_layout.specs.Widths as widths
-use Rattle.py_layout.specs.Written.{InRange, IsAssembled, need_of, needs_of, written, operand_in}
+use Rattle.py_layout.specs.Written.{InRange, IsAssembled, need_of, needs_of}
 use Rattle.py_layout.proofs.SameUnits.{units_sound, units_depth, units_run}
 use Rattle.py_ir.specs.declared.checks.TableLens.{TableLens}
 use Rattle.py_ir.specs.declared.checks.Check.{Check}
@@ -80,25 +80,6 @@ none_before n t level bs c FinalizeError.OutOfMemory l m = absurd (m refl)
 
 pub memory_refused : (t : Tables) (level : ℕ) (bs : List Blk) → Refused t level bs FinalizeError.OutOfMemory
 memory_refused t level bs = (tt, λ e l m h. absurd (omega arith))
-
-pub empty_refused : (t : Tables) (level : ℕ) (bs : List Blk) → length bs ≡ 0 → Refused t level bs FinalizeError.NoBlocks
-empty_refused t level bs h = (h, λ e l m k. absurd (omega arith))
-
-path_some : (bs : List Blk) (b : ℕ) → BrokenChain bs b → ¬ (length bs ≡ 0)
-path_some bs b r e = let l = slice_get_within r.path 0 0 r.leads_here.first in let i = r.leads_here.inside 0 0 l in absurd (omega (arith, i, e))
-
-pub broken_refused : (t : Tables) (level : ℕ) (bs : List Blk) (b : ℕ) → BrokenChain bs b → Refused t level bs (FinalizeError.BrokenChain b)
-broken_refused t level bs b h = (
-  h,
-  none_before 1 t level bs (record {
-    blocks = λ _. path_some bs b h;
-    broken = λ l. absurd (omega arith);
-    checks = λ c l. absurd (omega arith);
-    names = λ l. absurd (omega arith);
-    walks = λ l. absurd (omega arith);
-    units = λ l. absurd (omega arith);
-  }),
-)
 
 order_check : (c : Check) (b i : ℕ) → order (check_error c b i) ≡ 2 + rank c
 order_check Check.TargetOutside b i = refl
@@ -219,9 +200,6 @@ module _ (t : Tables) (level : ℕ) (bs : List Blk) (cs starts : List ℕ) (chai
       ok1 : Sound (look_at starts items) 0 (suc d)
       ok1 = let e : d + 1 ≡ suc d = omega arith in subst (Sound (look_at starts items) 0) e ok
 
-      laid_units : List CodeUnit
-      laid_units = written (operand_in starts done.widths) items done.widths
-
       sound_units : Sound (λ p. seen (fetch_unit t units p)) 0 (suc d)
       sound_units = subst (λ us. Sound (λ p. seen (fetch_unit t us p)) 0 (suc d)) (sym done.units_are) (units_sound starts items done.widths code range done.least.fits t decodes (suc d) ok1)
 
@@ -254,13 +232,6 @@ module _ (t : Tables) (level : ℕ) (bs : List Blk) (cs starts : List ℕ) (chai
         match = walked.match_clear t level bs cs starts chain short at linked decodes limit l ok;
       }
 
-      order_walk : (r : Walked) (last b i : ℕ) → r ≢ Walked.OutOfMemory → order (walk_error r last b i) ≡ 8
-      order_walk Walked.NoEnd last b i m = refl
-      order_walk Walked.UnevenHeights last b i m = refl
-      order_walk Walked.HeightOutOfRange last b i m = refl
-      order_walk Walked.BlockMismatch last b i m = refl
-      order_walk Walked.OutOfMemory last b i m = absurd (m refl)
-
       before_walk : (r : Walked) (last b i : ℕ) → NoneBefore (order (walk_error r last b i)) t level bs
       before_walk Walked.NoEnd last b i = clear 8 (λ _. tables_fit) (λ l. absurd (omega arith)) (λ l. absurd (omega arith))
       before_walk Walked.UnevenHeights last b i = clear 8 (λ _. tables_fit) (λ l. absurd (omega arith)) (λ l. absurd (omega arith))
@@ -283,10 +254,6 @@ module _ (t : Tables) (level : ℕ) (bs : List Blk) (cs starts : List ℕ) (chai
       all_clear d low ok few =
           let e : d + 1 ≡ suc d = omega arith in
           clear 10 (λ _. tables_fit) (λ _. walks_clear (suc d) (omega arith) (subst (Sound (look_at starts items) 0) e ok)) (λ _ h. few (narrow h.chain h.starts h.is_chain h.starts_at h.too_many))
-
--- what the functions over the list ask of the chain
-pub starts_inside : (level : ℕ) (bs : List Blk) (cs starts : List ℕ) → IsChain bs cs → StartsAt level bs cs starts → All (λ c. c < length starts) cs
-starts_inside level bs cs starts chain at k d l = let i = chain.path.inside k d l in let e = at.long in omega (arith, i, e)
 
 pub chain_some : (bs : List Blk) (cs : List ℕ) → IsChain bs cs → 0 < length cs
 chain_some bs cs chain = slice_get_within cs 0 0 chain.path.first

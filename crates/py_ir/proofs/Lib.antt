@@ -19,5 +19,4 @@ pub mod Taken
 pub mod Chained
 pub mod Listed
 pub mod TakenCode
-pub mod Outside
 pub mod Unrefused

@@ -52,9 +52,6 @@ module _ (xs : List InstructionInfo) (ss : List Span) (c : ℕ) (h : Follows xs 
     abbrev ds : List Blk
     ds = blks_of xs more
 
-    pub new_blocks : blocks_of xs more ≡ blocks_of xs ss ++ empty_block ∷ []
-    new_blocks = map_push (block_of xs) ss unplaced
-
     longer : length bs ≤ length ds
     longer = let a = length-blks xs ss in let b = length-blks xs more in let n = length_push ss unplaced in omega (arith, a, b, n)
 

@@ -155,11 +155,6 @@ module _ (t : Tables) (level : ℕ) (bs : List Blk) (cs starts : List ℕ) (chai
   pub total : (k : ℕ) → suc k ≡ length cs → length items ≡ at_start (get_or cs k 0) + length (part (get_or cs k 0))
   total k e = let all : take (k + 1) cs ≡ cs = take_all (k + 1) cs (omega arith) in ap (λ l. length (flat level bs l)) (sym all) ∙ after_block k (omega arith)
 
-  -- where a place lies by its number in the list
-  inside_at : (k i : ℕ) → k < length cs → (i < length (part (get_or cs k 0))) ⊎ ((i ≡ length (whole (get_or cs k 0))) × (length (whole (get_or cs k 0)) ≡ length (part (get_or cs k 0))) × (suc k ≡ length cs)) → i ≤ length (part (get_or cs k 0))
-  inside_at k i lt (inl h) = omega (arith, h)
-  inside_at k i lt (inr h) = omega (arith, h.0, h.1)
-
   module _ (linked : (j : ℕ) (x : InstructionInfo) → slice_get items j ≡ Some x → is_jump x.instr ≡ true → (x.target.0 ≢ 0xffff_ffff) × ((k : ℕ) × (k < length cs) × (get_or cs k 0 ≡ x.target.0))) where
     abbrev pub from : Place → Option (Seen Place)
     from p = seen (fetch_block t cbs p)

@@ -1,12 +1,12 @@
 -- The first widths, and what the rounds come to.
-use Rattle.std.proofs.Common.{◌≡◌, ℕ, ◌*◌, ◌^◌, ◌<◌, ◌≤◌, List, length, get_or, sum, map, All, sym, ap, ◌∙◌, subst, arith, inl, inr}
+use Rattle.std.proofs.Common.{◌≡◌, ℕ, ◌*◌, ◌^◌, ◌<◌, ◌≤◌, List, length, get_or, sum, map, All, sym, ap, ◌∙◌, arith, inl, inr}
 use Rattle.std.proofs.lemmas.Bool.{cases_lt}
 use Rattle.std.proofs.lemmas.List.{get_or_past, get_or-map, length-map}
 use Rattle.std.proofs.lemmas.List.Sums.{sum_by-le}
 use Rattle.std.proofs.lemmas.List.Elements.{All-from_get_or}
 use Rattle.py_layout.specs.declared.widths.Need.{Need}
 use Rattle.py_layout.specs.declared.widths.Need.TheVariants.{Fixed, Jump}
-use Rattle.py_layout.specs.Widths.{AtMost, Chosen, Fits, IsNeed, IsWidth, IsLayout, Offsets, TooManyUnits, narrowest}
+use Rattle.py_layout.specs.Widths.{AtMost, Chosen, Fits, IsNeed, IsWidth, TooManyUnits, narrowest}
 use Rattle.py_layout.proofs.Offsets.{sum-le}
 
 narrowest_is_least : (x : Need) (v : ℕ) → IsWidth x v → narrowest x ≤ v
@@ -32,11 +32,3 @@ chosen_bound needs ws i c = let b = sum_by-le (λ n. n) 4 ws (All-from_get_or (�
 
 pub too_many : (needs : List Need) (ws : List ℕ) → Chosen needs ws → ((others : List ℕ) → Fits needs others → AtMost ws others) → 2 ^ 32 ≤ sum ws → TooManyUnits needs
 too_many needs ws c least h others f = let l : length ws ≡ length others = c.long ∙ sym f.chosen.long in let s = sum-le ws others (least others f) l in omega (arith, s, h)
-
-pub ending : (needs : List Need) (ws offsets old : List ℕ) (units : ℕ) → ws ≡ old → Fits needs ws → ((others : List ℕ) → Fits needs others → AtMost old others) → Offsets old offsets → units ≡ sum old → units < 2 ^ 32 → IsLayout needs ws offsets units
-ending needs ws offsets old units e f least o u w = record {
-  least = record { fits = f; least = subst (λ v. (others : List ℕ) → Fits needs others → AtMost v others) (sym e) least };
-  offsets_of = subst (λ v. Offsets v offsets) (sym e) o;
-  total = u ∙ ap sum (sym e);
-  within = w;
-}

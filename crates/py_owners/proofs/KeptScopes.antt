@@ -9,7 +9,7 @@ use Rattle.py_steps.specs.Classes.{behind_name}
 use Rattle.py_steps.specs.Elements.{Element, Single, Spread, starred}
 use Rattle.py_steps.specs.TableParts.{built, map_of, some_built}
 use Rattle.py_steps.specs.TypeParameters.{handed_parts}
-use Rattle.py_meaning.specs.TableScopes.{Defaults, called_at_once, class_form, decorated, default_parts, documented, function_form, iterator, setup_form}
+use Rattle.py_meaning.specs.TableScopes.{Defaults, called_at_once, class_form, decorated, default_parts, documented, function_form, setup_form}
 use Rattle.py_owners.proofs.Kept.{InNamed, InValue, Kept, OfElement, both, in_built, in_some, none, one}
 use Rattle.py_owners.proofs.KeptForms.{in_map}
 
@@ -22,9 +22,6 @@ module _ (P : Scope → Type 0) where
   pub in_default_parts : (d : Defaults) (rest : VForms) → InDefaults d → Kept P (kids_vs rest) → Kept P (kids_vs (default_parts d rest))
   in_default_parts d rest h k =
       in_some P (InValue P) (built op.BuildTuple) (in_built P op.BuildTuple) d.positional (some_built map_of d.keyword rest) h.positional (in_some P (InNamed P) map_of (in_map P) d.keyword rest h.keyword k)
-
-  pub in_iterator : (f : VForm) → InValue P f → InValue P (iterator f)
-  in_iterator f h = both h none
 
   pub in_called : (name : List ℕ) (s : Scope) (f : VForm) → P s → InValue P f → InValue P (called_at_once name s f)
   in_called name s f h k = both (one h) (both (both k none) none)

@@ -1,29 +1,15 @@
 -- The pairs of a dict display, one at a time.
-use Rattle.std.proofs.Common.{◌≡◌, ◌⊎◌, inl, inr, ℕ, zero, suc, ◌+◌, ◌<◌, ◌≤◌, min, List, [], ◌∷◌, length, drop, get_or, Option, refl, sym, ap, ◌∙◌, arith}
+use Rattle.std.proofs.Common.{◌≡◌, ◌⊎◌, inl, inr, ℕ, zero, suc, ◌≤◌, min, List, [], ◌∷◌, length, drop, Option, refl, arith}
 use Rattle.std.proofs.Math.Nat.{min-eq_left, min-eq_right}
-use Rattle.std.proofs.Math.Seq.{drop-cons}
 use Rattle.std.proofs.lemmas.List.{length-drop}
 use Rattle.py_tree.specs.declared.expressions.Expr.{Expr}
-use Rattle.py_tree.specs.View.{expr_tree, exprs, opt_expr, opt_exprs}
+use Rattle.py_tree.specs.View.{expr_tree, exprs, opt_exprs}
 use Rattle.py_uses.specs.declared.usage.Usage.{Usage}
-use Rattle.py_uses.specs.Steps.{Step, ◌▸◌, nothing}
-use Rattle.py_scan.specs.Scan.{all_steps, key_steps, pairwise, scan_expr, scan_opt}
+use Rattle.py_uses.specs.Steps.{Step, nothing}
+use Rattle.py_scan.specs.Scan.{all_steps, key_steps, pairwise}
 
 abbrev pub pairs_of : Usage → List (Option Expr) → List Expr → Step
 pairs_of u ks vs = pairwise (key_steps u (opt_exprs expr_tree ks)) (all_steps u (exprs expr_tree vs))
-
-one_more : (i : ℕ) → suc i ≡ i + 1
-one_more i = omega arith
-
--- the pair at a place
-pub pairs_at : (u : Usage) (ks : List (Option Expr)) (vs : List Expr) (i : ℕ) (k : Option Expr) (v : Expr) → k ≡ get_or ks i k → v ≡ get_or vs i v → i < length ks → i < length vs
-    → pairs_of u (drop i ks) (drop i vs) ≡ (scan_opt u (opt_expr expr_tree k) ▸ scan_expr u (expr_tree v) ▸ pairs_of u (drop (i + 1) ks) (drop (i + 1) vs))
-pairs_at u ks vs i k v p q m n =
-    ap (λ ws. pairs_of u (drop i ks) ws) (drop-cons vs i v n)
-    ∙ ap (λ js. pairs_of u js (get_or vs i v ∷ drop (suc i) vs)) (drop-cons ks i k m)
-    ∙ ap (λ j. scan_opt u (opt_expr expr_tree (get_or ks i k)) ▸ scan_expr u (expr_tree (get_or vs i v)) ▸ pairs_of u (drop j ks) (drop j vs)) (one_more i)
-    ∙ ap (λ x. scan_opt u (opt_expr expr_tree x) ▸ scan_expr u (expr_tree (get_or vs i v)) ▸ pairs_of u (drop (i + 1) ks) (drop (i + 1) vs)) (sym p)
-    ∙ ap (λ y. scan_opt u (opt_expr expr_tree k) ▸ scan_expr u (expr_tree y) ▸ pairs_of u (drop (i + 1) ks) (drop (i + 1) vs)) (sym q)
 
 no_keys : (u : Usage) (ks : List (Option Expr)) (vs : List Expr) → length ks ≡ 0 → pairs_of u ks vs ≡ nothing
 no_keys u [] vs e = refl

@@ -71,9 +71,6 @@ listed_asks (e ∷ es) n d h = by (same_name n e.0) refl (asks e.1) refl h (list
     by false g true a q ih = ih (rest false g refl q)
     by false g false a q ih = ih q
 
-asks_both : (a b : Bool) → a ≡ true → (a ≡ true) ⊎ (b ≡ true)
-asks_both a b h = inl h
-
 -- to want a name is to ask for it, or to hold it lifted
 pub wants_splits : (o : Option Entry) → wants o ≡ true → (asks_opt o ≡ true) ⊎ (is_lifted o ≡ true)
 wants_splits None h = cc

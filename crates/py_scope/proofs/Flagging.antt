@@ -61,9 +61,6 @@ captured_settled base (q ∷ qs) t n u =
     ∙ or_assoc (captured_opt (lookup n u.entries)) (captures base t n q) (list_any (captures base t n) qs)
 
 module _ (f : ℕ × Name → Bool) where
-  Found_in : List Name → ℕ → Type 0
-  Found_in names r = (n : Name) × (list_any (same_name n) names ≡ true) × (f (r, n) ≡ true)
-
   pub any_append : (xs ys : List (ℕ × Name)) → list_any f (xs ++ ys) ≡ list_any f xs || list_any f ys
   any_append [] ys = refl
   any_append (x ∷ xs) ys = ap (λ b. f x || b) (any_append xs ys) ∙ sym (or_assoc (f x) (list_any f xs) (list_any f ys))

@@ -8,20 +8,18 @@ use Rattle.py_scope.specs.declared.rows.Holds.TheVariants.{Plain}
 use Rattle.py_scope.specs.declared.outward.Meets.TheVariants.{Past}
 use Rattle.py_scope.specs.Names.{Name, same_name, lookup}
 use Rattle.py_scope.specs.Bits.{intersects}
-use Rattle.py_scope.specs.Outward.{Touch, Leaves, Passes, Captures, counts, stop_of, stop_of_entry, look, enclosing, parents, meetings, meets_of}
+use Rattle.py_scope.specs.Outward.{Touch, Leaves, Passes, Captures, counts, stop_of, stop_of_entry, parents, meetings, meets_of}
 use Rattle.py_scope.specs.Marks.{after, settled, looks}
-use Rattle.py_scope.specs.Needs.{entry_at, entry_of, look_from}
+use Rattle.py_scope.specs.Needs.{entry_at, entry_of}
 use Rattle.py_scope.specs.Roles.{bound_opt}
 use Rattle.py_scope.specs.Lifts.{stages, stage_of, holds_opt, or_absent, held_as, holding, lifted, outward_from, lifted_all, lifts, kind_of}
 use Rattle.py_scope.specs.Tables.{is_plain}
 use Rattle.py_scope.specs.Scanned.{Scanned, order_of, IsScanned, assigned_opt}
 use Rattle.py_scope.specs.Resolved.{first_fault}
 use Rattle.py_scope.specs.Resolved.{after_lifts, after_looks}
-use Rattle.py_scope.proofs.ByLifts.{goes_through, is_held, holds_in, binds_in, stops_in, look_in}
+use Rattle.py_scope.proofs.ByLifts.{goes_through, is_held, holds_in, binds_in, stops_in}
 use Rattle.py_scope.proofs.LiftKeeps as lifting
-use Rattle.py_scope.proofs.LiftKeeps.{through}
 use Rattle.py_scope.proofs.Settling as settling
-use Rattle.py_scope.proofs.Settling.{lookup_put}
 use Rattle.py_scope.proofs.LiftsCapture.{hits_holder, holds_lifted, both}
 use Rattle.py_scope.proofs.LiftsSound as sound
 use Rattle.py_scope.proofs.LiftsSound.{holder_kind, witness, begins_well}
@@ -102,11 +100,6 @@ module _ (s : Scanned) (old : IsScanned s) (fine : first_fault s ≡ None) where
       by : (o : Option Row) → meets_of n o ≡ if counts (kind_of o) n then stop_of (holds_opt (entry_of n o)) (bound_opt (entry_of n o)) else Past
       by None = past (counts Module n)
       by (Some r) = ap (λ x. if counts r.kind n then x else Past) (stop (lookup n r.entries))
-
-  pub looks_are : (k : ℕ) (n : Name) → look_from (after_looks s) k n ≡ look_in s.rows order k n
-  looks_are k n =
-      (λ j. look (settling.same_meetings base (after_looks s) (looks base order) (is_settled s old fine) n j) (enclosing (settling.same_parents base (after_looks s) (looks base order) (is_settled s old fine) j) k))
-      ∙ (λ j. look (λ e. stops_are n e j) (enclosing (lifting.same_parents s.rows base (lifts s.rows order) (is_lifted s old fine) j) k))
 
   pub settled_kind : (k : ℕ) → kind_of (slice_get (after_looks s) k) ≡ kind_of (slice_get s.rows k)
   settled_kind k = ap kind_of (is_settled s old fine k) ∙ by (slice_get base k) ∙ kinds_are k

@@ -3,7 +3,6 @@ pub mod Putting
 pub mod SymbolLists
 pub mod Freshness
 pub mod Scanning
-pub mod Telling
 pub mod Anys
 pub mod Tabling
 pub mod Nesting

@@ -160,14 +160,6 @@ module _ (base cur : List Row) (pairs : List (ℕ × Name)) (so_far : IsLifted b
       by None = refl
       by (Some u) = ap Some (sym (fold-append (λ x p. lift_effect base p t x) u pairs qs))
 
--- before any lift
-pub none_yet : (base : List Row) → IsLifted base [] base
-none_yet base t = by (slice_get base t)
-  where
-    by : (o : Option Row) → o ≡ option_map (lifted_all base [] t) o
-    by None = refl
-    by (Some u) = refl
-
 two_assoc : (a b c : Option Refusal) → first_of_two (first_of_two a b) c ≡ first_of_two a (first_of_two b c)
 two_assoc None b c = refl
 two_assoc (Some r) b c = refl

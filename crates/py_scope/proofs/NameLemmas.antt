@@ -1,6 +1,6 @@
 -- The tests of two names and of flags.
-use Rattle.std.proofs.Common.{◌≡◌, ◌≢◌, refl, sym, ap, ◌∙◌, ℕ, Bool, true, false, ◌||◌, ◌==◌, ◌+◌, not, min, max, arith}
-use Rattle.std.specs.Cmp.Lexicographic.{same_text, other_text}
+use Rattle.std.proofs.Common.{◌≡◌, refl, sym, ap, ◌∙◌, ℕ, Bool, true, false, ◌||◌, ◌==◌, ◌+◌, not, min, max, arith}
+use Rattle.std.specs.Cmp.Lexicographic.{same_text}
 use Rattle.std.proofs.lemmas.Cmp.{nat_list_eq_equiv}
 use Rattle.std.specs.Int.RustNames.{bit_and, bit_or}
 use Rattle.std.specs.Int.{bit_at}
@@ -13,9 +13,6 @@ use Rattle.py_scope.specs.Bits.{intersects}
 
 pub equal_names : (a b : Name) → same_name a b ≡ true → a ≡ b
 equal_names a b e = same_text a b (sym e)
-
-pub unequal_names : (a b : Name) → same_name a b ≡ false → a ≢ b
-unequal_names a b e = other_text a b (sym e)
 
 pub names_same : (a : Name) → same_name a a ≡ true
 names_same a = nat_list_eq_equiv.refl a

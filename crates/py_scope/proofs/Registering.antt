@@ -7,7 +7,7 @@ use Rattle.py_scope.specs.declared.roles.Role.{Role}
 use Rattle.py_scope.specs.Names.{Name, same_name, lookup}
 use Rattle.py_scope.specs.Lifts.{or_absent}
 use Rattle.py_scope.specs.Kinds.{add_name}
-use Rattle.py_scope.specs.Roles.{flags_of, binds, with_role, register, registered, bound_opt, is_binding_use, first_uses}
+use Rattle.py_scope.specs.Roles.{flags_of, binds, with_role, register, bound_opt, is_binding_use}
 use Rattle.py_scope.proofs.Settling.{lookup_put}
 use Rattle.py_scope.specs.Bits.{intersects}
 use Rattle.py_scope.proofs.Ordering.{keys_put}
@@ -36,14 +36,6 @@ bound_from : (us : List (Name × Role)) (es : List (Name × Entry)) (n : Name) �
 bound_from [] es n = sym (or_false (bound_opt (lookup n es)))
 bound_from (u ∷ us) es n = bound_from us (register es u.0 u.1) n ∙ ap (λ b. b || list_any (is_binding_use n) us) (bound_after es u.0 n u.1) ∙ or_assoc (bound_opt (lookup n es)) (is_binding_use n u) (list_any (is_binding_use n) us)
 
--- a name is bound exactly where a use binds it
-pub bound_registered : (us : List (Name × Role)) (n : Name) → bound_opt (lookup n (registered us)) ≡ list_any (is_binding_use n) us
-bound_registered us n = bound_from us [] n
-
 names_from : (us : List (Name × Role)) (es : List (Name × Entry)) → keys_of (fold (λ es u. register es u.0 u.1) es us) ≡ fold (λ ns u. add_name ns u.0) (keys_of es) us
 names_from [] es = refl
 names_from (u ∷ us) es = names_from us (register es u.0 u.1) ∙ ap (λ ns. fold (λ ns u. add_name ns u.0) ns us) (keys_put es u.0 _)
-
--- the names stand in the order of their first uses
-pub names_registered : (us : List (Name × Role)) → keys_of (registered us) ≡ first_uses us
-names_registered us = names_from us []

@@ -12,7 +12,6 @@ use Rattle.py_scope.specs.Names.{Name, same_name, lookup, put}
 use Rattle.py_scope.specs.Outward.{counts, stop_of_entry, meets, meets_of, asks, asking, asking_in, enclosing, touch, Touch, Leaves, Passes, Captures, parent_of, parents, meetings, IsNumbered}
 use Rattle.py_scope.specs.Marks.{after, passing, capturing, or_new, new_entry, touch_by, IsLooked, settled, IsSettled, asking_of, from_scope, looks}
 use Rattle.py_scope.proofs.Chains.{outward}
-use Rattle.py_scope.proofs.Marking.{left_alone}
 use Rattle.py_scope.proofs.NameLemmas.{equal_names}
 
 module _ {V : Type 0} where
@@ -132,14 +131,6 @@ module _ (base cur : List Row) (pairs : List (ℕ × Name)) (so_far : IsSettled 
   pub same_looks : (s : ℕ) → looks cur (s ∷ []) ≡ looks base (s ∷ [])
   same_looks s = ap (λ ns. from_scope s ns ++ []) (same_asking s)
 
--- before any look
-pub none_yet : (base : List Row) → IsSettled base [] base
-none_yet base t = by (slice_get base t)
-  where
-    by : (o : Option Row) → o ≡ option_map (settled base [] t) o
-    by None = refl
-    by (Some u) = refl
-
 -- a loop over the names of one scope goes one further
 pub one_name : (base cur new : List Row) (s : ℕ) (names : List Name) (i : ℕ) (n : Name) → IsSettled base (from_scope s (take i names)) cur → n ≡ slice_index_or names i n → i < length names → IsLooked cur s n new
     → IsSettled base (from_scope s (take (i + 1) names)) new
@@ -173,10 +164,6 @@ pub asking_so_far : (es : List (Name × Entry)) (i : ℕ) (old new : List Name) 
 asking_so_far es i old new is_new h =
     ap (λ x. x ++ asking (drop (i + 1) es)) is_new ∙ append_assoc old (asking_in (slice_get es i)) (asking (drop (i + 1) es))
     ∙ ap (λ k. old ++ (asking_in (slice_get es i) ++ asking (drop k es))) (add-one i) ∙ ap (λ x. old ++ x) (sym (asking_next es i)) ∙ h
-
--- the module looks nowhere
-pub no_look : (rows : List Row) (n : Name) → IsLooked rows 0 n rows
-no_look rows n t = sym (left_alone n (slice_get rows t))
 
 -- a look begins at the parent
 pub from_parent : (old new : List Row) (s : ℕ) (n : Name) (w : Row) → IsNumbered old → s < length old → 0 < s → w ≡ slice_index_or old s w

@@ -7,14 +7,14 @@ use Rattle.py_scope.specs.declared.table_type.SymbolTableType.TheVariants.{Modul
 use Rattle.py_scope.specs.declared.rows.Row.{Row}
 use Rattle.py_scope.specs.declared.rows.Holds.TheVariants.{LiftedModule}
 use Rattle.py_scope.specs.Names.{Name, same_name}
-use Rattle.py_scope.specs.Outward.{look, counts, stop_of}
+use Rattle.py_scope.specs.Outward.{counts, stop_of}
 use Rattle.py_scope.specs.declared.outward.Meets.TheVariants.{Past}
 use Rattle.py_scope.specs.Needs.{entry_of}
 use Rattle.py_scope.specs.Roles.{bound_opt}
 use Rattle.py_scope.specs.Lifts.{Stays, Through, Holder, stages, stage_of, if_function, as_in, lifted, lifted_by, lift_of, lift_here, lifts, lifts_of, walruses_of, outward_from, holds_opt, kind_of, is_comprehension}
 use Rattle.py_scope.specs.Scanned.{is_function}
 use Rattle.py_scope.specs.Tables.{is_plain}
-use Rattle.py_scope.specs.Resolve.{among, kind_at, around, declared, stores, way, holder, goes_through, is_held, lifted_to, holds_in, binds_in, stops_in, look_in}
+use Rattle.py_scope.specs.Resolve.{among, kind_at, declared, stores, way, holder, goes_through, is_held, lifted_to, holds_in, binds_in, stops_in}
 use Rattle.py_scope.proofs.ByLifts as by_lifts
 use Rattle.py_scope.proofs.ByLifts.{is_through, is_holder}
 use Rattle.py_scope.proofs.Chains.{equal_numbers}
@@ -166,6 +166,3 @@ module _ (rows : List Row) (first : kind_at rows 0 ≡ Module) where
 
     pub stops_same : (n : Name) (e : ℕ) → by_lifts.stops_in rows order n e ≡ stops_in rows n e
     stops_same n e = λ j. if counts (kind_at rows e) n then stop_of (holds_same e n j) (binds_same e n j) else Past
-
-    pub looks_same : (k : ℕ) (n : Name) → by_lifts.look_in rows order k n ≡ look_in rows k n
-    looks_same k n = λ j. look (λ e. stops_same n e j) (around rows k)

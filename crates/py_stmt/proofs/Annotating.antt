@@ -1,5 +1,5 @@
 -- The annotations of a function, one after the other.
-use Rattle.std.proofs.Common.{◌≡◌, ℕ, suc, ◌+◌, ◌<◌, List, [], ◌∷◌, ◌++◌, length, drop, get_or, Bool, true, false, refl, sym, ap, ◌∙◌, arith}
+use Rattle.std.proofs.Common.{◌≡◌, ℕ, suc, ◌+◌, ◌<◌, List, [], ◌∷◌, ◌++◌, length, drop, get_or, sym, ap, ◌∙◌, arith}
 use Rattle.std.specs.Prelude.{codes}
 use Rattle.std.proofs.Math.Seq.{drop-cons}
 use Rattle.py_tree.specs.Tree as tree
@@ -9,13 +9,12 @@ use Rattle.py_tree.specs.declared.expressions.ArgWithDefaultOf.{ArgWithDefaultOf
 use Rattle.py_tree.specs.declared.expressions.ArgumentsOf.{ArgumentsOf}
 use Rattle.py_bytecode.specs.declared.instruction.Instruction.TheVariants as op
 use Rattle.py_bytecode.specs.Objects as const
-use Rattle.py_steps.specs.Children.{noted, some_emitted, some_flag}
+use Rattle.py_steps.specs.Children.{noted}
 use Rattle.py_steps.specs.Context.{mangled}
 use Rattle.py_steps.specs.Emitting.{Emission, ◌▸◌, by_context, emit_constant}
-use Rattle.py_steps.specs.EmissionParts.{built, in_turn}
+use Rattle.py_steps.specs.EmissionParts.{in_turn}
 use Rattle.py_meaning.specs.EmissionDefs.{arg_notes, emission_of_note, notes, opt_arg_note, opt_note}
 use Rattle.py_emit.proofs.Joined.{keep_last, turn_append}
-use Rattle.py_expr.specs.Functions.{closed_by, flag_if, is_some}
 
 pub one_note : (name : List ℕ) (e : tree.Expr) → in_turn (opt_note name (tree.some_expr e)) ≡ by_context (λ c. emit_constant op.LoadConst (const.str (mangled c name))) ▸ emission_of_note e
 one_note name e = keep_last (noted name (emission_of_note e))
@@ -72,8 +71,3 @@ note_turn xs i d x is lt = ap in_turn (notes_at xs i d x is lt) ∙ turn_append 
 
 pub note_count : (xs : List (ArgWithDefaultOf Expr)) (i : ℕ) (d x : ArgWithDefaultOf Expr) → x ≡ get_or xs i d → i < length xs → length (arg_notes (args expr_tree (drop i xs))) ≡ length (opt_note x.def.arg (opt_box expr_tree x.def.annotation)) + length (arg_notes (args expr_tree (drop (i + 1) xs)))
 note_count xs i d x is lt = ap length (notes_at xs i d x is lt) ∙ many_both (opt_note x.def.arg (opt_box expr_tree x.def.annotation)) (arg_notes (args expr_tree (drop (i + 1) xs)))
-
--- the map of them, where there are any
-pub some_noted : (vs : List Emission) → some_emitted (built op.BuildMap) vs ≡ in_turn vs ▸ closed_by op.BuildMap (length vs)
-some_noted [] = refl
-some_noted (v ∷ vs) = refl

@@ -15,7 +15,6 @@ use Rattle.py_steps.specs.TypeParameters.{generic_alias, handed, hidden, hidden_
 use Rattle.py_emission.specs.Emission.{default_emissions, emission}
 use Rattle.py_meaning.specs.EmissionDefs.{alias_value, class_call, class_function, emission_of_alias, emission_of_built, emission_of_function, emission_of_generic_class, emission_of_generic_def, emission_of_param, emission_of_params, param_emissions}
 use Rattle.py_expr.proofs.Keeping.{Keeps, accessed_keeps, constant_keeps, context_keeps, count_keeps, emit_keeps, idle_keeps, refuse_keeps, then_keeps, varname_keeps}
-use Rattle.py_expr.proofs.KeptDisplays.{built_keeps}
 use Rattle.py_expr.proofs.KeptParts.{TurnsKeep}
 use Rattle.py_expr.proofs.KeptScopes.{DefaultsKeep, child_keeps, defaults_keep, made_keeps}
 use Rattle.py_expr.proofs.KeptTargets.{debug_keeps}
@@ -40,10 +39,6 @@ param_keeps t = unbuilt_keeps (tree.type_param_location t)
 each_param_keeps : (ts : tree.TypeParams) → TurnsKeep (param_emissions ts)
 each_param_keeps tree.no_type_params = tt
 each_param_keeps (tree.more_type_params t ts) = (param_keeps t, each_param_keeps ts)
-
--- the tuple of type parameters
-pub params_keep : (ts : tree.TypeParams) → Keeps (emission_of_params ts)
-params_keep ts = built_keeps op.BuildTuple (param_emissions ts) (each_param_keeps ts)
 
 load_keeps : (names : List (List ℕ)) → Keeps (load_handed names)
 load_keeps [] = idle_keeps

@@ -1,5 +1,5 @@
 -- What is read at a unit, from what is read after it.
-use Rattle.std.proofs.Common.{◌≡◌, ℕ, suc, ◌+◌, ◌-◌, ◌*◌, ◌%◌, ◌^◌, ◌<◌, ◌≤◌, List, [], ◌∷◌, drop, length, get_or, set, Bool, true, false, Option, Some, None, refl, sym, inl, inr, ap, ◌∙◌, subst, arith}
+use Rattle.std.proofs.Common.{◌≡◌, ◌≢◌, ℕ, zero, suc, ◌+◌, ◌-◌, ◌*◌, ◌%◌, ◌^◌, ◌<◌, ◌≤◌, List, [], ◌∷◌, drop, length, get_or, slice_get, set, Bool, true, false, Option, Some, None, refl, sym, inl, inr, ap, ◌∙◌, subst, arith}
 use Rattle.std.specs.Prelude.{if◌then◌else◌}
 use Rattle.std.specs.Option.{option_map}
 use Rattle.std.proofs.Math.Nat.{add-mod-mod, mod-add-mod, mul-mod_right, pow-succ'}
@@ -10,9 +10,21 @@ use Rattle.std.proofs.lemmas.List.{drop_all}
 use Rattle.std.proofs.lemmas.Option.{same_Some, slice_get_past}
 use Rattle.py_bytecode.specs.declared.operand.CodeUnit.{CodeUnit}
 use Rattle.py_bytecode.specs.Units.{Read, is_prefix, read_from}
-use Rattle.py_walks.proofs.Arriving.{get_set_same, get_set_other}
 use Rattle.py_verify.specs.declared.reading.UnitRead.{UnitRead}
 use Rattle.py_verify.specs.Reading.{raised, read_ahead, read_known, reading_at}
+
+-- what stands in a list where something is put at a place
+get_set_same : {A : Type 0} (xs : List A) (i : ℕ) (y : A) → i < length xs → slice_get (set xs i y) i ≡ Some y
+get_set_same [] i y h = absurd (omega arith)
+get_set_same (x ∷ xs) zero y h = refl
+get_set_same (x ∷ xs) (suc i) y h = get_set_same xs i y (omega arith)
+
+get_set_other : {A : Type 0} (xs : List A) (i k : ℕ) (y : A) → k ≢ i → slice_get (set xs i y) k ≡ slice_get xs k
+get_set_other [] i k y h = refl
+get_set_other (x ∷ xs) zero zero y h = absurd (h refl)
+get_set_other (x ∷ xs) zero (suc k) y h = refl
+get_set_other (x ∷ xs) (suc i) zero y h = refl
+get_set_other (x ∷ xs) (suc i) (suc k) y h = get_set_other xs i k y (λ e. h (ap suc e))
 
 -- a number counts the same as one that it leaves
 scaled : (a w n m : ℕ) → (a % m * w + n) % m ≡ (a * w + n) % m

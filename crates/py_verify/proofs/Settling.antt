@@ -72,9 +72,6 @@ both_nothing Change.Marks Change.Place e = absurd (cc)
 both_nothing Change.Place b e = absurd (cc)
 
 module _ (o : Object) where
-  pub none_settled : (ks : List (Option KnownState)) (k : ℕ) → state_at ks k ≡ None → Settled o ks k
-  none_settled ks k e s h = absurd (let q : None ≡ Some s = sym e ∙ h in cc)
-
   -- a unit stays settled while its state does
   still_settled : (ks ls : List (Option KnownState)) (k : ℕ) → Settled o ks k → state_at ls k ≡ state_at ks k → Grows ks ls → Settled o ls k
   still_settled ks ls k h e g s es =

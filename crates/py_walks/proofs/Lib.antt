@@ -13,7 +13,6 @@ pub mod Refusing
 pub mod Closing
 pub mod Holding
 pub mod Tallest
-pub mod Arriving
 pub mod Stepping
 pub mod Visiting
 pub mod Codes

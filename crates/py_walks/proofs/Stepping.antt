@@ -6,7 +6,7 @@ use Rattle.py_walks.specs.declared.known.KnownState.{KnownState}
 use Rattle.py_walks.specs.declared.known.Change.{Change}
 use Rattle.py_walks.specs.declared.known.Refused.{Refused}
 use Rattle.py_walks.specs.Walks.{State, state, Seen, UnevenHeights, BlockMismatch}
-use Rattle.py_walks.specs.Known.{Torn, join, state_at, arrival, Fits, IsUneven, IsWhole, Unfit, Arrives, Moves, combined, unknown}
+use Rattle.py_walks.specs.Known.{Torn, join, state_at, arrival, Fits, IsUneven, Unfit, Arrives, Moves, combined, unknown}
 use Rattle.py_walks.specs.Shown.{Shown, Both, Covers, Covered, AllShown, Grows, RefusalAt}
 use Rattle.py_walks.proofs.Refusing.{uneven, unlike, torn}
 use Rattle.py_walks.proofs.Closing.{covers_self, covers_trans, covers_old, covers_new}
@@ -82,7 +82,3 @@ module _ (look : ℕ → Option (Seen ℕ)) (count : ℕ) where
   refused_at ks place t Refused.HeightOutOfRange h ht u m o = absurd (o.1 refl)
   refused_at ks place t Refused.BlockMismatch h ht u m o = unfit_at place (state_at ks place) t (h.shown place) ht (m refl)
   refused_at ks place t Refused.OutOfMemory h ht u m o = tt
-
-  pub whole_at : (ks : List (Option KnownState)) (place : ℕ) → AllShown look count ks → (o : Option State) → state_at ks place ≡ o → IsWhole o
-  whole_at ks place h None e = tt
-  whole_at ks place h (Some s) e = h.whole place s e
