@@ -57,7 +57,7 @@ fn arg_row<'a>(alloc: Global, n: &'a Arg) -> Result<Row<'a>, AllocError> {
         alloc,
         at: n.location,
     };
-    of.two("Arg", text(&n.arg), optional(&n.annotation))
+    of.row("Arg", &[text(&n.arg), optional(&n.annotation)])
 }
 
 fn clause_row<'a>(alloc: Global, n: &'a Comprehension) -> Result<Row<'a>, AllocError> {
@@ -97,9 +97,9 @@ fn type_param_row<'a>(alloc: Global, n: &'a TypeParam) -> Result<Row<'a>, AllocE
     let at = n.location();
     let of = Placed { alloc, at };
     match n {
-        TypeParam::TypeVar(n) => of.two("TypeVar", text(&n.name), optional(&n.bound)),
-        TypeParam::ParamSpec(n) => of.one("ParamSpec", text(&n.name)),
-        TypeParam::TypeVarTuple(n) => of.one("TypeVarTuple", text(&n.name)),
+        TypeParam::TypeVar(n) => of.row("TypeVar", &[text(&n.name), optional(&n.bound)]),
+        TypeParam::ParamSpec(n) => of.row("ParamSpec", &[text(&n.name)]),
+        TypeParam::TypeVarTuple(n) => of.row("TypeVarTuple", &[text(&n.name)]),
     }
 }
 

@@ -38,38 +38,4 @@ impl Placed {
         write!(row.text, ",{},{}", at.row.get(), at.column.get())?;
         Ok(row)
     }
-
-    pub fn one<'a>(self, word: &str, first: Field<'a>) -> Result<Row<'a>, AllocError> {
-        self.row(word, &[first])
-    }
-
-    pub fn two<'a>(
-        self,
-        word: &str,
-        first: Field<'a>,
-        second: Field<'a>,
-    ) -> Result<Row<'a>, AllocError> {
-        self.row(word, &[first, second])
-    }
-
-    pub fn three<'a>(
-        self,
-        word: &str,
-        first: Field<'a>,
-        second: Field<'a>,
-        third: Field<'a>,
-    ) -> Result<Row<'a>, AllocError> {
-        self.row(word, &[first, second, third])
-    }
-
-    pub fn four<'a>(
-        self,
-        word: &str,
-        first: Field<'a>,
-        second: Field<'a>,
-        third: Field<'a>,
-        fourth: Field<'a>,
-    ) -> Result<Row<'a>, AllocError> {
-        self.row(word, &[first, second, third, fourth])
-    }
 }
