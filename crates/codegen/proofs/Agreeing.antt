@@ -21,7 +21,7 @@ use Rattle.py_meaning.specs.EmissionMods.{emitted}
 use Rattle.py_emit.specs.Emitted.{IsMade, IsEmitted}
 use Rattle.py_emit.specs.States.{module_head}
 use Rattle.py_emit.proofs.Sealed.{AllAimed, sealed_is}
-use Rattle.py_adds.proofs.Adding.{Begins}
+use Rattle.py_adds.proofs.Adding.{Begins, ground_of}
 use Rattle.py_adds.proofs.Codes.{MadeFrom}
 use Rattle.py_adds.proofs.Readings.{Read, only_sizes}
 use Rattle.py_adds.proofs.Within.{Emitted, child_at, reading, sealed_made}
@@ -64,18 +64,18 @@ module _ (code : CodeObject) (path : List ℕ) (m : Mode) (l : ℕ) (scopes : Li
   is_sealed : object code ≡ sealed around.level (module_head around) s
   is_sealed = sealed_is around.level made.info (module_head around) s code made.holds aimed made.final
 
-  from_scope : MadeFrom around.source (object code, scope)
-  from_scope = subst (λ o. MadeFrom around.source (o, scope)) (sym is_sealed) (sealed_made around first_place 1 scope s whole around.level (module_head around) refl refl refl)
+  from_scope : MadeFrom (ground_of around) (object code, scope)
+  from_scope = subst (λ o. MadeFrom (ground_of around) (o, scope)) (sym is_sealed) (sealed_made around first_place 1 scope s whole around.level (module_head around) refl refl refl)
 
-same_source : (l : ℕ) (path : List ℕ) (scopes : List ScopeEntry) → (outermost l path scopes).source ≡ path
+same_ground : (l : ℕ) (path : List ℕ) (scopes : List ScopeEntry) → ground_of (outermost l path scopes) ≡ (path, scopes)
 unfolding inside
-same_source l path scopes = refl
+same_ground l path scopes = refl
 
 -- a code object that is what is emitted for a tree is made from the scope of the tree
-pub made_from_scope : (code : CodeObject) (path : List ℕ) (m : Mode) (l : ℕ) (scopes : List ScopeEntry) (t : tree.Mod) → size_of t < 2 ^ 22 → ((n : ℕ) → room scopes n < 2 ^ 26) → IsEmitted code (outermost l path scopes) (emitted t m (outermost l path scopes)) → MadeFrom path (object code, body scopes t m l)
-made_from_scope code path m l scopes t small roomy is = subst (λ source. MadeFrom source (object code, body scopes t m l)) (same_source l path scopes) (go (emitted t m (outermost l path scopes)) refl is)
+pub made_from_scope : (code : CodeObject) (path : List ℕ) (m : Mode) (l : ℕ) (scopes : List ScopeEntry) (t : tree.Mod) → size_of t < 2 ^ 22 → ((n : ℕ) → room scopes n < 2 ^ 26) → IsEmitted code (outermost l path scopes) (emitted t m (outermost l path scopes)) → MadeFrom (path, scopes) (object code, body scopes t m l)
+made_from_scope code path m l scopes t small roomy is = subst (λ ground. MadeFrom ground (object code, body scopes t m l)) (same_ground l path scopes) (go (emitted t m (outermost l path scopes)) refl is)
   where
-    go : (r : Outcome) → emitted t m (outermost l path scopes) ≡ r → IsEmitted code (outermost l path scopes) r → MadeFrom (outermost l path scopes).source (object code, body scopes t m l)
+    go : (r : Outcome) → emitted t m (outermost l path scopes) ≡ r → IsEmitted code (outermost l path scopes) r → MadeFrom (ground_of (outermost l path scopes)) (object code, body scopes t m l)
     go (Done s) e h = from_scope code path m l scopes t s small roomy e h
     go TooWide e h = absurd h
     go (Refused r at) e h = absurd h

@@ -17,8 +17,11 @@ use Rattle.py_meaning.specs.Faults.{faults}
 use Rattle.py_meaning.specs.Meaning.{body}
 use Rattle.py_meaning.specs.Scanned.{scan_faults, scopes_of}
 use Rattle.py_emit.specs.Emitted.{IsEmitted}
-use Rattle.py_adds.proofs.Codes.{MadeFrom}
+use Rattle.py_adds.proofs.Codes.{Ground, MadeFrom}
+use Rattle.py_adds.proofs.Naming.{IsMadeSo, Named}
 use Rattle.py_adds.proofs.WellMade.{WellMade, everywhere_so}
+use Rattle.py_capture.specs.Captures.{CapturesCells}
+use Rattle.py_capture.proofs.Capturing.{captures_cells}
 use Rattle.codegen.specs.Calls.{IsChecked, IsCompiled, IsWhole}
 use Rattle.codegen.specs.Compiled.{HasFewSymbols, IsFirst, IsScanned, around_tree}
 use Rattle.codegen.proofs.Agreeing.{made_from_scope}
@@ -32,6 +35,7 @@ pub refused_whole : (e : LocatedError CodegenErrorType) (r : CodegenErrorType) (
 refused_whole e r t path m l p q s h = record {
   agrees = tt;
   agrees_full = tt;
+  captures = tt;
   emission = tt;
   ends = tt;
   sound = tt;
@@ -59,20 +63,27 @@ ok_both : {T E : Type 0} (r : Result T E) (P : T → Type 0) (R Q : Type 0) → 
 ok_both (Ok x) P R Q f p q = f x p q
 ok_both (Err e) P R Q f p q = p
 
--- what is made from the scope of a tree agrees with it, and so does each code object within it
-agree : (path : List ℕ) (o : Object) (s : Scope) → MadeFrom path (o, s) → Agree o s
-agree path o s h n = (objects_agree n o s (h.from n)).1
+ok_with : {T E : Type 0} (r : Result T E) (P : T → Type 0) (R : Type 0) (Q : T → Type 0) → ((x : T) → P x → R → Q x) → IfOk r P → OnOk r R → IfOk r Q
+ok_with (Ok x) P R Q f p q = f x p q
+ok_with (Err e) P R Q f p q = p
 
-agree_full : (path : List ℕ) (o : Object) (s : Scope) → MadeFrom path (o, s) → AgreeFull o s
-agree_full path o s h n = (objects_agree n o s (h.from n)).0
+-- what is made from the scope of a tree agrees with it, and so does each code object within it
+agree : (ground : Ground) (o : Object) (s : Scope) → MadeFrom ground (o, s) → Agree o s
+agree ground o s h n = (objects_agree n o s (h.from n)).1
+
+agree_full : (ground : Ground) (o : Object) (s : Scope) → MadeFrom ground (o, s) → AgreeFull o s
+agree_full ground o s h n = (objects_agree n o s (h.from n)).0
 
 -- a whole tree whose scopes were met, and which was emitted or refused
 module _ (r : Result CodeObject (LocatedError CodegenErrorType)) (t : tree.Mod) (path : List ℕ) (m : Mode) (l : ℕ) (w : IsWhole t m) (e : IfOk r (λ code. IsEmitted code (around_tree t path l) (emitted t m (around_tree t path l)))) (few : OnOk r (HasFewSymbols (scopes_of t))) where
   abbrev scope : Scope
   scope = body (scopes_of t) t m l
 
+  abbrev ground : Ground
+  ground = (path, scopes_of t)
+
   -- what holds of a code object that is made from the scope of a tree
-  made_so : (Q : Object → Type 0) → ((o : Object) → MadeFrom path (o, scope) → Q o) → IfOk r (λ code. Q (object code))
+  made_so : (Q : Object → Type 0) → ((o : Object) → MadeFrom ground (o, scope) → Q o) → IfOk r (λ code. Q (object code))
   made_so Q f = go r e few
     where
       go : (x : Result CodeObject (LocatedError CodegenErrorType)) → IfOk x (λ code. IsEmitted code (around_tree t path l) (emitted t m (around_tree t path l))) → OnOk x (HasFewSymbols (scopes_of t)) → IfOk x (λ code. Q (object code))
@@ -85,8 +96,9 @@ module _ (r : Result CodeObject (LocatedError CodegenErrorType)) (t : tree.Mod) 
 
   pub answered : OnOk r (scan_faults t ≡ []) → IfErr r (λ e. IsScanned e t m (around_tree t path l)) → IfErr r (λ e. e.source_path ≡ path) → IsCompiled r t path m l
   answered clean first named = record {
-    agrees = made_so (λ o. Agree o scope) (λ o h. agree path o scope h);
-    agrees_full = made_so (λ o. AgreeFull o scope) (λ o h. agree_full path o scope h);
+    agrees = made_so (λ o. Agree o scope) (λ o h. agree ground o scope h);
+    agrees_full = made_so (λ o. AgreeFull o scope) (λ o h. agree_full ground o scope h);
+    captures = captured;
     emission = e;
     ends = well_so _ (λ o w. w.ends);
     sound = well_so _ (λ o w. w.sound);
@@ -97,7 +109,13 @@ module _ (r : Result CodeObject (LocatedError CodegenErrorType)) (t : tree.Mod) 
     units = well_so _ (λ o w. w.few);
     widths = well_so _ (λ o w. w.written);
     nested = on_ok r (λ code. IsEmitted code (around_tree t path l) (emitted t m (around_tree t path l))) (λ code. nesting (object code) < 2 ^ 11) (λ code h. nested_below code t m (around_tree t path l) w.0 h) e;
-    clean = ok_both r (λ code. IsEmitted code (around_tree t path l) (emitted t m (around_tree t path l))) (scan_faults t ≡ []) (faults t m l ≡ []) (λ code e z. emitted_clean code path t m l w z e) e clean;
+    clean = faultless;
     first = on_err r (λ e. IsScanned e t m (around_tree t path l)) (λ e. IsFirst e (faults t m l)) (λ e h. refused_first e t m l path w h) first;
     path = named;
   }
+    where
+      faultless : OnOk r (faults t m l ≡ [])
+      faultless = ok_both r (λ code. IsEmitted code (around_tree t path l) (emitted t m (around_tree t path l))) (scan_faults t ≡ []) (faults t m l ≡ []) (λ code e z. emitted_clean code path t m l w z e) e clean
+
+      captured : IfOk r (λ code. CapturesCells t m l (object code))
+      captured = ok_with r (λ code. (n : ℕ) → IsMadeSo (Named (scopes_of t)) n (object code) scope) (faults t m l ≡ []) (λ code. CapturesCells t m l (object code)) (λ code h z. captures_cells t m l z (object code) h) (made_so (λ o. (n : ℕ) → IsMadeSo (Named (scopes_of t)) n o scope) (λ o h. h.named)) faultless

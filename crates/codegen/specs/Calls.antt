@@ -20,6 +20,7 @@ use Rattle.py_meaning.specs.ExprFaults.{Fault}
 use Rattle.py_meaning.specs.Faults.{faults, malformed, too_deep, too_large, whole}
 use Rattle.py_meaning.specs.Meaning.{body}
 use Rattle.py_meaning.specs.Scanned.{scopes_of}
+use Rattle.py_capture.specs.Captures.{CapturesCells}
 use Rattle.codegen.specs.Compiled.{AlwaysEnds, HasExactDepth, HasFewUnits, InLeastWidths, IsFirst, IsLocated, NamesPath, NoHigher, around_tree}
 use Rattle.codegen.specs.declared.program.Program.{Program}
 use Rattle.codegen.specs.declared.program.Program.TheVariants as lent
@@ -29,6 +30,8 @@ pub record IsCompiled (answer : Result CodeObject (LocatedError CodegenErrorType
   -- the code does what the tree means, in the plain view and in the full one
   pub agrees : IfOk answer (λ code. Agree (object code) (body (scopes_of t) t m l))
   pub agrees_full : IfOk answer (λ code. AgreeFull (object code) (body (scopes_of t) t m l))
+  -- each use of a cell, in chains of functions that are made one within another, comes to the scope that binds its name
+  pub captures : IfOk answer (λ code. CapturesCells t m l (object code))
   -- it is made of what is emitted of the tree
   pub emission : IfOk answer (λ code. IsEmitted code (around_tree t source l) (emitted t m (around_tree t source l)))
   -- and each code object within it, at every depth, is so too

@@ -13,9 +13,9 @@ use Rattle.py_forms.specs.Agree.{children}
 use Rattle.py_forms.specs.Places.{items_over}
 use Rattle.py_forms.proofs.CodeOver.{over-append}
 use Rattle.py_steps.specs.Emitting.{Step, Put, Begin, Around, State, with_step}
-use Rattle.py_steps.specs.Context.{room}
+use Rattle.py_steps.specs.Context.{Context, room}
 use Rattle.py_adds.proofs.Burden.{cells_in, cells-append}
-use Rattle.py_adds.proofs.Codes.{Codes, Counted, Numbered, by_number, codes_then, counted_join, counted_none, no_codes, none_between, numbered_back, numbered_front, room_more}
+use Rattle.py_adds.proofs.Codes.{Codes, Counted, Ground, Numbered, by_number, codes_then, counted_join, counted_none, no_codes, none_between, numbered_back, numbered_front, room_more}
 
 -- cells come first, and then free names
 abbrev pub cells_of : Around → List (List ℕ)
@@ -91,8 +91,11 @@ read_as d is = items_over (by_number d) is
 abbrev pub scopes_in : State → List ScopeEntry
 scopes_in s = s.around.context.scopes
 
-abbrev pub source_in : State → List ℕ
-source_in s = s.around.context.source
+abbrev pub ground_of : Context → Ground
+ground_of c = (c.source, c.scopes)
+
+abbrev pub ground_in : State → Ground
+ground_in s = ground_of s.around.context
 
 -- what stands in the second state beyond the first: these items, which load these children, with so many blocks more
 pub record Added (s s1 : State) (is : List (Item Scope)) (m : ℕ) (made : List (Object × Scope)) : Type 0 where
@@ -102,7 +105,7 @@ pub record Added (s s1 : State) (is : List (Item Scope)) (m : ℕ) (made : List 
   pub varnames_are : s1.varnames ≡ s.varnames ++ varnames
   pub constants : List Const
   pub constants_are : s1.constants ≡ s.constants ++ constants
-  pub codes : Codes (source_in s) made constants s1.constants is
+  pub codes : Codes (ground_in s) made constants s1.constants is
   pub blocks_are : s1.blocks ≡ s.blocks + m
   pub steps : List Step
   pub steps_are : s1.steps ≡ s.steps ++ steps
@@ -149,7 +152,7 @@ added_join s s1 s2 is js m n ps qs a b = record {
   varnames_are = b.varnames_are ∙ ap (λ x. x ++ b.varnames) a.varnames_are ∙ append_assoc s.varnames a.varnames b.varnames;
   constants = a.constants ++ b.constants;
   constants_are = b.constants_are ∙ ap (λ x. x ++ b.constants) a.constants_are ∙ append_assoc s.constants a.constants b.constants;
-  codes = codes_then (source_in s) ps qs a.constants b.constants s1.constants s2.constants is js b.constants_are a.codes (subst (λ (x : Around). Codes x.context.source qs b.constants s2.constants js) a.around_are b.codes);
+  codes = codes_then (ground_in s) ps qs a.constants b.constants s1.constants s2.constants is js b.constants_are a.codes (subst (λ (x : Around). Codes (ground_of x.context) qs b.constants s2.constants js) a.around_are b.codes);
   blocks_are = let p = a.blocks_are in let q = b.blocks_are in omega arith;
   steps = a.steps ++ b.steps;
   steps_are = b.steps_are ∙ ap (λ x. x ++ b.steps) a.steps_are ∙ append_assoc s.steps a.steps b.steps;
@@ -213,7 +216,7 @@ abbrev pub IsPlain : Item Scope → Type 0
 IsPlain i = (children (i ∷ []) ≡ []) × (cells_in (i ∷ []) ≡ 0)
 
 -- one step, which loads these children
-pub added_step : (x : Step) (s : State) (i : Item Scope) (ps : List (Object × Scope)) → Codes (source_in s) ps [] s.constants (i ∷ []) → ((d : ℕ → Object) → Numbered d ps → (t : Tables) → Begins s t → AllRead t (x ∷ []) (read_as d (i ∷ []))) → Inside s.blocks x → Added s (with_step x s) (i ∷ []) 0 ps
+pub added_step : (x : Step) (s : State) (i : Item Scope) (ps : List (Object × Scope)) → Codes (ground_in s) ps [] s.constants (i ∷ []) → ((d : ℕ → Object) → Numbered d ps → (t : Tables) → Begins s t → AllRead t (x ∷ []) (read_as d (i ∷ []))) → Inside s.blocks x → Added s (with_step x s) (i ∷ []) 0 ps
 unfolding with_step
 added_step x s i ps c r n = record {
   names = [];

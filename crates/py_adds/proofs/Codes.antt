@@ -13,6 +13,7 @@ use Rattle.py_forms.specs.Agree.{AllOf, OneOf, children, head_of, loaded}
 use Rattle.py_forms.specs.Agreement.{IsMade, objects}
 use Rattle.py_steps.specs.Everywhere.{Everywhere}
 use Rattle.py_steps.specs.Context.{room, symbols_in}
+use Rattle.py_adds.proofs.Naming.{IsMadeSo, Named}
 use Rattle.py_adds.proofs.WellMade.{WellMade, all_so}
 
 abbrev pub number_of : Scope → ℕ
@@ -55,17 +56,22 @@ Known ks k = OneOf (λ a b. a ≡ b) k ks
 abbrev pub AllKnown : List Object → List Object → Type 0
 AllKnown xs ks = AllOf (Known ks) xs
 
--- made from its scope in a source of this path, to every depth
-pub record MadeFrom (source : List ℕ) (p : Object × Scope) : Type 0 where
+-- the path of the source, and the scopes of the tree
+abbrev pub Ground : Type 0
+Ground = List ℕ × List ScopeEntry
+
+-- made from its scope on this ground, to every depth
+pub record MadeFrom (ground : Ground) (p : Object × Scope) : Type 0 where
   pub from : (n : ℕ) → IsMade n p.0 p.1
-  pub well : Everywhere (WellMade source) p.0
+  pub named : (n : ℕ) → IsMadeSo (Named ground.1) n p.0 p.1
+  pub well : Everywhere (WellMade ground.0) p.0
 
 -- Items load these objects of scopes. Of the constants that are entered the codes are among them, and they are among all constants.
-pub record Codes (source : List ℕ) (made : List (Object × Scope)) (more all : List Const) (is : List (Item Scope)) : Type 0 where
+pub record Codes (ground : Ground) (made : List (Object × Scope)) (more all : List Const) (is : List (Item Scope)) : Type 0 where
   pub loads : children is ≡ scopes made
   pub known : AllKnown (codes_in more) (objects made)
   pub kept : AllKnown (objects made) (codes_in all)
-  pub from_scopes : AllOf (MadeFrom source) made
+  pub from_scopes : AllOf (MadeFrom ground) made
 
 pub codes_join : (xs ys : List Const) → codes_in (xs ++ ys) ≡ codes_in xs ++ codes_in ys
 codes_join [] ys = refl
@@ -159,11 +165,11 @@ none_between a b [] e h = refl
 none_between a b (p ∷ ps) e h = let x = h.0.0 in let y = h.0.1 in absurd (omega (arith, e, x, y))
 
 -- nothing is loaded, and no code is entered
-pub no_codes : {source : List ℕ} (more all : List Const) (is : List (Item Scope)) → codes_in more ≡ [] → children is ≡ [] → Codes source [] more all is
+pub no_codes : {ground : Ground} (more all : List Const) (is : List (Item Scope)) → codes_in more ≡ [] → children is ≡ [] → Codes ground [] more all is
 no_codes more all is e f = record { loads = f; known = subst (λ ks. AllKnown ks []) (sym e) tt; kept = tt; from_scopes = tt }
 
-pub codes_then : (source : List ℕ) (ps qs : List (Object × Scope)) (xs ys one all : List Const) (is js : List (Item Scope)) → all ≡ one ++ ys → Codes source ps xs one is → Codes source qs ys all js → Codes source (ps ++ qs) (xs ++ ys) all (is ++ js)
-codes_then source ps qs xs ys one all is js e p q = record {
+pub codes_then : (ground : Ground) (ps qs : List (Object × Scope)) (xs ys one all : List Const) (is js : List (Item Scope)) → all ≡ one ++ ys → Codes ground ps xs one is → Codes ground qs ys all js → Codes ground (ps ++ qs) (xs ++ ys) all (is ++ js)
+codes_then ground ps qs xs ys one all is js e p q = record {
   loads = children_join is js ∙ ap (λ l. l ++ children js) p.loads ∙ ap (λ l. scopes ps ++ l) q.loads ∙ sym (scopes_join ps qs);
   known =
       let ks = objects ps in
@@ -173,7 +179,7 @@ codes_then source ps qs xs ys one all is js e p q = record {
   kept =
       subst (λ l. AllKnown l (codes_in all)) (sym (objects_join ps qs))
       (all_join (Known (codes_in all)) (objects ps) (objects qs) (subst (λ l. AllKnown (objects ps) (codes_in l)) (sym e) (known_more one ys (objects ps) p.kept)) q.kept);
-  from_scopes = all_join (MadeFrom source) ps qs p.from_scopes q.from_scopes;
+  from_scopes = all_join (MadeFrom ground) ps qs p.from_scopes q.from_scopes;
 }
 
 -- what stands at each number, in two parts
@@ -184,7 +190,7 @@ pub numbered_back : (d : ℕ → Object) (ps qs : List (Object × Scope)) → Nu
 numbered_back d ps qs h = all_back (λ p. by_number d p.1 ≡ p.0) ps qs h
 
 -- another constant that is no code
-pub codes_after : {source : List ℕ} (ps : List (Object × Scope)) (xs ys all : List Const) (is : List (Item Scope)) → codes_in xs ≡ [] → Codes source ps ys all is → Codes source ps (xs ++ ys) all is
+pub codes_after : {ground : Ground} (ps : List (Object × Scope)) (xs ys all : List Const) (is : List (Item Scope)) → codes_in xs ≡ [] → Codes ground ps ys all is → Codes ground ps (xs ++ ys) all is
 codes_after ps xs ys all is e q = record {
   loads = q.loads;
   known = subst (λ l. AllKnown l (objects ps)) (sym (codes_join xs ys ∙ ap (λ l. l ++ codes_in ys) e)) q.known;

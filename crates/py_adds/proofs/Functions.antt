@@ -20,7 +20,7 @@ use Rattle.py_steps.specs.Emitting.{Around, Emission, Outcome, Put, State, Done,
 use Rattle.py_steps.specs.Children.{Shape, behind_child, child, closure, code_head, enter_parameters, free_names, function_scope, made, on_sealed, some_flag}
 use Rattle.py_steps.specs.EmissionParts.{no_assignment}
 use Rattle.py_steps.specs.Sealed.{sealed}
-use Rattle.py_adds.proofs.Adding.{Added, Adds, added_join, adds_nothing, scopes_in, settled_adds, source_in}
+use Rattle.py_adds.proofs.Adding.{Added, Adds, added_join, adds_nothing, ground_in, ground_of, scopes_in, settled_adds}
 use Rattle.py_adds.proofs.Burden.{cells_in, cells-append}
 use Rattle.py_adds.proofs.Cells.{closure_adds, closure_count}
 use Rattle.py_adds.proofs.Codes.{Counted, Known, MadeFrom, codes_join, counted_first, known_back, number_of}
@@ -40,7 +40,7 @@ entered_codes true xs o = tt
 entered_codes false xs o = (inl refl, tt)
 
 -- the code object of a scope is loaded
-code_adds : (o : Object) (x : Scope) (s r : State) → MadeFrom (source_in s) (o, x) → emit_constant op.LoadConst (const.code o) s ≡ Done r → Added s r (Do (Push (It (Child x))) ∷ []) 0 ((o, x) ∷ []) × (r.next ≡ s.next)
+code_adds : (o : Object) (x : Scope) (s r : State) → MadeFrom (ground_in s) (o, x) → emit_constant op.LoadConst (const.code o) s ≡ Done r → Added s r (Do (Push (It (Child x))) ∷ []) 0 ((o, x) ∷ []) × (r.next ≡ s.next)
 unfolding emit_constant with_constant emit with_step
 code_adds o x s r made e =
     let c : Const = const.code o in
@@ -110,11 +110,11 @@ added_as s r is m n ps e a = subst (λ z. Added s r is z ps) e a
 pub record Makes (c : Context) (inner : Context) (h : Shape) (body : Emission) (k l : ℕ) (x : Scope) : Type 0 where
   pub number : number_of x ≡ k
   pub frees : inner.frees ≡ frees_among (symbols_in c.scopes k)
-  pub run : (at : SourceLocation) (t : State) → body (begun inner at (suc k)) ≡ Done t → MadeFrom c.source (sealed inner.level (code_head inner h at) t, x) × (t.next ≡ suc k + l) × (room c.scopes (suc k) ≤ room c.scopes t.next)
+  pub run : (at : SourceLocation) (t : State) → body (begun inner at (suc k)) ≡ Done t → MadeFrom (ground_of c) (sealed inner.level (code_head inner h at) t, x) × (t.next ≡ suc k + l) × (room c.scopes (suc k) ≤ room c.scopes t.next)
 
 module _ (i : Interp Scope) (c : Around) where
   -- the function of a code object, where its cells have their places
-  made_adds : (flags others : ℕ) (name : List ℕ) (o : Object) (x : Scope) (xs : List (List ℕ)) (s r : State) → Stands c s → Flagged flags others → free_names o ≡ xs → MadeFrom c.context.source (o, x) → made flags name o s ≡ Done r → Added s r (make_code flags (cells_of (cell_place c.context) xs) others (Child x) name) 0 ((o, x) ∷ []) × (r.next ≡ s.next)
+  made_adds : (flags others : ℕ) (name : List ℕ) (o : Object) (x : Scope) (xs : List (List ℕ)) (s r : State) → Stands c s → Flagged flags others → free_names o ≡ xs → MadeFrom (ground_of c.context) (o, x) → made flags name o s ≡ Done r → Added s r (make_code flags (cells_of (cell_place c.context) xs) others (Child x) name) 0 ((o, x) ∷ []) × (r.next ≡ s.next)
   made_adds flags others name o x xs s r z flagged free from e =
       let cells = cells_of (cell_place c.context) xs in
       let make : Emission = emit op.MakeFunction (flags + some_flag 0x01 (free_names o)) in
@@ -125,7 +125,7 @@ module _ (i : Interp Scope) (c : Around) where
       let h3 = both text make h2.0 r h2.2 in
       let a1 = closure_adds c xs s h1.0 z (subst (λ ys. closure ys s ≡ Done h1.0) free h1.1) in
       let z1 : Stands c h1.0 = still z a1.added.around_are in
-      let a2 = code_adds o x h1.0 h2.0 (subst (λ (y : Around). MadeFrom y.context.source (o, x)) z1.around from) h2.1 in
+      let a2 = code_adds o x h1.0 h2.0 (subst (λ (y : Around). MadeFrom (ground_of y.context) (o, x)) z1.around from) h2.1 in
       let z2 : Stands c h2.0 = still z1 a2.0.around_are in
       let a3 = ((constant_adds (const.str name) refl c h2.0.blocks h2.0.next).run h2.0 h3.0 refl refl z2 h3.1).0 in
       let z3 : Stands c h3.0 = still z2 a3.added.around_are in

@@ -1,6 +1,7 @@
 pub mod Texts
 pub mod Burden
 pub mod WellMade
+pub mod Naming
 pub mod Codes
 pub mod Adding
 pub mod Settled

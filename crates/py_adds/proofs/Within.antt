@@ -29,7 +29,7 @@ use Rattle.py_forms.proofs.Labels.{never_placed, once}
 use Rattle.py_forms.proofs.LaidOut.{laid_runs}
 use Rattle.py_forms.proofs.Laws.{scope_ends}
 use Rattle.py_forms.proofs.OtherChildren.{children_over}
-use Rattle.py_steps.specs.Context.{Context, frees_among, room, symbols_in}
+use Rattle.py_steps.specs.Context.{Context, cells_among, frees_among, room, symbols_in}
 use Rattle.py_steps.specs.Children.{Shape, code_head}
 use Rattle.py_steps.specs.Emitting.{Emission, State, Done, begun}
 use Rattle.py_steps.specs.Listed.{items_in, steps_at}
@@ -40,7 +40,7 @@ use Rattle.py_emit.proofs.Chains.{chain_leads, chain_short}
 use Rattle.py_emit.proofs.Placed.{chain_in, long, steps_back}
 use Rattle.py_emit.proofs.Sealed.{items_are}
 use Rattle.py_emit.proofs.SealedLaid.{sealed_runs}
-use Rattle.py_adds.proofs.Adding.{AllInside, AllRead, Begins, Completes, cells_of, completed, read_as}
+use Rattle.py_adds.proofs.Adding.{AllInside, AllRead, Begins, Completes, cells_of, completed, ground_of, read_as}
 use Rattle.py_adds.proofs.Burden.{burden, burden_is, cells_in, cells_over, labels_few}
 use Rattle.py_adds.proofs.Codes.{AllKnown, MadeFrom, Numbered, all_known, all_stand, by_number, number_of, room_more, scopes, stand_at}
 use Rattle.py_adds.proofs.Emitting.{Gives, Stands, outside}
@@ -52,6 +52,7 @@ use Rattle.py_adds.proofs.Placing.{few_left, in_range, placing}
 use Rattle.py_adds.proofs.Readings.{Read, only_sizes}
 use Rattle.py_adds.proofs.Refuted.{laid_along}
 use Rattle.py_adds.proofs.Units.{as_located, units_few}
+use Rattle.py_adds.proofs.Naming.{IsMadeSo, Named, Says}
 use Rattle.py_adds.proofs.WellMade.{WellMade, all_so}
 
 -- pairs by their scopes
@@ -77,6 +78,7 @@ pub record Emitted (c : Context) (at : SourceLocation) (k : ℕ) (s : Scope) (t 
   pub looped : Looped false (form_of s)
   pub small : (d : Scope → Object) → burden (body_code (exactly d s) (form_of s)) < 2 ^ 27
   pub roomy : (n : ℕ) → room c.scopes n < 2 ^ 26
+  pub says : Says c s
 
 module _ (c : Context) (at : SourceLocation) (k : ℕ) (s : Scope) (t : State) (e : Emitted c at k s t) where
   abbrev pub objects_at : ℕ → Object
@@ -141,7 +143,19 @@ module _ (c : Context) (at : SourceLocation) (k : ℕ) (s : Scope) (t : State) (
     λ answers. runs answers ∙ ap (λ is. runs_code is answers) (sym (code_over (λ p. p.0) (exactly (λ x. (child_at x, x)) s) (form_of s))),
     code_over (λ p. p.1) (exactly (λ x. (child_at x, x)) s) (form_of s),
     subst (λ ks. SameMembers ks (objects (children pairs))) (sym codes) (subst (λ ps. SameMembers (codes_in t.constants) (objects ps)) (sym pairs_are) (known, e.adds.added.codes.kept)),
-    subst (AllOf (λ p. IsMade n p.0 p.1)) (sym pairs_are) (all_so (MadeFrom c.source) (λ p. IsMade n p.0 p.1) (λ p h. h.from n) e.adds.made e.adds.added.codes.from_scopes),
+    subst (AllOf (λ p. IsMade n p.0 p.1)) (sym pairs_are) (all_so (MadeFrom (ground_of c)) (λ p. IsMade n p.0 p.1) (λ p h. h.from n) e.adds.made e.adds.added.codes.from_scopes),
+  )
+
+  -- and its cells and free names are those of the scope
+  named_of : (o : Object) → Named c.scopes o s → ((answers : List Answer) → machine o answers ≡ runs_code object_items answers) → (n : ℕ) → IsMadeSo (Named c.scopes) n o s
+  named_of o named runs zero = tt
+  named_of o named runs (suc n) = (
+    named,
+    e.looped,
+    pairs,
+    λ answers. runs answers ∙ ap (λ is. runs_code is answers) (sym (code_over (λ p. p.0) (exactly (λ x. (child_at x, x)) s) (form_of s))),
+    code_over (λ p. p.1) (exactly (λ x. (child_at x, x)) s) (form_of s),
+    subst (AllOf (λ p. IsMadeSo (Named c.scopes) n p.0 p.1)) (sym pairs_are) (all_so (MadeFrom (ground_of c)) (λ p. IsMadeSo (Named c.scopes) n p.0 p.1) (λ p h. h.named n) e.adds.made e.adds.added.codes.from_scopes),
   )
 
   -- what is well made has well made code objects among its constants
@@ -150,7 +164,7 @@ module _ (c : Context) (at : SourceLocation) (k : ℕ) (s : Scope) (t : State) (
   well_of o well codes (suc n) = (
     well,
     subst (AllOf (UpTo (WellMade c.source) n)) (sym codes)
-        (all_known (UpTo (WellMade c.source) n) e.adds.made (all_so (MadeFrom c.source) (λ p. UpTo (WellMade c.source) n p.0) (λ p h. h.well n) e.adds.made e.adds.added.codes.from_scopes) (codes_in t.constants) known),
+        (all_known (UpTo (WellMade c.source) n) e.adds.made (all_so (MadeFrom (ground_of c)) (λ p. UpTo (WellMade c.source) n p.0) (λ p h. h.well n) e.adds.made e.adds.added.codes.from_scopes) (codes_in t.constants) known),
   )
 
   module _ (level : ℕ) (h : Head) (named : h.source_path ≡ c.source) (cellvars : h.cellvars ≡ c.cells) (freevars : h.freevars ≡ c.frees) where
@@ -236,6 +250,10 @@ module _ (c : Context) (at : SourceLocation) (k : ℕ) (s : Scope) (t : State) (
     unfolding sealed
     sealed_named = named
 
+    sealed_cells : Named c.scopes (sealed level h t) s
+    unfolding sealed
+    sealed_cells = record { cells = cellvars ∙ e.says.cells; frees = freevars ∙ e.says.frees }
+
     abbrev units : List CodeUnit
     units = (const.head (sealed level h t)).instructions
 
@@ -258,8 +276,8 @@ module _ (c : Context) (at : SourceLocation) (k : ℕ) (s : Scope) (t : State) (
       named = sealed_named;
     }
 
-    pub sealed_made : MadeFrom c.source (sealed level h t, s)
-    sealed_made = record { from = made_of (sealed level h t) runs sealed_codes; well = well_of (sealed level h t) well sealed_codes }
+    pub sealed_made : MadeFrom (ground_of c) (sealed level h t, s)
+    sealed_made = record { from = made_of (sealed level h t) runs sealed_codes; named = named_of (sealed level h t) sealed_cells runs; well = well_of (sealed level h t) well sealed_codes }
 
 -- what is emitted in a scope within adds its whole code, in which breaks and continues stand in loops
 abbrev pub Whole : (inner : Context) → (body : Emission) → (next count : ℕ) → Scope → Type 0
@@ -275,20 +293,21 @@ whole_completes inner body next count x w = record {
 }
 
 -- so the code object of the scope is made from it
-pub completed_makes : (c inner : Context) (h : Shape) (body : Emission) (k l : ℕ) (x : Scope) → number_of x ≡ k → inner.frees ≡ frees_among (symbols_in c.scopes k) → inner.scopes ≡ c.scopes → inner.source ≡ c.source → Settled inner → ((n : ℕ) → room c.scopes n < 2 ^ 26) → ((d : Scope → Object) → burden (body_code (exactly d x) (form_of x)) < 2 ^ 27) → Completing inner body (suc k) l x → Makes c inner h body k l x
-completed_makes c inner h body k l x number frees same source settled roomy small completing = record {
+pub completed_makes : (c inner : Context) (h : Shape) (body : Emission) (k l : ℕ) (x : Scope) → number_of x ≡ k → inner.cells ≡ cells_among (symbols_in c.scopes k) → inner.frees ≡ frees_among (symbols_in c.scopes k) → inner.scopes ≡ c.scopes → inner.source ≡ c.source → Settled inner → ((n : ℕ) → room c.scopes n < 2 ^ 26) → ((d : Scope → Object) → burden (body_code (exactly d x) (form_of x)) < 2 ^ 27) → Completing inner body (suc k) l x → Makes c inner h body k l x
+completed_makes c inner h body k l x number cells frees same source settled roomy small completing = record {
   number = number;
   frees = frees;
   run = λ at t e.
+      let says : Says inner x = record { cells = cells ∙ (λ j. cells_among (symbols_in (sym same j) (sym number j))); frees = frees ∙ (λ j. frees_among (symbols_in (sym same j) (sym number j))) } in
       let own : (n : ℕ) → room inner.scopes n < 2 ^ 26 = λ n. subst (λ es. room es n < 2 ^ 26) (sym same) (roomy n) in
       let a = completing.run at t (record { around = refl; settled = settled; roomy = own }) e in
-      let m : Emitted inner at (suc k) x t = record { count = l; adds = a.0; looped = a.1; small = small; roomy = own } in (
-        subst (λ path. MadeFrom path (sealed inner.level (code_head inner h at) t, x)) source (sealed_made inner at (suc k) x t m inner.level (code_head inner h at) refl refl refl),
+      let m : Emitted inner at (suc k) x t = record { count = l; adds = a.0; looped = a.1; small = small; roomy = own; says = says } in (
+        subst (λ ground. MadeFrom ground (sealed inner.level (code_head inner h at) t, x)) (λ j. (source j, same j)) (sealed_made inner at (suc k) x t m inner.level (code_head inner h at) refl refl refl),
         a.0.next_is,
         subst (λ n. room c.scopes (suc k) ≤ room c.scopes n) (sym a.0.next_is) (room_more c.scopes (suc k) l),
       );
 }
 
-pub scope_makes : (c inner : Context) (h : Shape) (body : Emission) (k l : ℕ) (x : Scope) → number_of x ≡ k → inner.frees ≡ frees_among (symbols_in c.scopes k) → inner.scopes ≡ c.scopes → inner.source ≡ c.source → Settled inner → ((n : ℕ) → room c.scopes n < 2 ^ 26) → ((d : Scope → Object) → burden (body_code (exactly d x) (form_of x)) < 2 ^ 27) → Whole inner body (suc k) l x → Makes c inner h body k l x
-scope_makes c inner h body k l x number frees same source settled roomy small whole =
-    completed_makes c inner h body k l x number frees same source settled roomy small (whole_completes inner body (suc k) l x whole)
+pub scope_makes : (c inner : Context) (h : Shape) (body : Emission) (k l : ℕ) (x : Scope) → number_of x ≡ k → inner.cells ≡ cells_among (symbols_in c.scopes k) → inner.frees ≡ frees_among (symbols_in c.scopes k) → inner.scopes ≡ c.scopes → inner.source ≡ c.source → Settled inner → ((n : ℕ) → room c.scopes n < 2 ^ 26) → ((d : Scope → Object) → burden (body_code (exactly d x) (form_of x)) < 2 ^ 27) → Whole inner body (suc k) l x → Makes c inner h body k l x
+scope_makes c inner h body k l x number cells frees same source settled roomy small whole =
+    completed_makes c inner h body k l x number cells frees same source settled roomy small (whole_completes inner body (suc k) l x whole)

@@ -163,7 +163,7 @@ module _ (c : Around) (k : ℕ) (path name : List ℕ) (body : tree.Stmts) where
     makes : ((n : ℕ) → room c.context.scopes n < 2 ^ 26) → stmts_size body < 2 ^ 22 → Makes c.context inner (class_shape name) (class_scope body v) k count class_of
     unfolding inside with_path within_class
     makes roomy few =
-        completed_makes c.context inner (class_shape name) (class_scope body v) k count class_of refl refl refl refl (inside_settled kind.Class k (with_path path (within_class name c.context))) roomy
+        completed_makes c.context inner (class_shape name) (class_scope body v) k count class_of refl refl refl refl refl (inside_settled kind.Class k (with_path path (within_class name c.context))) roomy
         (λ d. class_body_small d (pathless inner) inner.path doc (annotated (after_doc body)) (suc k) body few) completing
 
     -- and the function is made of it

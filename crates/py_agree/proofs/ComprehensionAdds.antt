@@ -78,7 +78,7 @@ module _ (c : Around) (k : ℕ) where
 
   makes : (name : List ℕ) (scope : Emission) (l : ℕ) (g : SForm) → ((n : ℕ) → room c.context.scopes n < 2 ^ 26) → IsSmall g → Whole inner scope (suc k) l (own g) → Makes c.context inner (comprehension_shape name) scope k l (own g)
   unfolding inside
-  makes name scope l g roomy small whole = scope_makes c.context inner (comprehension_shape name) scope k l (own g) refl refl refl refl (inside_settled kind.Comprehension k c.context) roomy small whole
+  makes name scope l g roomy small whole = scope_makes c.context inner (comprehension_shape name) scope k l (own g) refl refl refl refl refl (inside_settled kind.Comprehension k c.context) roomy small whole
 
   -- it is called with the iterator of the first iterable, which begins at this number
   called : (l j total : ℕ) (awaited : Bool) (name : List ℕ) (gs : tree.Generators) (scope : Emission) (g : SForm) → IsSmall g → Whole inner scope (suc k) l (own g) → j ≡ k + suc l → suc l + in_iterable c.context.postponed gs ≡ total → IterableAdds c j gs → ValueAdds (outer c) c k total (comprehension awaited name (clause_emissions gs) scope) (forms.called_at_once name (own g) (first_iterable (told c) j gs))

@@ -238,7 +238,7 @@ module _ (c : Around) (k : ℕ) (name : List ℕ) where
   function_makes : (h : Shape) (params : List (List ℕ)) (v : Emission) (body : tree.Stmts) → ((j : ℕ) → room c.context.scopes j < 2 ^ 26) → stmts_size body < 2 ^ 22 → Whole inner v (suc k) (scopes_in_stmts inner.postponed body) (function_of body) → Makes c.context inner h (function_scope params v) k (scopes_in_stmts c.context.postponed body) (function_of body)
   unfolding inside with_path
   function_makes h params v body roomy few whole =
-      scope_makes c.context inner h (function_scope params v) k (scopes_in_stmts c.context.postponed body) (function_of body) refl refl refl refl (record { cells = refl; frees = refl }) roomy (λ d. function_small d (pathless inner) (suc k) body few) (scope_gives params v whole)
+      scope_makes c.context inner h (function_scope params v) k (scopes_in_stmts c.context.postponed body) (function_of body) refl refl refl refl refl (record { cells = refl; frees = refl }) roomy (λ d. function_small d (pathless inner) (suc k) body few) (scope_gives params v whole)
 
 module _ (c : Around) (k : ℕ) (name : List ℕ) (params : tree.Arguments) (body : tree.Stmts) (returns : tree.OptExpr) where
   -- the scope of the function, which has this number

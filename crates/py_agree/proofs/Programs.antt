@@ -92,17 +92,17 @@ module _ (x : Context) (settled : Settled x) (roomy : (n : ℕ) → room x.scope
   mod_adds (tree.Module stmts) m z small o e =
       let g = program_gives x stmts (omega (arith, z)) in
       let a = g.1.run (nothing x) o refl refl (record { around = refl; settled = settled; roomy = roomy }) e in
-      record { count = g.0; adds = completed (nothing x) o _ _ _ a.0; looped = a.1; small = small; roomy = roomy }
+      record { count = g.0; adds = completed (nothing x) o _ _ _ a.0; looped = a.1; small = small; roomy = roomy; says = record { cells = settled.cells; frees = settled.frees } }
   mod_adds (tree.Interactive stmts) m z small o e =
       let g = interactive_whole x m stmts (omega (arith, z)) in
       let a = g.1.run (nothing x) o refl refl (record { around = refl; settled = settled; roomy = roomy }) e in
-      record { count = g.0; adds = completed (nothing x) o _ _ _ a.0; looped = a.1; small = small; roomy = roomy }
+      record { count = g.0; adds = completed (nothing x) o _ _ _ a.0; looped = a.1; small = small; roomy = roomy; says = record { cells = settled.cells; frees = settled.frees } }
   mod_adds (tree.Expression e) m z small o h =
       let c = outside x in
       let f = expr_form (pathless x) 1 e in
       let a = ((expr_adds c 1 e (omega (arith, z))).returned 1).run (nothing x) o refl refl (record { around = refl; settled = settled; roomy = roomy }) h in
       let items : List (Item Scope) = return_code (outer c) f 1 in
-      record { count = scopes_in x.postponed e; adds = completed (nothing x) o _ _ _ (adds_as (nothing x) o items (items ++ []) (labels_v f) (labels_v f) (scopes_in x.postponed e) (scopes_in x.postponed e) (sym (append-nil items)) refl refl a.0); looped = tt; small = small; roomy = roomy }
+      record { count = scopes_in x.postponed e; adds = completed (nothing x) o _ _ _ (adds_as (nothing x) o items (items ++ []) (labels_v f) (labels_v f) (scopes_in x.postponed e) (scopes_in x.postponed e) (sym (append-nil items)) refl refl a.0); looped = tt; small = small; roomy = roomy; says = record { cells = settled.cells; frees = settled.frees } }
   mod_adds other m z small o h = absurd cc
 
 pathless_is : (l : ℕ) (path : List ℕ) (scopes : List ScopeEntry) → pathless (outermost l path scopes) ≡ outermost l [] scopes

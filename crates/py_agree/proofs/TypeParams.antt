@@ -105,7 +105,7 @@ module _ (c : Around) (k : ℕ) where
   unfolding inside
   hidden_makes l count name v f roomy small pushed h =
       let whole : Whole (hidden_inside c.context k) (v ▸ emit op.ReturnValue 0) (suc k) l (hidden_of f) = so (λ z. tt) (gives_as (sym (append-nil _)) refl refl (pushed_adds (outer within) within (suc k) l v f pushed h 1)) in
-      scope_makes c.context (hidden_inside c.context k) (hidden_shape count name) (v ▸ emit op.ReturnValue 0) k l (hidden_of f) refl refl refl refl (inside_settled kind.TypeParams k c.context) roomy small whole
+      scope_makes c.context (hidden_inside c.context k) (hidden_shape count name) (v ▸ emit op.ReturnValue 0) k l (hidden_of f) refl refl refl refl refl (inside_settled kind.TypeParams k c.context) roomy small whole
 
   -- and called with the defaults
   pub hidden_value_adds : (l m : ℕ) (name : List ℕ) (d : DefaultEmissions) (e : Defaults) (v : Emission) (f : VForm) → HiddenSmall f → IsPushed (outer within) within f → ValueAdds (outer within) within (suc k) l v f → PartsAdd (outer c) c (k + suc l) m (emission_of_defaults d) (default_parts e VNone) → handed d.positional d.keyword ≡ handed e.positional e.keyword → ValueAdds (outer c) c k (suc l + m) (hidden name d v) (hidden_call (MkScope (head_of (hidden_inside (told c) k)) (SReturn f)) name e)

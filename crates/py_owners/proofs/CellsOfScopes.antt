@@ -79,7 +79,7 @@ whole_first (tree.Expression value) m = refl
 whole_first other m = refl
 
 -- and a node that has a scope behind it
-behind_whole : (t : tree.Mod) (m : Mode) (c : Context) (s : Scope) (p : Placed) (k : ℕ) → slice_get (owners_of t m) k ≡ Some p → IsScopeOf c p.owner s → 0 < k
+pub behind_whole : (t : tree.Mod) (m : Mode) (c : Context) (s : Scope) (p : Placed) (k : ℕ) → slice_get (owners_of t m) k ≡ Some p → IsScopeOf c p.owner s → 0 < k
 behind_whole t m c s p zero e i = absurd (subst (λ o. IsScopeOf c o s) (ap owner_there (sym e) ∙ whole_first t m) i)
 behind_whole t m c s p (suc k) e i = omega arith
 

@@ -52,7 +52,7 @@ begun_ordered = record {
     fresh_at (suc k) = fresh_none
 
 -- and so are those of one that is done
-scan_ordered : (f : Step) → Orders f → (s : State) → f begun_state ≡ Done s → IsScanned s.scopes
+pub scan_ordered : (f : Step) → Orders f → (s : State) → f begun_state ≡ Done s → IsScanned s.scopes
 scan_ordered f a s e = go (subst (EndsOrderly begun) e (a begun_state begun_ordered))
   where
     go : EndsOrderly begun (Done s) → IsScanned s.scopes
@@ -64,7 +64,7 @@ get_some [] k l = absurd (omega arith)
 get_some (x ∷ xs) zero l = (x, refl)
 get_some (x ∷ xs) (suc k) l = get_some xs k (omega arith)
 
-follow_there : (rows : List Row) (table : SymbolTable) (follows : TableFollows rows table) (k : ℕ) → k < length rows → SymbolsFollow rows k (numbered follows.symbols k)
+pub follow_there : (rows : List Row) (table : SymbolTable) (follows : TableFollows rows table) (k : ℕ) → k < length rows → SymbolsFollow rows k (numbered follows.symbols k)
 follow_there rows table follows k l =
     let w = get_some follows.symbols k (let h = follows.whole in omega (arith, h, l)) in
     subst (SymbolsFollow rows k) (sym (ap or_none w.1)) (follows.each k w.0 w.1)
@@ -89,7 +89,7 @@ module _ (s : Scanned) (old : IsScanned s) (fine : first_fault s ≡ None) (g : 
   stands_in_scopes None e h = absurd cc
   stands_in_scopes (Some table) e h = stands_in_table table (table_follows s old fine table e) h
 
-none_refused : (o : Option Refusal) → tables.fault_of o ≡ [] → o ≡ None
+pub none_refused : (o : Option Refusal) → tables.fault_of o ≡ [] → o ≡ None
 none_refused None h = refl
 none_refused (Some r) h = absurd cc
 

@@ -32,4 +32,6 @@ pub mod OrderingStatements
 pub mod Wanted
 pub mod FreeNames
 pub mod CellsOfScopes
+pub mod Facts
+pub mod Heads
 mod CellSamples

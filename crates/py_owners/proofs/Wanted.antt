@@ -128,6 +128,20 @@ module _ (rows : List Row) (k : ℕ) (ts : List Symbol) (follows : SymbolsFollow
       let w = symbol_found x ts (follows.names x ∙ bound_known (both (is_plain (holds_in rows k x)) (binds_in rows k x) o).1) in
       listed cells_here x ts w.place w.symbol w.there w.named (ap is_cell (follows.kinds w.place w.symbol w.there ∙ ap (λ n. (resolve rows k n).kind) (sym w.named) ∙ h))
 
+cell_is : (k : SymbolScope) → is_cell k ≡ true → k ≡ Cell
+cell_is Unknown h = absurd cc
+cell_is Local h = absurd cc
+cell_is GlobalExplicit h = absurd cc
+cell_is GlobalImplicit h = absurd cc
+cell_is Free h = absurd cc
+cell_is Cell h = refl
+
+-- what is among the cells of the scope is a cell there
+pub listed_cell : (rows : List Row) (k : ℕ) (ts : List Symbol) → SymbolsFollow rows k ts → (x : Name) → is_one_of x (cells_among ts) ≡ true → (resolve rows k x).kind ≡ Cell
+listed_cell rows k ts follows x h =
+    let w = found cells_here x ts h in
+    ap (λ n. (resolve rows k n).kind) w.0.named ∙ sym (follows.kinds w.0.place w.0.symbol w.0.there) ∙ cell_is w.0.symbol.scope w.1
+
 -- the scope around has what a scope needs
 pub around_has : (rows : List Row) → CellsAreNeeded rows → NamesLead rows → (k : ℕ) → parents rows k < k → (ts us : List Symbol) → SymbolsFollow rows k ts → SymbolsFollow rows (parents rows k) us
     → (x : Name) → is_one_of x (frees_among ts) ≡ true → is_one_of x (cells_among us ++ frees_among us) ≡ true
