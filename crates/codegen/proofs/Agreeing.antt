@@ -17,7 +17,7 @@ use Rattle.py_meaning.specs.Meaning.{body}
 use Rattle.py_steps.specs.Context.{Context, inside, outermost, room}
 use Rattle.py_steps.specs.Emitting.{Around, State, Outcome, Done, TooWide, Refused}
 use Rattle.py_steps.specs.Sealed.{sealed}
-use Rattle.py_meaning.specs.EmissionMods.{emitted}
+use Rattle.py_emission.specs.EmissionMods.{emitted}
 use Rattle.py_emit.specs.Emitted.{IsMade, IsEmitted}
 use Rattle.py_emit.specs.States.{module_head}
 use Rattle.py_emit.proofs.Sealed.{AllAimed, sealed_is}
@@ -27,6 +27,7 @@ use Rattle.py_adds.proofs.Readings.{Read, only_sizes}
 use Rattle.py_adds.proofs.Within.{Emitted, child_at, reading, sealed_made}
 use Rattle.py_agree.proofs.NeverRefused.{IsCelled, begins_all}
 use Rattle.py_agree.proofs.Programs.{first_place, tree_adds}
+use Rattle.codegen.specs.Compiled.{IsSealed}
 
 module _ (code : CodeObject) (path : List ℕ) (m : Mode) (l : ℕ) (scopes : List ScopeEntry) (t : tree.Mod) (s : State) (small : size_of t < 2 ^ 22) (roomy : (n : ℕ) → room scopes n < 2 ^ 26) (done : emitted t m (outermost l path scopes) ≡ Done s) (made : IsMade code (outermost l path scopes) s) where
   abbrev around : Context
@@ -77,5 +78,14 @@ made_from_scope code path m l scopes t small roomy is = subst (λ ground. MadeFr
   where
     go : (r : Outcome) → emitted t m (outermost l path scopes) ≡ r → IsEmitted code (outermost l path scopes) r → MadeFrom (ground_of (outermost l path scopes)) (object code, body scopes t m l)
     go (Done s) e h = from_scope code path m l scopes t s small roomy e h
+    go TooWide e h = absurd h
+    go (Refused r at) e h = absurd h
+
+-- and it is the one that what is emitted determines
+pub code_is_sealed : (code : CodeObject) (path : List ℕ) (m : Mode) (l : ℕ) (scopes : List ScopeEntry) (t : tree.Mod) → size_of t < 2 ^ 22 → ((n : ℕ) → room scopes n < 2 ^ 26) → IsEmitted code (outermost l path scopes) (emitted t m (outermost l path scopes)) → IsSealed (object code) (outermost l path scopes) (emitted t m (outermost l path scopes))
+code_is_sealed code path m l scopes t small roomy is = go (emitted t m (outermost l path scopes)) refl is
+  where
+    go : (r : Outcome) → emitted t m (outermost l path scopes) ≡ r → IsEmitted code (outermost l path scopes) r → IsSealed (object code) (outermost l path scopes) r
+    go (Done s) e h = is_sealed code path m l scopes t s small roomy e h
     go TooWide e h = absurd h
     go (Refused r at) e h = absurd h

@@ -9,10 +9,11 @@ use Rattle.py_bytecode.specs.View.{object}
 use Rattle.py_bytecode.specs.declared.code.CodeObject.{CodeObject}
 use Rattle.py_forms.specs.Form.{Scope}
 use Rattle.py_forms.specs.Agreement.{Agree, AgreeFull}
-use Rattle.py_forms.specs.declared.errors.CodegenErrorType.{CodegenErrorType}
-use Rattle.py_forms.proofs.CodeObjects.{objects_agree}
+use Rattle.py_base.specs.declared.errors.CodegenErrorType.{CodegenErrorType}
+use Rattle.py_simulation.proofs.CodeObjects.{objects_agree}
+use Rattle.py_steps.specs.Context.{Context}
 use Rattle.py_steps.specs.Everywhere.{Everywhere}
-use Rattle.py_meaning.specs.EmissionMods.{emitted}
+use Rattle.py_emission.specs.EmissionMods.{emitted}
 use Rattle.py_meaning.specs.Faults.{faults}
 use Rattle.py_meaning.specs.Meaning.{body}
 use Rattle.py_meaning.specs.Scanned.{scan_faults, scopes_of}
@@ -20,14 +21,17 @@ use Rattle.py_emit.specs.Emitted.{IsEmitted}
 use Rattle.py_adds.proofs.Codes.{Ground, MadeFrom}
 use Rattle.py_adds.proofs.Naming.{IsMadeSo, Named}
 use Rattle.py_adds.proofs.WellMade.{WellMade, everywhere_so}
+use Rattle.py_adds.specs.Distinct.{HasDistinctNames}
 use Rattle.py_capture.specs.Captures.{CapturesCells}
 use Rattle.py_capture.proofs.Capturing.{captures_cells}
 use Rattle.codegen.specs.Calls.{IsChecked, IsCompiled, IsWhole}
-use Rattle.codegen.specs.Compiled.{HasFewSymbols, IsFirst, IsScanned, around_tree}
-use Rattle.codegen.proofs.Agreeing.{made_from_scope}
+use Rattle.codegen.specs.Compiled.{HasFewSymbols, IsFirst, IsScanned, IsSealed, ScopesFollow, around_tree}
+use Rattle.codegen.proofs.Agreeing.{code_is_sealed, made_from_scope}
+use Rattle.codegen.proofs.DistinctTables.{distinct_names}
 use Rattle.codegen.proofs.Heights.{no_higher}
 use Rattle.codegen.proofs.Made.{few_everywhere}
 use Rattle.codegen.proofs.Nested.{nested_below}
+use Rattle.codegen.proofs.Resolved.{scopes_follow}
 use Rattle.codegen.proofs.Firsts.{checked_first, refused_first, emitted_clean}
 
 -- a tree is refused as a whole
@@ -35,8 +39,10 @@ pub refused_whole : (e : LocatedError CodegenErrorType) (r : CodegenErrorType) (
 refused_whole e r t path m l p q s h = record {
   agrees = tt;
   agrees_full = tt;
+  resolved = tt;
   captures = tt;
   emission = tt;
+  sealed = tt;
   ends = tt;
   sound = tt;
   depth = tt;
@@ -45,6 +51,7 @@ refused_whole e r t path m l p q s h = record {
   located = tt;
   units = tt;
   widths = tt;
+  tables = tt;
   nested = tt;
   clean = tt;
   first = checked_first e r t m l p q h;
@@ -58,6 +65,10 @@ on_err (Err e) P Q f p = f e p
 on_ok : {T E : Type 0} (r : Result T E) (P Q : T → Type 0) → ((x : T) → P x → Q x) → IfOk r P → IfOk r Q
 on_ok (Ok x) P Q f p = f x p
 on_ok (Err e) P Q f p = p
+
+ok_so : {T E : Type 0} (r : Result T E) (P Q : Type 0) → (P → Q) → OnOk r P → OnOk r Q
+ok_so (Ok x) P Q f p = f p
+ok_so (Err e) P Q f p = p
 
 ok_both : {T E : Type 0} (r : Result T E) (P : T → Type 0) (R Q : Type 0) → ((x : T) → P x → R → Q) → IfOk r P → OnOk r R → OnOk r Q
 ok_both (Ok x) P R Q f p q = f x p q
@@ -82,6 +93,9 @@ module _ (r : Result CodeObject (LocatedError CodegenErrorType)) (t : tree.Mod) 
   abbrev ground : Ground
   ground = (path, scopes_of t)
 
+  abbrev around : Context
+  around = around_tree t path l
+
   -- what holds of a code object that is made from the scope of a tree
   made_so : (Q : Object → Type 0) → ((o : Object) → MadeFrom ground (o, scope) → Q o) → IfOk r (λ code. Q (object code))
   made_so Q f = go r e few
@@ -91,15 +105,17 @@ module _ (r : Result CodeObject (LocatedError CodegenErrorType)) (t : tree.Mod) 
       go (Err e) p q = p
 
   -- and what holds of it and of each code object within it
-  well_so : (Q : Object → Type 0) → ((o : Object) → WellMade path o → Q o) → IfOk r (λ code. Everywhere Q (object code))
-  well_so Q f = made_so (Everywhere Q) (λ o h. everywhere_so (WellMade path) Q f o h.well)
+  well_so : (Q : Object → Type 0) → ((o : Object) → WellMade path (scopes_of t) o → Q o) → IfOk r (λ code. Everywhere Q (object code))
+  well_so Q f = made_so (Everywhere Q) (λ o h. everywhere_so (WellMade path (scopes_of t)) Q f o h.well)
 
   pub answered : OnOk r (scan_faults t ≡ []) → IfErr r (λ e. IsScanned e t m (around_tree t path l)) → IfErr r (λ e. e.source_path ≡ path) → IsCompiled r t path m l
   answered clean first named = record {
     agrees = made_so (λ o. Agree o scope) (λ o h. agree ground o scope h);
     agrees_full = made_so (λ o. AgreeFull o scope) (λ o h. agree_full ground o scope h);
+    resolved = ok_so r (faults t m l ≡ []) (ScopesFollow t) (scopes_follow t m l) faultless;
     captures = captured;
     emission = e;
+    sealed = ok_with r (λ code. IsEmitted code around (emitted t m around)) (HasFewSymbols (scopes_of t)) (λ code. IsSealed (object code) around (emitted t m around)) (λ code h q. code_is_sealed code path m l (scopes_of t) t w.1 (few_everywhere (scopes_of t) q) h) e few;
     ends = well_so _ (λ o w. w.ends);
     sound = well_so _ (λ o w. w.sound);
     depth = well_so _ (λ o w. no_higher o w.sound);
@@ -108,6 +124,7 @@ module _ (r : Result CodeObject (LocatedError CodegenErrorType)) (t : tree.Mod) 
     located = well_so _ (λ o w. w.located);
     units = well_so _ (λ o w. w.few);
     widths = well_so _ (λ o w. w.written);
+    tables = tabled;
     nested = on_ok r (λ code. IsEmitted code (around_tree t path l) (emitted t m (around_tree t path l))) (λ code. nesting (object code) < 2 ^ 11) (λ code h. nested_below code t m (around_tree t path l) w.0 h) e;
     clean = faultless;
     first = on_err r (λ e. IsScanned e t m (around_tree t path l)) (λ e. IsFirst e (faults t m l)) (λ e h. refused_first e t m l path w h) first;
@@ -119,3 +136,9 @@ module _ (r : Result CodeObject (LocatedError CodegenErrorType)) (t : tree.Mod) 
 
       captured : IfOk r (λ code. CapturesCells t m l (object code))
       captured = ok_with r (λ code. (n : ℕ) → IsMadeSo (Named (scopes_of t)) n (object code) scope) (faults t m l ≡ []) (λ code. CapturesCells t m l (object code)) (λ code h z. captures_cells t m l z (object code) h) (made_so (λ o. (n : ℕ) → IsMadeSo (Named (scopes_of t)) n o scope) (λ o h. h.named)) faultless
+
+      tabled : IfOk r (λ code. Everywhere HasDistinctNames (object code))
+      tabled =
+          ok_with r (λ code. Everywhere (WellMade path (scopes_of t)) (object code)) (faults t m l ≡ []) (λ code. Everywhere HasDistinctNames (object code))
+          (λ code h z. everywhere_so (WellMade path (scopes_of t)) HasDistinctNames (distinct_names t m l path z) (object code) h)
+          (made_so (Everywhere (WellMade path (scopes_of t))) (λ o h. h.well)) faultless

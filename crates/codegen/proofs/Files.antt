@@ -1,15 +1,15 @@
 -- What is emitted of a file, part by part.
 use Rattle.std.proofs.Common.{◌≡◌, Bool, sym, ap, ◌∙◌}
+use Rattle.py_bytecode.specs.Objects.{none}
 use Rattle.py_tree.specs.Tree as tree
 use Rattle.py_bytecode.specs.declared.instruction.Instruction.TheVariants as op
-use Rattle.py_bytecode.specs.Objects.{none}
+use Rattle.py_emission.specs.Predicates.{annotated}
 use Rattle.py_emission.specs.Texts.{after_doc, doc_of}
-use Rattle.py_meaning.specs.StmtParts.{annotated}
 use Rattle.py_steps.specs.Emitting.{Done, Emission, State, ◌▸◌, by_level, emit_constant}
-use Rattle.py_meaning.specs.EmissionStmts.{emission_of_stmts}
-use Rattle.py_meaning.specs.EmissionDefs.{emission_of_setup}
-use Rattle.py_meaning.specs.EmissionFutures.{emission_behind}
-use Rattle.py_meaning.specs.EmissionMods.{emission_of_doc, emission_of_program}
+use Rattle.py_emission.specs.EmissionStmts.{emission_of_stmts}
+use Rattle.py_emission.specs.EmissionDefs.{emission_of_setup}
+use Rattle.py_emission.specs.EmissionFutures.{emission_behind}
+use Rattle.py_emission.specs.EmissionMods.{emission_of_doc, emission_of_program}
 use Rattle.py_emit.proofs.Joined.{went}
 
 -- statements, and the return of None

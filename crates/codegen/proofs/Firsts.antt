@@ -6,10 +6,10 @@ use Rattle.py_base.specs.declared.location.LocatedError.{LocatedError}
 use Rattle.py_tree.specs.declared.modules.Mode.{Mode}
 use Rattle.py_bytecode.specs.declared.code.CodeObject.{CodeObject}
 use Rattle.py_steps.specs.Emitting.{Outcome, Done, TooWide, Refused}
-use Rattle.py_meaning.specs.EmissionMods.{emitted}
+use Rattle.py_emission.specs.EmissionMods.{emitted}
 use Rattle.py_meaning.specs.ExprFaults.{Fault}
 use Rattle.py_meaning.specs.Faults.{faults, compile_faults}
-use Rattle.py_forms.specs.declared.errors.CodegenErrorType.{CodegenErrorType}
+use Rattle.py_base.specs.declared.errors.CodegenErrorType.{CodegenErrorType}
 use Rattle.py_meaning.specs.Scanned.{scan_faults, scopes_of}
 use Rattle.codegen.specs.Calls.{IsChecked, IsWhole}
 use Rattle.codegen.specs.Compiled.{IsFirst, IsScanned, around_tree}

@@ -4,5 +4,8 @@ pub mod Wholes
 pub mod Firsts
 pub mod Made
 pub mod Nested
+pub mod Resolved
+pub mod DistinctTables
 pub mod Answered
+pub mod Determined
 pub mod Files

@@ -9,8 +9,8 @@ use Rattle.py_ir.specs.Final.{IsFinal}
 use Rattle.py_scope.specs.declared.flat.ScopeEntry.{ScopeEntry}
 use Rattle.py_steps.specs.Context.{Context, outermost, room}
 use Rattle.py_steps.specs.Emitting.{Done, State, nothing}
-use Rattle.py_meaning.specs.EmissionMods.{emission_of_mod, emitted}
-use Rattle.py_forms.specs.declared.errors.CodegenErrorType.{CodegenErrorType}
+use Rattle.py_emission.specs.EmissionMods.{emission_of_mod, emitted}
+use Rattle.py_base.specs.declared.errors.CodegenErrorType.{CodegenErrorType}
 use Rattle.py_emit.specs.Emitted.{IsEmitted, Holds}
 use Rattle.py_emit.specs.States.{Goes, IsUnrefused, Rest, first_rest, info, rest, state}
 use Rattle.py_emit.specs.declared.context.CompileOpts.{CompileOpts}

@@ -10,7 +10,7 @@ use Rattle.py_bytecode.specs.View.{constant, object}
 use Rattle.py_bytecode.proofs.View.{object_is}
 use Rattle.py_steps.specs.Context.{Context}
 use Rattle.py_steps.specs.Emitting.{State, Outcome, Done, TooWide, Refused}
-use Rattle.py_meaning.specs.EmissionMods.{emitted}
+use Rattle.py_emission.specs.EmissionMods.{emitted}
 use Rattle.py_emit.specs.Emitted.{IsMade, IsEmitted}
 use Rattle.py_nests.proofs.NestingMods.{emitted_nests}
 

@@ -10,8 +10,8 @@ use Rattle.py_shapes.specs.Valid.{shapes, first}
 use Rattle.py_base.specs.declared.shapes.Malformed.{Malformed}
 use Rattle.py_meaning.specs.ExprFaults.{Fault}
 use Rattle.py_meaning.specs.Faults.{whole, too_deep, too_large, malformed}
-use Rattle.py_forms.specs.declared.errors.CodegenErrorType.{CodegenErrorType}
-use Rattle.py_forms.specs.declared.errors.CodegenErrorType.TheVariants as error
+use Rattle.py_base.specs.declared.errors.CodegenErrorType.{CodegenErrorType}
+use Rattle.py_base.specs.declared.errors.CodegenErrorType.TheVariants as error
 use Rattle.codegen.specs.Calls.{IsChecked, IsWhole, whole_faults}
 
 reached : (b : Bool) (f : Fault) (rest : List Fault) → b ≡ false → (if b then [] else f ∷ []) ++ rest ≡ f ∷ rest

@@ -1,5 +1,5 @@
 -- What the compile calls answer for a tree.
-use Rattle.std.specs.Prelude.{◌≡◌, ℕ, ◌<◌, ◌^◌, List, [], ◌∷◌, ◌++◌, Option, None, Some, Result, IfOk, IfErr, OnOk}
+use Rattle.std.specs.Prelude.{◌≡◌, ℕ, ◌<◌, ◌^◌, List, [], ◌∷◌, ◌++◌, Option, None, Some, Result, Ok, IfOk, IfErr, OnOk}
 use Rattle.py_tree.specs.Tree as tree
 use Rattle.py_tree.specs.View.{expr_tree, stmt_tree, stmts}
 use Rattle.py_tree.specs.declared.modules.Mode.{Mode}
@@ -12,16 +12,17 @@ use Rattle.py_bytecode.specs.View.{object}
 use Rattle.py_bytecode.specs.declared.code.CodeObject.{CodeObject}
 use Rattle.py_walks.specs.Sound.{sound}
 use Rattle.py_forms.specs.Agreement.{Agree, AgreeFull}
-use Rattle.py_forms.specs.declared.errors.CodegenErrorType.{CodegenErrorType}
+use Rattle.py_base.specs.declared.errors.CodegenErrorType.{CodegenErrorType}
 use Rattle.py_steps.specs.Everywhere.{Everywhere}
 use Rattle.py_emit.specs.Emitted.{IsEmitted}
-use Rattle.py_meaning.specs.EmissionMods.{emitted}
+use Rattle.py_adds.specs.Distinct.{HasDistinctNames}
+use Rattle.py_emission.specs.EmissionMods.{emitted}
 use Rattle.py_meaning.specs.ExprFaults.{Fault}
 use Rattle.py_meaning.specs.Faults.{faults, malformed, too_deep, too_large, whole}
 use Rattle.py_meaning.specs.Meaning.{body}
 use Rattle.py_meaning.specs.Scanned.{scopes_of}
 use Rattle.py_capture.specs.Captures.{CapturesCells}
-use Rattle.codegen.specs.Compiled.{AlwaysEnds, HasExactDepth, HasFewUnits, InLeastWidths, IsFirst, IsLocated, NamesPath, NoHigher, around_tree}
+use Rattle.codegen.specs.Compiled.{AlwaysEnds, HasExactDepth, HasFewUnits, InLeastWidths, IsFirst, IsLocated, IsSealed, NamesPath, NoHigher, ScopesFollow, around_tree}
 use Rattle.codegen.specs.declared.program.Program.{Program}
 use Rattle.codegen.specs.declared.program.Program.TheVariants as lent
 
@@ -30,10 +31,14 @@ pub record IsCompiled (answer : Result CodeObject (LocatedError CodegenErrorType
   -- the code does what the tree means, in the plain view and in the full one
   pub agrees : IfOk answer (λ code. Agree (object code) (body (scopes_of t) t m l))
   pub agrees_full : IfOk answer (λ code. AgreeFull (object code) (body (scopes_of t) t m l))
+  -- the scopes by which names are read there are those that the uses of names give
+  pub resolved : OnOk answer (ScopesFollow t)
   -- each use of a cell, in chains of functions that are made one within another, comes to the scope that binds its name
   pub captures : IfOk answer (λ code. CapturesCells t m l (object code))
   -- it is made of what is emitted of the tree
   pub emission : IfOk answer (λ code. IsEmitted code (around_tree t source l) (emitted t m (around_tree t source l)))
+  -- which determines it: a tree, a path, a mode and a level have one code
+  pub sealed : IfOk answer (λ code. IsSealed (object code) (around_tree t source l) (emitted t m (around_tree t source l)))
   -- and each code object within it, at every depth, is so too
   pub ends : IfOk answer (λ code. Everywhere AlwaysEnds (object code))
   pub sound : IfOk answer (λ code. Everywhere sound (object code))
@@ -43,12 +48,19 @@ pub record IsCompiled (answer : Result CodeObject (LocatedError CodegenErrorType
   pub located : IfOk answer (λ code. Everywhere IsLocated (object code))
   pub units : IfOk answer (λ code. Everywhere HasFewUnits (object code))
   pub widths : IfOk answer (λ code. Everywhere InLeastWidths (object code))
+  -- names, names of its own, cells and free names hold none twice, and no name is both of the last two
+  pub tables : IfOk answer (λ code. Everywhere HasDistinctNames (object code))
   -- codes and tuples among constants nest below 2^11, the outermost code counting one
   pub nested : IfOk answer (λ code. code_nesting (object code) < 2 ^ 11)
   -- there is code only where nothing is wrong, and an error is the first of what is wrong
   pub clean : OnOk answer (faults t m l ≡ [])
   pub first : IfErr answer (λ e. IsFirst e (faults t m l))
   pub path : IfErr answer (λ e. e.source_path ≡ source)
+
+-- two answers for equal trees, paths, modes and levels are equal codes, where both are codes
+abbrev pub EqualTreesHaveEqualCode : Type 0
+EqualTreesHaveEqualCode =
+    (t : tree.Mod) (source : List ℕ) (m : Mode) (l : ℕ) (a b : CodeObject) → IsCompiled (Ok a) t source m l → IsCompiled (Ok b) t source m l → object a ≡ object b
 
 -- nesting, size and shapes are right
 abbrev pub IsWhole : tree.Mod → Mode → Type 0

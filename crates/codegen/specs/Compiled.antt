@@ -3,13 +3,17 @@ use Rattle.std.specs.Prelude.{◌≡◌, ◌≢◌, ◌⊎◌, ℕ, ◌<◌, ◌
 use Rattle.py_tree.specs.Tree as tree
 use Rattle.py_tree.specs.declared.modules.Mode.{Mode}
 use Rattle.py_scope.specs.Flat.{flat_table}
+use Rattle.py_scope.specs.Laws.{TableFollows}
+use Rattle.py_tables.specs.Laws.{Stands}
+use Rattle.py_uses.specs.Steps.{State}
+use Rattle.py_owners.specs.Entered.{ScansTo}
 use Rattle.py_scope.specs.declared.error.ScanFault.TheVariants as fault
 use Rattle.py_scope.specs.declared.error.SymbolTableError.{SymbolTableError}
 use Rattle.py_scope.specs.declared.table.SymbolTable.{SymbolTable}
 use Rattle.symboltable.specs.Errors.{codegen_error}
 use Rattle.py_scope.specs.declared.flat.ScopeEntry.{ScopeEntry}
 use Rattle.py_steps.specs.Context.{Context, outermost, room}
-use Rattle.py_meaning.specs.EmissionMods.{emitted}
+use Rattle.py_emission.specs.EmissionMods.{emitted}
 use Rattle.py_meaning.specs.Scanned.{scan_faults, scopes_of}
 use Rattle.py_bytecode.specs.Objects.{Object, head}
 use Rattle.py_bytecode.specs.Values.{Answer}
@@ -20,11 +24,13 @@ use Rattle.py_walks.specs.Sound.{code_look}
 use Rattle.py_walks.specs.Walks.{IsDepth}
 use Rattle.py_walks.specs.declared.info.InstructionInfo.{InstructionInfo}
 use Rattle.py_layout.specs.Written.{IsAssembled}
-use Rattle.py_forms.specs.Laws.{IsEnd}
+use Rattle.py_simulation.specs.Laws.{IsEnd}
 use Rattle.py_meaning.specs.ExprFaults.{Fault}
-use Rattle.py_steps.specs.Emitting.{Outcome, Refused}
-use Rattle.py_forms.specs.declared.errors.CodegenErrorType.{CodegenErrorType}
-use Rattle.py_forms.specs.declared.errors.CodegenErrorType.TheVariants as error
+use Rattle.py_steps.specs.Emitting.{Outcome, Done, TooWide, Refused}
+use Rattle.py_steps.specs.Sealed.{sealed}
+use Rattle.py_emit.specs.States.{module_head}
+use Rattle.py_base.specs.declared.errors.CodegenErrorType.{CodegenErrorType}
+use Rattle.py_base.specs.declared.errors.CodegenErrorType.TheVariants as error
 use Rattle.py_base.specs.declared.location.LocatedError.{LocatedError}
 
 -- how high the stack is
@@ -73,6 +79,18 @@ IsFirst e fs = e.error ≢ error.OutOfMemory → (rest : List Fault) × (fs ≡ 
 -- what stands around a tree: its scopes are those that its scan resolves
 abbrev pub around_tree : tree.Mod → (source : List ℕ) → (level : ℕ) → Context
 around_tree t source level = outermost level source (scopes_of t)
+
+-- what a name is in each scope of the tree is what the uses of names say: the scopes are those of a table that follows from the uses of the tree's scan,
+-- and each name that a scope needs from outside leads to the cell of its binder
+abbrev pub ScopesFollow : tree.Mod → Type 0
+ScopesFollow t =
+    (s : State) → ScansTo t s → ((table : SymbolTable) × (scopes_of t ≡ flat_table table 0) × TableFollows s.scopes.rows table) × Stands s.scopes.rows
+
+-- the code object is the one that what is emitted determines: its blocks are laid out, and its tables are those of the emission
+abbrev pub IsSealed : Object → Context → Outcome → Type 0
+IsSealed o c (Done s) = o ≡ sealed c.level (module_head c) s
+IsSealed o c TooWide = ⊥
+IsSealed o c (Refused e at) = ⊥
 
 -- the emission is refused so, unless the error says that there was no memory
 abbrev pub IsRefused : LocatedError CodegenErrorType → Outcome → Type 0

@@ -1,3 +1,3 @@
 //! Why a tree is refused.
 
-pub use py_forms::{CodegenError, CodegenErrorType};
+pub use py_base::{CodegenError, CodegenErrorType};

@@ -4,10 +4,12 @@
 pub mod compile;
 pub mod error;
 pub mod ir;
+mod laws;
 mod program;
 mod scopes;
 mod whole;
 
 pub use compile::CompileOpts;
-pub use py_stmt::{find_ann, split_doc};
+pub use laws::equal_trees_have_equal_code;
+pub use py_stmt_parts::{find_ann, split_doc};
 pub use symboltable;

@@ -1,21 +1,19 @@
 //! The code of a file, and of what is entered at a prompt.
 ghost use Rattle.std.specs.Prelude.{◌≡◌, ◌≤◌, drop, length, IfOk};
+ghost use Rattle.py_bytecode.specs.Objects.{none};
 ghost use Rattle.py_tree.specs.View.{stmt_tree, stmts};
 ghost use Rattle.py_steps.specs.Emitting.{◌▸◌, by_level, emit_constant};
-ghost use Rattle.py_meaning.specs.EmissionStmts.{emission_of_stmts};
-ghost use Rattle.py_meaning.specs.EmissionFutures.{emission_behind};
-ghost use Rattle.py_meaning.specs.EmissionMods.{emission_of_doc, emission_of_interactive, emission_of_program};
-ghost use Rattle.py_bytecode.specs.Objects.{none};
+ghost use Rattle.py_emission.specs.EmissionStmts.{emission_of_stmts};
+ghost use Rattle.py_emission.specs.EmissionFutures.{emission_behind};
+ghost use Rattle.py_emission.specs.EmissionMods.{emission_of_doc, emission_of_interactive, emission_of_program};
 ghost use Rattle.py_emission.specs.Texts.{after_doc, doc_of};
 ghost use Rattle.py_emit.specs.States.{AreMade, Emits, rest};
 
+use py_base::{CodegenError, CodegenErrorType};
 use py_bytecode::{ConstantData, Instruction};
 use py_emit::{Emitter, refuse};
-use py_forms::{CodegenError, CodegenErrorType};
-use py_stmt::{
-    compile_file, compile_prompt, compile_whole_block, emit_setup, find_ann, split_doc,
-    statements_from,
-};
+use py_stmt::{compile_file, compile_prompt, compile_whole_block};
+use py_stmt_parts::{emit_setup, find_ann, split_doc, statements_from};
 use py_tree::{Expr, Mode, Stmt, Stmts, Text};
 
 /// A program that is lent: no part of it is copied.

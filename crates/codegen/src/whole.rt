@@ -3,17 +3,12 @@ ghost use Rattle.py_tree.specs.Tree as tree;
 ghost use Rattle.py_tree.specs.View.{expr_tree, mod_tree, stmts, stmt_tree};
 ghost use Rattle.codegen.specs.Calls.{IsChecked};
 
-use py_forms::CodegenErrorType;
+use py_base::{CodegenErrorType, NESTING_LIMIT, SIZE_LIMIT};
 use py_limits::{
     depth_of_body, depth_of_expr, depth_of_tree, size_of_body, size_of_expr, size_of_tree,
 };
 use py_shapes::{valid, valid_body, valid_expr};
 use py_tree::{Expr, Mod, Mode, Stmts, TreeLimit};
-
-/// The nesting that no accepted tree reaches.
-const NESTING_LIMIT: u32 = 1024;
-/// The size that no accepted tree reaches.
-const SIZE_LIMIT: u32 = 4_194_304;
 
 /// The first fault of the tree as a whole.
 pub(crate) fn tree_fault(ast: &Mod, mode: Mode) -> Option<CodegenErrorType>

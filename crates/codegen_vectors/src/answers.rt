@@ -6,7 +6,8 @@ use codegen::compile::{
     compile_top,
 };
 use codegen::error::CodegenError;
-use py_bytecode::{CodeObject, listing};
+use py_bytecode::CodeObject;
+use py_listing::listing;
 use py_rows::read_rows;
 use py_tree::{Mod, Mode, Text};
 use std::alloc::{AllocError, Global};
@@ -79,6 +80,14 @@ fn called(
     }
 }
 
+/// The listing of the code of the tree, or the line that says why there is none.
+fn told(alloc: Global, call: Call, tree: &Mod, opts: CompileOpts) -> Result<String, AllocError> {
+    match called(alloc, call, tree, path(alloc)?, opts) {
+        Ok(code) => listing(alloc, &code),
+        Err(error) => refusal_line(alloc, &error),
+    }
+}
+
 /// The listing of the code of the tree whose rows these are, or the line that says why there is none. The first two words
 /// of the head are the mode, or the name of another call than `compile_top`, and the level.
 pub fn answer(alloc: Global, head: &str, rows: &str) -> Result<String, AllocError> {
@@ -90,8 +99,7 @@ pub fn answer(alloc: Global, head: &str, rows: &str) -> Result<String, AllocErro
         Err(error) => return format!(in alloc; "input: {error}\n"),
     };
     let (call, opts) = ways_of(head);
-    match called(alloc, call, &tree, path(alloc)?, opts) {
-        Ok(code) => listing(alloc, &code),
-        Err(error) => refusal_line(alloc, &error),
-    }
+    let text = told(alloc, call, &tree, opts);
+    tree.discard();
+    text
 }

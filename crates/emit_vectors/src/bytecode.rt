@@ -4,8 +4,9 @@ use crate::fixtures::{at, text};
 use bitflags::Flags;
 use py_base::{List, OneIndexed, Text};
 use py_bytecode::{
-    CodeFlags, CodeObject, CodeUnit, ConstantData, Instruction, MakeFunctionFlags, OpArg, listing,
+    CodeFlags, CodeObject, CodeUnit, ConstantData, Instruction, MakeFunctionFlags, OpArg,
 };
+use py_listing::listing;
 use std::alloc::Global;
 use std::hash::{DefaultHasher, Hash, Hasher};
 use std::test::Fail;

@@ -1,10 +1,9 @@
 //! Calls of an emitter, one after the other.
 
 use crate::fixtures::{at, text};
-use py_base::List;
+use py_base::{CodegenErrorType, List};
 use py_bytecode::{ConstantData, Instruction, OpArg};
 use py_emit::{CompileOpts, Emitter};
-use py_forms::CodegenErrorType;
 use py_ir::BlockIdx;
 use py_scope::{FlatScopes, SymbolTable, SymbolTableType, Symbols};
 use std::alloc::Global;

@@ -9,11 +9,12 @@ use Rattle.py_walks.specs.Flat.{is_jump}
 use Rattle.py_scope.specs.declared.flat.ScopeEntry.{ScopeEntry}
 use Rattle.py_forms.specs.Form.{Scope}
 use Rattle.py_forms.specs.Code.{Item, Do, Label}
-use Rattle.py_forms.specs.Agree.{children}
+use Rattle.py_forms.specs.CodeRuns.{children}
 use Rattle.py_forms.specs.Places.{items_over}
-use Rattle.py_forms.proofs.CodeOver.{over-append}
+use Rattle.py_simulation.proofs.CodeOver.{over-append}
 use Rattle.py_steps.specs.Emitting.{Step, Put, Begin, Around, State, with_step}
 use Rattle.py_steps.specs.Context.{Context, room}
+use Rattle.py_adds.specs.Distinct.{AreDistinct}
 use Rattle.py_adds.proofs.Burden.{cells_in, cells-append}
 use Rattle.py_adds.proofs.Codes.{Codes, Counted, Ground, Numbered, by_number, codes_then, counted_join, counted_none, no_codes, none_between, numbered_back, numbered_front, room_more}
 
@@ -112,6 +113,9 @@ pub record Added (s s1 : State) (is : List (Item Scope)) (m : ℕ) (made : List 
   pub reads : (d : ℕ → Object) → Numbered d made → (t : Tables) → Begins s1 t → AllRead t steps (read_as d is)
   pub inside : AllInside s1.blocks steps
   pub around_are : s1.around ≡ s.around
+  -- a table that has no name twice has none twice afterwards
+  pub distinct : AreDistinct s.names → AreDistinct s1.names
+  pub own_distinct : AreDistinct s.varnames → AreDistinct s1.varnames
 
 -- the children have the numbers of l scopes, and no more cells are loaded than those scopes have symbols
 pub record Adds (s s1 : State) (is : List (Item Scope)) (m l : ℕ) : Type 0 where
@@ -161,6 +165,8 @@ added_join s s1 s2 is js m n ps qs a b = record {
       (read_join t a.steps b.steps (read_as d is) (read_as d js) (a.reads d (numbered_front d ps qs z) t (begins_before s1 s2 js n qs t b h)) (b.reads d (numbered_back d ps qs z) t h));
   inside = inside_join s2.blocks a.steps b.steps (all_inside_more a.steps s1.blocks s2.blocks (let q = b.blocks_are in omega arith) a.inside) b.inside;
   around_are = b.around_are ∙ a.around_are;
+  distinct = λ h. b.distinct (a.distinct h);
+  own_distinct = λ h. b.own_distinct (a.own_distinct h);
 }
 
 pub adds_join : (s s1 s2 : State) (is js : List (Item Scope)) (m n l k : ℕ) → Adds s s1 is m l → Adds s1 s2 js n k → Adds s s2 (is ++ js) (m + n) (l + k)
@@ -191,6 +197,8 @@ added_nothing s = record {
   reads = λ d z t b. tt;
   inside = tt;
   around_are = refl;
+  distinct = λ h. h;
+  own_distinct = λ h. h;
 }
 
 -- what loads no child and no cell
@@ -232,6 +240,8 @@ added_step x s i ps c r n = record {
   reads = λ d z t b. r d z t (begins_same x s t b);
   inside = (n, tt);
   around_are = refl;
+  distinct = λ h. h;
+  own_distinct = λ h. h;
 }
 
 pub adds_step : (x : Step) (s : State) (i : Item Scope) → IsPlain i → ((d : ℕ → Object) (t : Tables) → Begins s t → AllRead t (x ∷ []) (read_as d (i ∷ []))) → Inside s.blocks x → Adds s (with_step x s) (i ∷ []) 0 0

@@ -13,7 +13,8 @@ use Rattle.py_steps.specs.TableParts.{parts_of, counted, any}
 use Rattle.py_steps.specs.EmissionParts as emitting
 use Rattle.py_steps.specs.Emitting.{Around, Emission, ◌▸◌, emit_constant, emit_count, emit_mangled}
 use Rattle.py_steps.specs.Context.{mangled}
-use Rattle.py_steps.specs.EmissionParts.{in_turn, checked, packed_tuple, no_assignment, emission_of_call}
+use Rattle.py_steps.specs.EmissionParts.{in_turn, checked, packed_tuple, emission_of_call}
+use Rattle.py_steps.specs.Refused.{no_assignment}
 use Rattle.py_adds.proofs.Emitting.{Yields, after_these, keep_yields, next_as, regroup, regroup_late, scopes_as, ungroup}
 use Rattle.py_adds.proofs.Threaded.{Relation, Threaded, Alike, AlikeElement, same_length, same_starred, bare_alike, bare_length, groups_alike, threaded_as}
 use Rattle.py_adds.proofs.Steps.{StepAdds}

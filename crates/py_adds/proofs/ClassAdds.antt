@@ -12,7 +12,8 @@ use Rattle.py_forms.specs.Form.{Interp, Scope, VForm}
 use Rattle.py_forms.specs.Code.{Item, Do, cell_codes, class_code}
 use Rattle.py_forms.specs.Agree.{cells_of}
 use Rattle.py_steps.specs.Children.{load_cell}
-use Rattle.py_steps.specs.Classes.{behind_name, cell_returned, class_end, class_names, doc_const}
+use Rattle.py_steps.specs.Classes.{cell_returned, class_end, class_names}
+use Rattle.py_steps.specs.Within.{behind_name, doc_const}
 use Rattle.py_steps.specs.Context.{cell_place, class_cells}
 use Rattle.py_steps.specs.Elements.{Element, Single, Spread, starred}
 use Rattle.py_steps.specs.EmissionParts as emitting

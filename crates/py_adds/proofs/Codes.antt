@@ -9,8 +9,9 @@ use Rattle.py_scope.specs.declared.flat.ScopeEntry.{ScopeEntry}
 use Rattle.py_scope.specs.declared.symbols.Symbol.{Symbol}
 use Rattle.py_forms.specs.Form.{Scope}
 use Rattle.py_forms.specs.Code.{Item, Do, Label}
-use Rattle.py_forms.specs.Agree.{AllOf, OneOf, children, head_of, loaded}
-use Rattle.py_forms.specs.Agreement.{IsMade, objects}
+use Rattle.py_forms.specs.Agree.{AllOf, OneOf, head_of}
+use Rattle.py_forms.specs.CodeRuns.{children, loaded}
+use Rattle.py_simulation.specs.Made.{IsMade, objects}
 use Rattle.py_steps.specs.Everywhere.{Everywhere}
 use Rattle.py_steps.specs.Context.{room, symbols_in}
 use Rattle.py_adds.proofs.Naming.{IsMadeSo, Named}
@@ -64,7 +65,7 @@ Ground = List ℕ × List ScopeEntry
 pub record MadeFrom (ground : Ground) (p : Object × Scope) : Type 0 where
   pub from : (n : ℕ) → IsMade n p.0 p.1
   pub named : (n : ℕ) → IsMadeSo (Named ground.1) n p.0 p.1
-  pub well : Everywhere (WellMade ground.0) p.0
+  pub well : Everywhere (WellMade ground.0 ground.1) p.0
 
 -- Items load these objects of scopes. Of the constants that are entered the codes are among them, and they are among all constants.
 pub record Codes (ground : Ground) (made : List (Object × Scope)) (more all : List Const) (is : List (Item Scope)) : Type 0 where

@@ -7,14 +7,15 @@ use Rattle.py_bytecode.specs.declared.instruction.Instruction.TheVariants as op
 use Rattle.py_bytecode.specs.Objects as const
 use Rattle.py_bytecode.specs.Values.{Bare, Constant, Fast, Load, operation}
 use Rattle.py_bytecode.specs.Machine.{Access, Operate, ReturnConst, ReturnValue}
-use Rattle.py_forms.specs.declared.errors.CodegenErrorType.TheVariants as error
+use Rattle.py_base.specs.declared.errors.CodegenErrorType.TheVariants as error
 use Rattle.py_forms.specs.Form.{Interp, Scope, VForm, VForms, VOp, VMake, VMore, VNone, Target, TForm, Filters, NoFilter, MoreFilter, Clauses, CLast, CEach}
 use Rattle.py_forms.specs.Code.{Item, Do, append_code, code_bs, code_c, code_g, code_v, count, drop_code, each_code, labels_bs, labels_c, labels_g, labels_t, labels_v, labels_vs}
 use Rattle.py_forms.specs.Agree.{cells_of}
 use Rattle.py_steps.specs.TableParts.{counted}
 use Rattle.py_steps.specs.Context.{cell_place}
 use Rattle.py_steps.specs.Children.{child, made}
-use Rattle.py_steps.specs.Comprehensions.{ClauseEmissions, as_element, called_at_once, clause, clauses, comprehension, comprehension_inside, comprehension_shape, conditions, further_clauses, gathered, generated, handed_iterator, retold_in}
+use Rattle.py_steps.specs.Comprehensions.{ClauseEmissions, as_element, called_at_once, clause, clauses, comprehension, comprehension_shape, conditions, further_clauses, gathered, generated, handed_iterator, retold_in}
+use Rattle.py_steps.specs.Within.{comprehension_inside}
 use Rattle.py_steps.specs.Emitting.{Around, Emission, Outcome, State, Done, TooWide, Refused, ◌▸◌, begin, emit, emit_count, generating, jump}
 use Rattle.py_steps.specs.EmissionParts.{Emissions}
 use Rattle.py_adds.proofs.AccessAdds.{own_adds}

@@ -13,9 +13,9 @@ use Rattle.py_walks.specs.declared.info.InstructionInfo.{InstructionInfo}
 use Rattle.py_layout.specs.Written.{IsAssembled, decode, operand_in, reads}
 use Rattle.py_ir.specs.Chain.{Blk, blk, block_number, cut, body, flat}
 use Rattle.py_forms.specs.Code.{Item, Do, Label}
-use Rattle.py_forms.specs.Live.{stays, live}
+use Rattle.py_simulation.specs.Live.{stays, live}
 use Rattle.py_steps.specs.Emitting.{Step}
-use Rattle.py_forms.proofs.Stays.{stays_row}
+use Rattle.py_simulation.proofs.Stays.{stays_row}
 use Rattle.py_emit.specs.Steps.{step_of, onwards, steps_from}
 use Rattle.py_adds.proofs.Adding.{AllRead}
 use Rattle.py_emit.proofs.Chains.{Leads}

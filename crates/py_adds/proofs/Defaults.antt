@@ -8,7 +8,8 @@ use Rattle.py_steps.specs.TableParts.{any, some_built}
 use Rattle.py_steps.specs.EmissionParts as emitting
 use Rattle.py_steps.specs.EmissionParts.{map_of}
 use Rattle.py_steps.specs.Emitting.{Around, Emission, ◌▸◌}
-use Rattle.py_steps.specs.Children.{some_emitted, some_flag}
+use Rattle.py_steps.specs.Children.{some_emitted}
+use Rattle.py_steps.specs.Within.{some_flag}
 use Rattle.py_adds.proofs.CallAdds.{NamedAdds, map_of_adds}
 use Rattle.py_adds.proofs.DisplayAdds.{built_adds}
 use Rattle.py_adds.proofs.Emitting.{after_these, keep_yields, next_as, scopes_as}

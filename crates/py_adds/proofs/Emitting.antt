@@ -3,10 +3,11 @@ use Rattle.std.proofs.Common.{◌≡◌, ℕ, ◌+◌, ◌<◌, ◌^◌, List, [
 use Rattle.py_base.specs.declared.location.SourceLocation.{SourceLocation}
 use Rattle.py_forms.specs.Form.{Scope}
 use Rattle.py_forms.specs.Code.{Item}
-use Rattle.py_forms.specs.declared.errors.CodegenErrorType.{CodegenErrorType}
+use Rattle.py_base.specs.declared.errors.CodegenErrorType.{CodegenErrorType}
 use Rattle.py_steps.specs.Emitting.{Around, State, Outcome, Done, TooWide, Refused, LoopBlocks, Emission, ◌▸◌, go_on, keep, with_block, with_loops, with_postponed, located, by_context, by_level, by_loops, in_loop, new_block, move, nothing, pass_over, postponing, refuse}
 use Rattle.py_steps.specs.Context.{Context, room}
 use Rattle.py_adds.proofs.Settled.{Settled}
+use Rattle.py_adds.specs.Distinct.{AreDistinct}
 use Rattle.py_adds.proofs.Adding.{Added, Adds, adds_as, adds_join, adds_nothing, adds_plain}
 use Rattle.py_adds.proofs.Codes.{no_codes}
 
@@ -139,6 +140,8 @@ elsewhere s r a b c d e f = record {
   reads = λ i z t h. tt;
   inside = tt;
   around_are = f;
+  distinct = λ h. subst AreDistinct (sym a) h;
+  own_distinct = λ h. subst AreDistinct (sym b) h;
 }
 
 -- what changes none of these adds nothing
@@ -177,7 +180,7 @@ block_gives {c = c} {n = n} {p = p} {m = m} {P = P} a h = record {
           next_is = d.0.next_is;
           counted = d.0.counted;
           cells = d.0.cells;
-          added = record { names = x.names; names_are = x.names_are; varnames = x.varnames; varnames_are = x.varnames_are; constants = x.constants; constants_are = x.constants_are; codes = x.codes; blocks_are = (let f = x.blocks_are in omega (arith, f)); steps = x.steps; steps_are = x.steps_are; reads = x.reads; inside = x.inside; around_are = x.around_are };
+          added = record { names = x.names; names_are = x.names_are; varnames = x.varnames; varnames_are = x.varnames_are; constants = x.constants; constants_are = x.constants_are; codes = x.codes; blocks_are = (let f = x.blocks_are in omega (arith, f)); steps = x.steps; steps_are = x.steps_are; reads = x.reads; inside = x.inside; around_are = x.around_are; distinct = x.distinct; own_distinct = x.own_distinct };
         },
         d.1,
       );
@@ -227,7 +230,7 @@ loop_gives {c = c} {v = v} {p = p} {m = m} {l = l} x h = record {
           next_is = d.0.next_is;
           counted = d.0.counted;
           cells = d.0.cells;
-          added = record { names = y.names; names_are = y.names_are; varnames = y.varnames; varnames_are = y.varnames_are; constants = y.constants; constants_are = y.constants_are; codes = y.codes; blocks_are = y.blocks_are; steps = y.steps; steps_are = y.steps_are; reads = λ a q t w. y.reads a q t (record { names = w.names; names_are = w.names_are; varnames = w.varnames; varnames_are = w.varnames_are; constants = w.constants; constants_are = w.constants_are; cells_are = w.cells_are }); inside = y.inside; around_are = ap (λ (u : Around). record u { loops = s.around.loops }) y.around_are };
+          added = record { names = y.names; names_are = y.names_are; varnames = y.varnames; varnames_are = y.varnames_are; constants = y.constants; constants_are = y.constants_are; codes = y.codes; blocks_are = y.blocks_are; steps = y.steps; steps_are = y.steps_are; reads = λ a q t w. y.reads a q t (record { names = w.names; names_are = w.names_are; varnames = w.varnames; varnames_are = w.varnames_are; constants = w.constants; constants_are = w.constants_are; cells_are = w.cells_are }); inside = y.inside; around_are = ap (λ (u : Around). record u { loops = s.around.loops }) y.around_are; distinct = y.distinct; own_distinct = y.own_distinct };
         }),
         d.1,
       );
@@ -252,7 +255,7 @@ postponed_gives {c = c} {v = v} {p = p} {m = m} {l = l} h = record {
           next_is = d.0.next_is;
           counted = d.0.counted;
           cells = d.0.cells;
-          added = record { names = y.names; names_are = y.names_are; varnames = y.varnames; varnames_are = y.varnames_are; constants = y.constants; constants_are = y.constants_are; codes = y.codes; blocks_are = y.blocks_are; steps = y.steps; steps_are = y.steps_are; reads = λ a q t w. y.reads a q t (record { names = w.names; names_are = w.names_are; varnames = w.varnames; varnames_are = w.varnames_are; constants = w.constants; constants_are = w.constants_are; cells_are = w.cells_are }); inside = y.inside; around_are = ap (λ (u : Around). record u { context = record u.context { postponed = before } }) y.around_are };
+          added = record { names = y.names; names_are = y.names_are; varnames = y.varnames; varnames_are = y.varnames_are; constants = y.constants; constants_are = y.constants_are; codes = y.codes; blocks_are = y.blocks_are; steps = y.steps; steps_are = y.steps_are; reads = λ a q t w. y.reads a q t (record { names = w.names; names_are = w.names_are; varnames = w.varnames; varnames_are = w.varnames_are; constants = w.constants; constants_are = w.constants_are; cells_are = w.cells_are }); inside = y.inside; around_are = ap (λ (u : Around). record u { context = record u.context { postponed = before } }) y.around_are; distinct = y.distinct; own_distinct = y.own_distinct };
         }),
         d.1,
       );

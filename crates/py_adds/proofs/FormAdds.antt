@@ -13,7 +13,7 @@ use Rattle.py_steps.specs.Elements.{Element, Callee, Function, Method}
 use Rattle.py_steps.specs.Context.{mangled}
 use Rattle.py_steps.specs.TableParts as table
 use Rattle.py_steps.specs.TableParts.{ExprForms, parts_of, is_debug}
-use Rattle.py_forms.specs.declared.errors.CodegenErrorType.TheVariants as error
+use Rattle.py_base.specs.declared.errors.CodegenErrorType.TheVariants as error
 use Rattle.py_steps.specs.EmissionParts as emitting
 use Rattle.py_steps.specs.Emitting.{Around, Emission, ◌▸◌, emit, emit_mangled, keep, move, refuse}
 use Rattle.py_steps.specs.EmissionParts.{Emissions, unless_debug, in_turn}

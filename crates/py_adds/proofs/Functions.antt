@@ -17,8 +17,9 @@ use Rattle.py_forms.specs.Code.{Item, Do, closure_code, code_vs, has_cells, labe
 use Rattle.py_forms.specs.Agree.{AllOf, cells_of}
 use Rattle.py_steps.specs.Context.{Context, cell_place, frees_among, frees_here, mangled, room, symbols_in}
 use Rattle.py_steps.specs.Emitting.{Around, Emission, Outcome, Put, State, Done, TooWide, Refused, ◌▸◌, add_constant, add_varname, begun, emit, emit_constant, keep, place_in, with_constant, with_step, with_varname}
-use Rattle.py_steps.specs.Children.{Shape, behind_child, child, closure, code_head, enter_parameters, free_names, function_scope, made, on_sealed, some_flag}
-use Rattle.py_steps.specs.EmissionParts.{no_assignment}
+use Rattle.py_steps.specs.Children.{behind_child, child, closure, code_head, enter_parameters, free_names, function_scope, made, on_sealed}
+use Rattle.py_steps.specs.Within.{Shape, some_flag}
+use Rattle.py_steps.specs.Refused.{no_assignment}
 use Rattle.py_steps.specs.Sealed.{sealed}
 use Rattle.py_adds.proofs.Adding.{Added, Adds, added_join, adds_nothing, ground_in, ground_of, scopes_in, settled_adds}
 use Rattle.py_adds.proofs.Burden.{cells_in, cells-append}
@@ -72,6 +73,8 @@ code_adds o x s r made e =
         );
         inside = (tt, tt);
         around_are = refl;
+        distinct = λ h. h;
+        own_distinct = λ h. h;
       },
       refl,
     )

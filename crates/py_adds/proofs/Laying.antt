@@ -9,10 +9,10 @@ use Rattle.py_bytecode.specs.Blocks.{Place, Of, block_of, block_at}
 use Rattle.py_walks.specs.declared.info.InstructionInfo.{InstructionInfo}
 use Rattle.py_ir.specs.Chain.{Blk, blk, block_number, coded_item, coded_block, coded_blocks}
 use Rattle.py_forms.specs.Code.{Item, Do, Label}
-use Rattle.py_forms.specs.Blocks as blocks
-use Rattle.py_forms.specs.Blocks.{IsItem, Laid, Ends}
+use Rattle.py_simulation.specs.Blocks as blocks
+use Rattle.py_simulation.specs.Blocks.{IsItem, Laid, Ends}
 use Rattle.py_steps.specs.Emitting.{Step}
-use Rattle.py_forms.proofs.Laying.{laid_then}
+use Rattle.py_simulation.proofs.Laying.{laid_then}
 use Rattle.py_emit.specs.Steps.{step_of, onwards, steps_from}
 use Rattle.py_adds.proofs.Adding.{AllRead, Below, AllInside}
 use Rattle.py_emit.proofs.Chains.{Leads}

@@ -1,5 +1,6 @@
 pub mod Texts
 pub mod Burden
+pub mod DistinctNames
 pub mod WellMade
 pub mod Naming
 pub mod Codes

@@ -9,7 +9,7 @@ use Rattle.py_walks.specs.declared.info.InstructionInfo.{InstructionInfo}
 use Rattle.py_ir.specs.Chain.{Blk, blk, cut, body, flat}
 use Rattle.py_forms.specs.Code.{Item, Do, Label, size}
 use Rattle.py_steps.specs.Emitting.{Step}
-use Rattle.py_forms.proofs.Moves.{size-append}
+use Rattle.py_simulation.proofs.Moves.{size-append}
 use Rattle.py_emit.specs.Steps.{step_of, onwards, steps_from}
 use Rattle.py_adds.proofs.Adding.{AllRead}
 use Rattle.py_emit.proofs.Chains.{Leads}

@@ -15,8 +15,8 @@ use Rattle.py_forms.specs.Form.{Interp, Scope, VForm, VOp, VChoice, VAt, VMore, 
 use Rattle.py_forms.specs.Code.{Item, Do, Label, code_v, labels_v, labels_t, labels_ts, labels_ss, labels_ls, code_t, code_ts, code_ss, code_ls, link_code}
 use Rattle.py_steps.specs.TableParts as table
 use Rattle.py_steps.specs.TableParts.{ExprForms, no_operand, shorts_of, part_test, tests_of, bool_forms, unary_forms, links_of, compare_form, deciding, unary_operation, comparison_operation}
-use Rattle.py_forms.specs.declared.errors.CodegenErrorType.{CodegenErrorType}
-use Rattle.py_forms.specs.declared.errors.CodegenErrorType.TheVariants as error
+use Rattle.py_base.specs.declared.errors.CodegenErrorType.{CodegenErrorType}
+use Rattle.py_base.specs.declared.errors.CodegenErrorType.TheVariants as error
 use Rattle.py_steps.specs.EmissionParts as emitting
 use Rattle.py_steps.specs.Emitting.{Around, Emission, ◌▸◌, refuse, emit, jump, begin, move}
 use Rattle.py_steps.specs.EmissionParts.{Emissions, in_turn, shorts, bool_value, tests, bool_test, bool_emissions, unary_value, unary_emissions, emission_of_comparison, emission_of_link, links, chain, comparisons, emission_of_compare, choice}

@@ -10,7 +10,7 @@ use Rattle.py_bytecode.specs.Table.{row_of}
 use Rattle.py_walks.specs.declared.info.InstructionInfo.{InstructionInfo}
 use Rattle.py_layout.specs.Written.{InRange}
 use Rattle.py_forms.specs.Code.{Item, Do, Label, size}
-use Rattle.py_forms.proofs.Assembly.{is_label, occurs}
+use Rattle.py_simulation.proofs.Assembly.{is_label, occurs}
 use Rattle.py_steps.specs.Emitting.{Step, Put, Begin}
 use Rattle.py_steps.specs.Listed.{cut_steps, items_in, number_of, steps_at}
 use Rattle.py_emit.specs.Placed.{AllNamed, IsPlaced, begun_in}

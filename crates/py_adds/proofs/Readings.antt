@@ -14,8 +14,8 @@ use Rattle.py_forms.specs.Form.{Scope}
 use Rattle.py_forms.specs.Agree.{exactly, form_of}
 use Rattle.py_forms.specs.Code.{Item, labels, body_code}
 use Rattle.py_forms.specs.Looped.{Looped}
-use Rattle.py_forms.proofs.Assembly.{occurs}
-use Rattle.py_forms.proofs.Labels.{placed_once}
+use Rattle.py_simulation.proofs.Assembly.{occurs}
+use Rattle.py_simulation.proofs.Labels.{placed_once}
 use Rattle.py_sound.proofs.Blocks.{laid_is_sound}
 use Rattle.py_emit.specs.Steps.{steps_in}
 use Rattle.py_adds.proofs.Adding.{AllRead, AllInside}

@@ -13,7 +13,7 @@ use Rattle.py_ir.specs.Chain.{Blk, blk, block_number, body, coded_blocks, flat, 
 use Rattle.py_ir.specs.Checks.{lens_of, operand_fits}
 use Rattle.py_ir.specs.Refusals.{ItemAt, TooWide}
 use Rattle.py_forms.specs.Code.{Item, size}
-use Rattle.py_forms.proofs.Assembly.{occurs}
+use Rattle.py_simulation.proofs.Assembly.{occurs}
 use Rattle.py_emit.specs.Steps.{step_of, steps_in}
 use Rattle.py_adds.proofs.Adding.{AllRead, Below, AllInside}
 use Rattle.py_emit.proofs.Chains.{Leads, chain_leads, chain_short}

@@ -11,7 +11,7 @@ use Rattle.py_walks.specs.declared.info.InstructionInfo.{InstructionInfo}
 use Rattle.py_ir.specs.Chain.{Blk, blk, cut, body}
 use Rattle.py_forms.specs.Code.{Item, Do, Label}
 use Rattle.py_steps.specs.Emitting.{Step, Put, Begin}
-use Rattle.py_forms.proofs.Assembly.{occurs}
+use Rattle.py_simulation.proofs.Assembly.{occurs}
 use Rattle.py_emit.specs.Steps.{step_of, onwards, steps_from, Begun}
 use Rattle.py_adds.proofs.Adding.{Reads, AllRead, Below, AllInside}
 use Rattle.py_emit.proofs.Chains.{Leads}

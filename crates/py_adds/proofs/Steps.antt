@@ -9,13 +9,14 @@ use Rattle.py_bytecode.specs.Equality.{const_eq, text_eq, entered}
 use Rattle.py_bytecode.specs.Values.{Constant}
 use Rattle.py_bytecode.specs.Machine.{Instr}
 use Rattle.py_bytecode.specs.Decode.{Tables, instr_of, value_of}
-use Rattle.py_bytecode.proofs.Joining.{get_left}
+use Rattle.py_bytecode.proofs.Tables.{get_left}
 use Rattle.py_walks.specs.Flat.{is_jump}
 use Rattle.py_forms.specs.Form.{Scope}
 use Rattle.py_forms.specs.Code.{Item, Do, Label}
 use Rattle.py_forms.specs.Places.{instr_over}
 use Rattle.py_steps.specs.Emitting.{Put, Begin, State, Outcome, Done, TooWide, Around, Emission, with_step, with_name, with_varname, with_constant, emit, jump, begin}
-use Rattle.py_forms.specs.Agree.{loaded}
+use Rattle.py_forms.specs.CodeRuns.{loaded}
+use Rattle.py_adds.proofs.DistinctNames.{entered_distinct}
 use Rattle.py_adds.proofs.Adding.{Added, Begins, Adds, IsPlain, added_step, adds_step}
 use Rattle.py_adds.proofs.Codes.{by_number, codes_after, no_codes}
 use Rattle.py_adds.proofs.Emitting.{Yields, yields, done_is}
@@ -108,6 +109,8 @@ adds_named x s r is m l h =
         reads = a.reads;
         inside = a.inside;
         around_are = a.around_are;
+        distinct = λ d. a.distinct (entered_distinct s.names x d);
+        own_distinct = a.own_distinct;
       };
     }
 
@@ -136,6 +139,8 @@ adds_own x s r is m l h =
         reads = a.reads;
         inside = a.inside;
         around_are = a.around_are;
+        distinct = a.distinct;
+        own_distinct = λ d. a.own_distinct (entered_distinct s.varnames x d);
       };
     }
 
@@ -178,5 +183,7 @@ adds_constant c v s r is m l h =
         reads = a.reads;
         inside = a.inside;
         around_are = a.around_are;
+        distinct = a.distinct;
+        own_distinct = a.own_distinct;
       };
     }

@@ -11,9 +11,10 @@ use Rattle.py_steps.specs.Elements.{Element, bare, stars, before_star, after_sta
 use Rattle.py_steps.specs.TableParts.{TargetForms, plain_target, targets_of, unpacking, unpacked_to, counted}
 use Rattle.py_steps.specs.Emitting.{Around, Emission, ◌▸◌, emit, emit_count, move, refuse}
 use Rattle.py_steps.specs.EmissionParts as emitting
-use Rattle.py_steps.specs.EmissionParts.{Stores, plain_store, in_turn, few_aside, unpack, unpack_starred, unless_debug}
-use Rattle.py_forms.specs.declared.errors.CodegenErrorType.{CodegenErrorType}
-use Rattle.py_forms.specs.declared.errors.CodegenErrorType.TheVariants as error
+use Rattle.py_steps.specs.EmissionParts.{Stores, plain_store, in_turn, unpack, unpack_starred, unless_debug}
+use Rattle.py_steps.specs.Refused.{few_aside}
+use Rattle.py_base.specs.declared.errors.CodegenErrorType.{CodegenErrorType}
+use Rattle.py_base.specs.declared.errors.CodegenErrorType.TheVariants as error
 use Rattle.py_adds.proofs.Emitting.{Yields, after_these, keep_yields, moved_refused, refused_gives, scopes_as, then_these, then_yields}
 use Rattle.py_adds.proofs.Threaded.{Relation, Threaded, Alike, AlikeElement, same_length, same_stars, same_before, same_after, bare_alike, bare_length, around_star}
 use Rattle.py_adds.proofs.Steps.{StepAdds, StepHere}

@@ -8,12 +8,20 @@ use Rattle.py_walks.specs.Walks.{IsDepth}
 use Rattle.py_walks.specs.declared.info.InstructionInfo.{InstructionInfo}
 use Rattle.py_layout.specs.Written.{IsAssembled}
 use Rattle.py_forms.specs.Agree.{AllOf}
+use Rattle.py_scope.specs.declared.flat.ScopeEntry.{ScopeEntry}
+use Rattle.py_steps.specs.Context.{cells_among, frees_among, symbols_in}
+use Rattle.py_adds.specs.Distinct.{AreDistinct}
 use Rattle.py_steps.specs.Everywhere.{Everywhere, UpTo}
-use Rattle.py_forms.specs.Laws.{IsEnd}
+use Rattle.py_simulation.specs.Laws.{IsEnd}
+
+-- its cells and its free names are those of a scope with some number
+abbrev pub IsCelled : List ScopeEntry → Object → Type 0
+IsCelled scopes o =
+    (number : ℕ) × ((head o).cellvars ≡ cells_among (symbols_in scopes number)) × ((head o).freevars ≡ frees_among (symbols_in scopes number))
 
 -- its runs end; it is sound, and its depth is the greatest height on a walk; its units are few, and are instructions in the least
--- widths, with a location for each; and it names the source
-pub record WellMade (source : List ℕ) (o : Object) : Type 0 where
+-- widths, with a location for each; it names the source; it has no name twice; and its cells are those of a scope
+pub record WellMade (source : List ℕ) (scopes : List ScopeEntry) (o : Object) : Type 0 where
   pub ends : (answers : List Answer) → IsEnd (machine o answers).outcome
   pub sound : sound o
   pub depth : IsDepth (code_look o) 0 (head o).max_stackdepth
@@ -21,6 +29,9 @@ pub record WellMade (source : List ℕ) (o : Object) : Type 0 where
   pub located : length (head o).locations ≡ length (head o).instructions
   pub few : length (head o).instructions < 2 ^ 32
   pub named : (head o).source_path ≡ source
+  pub names : AreDistinct (head o).names
+  pub varnames : AreDistinct (head o).varnames
+  pub celled : IsCelled scopes o
 
 pub all_so : {A : Type 0} (P Q : A → Type 0) (h : (x : A) → P x → Q x) (xs : List A) → AllOf P xs → AllOf Q xs
 all_so P Q h [] a = tt

@@ -16,21 +16,23 @@ use Rattle.py_ir.specs.Chain.{Blk, IsChain, coded_block, coded_blocks, flat}
 use Rattle.py_ir.proofs.Ending.{listed_is}
 use Rattle.py_forms.specs.Form.{Scope}
 use Rattle.py_forms.specs.Code.{Item, labels, body_code, size}
-use Rattle.py_forms.specs.Live.{live}
+use Rattle.py_simulation.specs.Live.{live}
 use Rattle.py_forms.specs.Looped.{Looped}
-use Rattle.py_forms.specs.Agree.{AllOf, children, exactly, form_of, runs_code}
-use Rattle.py_forms.specs.Agreement.{IsMade, SameMembers, objects}
+use Rattle.py_forms.specs.Agree.{AllOf, exactly, form_of}
+use Rattle.py_forms.specs.CodeRuns.{children, runs_code}
+use Rattle.py_simulation.specs.Made.{IsMade, SameMembers, objects}
 use Rattle.py_steps.specs.Everywhere.{Everywhere, UpTo}
-use Rattle.py_forms.specs.Laws.{IsEnd}
-use Rattle.py_forms.proofs.Agreement.{each_to}
-use Rattle.py_forms.proofs.CodeOver.{code_over}
-use Rattle.py_forms.proofs.LabelCount.{labels_counted}
-use Rattle.py_forms.proofs.Labels.{never_placed, once}
-use Rattle.py_forms.proofs.LaidOut.{laid_runs}
-use Rattle.py_forms.proofs.Laws.{scope_ends}
-use Rattle.py_forms.proofs.OtherChildren.{children_over}
+use Rattle.py_simulation.specs.Laws.{IsEnd}
+use Rattle.py_simulation.proofs.Agreement.{each_to}
+use Rattle.py_simulation.proofs.CodeOver.{code_over}
+use Rattle.py_simulation.proofs.LabelCount.{labels_counted}
+use Rattle.py_simulation.proofs.Labels.{never_placed, once}
+use Rattle.py_simulation.proofs.LaidOut.{laid_runs}
+use Rattle.py_simulation.proofs.Laws.{scope_ends}
+use Rattle.py_simulation.proofs.OtherChildren.{children_over}
 use Rattle.py_steps.specs.Context.{Context, cells_among, frees_among, room, symbols_in}
-use Rattle.py_steps.specs.Children.{Shape, code_head}
+use Rattle.py_steps.specs.Children.{code_head}
+use Rattle.py_steps.specs.Within.{Shape}
 use Rattle.py_steps.specs.Emitting.{Emission, State, Done, begun}
 use Rattle.py_steps.specs.Listed.{items_in, steps_at}
 use Rattle.py_steps.specs.Sealed.{Head, sealed, tables_in}
@@ -40,6 +42,7 @@ use Rattle.py_emit.proofs.Chains.{chain_leads, chain_short}
 use Rattle.py_emit.proofs.Placed.{chain_in, long, steps_back}
 use Rattle.py_emit.proofs.Sealed.{items_are}
 use Rattle.py_emit.proofs.SealedLaid.{sealed_runs}
+use Rattle.py_adds.specs.Distinct.{AreDistinct}
 use Rattle.py_adds.proofs.Adding.{AllInside, AllRead, Begins, Completes, cells_of, completed, ground_of, read_as}
 use Rattle.py_adds.proofs.Burden.{burden, burden_is, cells_in, cells_over, labels_few}
 use Rattle.py_adds.proofs.Codes.{AllKnown, MadeFrom, Numbered, all_known, all_stand, by_number, number_of, room_more, scopes, stand_at}
@@ -159,12 +162,12 @@ module _ (c : Context) (at : SourceLocation) (k : ℕ) (s : Scope) (t : State) (
   )
 
   -- what is well made has well made code objects among its constants
-  well_of : (o : Object) → WellMade c.source o → codes_in (constants o) ≡ codes_in t.constants → Everywhere (WellMade c.source) o
+  well_of : (o : Object) → WellMade c.source c.scopes o → codes_in (constants o) ≡ codes_in t.constants → Everywhere (WellMade c.source c.scopes) o
   well_of o well codes zero = tt
   well_of o well codes (suc n) = (
     well,
-    subst (AllOf (UpTo (WellMade c.source) n)) (sym codes)
-        (all_known (UpTo (WellMade c.source) n) e.adds.made (all_so (MadeFrom (ground_of c)) (λ p. UpTo (WellMade c.source) n p.0) (λ p h. h.well n) e.adds.made e.adds.added.codes.from_scopes) (codes_in t.constants) known),
+    subst (AllOf (UpTo (WellMade c.source c.scopes) n)) (sym codes)
+        (all_known (UpTo (WellMade c.source c.scopes) n) e.adds.made (all_so (MadeFrom (ground_of c)) (λ p. UpTo (WellMade c.source c.scopes) n p.0) (λ p h. h.well n) e.adds.made e.adds.added.codes.from_scopes) (codes_in t.constants) known),
   )
 
   module _ (level : ℕ) (h : Head) (named : h.source_path ≡ c.source) (cellvars : h.cellvars ≡ c.cells) (freevars : h.freevars ≡ c.frees) where
@@ -254,6 +257,14 @@ module _ (c : Context) (at : SourceLocation) (k : ℕ) (s : Scope) (t : State) (
     unfolding sealed
     sealed_cells = record { cells = cellvars ∙ e.says.cells; frees = freevars ∙ e.says.frees }
 
+    sealed_names : AreDistinct (const.head (sealed level h t)).names
+    unfolding sealed
+    sealed_names = e.adds.added.distinct tt
+
+    sealed_own : AreDistinct (const.head (sealed level h t)).varnames
+    unfolding sealed
+    sealed_own = e.adds.added.own_distinct tt
+
     abbrev units : List CodeUnit
     units = (const.head (sealed level h t)).instructions
 
@@ -265,7 +276,7 @@ module _ (c : Context) (at : SourceLocation) (k : ℕ) (s : Scope) (t : State) (
         let z = fit.few in
         omega (arith, u, l, z)
 
-    well : WellMade c.source (sealed level h t)
+    well : WellMade c.source c.scopes (sealed level h t)
     well = record {
       ends = λ answers. subst (λ r. IsEnd r.outcome) (sym (runs answers)) (scope_ends child_at s e.looped answers);
       sound = of.sound;
@@ -274,6 +285,9 @@ module _ (c : Context) (at : SourceLocation) (k : ℕ) (s : Scope) (t : State) (
       located = as_located of.laid.starts (flat level bs of.laid.chain) units (const.head (sealed level h t)).locations of.laid.assembled;
       few = few_units;
       named = sealed_named;
+      names = sealed_names;
+      varnames = sealed_own;
+      celled = (number_of s, sealed_cells.cells, sealed_cells.frees);
     }
 
     pub sealed_made : MadeFrom (ground_of c) (sealed level h t, s)

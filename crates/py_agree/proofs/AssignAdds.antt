@@ -20,13 +20,15 @@ use Rattle.py_steps.specs.Accesses.{accessed, emission_of_name}
 use Rattle.py_meaning.specs.Table.{expr_form, target_form}
 use Rattle.py_meaning.specs.StmtParts.{removal, removals, assigned, assign_form, augment_form, declared_form, annotated_form, annotation_target}
 use Rattle.py_steps.specs.Emitting.{Around, Emission, ◌▸◌, refuse, by_context, emit, emit_mangled, emit_name, emit_constant, pass_over}
-use Rattle.py_steps.specs.EmissionParts.{unless_debug, no_assignment, no_deletion, pass_scopes}
-use Rattle.py_emission.specs.Emission.{deletion_name, emission, emission_of_store, emission_of_delete, emission_of_deletes}
-use Rattle.py_meaning.specs.EmissionDefs.{emission_of_note}
+use Rattle.py_steps.specs.EmissionParts.{unless_debug, pass_scopes}
+use Rattle.py_steps.specs.Refused.{no_assignment, no_deletion}
+use Rattle.py_emission.specs.Emission.{emission, emission_of_store, emission_of_delete, emission_of_deletes}
+use Rattle.py_emission.specs.Predicates.{deletion_name}
+use Rattle.py_emission.specs.EmissionDefs.{emission_of_note}
 use Rattle.py_meaning.specs.TableNotes.{note_form}
-use Rattle.py_meaning.specs.EmissionStmts.{emission_of_assign, emission_of_augment, emission_of_declared, emission_of_annotated, emission_of_annotation}
-use Rattle.py_forms.specs.declared.errors.CodegenErrorType.{CodegenErrorType}
-use Rattle.py_forms.specs.declared.errors.CodegenErrorType.TheVariants as error
+use Rattle.py_emission.specs.EmissionStmts.{emission_of_assign, emission_of_augment, emission_of_declared, emission_of_annotated, emission_of_annotation}
+use Rattle.py_base.specs.declared.errors.CodegenErrorType.{CodegenErrorType}
+use Rattle.py_base.specs.declared.errors.CodegenErrorType.TheVariants as error
 use Rattle.py_adds.proofs.Emitting.{Yields, after_these, context_gives, gives_as, keep_yields, next_as, pass_yields, refused_gives, regroup, regroup_late, scopes_as, then_these, then_yields, ungroup}
 use Rattle.py_adds.proofs.Threaded.{Relation}
 use Rattle.py_adds.proofs.Steps.{StepHere}

@@ -18,7 +18,8 @@ use Rattle.py_forms.specs.Code.{count as count_parts}
 use Rattle.py_forms.specs.Looped.{Looped}
 use Rattle.py_forms.specs.Agree.{cells_of, form_of}
 use Rattle.py_scope.specs.declared.table_type.SymbolTableType.TheVariants as kind
-use Rattle.py_steps.specs.Classes.{behind_name, class_end, class_names, class_path, class_shape, class_within}
+use Rattle.py_steps.specs.Classes.{class_end, class_names, class_shape}
+use Rattle.py_steps.specs.Within.{behind_name, class_path, class_within}
 use Rattle.py_steps.specs.Context.{Context, cell_place, class_cells, head_of, inside, room, with_path, within_class}
 use Rattle.py_steps.specs.Elements.{Function}
 use Rattle.py_steps.specs.Emitting.{Around, Emission, State, ◌▸◌, begun, by_level, emit, emit_constant}
@@ -27,9 +28,10 @@ use Rattle.py_steps.specs.EmissionParts as emitting
 use Rattle.py_steps.specs.TableParts as table
 use Rattle.py_emission.specs.Emission.{all_emissions, keyword_emissions}
 use Rattle.py_emission.specs.Texts.{after_doc, doc_of}
-use Rattle.py_meaning.specs.EmissionDefs.{class_call, class_function, class_scope, emission_of_class, emission_of_setup}
+use Rattle.py_emission.specs.EmissionDefs.{class_call, class_function, class_scope, emission_of_class, emission_of_setup}
 use Rattle.py_meaning.specs.StmtCounts.{scopes_in_stmts}
-use Rattle.py_meaning.specs.StmtParts.{annotated, class_value}
+use Rattle.py_meaning.specs.StmtParts.{class_value}
+use Rattle.py_emission.specs.Predicates.{annotated}
 use Rattle.py_meaning.specs.Table.{all_forms, keyword_forms}
 use Rattle.py_meaning.specs.TableScopes.{build_class, class_form, setup_form}
 use Rattle.py_meaning.specs.TableStmts.{rest_form}

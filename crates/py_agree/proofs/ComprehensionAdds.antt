@@ -11,7 +11,8 @@ use Rattle.py_scope.specs.declared.table_type.SymbolTableType.TheVariants as kin
 use Rattle.py_forms.specs.Form.{Scope, MkScope, SForm, VForm, VForms, VAt, VMore, VNone}
 use Rattle.py_forms.specs.Code.{body_code, count}
 use Rattle.py_forms.specs.Agree.{exactly}
-use Rattle.py_steps.specs.Comprehensions.{as_element, comprehension, comprehension_inside, comprehension_shape, gathered, generated}
+use Rattle.py_steps.specs.Comprehensions.{as_element, comprehension, comprehension_shape, gathered, generated}
+use Rattle.py_steps.specs.Within.{comprehension_inside}
 use Rattle.py_steps.specs.Context.{Context, head_of, inside, room}
 use Rattle.py_steps.specs.EmissionParts as emitting
 use Rattle.py_steps.specs.Emitting.{Around, Emission, ◌▸◌, move}

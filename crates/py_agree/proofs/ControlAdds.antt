@@ -8,7 +8,7 @@ use Rattle.py_bytecode.specs.Machine.{Access, Duplicate, Jump, JumpIf, Operate, 
 use Rattle.py_forms.specs.Code.{Item, Do, Label, any_code, for_code, if_code, with_code, tail_code, try_code, typed_code, last_code}
 use Rattle.py_steps.specs.TableParts.{counted}
 use Rattle.py_steps.specs.Emitting.{Around, Emission, LoopBlocks, ◌▸◌, begin, emit, emit_count, emit_name, in_loop, jump, move}
-use Rattle.py_meaning.specs.ControlEmissions.{any_match, asserted, before_last, finally_do, for_each, handler, managed, to_last, try_body, typed_match}
+use Rattle.py_emission.specs.ControlEmissions.{any_match, asserted, before_last, finally_do, for_each, handler, managed, to_last, try_body, typed_match}
 use Rattle.py_adds.proofs.Emitting.{Gives, Yields, after_these, block_gives, counts_as, from_as, gives_as, keep_yields, loop_gives, looping, moved_gives, next_as, regroup, scopes_as, so, then_gives, then_these, then_yields, three_blocks_give}
 use Rattle.py_adds.proofs.Steps.{begin_adds}
 use Rattle.py_adds.proofs.Instructions.{call_adds, duplicate_adds, going_adds, pop_adds, pop_block_adds, setup_loop_adds, testing_adds}

@@ -9,7 +9,7 @@ use Rattle.py_forms.specs.Looped.{Looped}
 use Rattle.py_meaning.specs.StmtCounts.{scopes_in_stmt, scopes_in_stmts}
 use Rattle.py_meaning.specs.TableStmts.{stmt_form, stmts_form}
 use Rattle.py_steps.specs.Emitting.{Around, Emission, LoopBlocks, ◌▸◌, move}
-use Rattle.py_meaning.specs.EmissionStmts.{emission_of_stmt, emission_of_stmts}
+use Rattle.py_emission.specs.EmissionStmts.{emission_of_stmt, emission_of_stmts}
 use Rattle.py_adds.proofs.Emitting.{Gives, moved_gives, so}
 use Rattle.py_agree.proofs.Told.{outer, told}
 use Rattle.py_agree.proofs.AssignAdds.{ActAdds}

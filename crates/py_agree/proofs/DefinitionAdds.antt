@@ -13,8 +13,8 @@ use Rattle.py_forms.specs.Fit.{Loops}
 use Rattle.py_forms.specs.Code.{Item, closes, closing, labels, code}
 use Rattle.py_steps.specs.Context.{Context, head_of, inside, mangled, with_path, within_class}
 use Rattle.py_steps.specs.Accesses.{emission_of_stored}
-use Rattle.py_steps.specs.Children.{decorated, function_inside}
-use Rattle.py_steps.specs.Classes.{class_path, class_within}
+use Rattle.py_steps.specs.Children.{decorated}
+use Rattle.py_steps.specs.Within.{class_path, class_within, function_inside}
 use Rattle.py_steps.specs.TableParts as table
 use Rattle.py_steps.specs.EmissionParts as emitting
 use Rattle.py_emission.specs.Texts.{after_doc, stmt_text, unless_text}
@@ -22,17 +22,19 @@ use Rattle.py_meaning.specs.StmtCounts.{hidden_scope, scopes_in_all_notes, scope
 use Rattle.py_meaning.specs.Table.{all_forms, expr_form}
 use Rattle.py_meaning.specs.TableScopes.{iterator}
 use Rattle.py_meaning.specs.TableScopes as forms
-use Rattle.py_meaning.specs.EmissionDefs as emitting_defs
-use Rattle.py_meaning.specs.EmissionDefs.{emission_of_built, emission_of_end, emission_of_function}
+use Rattle.py_emission.specs.EmissionDefs as emitting_defs
+use Rattle.py_emission.specs.EmissionDefs.{emission_of_built, emission_of_end, emission_of_function}
 use Rattle.py_meaning.specs.TableParams.{alias_value, around_own, built_value, defined, function_number, own_number}
 use Rattle.py_meaning.specs.TableStmts.{ended_form, function_body, rest_form, stmt_form, stmts_form}
-use Rattle.py_meaning.specs.StmtParts.{after_stmt, but_doc, is_return, unless_last}
+use Rattle.py_meaning.specs.StmtParts.{after_stmt, unless_last}
+use Rattle.py_emission.specs.Predicates.{but_doc, is_return}
 use Rattle.py_steps.specs.Emitting.{Around, Emission, ◌▸◌, emit_constant, keep, move}
-use Rattle.py_steps.specs.EmissionParts.{no_assignment, only_in_function, pass_scopes}
+use Rattle.py_steps.specs.EmissionParts.{only_in_function, pass_scopes}
+use Rattle.py_steps.specs.Refused.{no_assignment}
 use Rattle.py_emission.specs.Emission.{all_emissions, emission}
 use Rattle.py_tree.specs.PythonName.{python_name}
-use Rattle.py_forms.specs.declared.errors.CodegenErrorType.TheVariants as error
-use Rattle.py_meaning.specs.EmissionStmts.{emission_of_rest, emission_of_stmt, emission_of_stmts}
+use Rattle.py_base.specs.declared.errors.CodegenErrorType.TheVariants as error
+use Rattle.py_emission.specs.EmissionStmts.{emission_of_rest, emission_of_stmt, emission_of_stmts}
 use Rattle.py_adds.proofs.Emitting.{gives_as, moved_refused, outside, scopes_as, then_gives, then_keep, ungroup}
 use Rattle.py_adds.proofs.TypeParameterAdds.{plain_alias_adds}
 use Rattle.py_sizes.proofs.ProgramSizes.{hidden_alias_small, hidden_class_small, hidden_function_small}

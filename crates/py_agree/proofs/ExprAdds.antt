@@ -23,14 +23,15 @@ use Rattle.py_steps.specs.TableParts.{binary, binary_case, conversion_case, coun
 use Rattle.py_meaning.specs.Table.{after, after_clauses, expr_forms, all_forms, opt_form, key_forms, value_forms, keyword_forms, clause_forms, further_forms, filter_forms, default_forms, positional_defaults, keyword_defaults, target_forms, all_targets}
 use Rattle.py_meaning.specs.Table.{unbuilt as empty}
 use Rattle.py_meaning.specs.TableScopes.{default_parts, iterator}
-use Rattle.py_forms.specs.declared.errors.CodegenErrorType.{CodegenErrorType}
-use Rattle.py_forms.specs.declared.errors.CodegenErrorType.TheVariants as error
+use Rattle.py_base.specs.declared.errors.CodegenErrorType.{CodegenErrorType}
+use Rattle.py_base.specs.declared.errors.CodegenErrorType.TheVariants as error
 use Rattle.py_steps.specs.Context.{is_function, mangled}
-use Rattle.py_steps.specs.Comprehensions.{comprehension_inside}
+use Rattle.py_steps.specs.Within.{comprehension_inside, lambda_inside}
 use Rattle.py_steps.specs.Accesses.{accessed, emission_of_name}
-use Rattle.py_steps.specs.Children.{emission_of_defaults, lambda_inside}
+use Rattle.py_steps.specs.Children.{emission_of_defaults}
 use Rattle.py_steps.specs.EmissionParts as emitting
-use Rattle.py_steps.specs.EmissionParts.{constant_emissions, emission_of_dict, no_assignment, lone_star, only_in_function}
+use Rattle.py_steps.specs.EmissionParts.{constant_emissions, emission_of_dict, only_in_function}
+use Rattle.py_steps.specs.Refused.{no_assignment, lone_star}
 use Rattle.py_steps.specs.Emitting.{Around, Emission, ◌▸◌, by_level, refuse, emit, emit_mangled, emit_constant, generating, move}
 use Rattle.py_emission.specs.Awaits.{awaits, some_async}
 use Rattle.py_emission.specs.Emission.{clause_emissions, default_emissions, emissions, all_emissions, joined_return, keyword_emissions, keyword_only_emissions, opt_emission, opt_emissions, positional_emissions, stores, all_stores}

@@ -16,14 +16,15 @@ use Rattle.py_forms.specs.Agree.{cells_of}
 use Rattle.py_steps.specs.Context.{Context, cell_place, head_of, inside, mangled, qualified, room, with_path}
 use Rattle.py_steps.specs.Emitting.{Around, Emission, Outcome, State, Done, TooWide, Refused, ◌▸◌, by_context, by_level, emit_constant, emit_count, go_on}
 use Rattle.py_steps.specs.EmissionParts.{built, in_turn}
-use Rattle.py_steps.specs.Children.{Shape, child, decorated, decorations, documented, emission_of_defaults, flags_of_defaults, function_inside, function_made, function_scope, made, noted, some_emitted, some_flag}
+use Rattle.py_steps.specs.Children.{child, decorated, decorations, documented, emission_of_defaults, flags_of_defaults, function_made, function_scope, made, noted, some_emitted}
+use Rattle.py_steps.specs.Within.{Shape, function_inside, some_flag}
 use Rattle.py_steps.specs.TableParts as table
 use Rattle.py_steps.specs.TableParts.{counted, map_of, name_values, named, parts_of, some_built}
 use Rattle.py_emission.specs.Emission.{default_emissions, emission, keyword_only_emissions, positional_emissions}
 use Rattle.py_emission.specs.Parameters.{function_shape, parameters}
 use Rattle.py_emission.specs.Texts.{doc_of}
-use Rattle.py_meaning.specs.EmissionDefs as emitting
-use Rattle.py_meaning.specs.EmissionDefs.{emission_of_def, emission_of_note, notes}
+use Rattle.py_emission.specs.EmissionDefs as emitting
+use Rattle.py_emission.specs.EmissionDefs.{emission_of_def, emission_of_note, notes}
 use Rattle.py_meaning.specs.StmtCounts.{scopes_in_all_notes, scopes_in_stmts}
 use Rattle.py_meaning.specs.StmtParts.{function_value}
 use Rattle.py_meaning.specs.Table.{default_forms, keyword_defaults, positional_defaults}

@@ -8,17 +8,17 @@ use Rattle.py_bytecode.specs.Objects as const
 use Rattle.py_bytecode.specs.Values.{operation, Bare}
 use Rattle.py_forms.specs.Form.{MkScope, SForm, SReturn, Scope, VForm, VForms, VConst, VMake, VMore, VNone, VSwap}
 use Rattle.py_forms.specs.Code.{count}
-use Rattle.py_steps.specs.Children.{emission_of_defaults, flags_of_defaults, function_inside, some_flag}
-use Rattle.py_steps.specs.Classes.{behind_name, class_path, class_within}
+use Rattle.py_steps.specs.Children.{emission_of_defaults, flags_of_defaults}
+use Rattle.py_steps.specs.Within.{behind_name, class_path, class_within, function_inside, handed, handed_parts, hidden_inside, some_flag}
 use Rattle.py_steps.specs.Context.{Context, head_of, inside, qualified, with_path, within_class}
 use Rattle.py_steps.specs.Elements.{Function}
 use Rattle.py_steps.specs.Emitting.{Around, Emission, ◌▸◌, by_context, keep}
 use Rattle.py_steps.specs.TableParts.{any, built, elements, map_of, some_built}
 use Rattle.py_steps.specs.TypeParameters as emitted
-use Rattle.py_steps.specs.TypeParameters.{generic_alias, handed, handed_parts, hidden, hidden_inside, load_handed, plain_alias}
+use Rattle.py_steps.specs.TypeParameters.{generic_alias, hidden, load_handed, plain_alias}
 use Rattle.py_emission.specs.Emission.{default_emissions, emission}
-use Rattle.py_meaning.specs.EmissionDefs as emitting
-use Rattle.py_meaning.specs.EmissionDefs.{class_call, class_function, emission_of_generic_class, emission_of_generic_def, emission_of_params}
+use Rattle.py_emission.specs.EmissionDefs as emitting
+use Rattle.py_emission.specs.EmissionDefs.{class_call, class_function, emission_of_generic_class, emission_of_generic_def, emission_of_params}
 use Rattle.py_meaning.specs.StmtCounts.{scopes_in_all_notes, scopes_in_params, scopes_in_stmts}
 use Rattle.py_meaning.specs.StmtParts.{class_value, function_value}
 use Rattle.py_emission.specs.Texts.{doc_of}

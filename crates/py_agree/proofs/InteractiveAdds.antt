@@ -16,10 +16,11 @@ use Rattle.py_forms.specs.Code.{closes, labels, labels_v}
 use Rattle.py_steps.specs.Context.{Context, mangled}
 use Rattle.py_steps.specs.Emitting.{Around, Emission, ◌▸◌, emit, move}
 use Rattle.py_emission.specs.Emission.{emission}
-use Rattle.py_meaning.specs.EmissionMods.{emission_of_block, emission_of_interactive, emission_of_prompt, emission_of_single, emission_of_value, stored_and_returned}
+use Rattle.py_emission.specs.EmissionMods.{emission_of_block, emission_of_interactive, emission_of_prompt, emission_of_single, emission_of_value, stored_and_returned}
 use Rattle.py_meaning.specs.Interactive.{block_form, interactive_form, last_form, printing, prompt_form, single_form}
-use Rattle.py_meaning.specs.EmissionFutures.{emission_of_future, following}
-use Rattle.py_meaning.specs.Futures.{Future, after_future, future_form, future_of}
+use Rattle.py_emission.specs.EmissionFutures.{emission_of_future, following}
+use Rattle.py_emission.specs.Futures.{Future, after_future, future_of}
+use Rattle.py_meaning.specs.TableImports.{future_form}
 use Rattle.py_meaning.specs.StmtCounts.{scopes_in_stmt, scopes_in_stmts}
 use Rattle.py_meaning.specs.StmtParts.{after_stmt}
 use Rattle.py_meaning.specs.Table.{after, expr_form}

@@ -10,7 +10,8 @@ use Rattle.py_bytecode.specs.Values.{Child}
 use Rattle.py_scope.specs.declared.table_type.SymbolTableType.TheVariants as kind
 use Rattle.py_forms.specs.Form.{Scope, MkScope, VForm, VMake, VNone, SReturn}
 use Rattle.py_forms.specs.Code.{count, labels_vs, make_code}
-use Rattle.py_steps.specs.Children.{child, emission_of_defaults, flags_of_defaults, function_scope, lambda_inside, made, some_emitted}
+use Rattle.py_steps.specs.Children.{child, emission_of_defaults, flags_of_defaults, function_scope, made, some_emitted}
+use Rattle.py_steps.specs.Within.{lambda_inside}
 use Rattle.py_steps.specs.Context.{Context, head_of, inside, room}
 use Rattle.py_steps.specs.EmissionParts as emitting
 use Rattle.py_steps.specs.EmissionParts.{pass_scopes}

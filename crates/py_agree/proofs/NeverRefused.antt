@@ -11,7 +11,7 @@ use Rattle.py_scope.specs.declared.flat.ScopeEntry.{ScopeEntry}
 use Rattle.py_steps.specs.Context.{outermost, room}
 use Rattle.py_meaning.specs.Meaning.{body}
 use Rattle.py_steps.specs.Emitting.{State, Done}
-use Rattle.py_meaning.specs.EmissionMods.{emitted}
+use Rattle.py_emission.specs.EmissionMods.{emitted}
 use Rattle.py_emit.specs.Emitted.{Holds}
 use Rattle.py_steps.specs.Sealed.{Head}
 use Rattle.py_emit.specs.States.{IsUnrefused}

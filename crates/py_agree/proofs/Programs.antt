@@ -15,14 +15,14 @@ use Rattle.py_forms.specs.Agree.{exactly, form_of}
 use Rattle.py_emission.specs.Texts.{after_doc, doc_of, first_text, unless_text}
 use Rattle.py_steps.specs.Context.{Context, head_of, inside, outermost, room}
 use Rattle.py_steps.specs.Emitting.{Around, State, Done, nothing}
-use Rattle.py_meaning.specs.EmissionMods.{emission_of_doc, emission_of_interactive, emission_of_program, emitted}
+use Rattle.py_emission.specs.EmissionMods.{emission_of_doc, emission_of_interactive, emission_of_program, emitted}
 use Rattle.py_meaning.specs.Interactive.{interactive_form}
 use Rattle.py_meaning.specs.Meaning.{body, mod_form}
 use Rattle.py_meaning.specs.StmtCounts.{scopes_in_stmts}
-use Rattle.py_meaning.specs.StmtParts.{annotated}
+use Rattle.py_emission.specs.Predicates.{annotated}
 use Rattle.py_meaning.specs.Table.{expr_form}
 use Rattle.py_meaning.specs.TableScopes.{setup_form}
-use Rattle.py_meaning.specs.EmissionStmts.{emission_of_stmts}
+use Rattle.py_emission.specs.EmissionStmts.{emission_of_stmts}
 use Rattle.py_meaning.specs.TableStmts.{doc_form, program_form, stmts_form}
 use Rattle.py_adds.proofs.Adding.{adds_as, completed}
 use Rattle.py_adds.proofs.Burden.{burden}

@@ -17,16 +17,18 @@ use Rattle.py_steps.specs.Context.{Context, is_function}
 use Rattle.py_meaning.specs.StmtCounts.{scopes_in_handlers, scopes_in_items, scopes_in_raise, scopes_in_stmt, scopes_in_stmts}
 use Rattle.py_meaning.specs.Table.{expr_form, target_form, test_form}
 use Rattle.py_meaning.specs.TableScopes.{iterator}
-use Rattle.py_meaning.specs.Imports.{from_form, import_form}
+use Rattle.py_meaning.specs.TableImports.{from_form, import_form}
 use Rattle.py_meaning.specs.TableStmts.{handler_forms, stmt_form, stmts_form}
-use Rattle.py_meaning.specs.StmtParts.{assert_form, assertion, handler_target, item_target, message_count, message_parts, named_form, none, raise_form, return_form, with_form}
-use Rattle.py_forms.specs.declared.errors.CodegenErrorType.{CodegenErrorType}
-use Rattle.py_forms.specs.declared.errors.CodegenErrorType.TheVariants as error
+use Rattle.py_meaning.specs.StmtParts.{assert_form, assertion, handler_target, item_target, message_parts, named_form, raise_form, return_form, with_form}
+use Rattle.py_emission.specs.Predicates.{message_count, none}
+use Rattle.py_base.specs.declared.errors.CodegenErrorType.{CodegenErrorType}
+use Rattle.py_base.specs.declared.errors.CodegenErrorType.TheVariants as error
 use Rattle.py_steps.specs.Emitting.{Around, Emission, LoopBlocks, ◌▸◌, by_level, emit, jump, keep, refuse}
-use Rattle.py_steps.specs.EmissionParts.{no_assignment, only_in_function, pass_scopes}
+use Rattle.py_steps.specs.EmissionParts.{only_in_function, pass_scopes}
+use Rattle.py_steps.specs.Refused.{no_assignment}
 use Rattle.py_emission.specs.Emission.{emission, emission_of_store, emission_of_test}
-use Rattle.py_meaning.specs.ControlEmissions.{asserted, caught, forgotten, named_body}
-use Rattle.py_meaning.specs.EmissionStmts.{emission_of_assert, emission_of_handlers, emission_of_item, emission_of_items, emission_of_message, emission_of_raise, emission_of_returned, emission_of_stmts, leave_loop}
+use Rattle.py_emission.specs.ControlEmissions.{asserted, caught, forgotten, named_body}
+use Rattle.py_emission.specs.EmissionStmts.{emission_of_assert, emission_of_handlers, emission_of_item, emission_of_items, emission_of_message, emission_of_raise, emission_of_returned, emission_of_stmts, leave_loop}
 use Rattle.py_adds.proofs.Emitting.{Gives, Yields, after_these, context_gives, from_as, gives_as, keep_yields, level_gives, loops_give, looping, move_yields, moved_gives, moved_refused, next_as, refused_gives, regroup, scopes_as, so, then_gives, then_these}
 use Rattle.py_adds.proofs.Instructions.{break_adds, constant_adds, continue_adds, return_adds}
 use Rattle.py_adds.proofs.AccessAdds.{accessed_adds}

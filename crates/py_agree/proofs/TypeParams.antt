@@ -12,17 +12,18 @@ use Rattle.py_scope.specs.declared.table_type.SymbolTableType.TheVariants as kin
 use Rattle.py_forms.specs.Form.{Scope, MkScope, VForm, VForms, VLoad, VMake, VMore, VNone, VOp, FixedFast, GStore, Resolved, SReturn}
 use Rattle.py_forms.specs.Code.{body_code, code_v, labels_v}
 use Rattle.py_forms.specs.Agree.{exactly}
-use Rattle.py_forms.specs.declared.errors.CodegenErrorType.TheVariants as error
+use Rattle.py_base.specs.declared.errors.CodegenErrorType.TheVariants as error
 use Rattle.py_steps.specs.Accesses.{emission_of_stored}
 use Rattle.py_steps.specs.Children.{DefaultEmissions, emission_of_defaults}
 use Rattle.py_steps.specs.Context.{head_of, inside, mangled, room}
 use Rattle.py_steps.specs.Emitting.{Around, Emission, ◌▸◌, emit, emit_varname}
-use Rattle.py_steps.specs.EmissionParts.{no_assignment}
+use Rattle.py_steps.specs.Refused.{no_assignment}
 use Rattle.py_steps.specs.TableParts as table
 use Rattle.py_steps.specs.TableParts.{counted, map_of}
-use Rattle.py_steps.specs.TypeParameters.{handed, hidden, hidden_inside, hidden_name, hidden_shape, some_name}
+use Rattle.py_steps.specs.TypeParameters.{hidden, hidden_shape}
+use Rattle.py_steps.specs.Within.{handed, hidden_inside, hidden_name, some_name}
 use Rattle.py_emission.specs.Emission.{default_emissions, emission}
-use Rattle.py_meaning.specs.EmissionDefs.{emission_of_param, emission_of_params, param_emissions}
+use Rattle.py_emission.specs.EmissionDefs.{emission_of_param, emission_of_params, param_emissions}
 use Rattle.py_meaning.specs.StmtCounts.{scopes_in_param, scopes_in_params}
 use Rattle.py_meaning.specs.Table.{default_forms, expr_form}
 use Rattle.py_meaning.specs.TableParams.{hidden_call, param_form, param_forms, params_form}

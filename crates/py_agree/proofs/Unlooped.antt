@@ -9,7 +9,8 @@ use Rattle.py_forms.specs.Looped.{Looped}
 use Rattle.py_steps.specs.Context.{Context, is_function}
 use Rattle.py_meaning.specs.Table.{after, target_form}
 use Rattle.py_meaning.specs.TableNotes.{note_form}
-use Rattle.py_meaning.specs.Imports.{from_form, import_form, takes_all}
+use Rattle.py_emission.specs.Imports.{takes_all}
+use Rattle.py_meaning.specs.TableImports.{from_form, import_form}
 use Rattle.py_meaning.specs.StmtParts.{removal, removals, assigned, assign_form, augment_form, annotated_form, annotation_target, declared_form, return_form}
 
 -- it stands in a loop or in none

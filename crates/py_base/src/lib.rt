@@ -1,6 +1,7 @@
-//! The small types that every crate stands on: texts, lists, places in the source, operators.
+//! The small types that every crate stands on: texts, lists, places in the source, operators, errors.
 #![tactic(auto)]
 
+pub mod errors;
 pub mod limits;
 pub mod list;
 pub mod location;
@@ -9,7 +10,8 @@ pub mod operators;
 pub mod shapes;
 pub mod text;
 
-pub use limits::TreeLimit;
+pub use errors::{CodegenError, CodegenErrorType};
+pub use limits::{NESTING_LIMIT, SIZE_LIMIT, TreeLimit};
 pub use list::List;
 pub use location::{LocatedError, OneIndexed, SourceLocation};
 pub use mangle::{mangle_name, same_mangled};

@@ -156,6 +156,13 @@ for_of_two = refl
 for_raises : machine for_loop (Gives 1 ∷ Gives 1 ∷ Gives 1 ∷ Gives 0 ∷ Raised ∷ []) ≡ ran (Accesses ByName Load (codes "a") 0 [] ∷ Operates (operation op.GetIter Bare) (Given 0 0 ∷ []) ∷ AsksNext (Given 1 0) ∷ Accesses ByName Store (codes "x") 0 (Given 2 0 ∷ []) ∷ AsksNext (Given 1 0) ∷ []) (RaisedOut (Given 4 0))
 for_raises = refl
 
+-- a block that is as high as the stack with the iterator, which a raise of the next leaves there
+abbrev next_in_block : Object
+next_in_block = coded 5 (unit op.LoadNameAny 0 ∷ unit op.SetupExcept 3 ∷ unit op.ForIter 3 ∷ unit op.ReturnConst 0 ∷ []) (codes "x" ∷ []) [] [] [] (obj.none ∷ [])
+
+next_raises_in_block : machine next_in_block (Gives 1 ∷ Raised ∷ []) ≡ ran (Accesses ByName Load (codes "x") 0 [] ∷ AsksNext (Given 0 0) ∷ []) (Returned (It (Constant obj.none)))
+next_raises_in_block = refl
+
 -- `with a as x: raise e`
 abbrev with_raise : Object
 with_raise = coded 4 (unit op.LoadNameAny 0 ∷ unit op.SetupWith 6 ∷ unit op.StoreLocal 1 ∷ unit op.LoadNameAny 2 ∷ unit op.Raise 0 ∷ unit op.PopBlock 0 ∷ unit op.WithCleanupStart 0 ∷ unit op.WithCleanupFinish 0 ∷ unit op.ReturnConst 0 ∷ []) (codes "a" ∷ codes "x" ∷ codes "e" ∷ []) [] [] [] (obj.none ∷ [])

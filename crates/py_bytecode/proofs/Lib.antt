@@ -1,5 +1,4 @@
-pub mod Joining
-pub mod Quoted
+pub mod Tables
 pub mod View
 pub mod Heads
 mod Samples

@@ -10,7 +10,5 @@ pub mod Decode
 pub mod Effects
 pub mod Units
 pub mod Blocks
-pub mod Quote
-pub mod Listing
 pub mod Laws
 pub mod Cells

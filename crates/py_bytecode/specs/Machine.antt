@@ -338,7 +338,7 @@ act PopException next s bs slot w = pop_exception next s bs w
 act EnterFinally next s bs slot w = At next s (FinallyHandler (length s) None slot ∷ bs) slot w
 act EndFinally next s bs slot w = on_last bs w (λ h r old bs1. go_on r next s bs1 old w)
 act Reraise next s bs slot w = reraise slot next s bs w
-act (ForIter p) next s bs slot w = on_top s w (λ v rest. on_got (next_of v w) (λ x w1. on_some x (λ u. At next (It u ∷ It v ∷ rest) bs slot w1) (At p rest bs slot w1)) (raise rest bs slot) stopped)
+act (ForIter p) next s bs slot w = on_top s w (λ v rest. on_got (next_of v w) (λ x w1. on_some x (λ u. At next (It u ∷ It v ∷ rest) bs slot w1) (At p rest bs slot w1)) (raise (It v ∷ rest) bs slot) stopped)
 act (SetupWith p) next s bs slot w =
     on_top s w (λ v rest. on_got (ask_for (Operates enter_with (v ∷ [])) (Some 2) w) (λ gs w1. At next (push gs rest) (Finally (length (It v ∷ rest)) p ∷ bs) slot w1) (raise rest bs slot) stopped)
 act WithCleanupStart next s bs slot w =

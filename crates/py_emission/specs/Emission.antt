@@ -5,7 +5,7 @@ use Rattle.py_tree.specs.Tree as tree
 use Rattle.py_base.specs.declared.location.SourceLocation.{SourceLocation}
 use Rattle.py_bytecode.specs.declared.instruction.Instruction.TheVariants as op
 use Rattle.py_bytecode.specs.Objects as const
-use Rattle.py_forms.specs.declared.errors.CodegenErrorType.TheVariants as error
+use Rattle.py_base.specs.declared.errors.CodegenErrorType.TheVariants as error
 use Rattle.py_steps.specs.Elements.{Element, Single, Spread, Method}
 use Rattle.py_counts.specs.Counts.{scopes_in_annotations}
 use Rattle.py_emission.specs.Awaits.{awaits, some_async}
@@ -14,10 +14,13 @@ use Rattle.py_emission.specs.Texts.{texts_of}
 use Rattle.py_steps.specs.TableParts.{binary_case, conversion_case, constant_of, is_debug, debug_constant}
 use Rattle.py_bytecode.specs.Values.{Load}
 use Rattle.py_steps.specs.Accesses.{accessed, emission_of_deleted, emission_of_name, emission_of_stored}
-use Rattle.py_steps.specs.Children.{DefaultEmissions, child, emission_of_defaults, flags_of_defaults, function_scope, lambda_inside, made}
+use Rattle.py_steps.specs.Children.{DefaultEmissions, child, emission_of_defaults, flags_of_defaults, function_scope, made}
+use Rattle.py_steps.specs.Within.{lambda_inside}
 use Rattle.py_steps.specs.Comprehensions.{ClauseEmissions, as_element, comprehension, gathered, generated}
 use Rattle.py_steps.specs.Emitting.{Emission, ◌▸◌, by_level, emit, emit_constant, emit_mangled, generating, keep, move, refuse}
-use Rattle.py_steps.specs.EmissionParts.{Emissions, Keywords, Stores, bool_emissions, built, choice, constant_emissions, display, elements, emission_of_call, emission_of_compare, emission_of_dict, in_turn, joined_value, lone_star, no_assignment, no_deletion, only_in_function, pass_scopes, plain_store, slice_value, tested, unary_emissions, unless_debug, unpack, value_or, values}
+use Rattle.py_steps.specs.EmissionParts.{Emissions, Keywords, Stores, bool_emissions, built, choice, constant_emissions, display, elements, emission_of_call, emission_of_compare, emission_of_dict, in_turn, joined_value, only_in_function, pass_scopes, plain_store, slice_value, tested, unary_emissions, unless_debug, unpack, value_or, values}
+use Rattle.py_steps.specs.Refused.{lone_star, no_assignment, no_deletion}
+use Rattle.py_emission.specs.Predicates.{deletion_name}
 
 -- a node that is not compiled yet
 abbrev pub unbuilt : SourceLocation → Emission
@@ -143,12 +146,6 @@ emission_of_exprs es = in_turn (values (all_emissions es))
 -- what stores the value that lies there to an expression
 abbrev pub emission_of_store : tree.Expr → Emission
 emission_of_store e = (stores e).alone
-
--- an operation that cannot be deleted is called an expression
-abbrev pub deletion_name : tree.Expr → List ℕ
-deletion_name (tree.BinOp at left o right) = codes "expression"
-deletion_name (tree.UnaryOp at o operand) = codes "expression"
-deletion_name other = python_name other
 
 -- what deletes an expression, a list or a tuple element by element
 abbrev mutual

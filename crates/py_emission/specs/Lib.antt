@@ -2,3 +2,12 @@ pub mod Texts
 pub mod Parameters
 pub mod Awaits
 pub mod Emission
+pub mod Predicates
+pub mod Imports
+pub mod Futures
+pub mod ControlEmissions
+pub mod EmissionDefs
+pub mod EmissionImports
+pub mod EmissionFutures
+pub mod EmissionStmts
+pub mod EmissionMods

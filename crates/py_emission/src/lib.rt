@@ -1,2 +1,2 @@
-//! What is emitted of expressions. No function stands here.
+//! What is emitted of expressions and statements: definitions alone.
 #![tactic(auto)]

@@ -7,7 +7,7 @@ use Rattle.py_ir.specs.FlatCode.{info_of}
 use Rattle.py_steps.specs.Context.{Context}
 use Rattle.py_steps.specs.Emitting.{Done, Step, State, begun, refuse, with_block, with_step}
 use Rattle.py_steps.specs.Sealed.{Head}
-use Rattle.py_forms.specs.declared.errors.CodegenErrorType.{CodegenErrorType}
+use Rattle.py_base.specs.declared.errors.CodegenErrorType.{CodegenErrorType}
 use Rattle.py_emit.specs.States.{IsFirst, IsUnrefused, Source, context_of, flagged, head_of, info, loop_blocks, rest, source_of, state, state_of}
 use Rattle.py_emit.specs.declared.scopes.OpenScope.{OpenScope}
 use Rattle.py_emit.specs.Emitted.{Holds}

@@ -6,7 +6,8 @@ use Rattle.py_bytecode.specs.View.{object}
 use Rattle.py_bytecode.specs.declared.code.CodeObject.{CodeObject}
 use Rattle.py_scope.specs.declared.table_type.SymbolTableType.{SymbolTableType}
 use Rattle.py_scope.specs.declared.table_type.SymbolTableType.TheVariants as kind
-use Rattle.py_steps.specs.Children.{Shape, behind_child, child, code_head, on_sealed}
+use Rattle.py_steps.specs.Children.{behind_child, child, code_head, on_sealed}
+use Rattle.py_steps.specs.Within.{Shape}
 use Rattle.py_steps.specs.Context.{cells_among, frees_among, inside, outermost, symbols_in, with_path, within_class}
 use Rattle.py_steps.specs.Emitting.{Done, Emission, State, begun}
 use Rattle.py_steps.specs.Sealed.{Head, sealed}

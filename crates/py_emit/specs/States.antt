@@ -19,9 +19,10 @@ use Rattle.py_scope.specs.declared.symbols.Symbol.{Symbol}
 use Rattle.py_steps.specs.Context.{Context, cells_among, frees_among, inside, outermost, with_path, within_class}
 use Rattle.py_steps.specs.Emitting.{Around, Emission, State, LoopBlocks, Outcome, Done, Refused}
 use Rattle.py_steps.specs.Sealed.{Head, flags_of}
-use Rattle.py_steps.specs.Children.{Shape, code_head}
-use Rattle.py_forms.specs.declared.errors.CodegenErrorType.{CodegenErrorType}
-use Rattle.py_forms.specs.declared.errors.CodegenErrorType.TheVariants as error
+use Rattle.py_steps.specs.Children.{code_head}
+use Rattle.py_steps.specs.Within.{Shape}
+use Rattle.py_base.specs.declared.errors.CodegenErrorType.{CodegenErrorType}
+use Rattle.py_base.specs.declared.errors.CodegenErrorType.TheVariants as error
 use Rattle.py_emit.specs.declared.context.CompileOpts.{CompileOpts}
 use Rattle.py_emit.specs.declared.context.EmitContext.{EmitContext}
 use Rattle.py_emit.specs.declared.context.Naming.{Naming}

@@ -2,16 +2,16 @@
 ghost use Rattle.std.specs.Prelude.{◌≡◌, IfOk, length, if◌then◌else◌};
 ghost use Rattle.py_bytecode.specs.Objects.{code as code_constant};
 ghost use Rattle.py_bytecode.specs.View.{object};
-ghost use Rattle.py_steps.specs.Children.{cell_loads, closure, load_cell as cell_load, made, some_flag};
+ghost use Rattle.py_steps.specs.Children.{cell_loads, closure, load_cell as cell_load, made};
+ghost use Rattle.py_steps.specs.Within.{some_flag};
 ghost use Rattle.py_steps.specs.EmissionParts.{in_turn};
 ghost use Rattle.py_steps.specs.Emitting.{◌▸◌, emit_constant, emit_count};
 ghost use Rattle.py_emit.specs.States.{Emits};
 
 use crate::emitter::Emitter;
 use bitflags::Flags;
-use py_base::Text;
+use py_base::{CodegenError, CodegenErrorType, Text};
 use py_bytecode::{CodeObject, ConstantData, Instruction, MakeFunctionFlags};
-use py_forms::{CodegenError, CodegenErrorType};
 
 impl Emitter {
     /// Appends the load of a cell. A name that is no cell of the scope and does not come to it from outside, which no

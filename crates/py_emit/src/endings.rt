@@ -5,8 +5,8 @@ ghost use Rattle.py_emit.specs.States.{IsStarved, rest, state};
 ghost use Rattle.py_emit.specs.Steps.{EndsAtBegin, step_of, with_closed, with_return};
 
 use crate::emitter::Emitter;
+use py_base::CodegenError;
 use py_bytecode::{Instruction, OpArg};
-use py_forms::CodegenError;
 use py_ir::{BlockIdx, InstructionInfo};
 
 impl Emitter {

@@ -18,9 +18,8 @@ ghost use Rattle.py_emit.specs.States.{Emits, IsStarved, rest, state};
 use crate::context::{CompileOpts, NameUsage};
 use crate::emitter::Emitter;
 use crate::scopes::symbols_of;
-use py_base::{Text, mangle_name};
+use py_base::{CodegenError, CodegenErrorType, Text, mangle_name};
 use py_bytecode::{ConstantData, Instruction};
-use py_forms::{CodegenError, CodegenErrorType};
 use py_ir::{FlatCode, NameSet};
 use py_scope::{Symbol, SymbolScope, SymbolTableType};
 

@@ -1,12 +1,11 @@
 //! Qualified names.
 ghost use Rattle.std.specs.Prelude.{◌≡◌, ◌++◌, IfErr, IfOk, OnOk};
-ghost use Rattle.py_steps.specs.Classes.{class_path as path_of_class, is_global as is_declared_global};
+ghost use Rattle.py_steps.specs.Within.{class_path as path_of_class, is_global as is_declared_global};
 ghost use Rattle.py_steps.specs.Context.{behind_dot, function_path as path_of_function, mangled, qualified as qualified_name, scope_of};
 ghost use Rattle.py_emit.specs.States.{IsStarved, rest, state};
 
 use crate::emitter::Emitter;
-use py_base::Text;
-use py_forms::{CodegenError, CodegenErrorType};
+use py_base::{CodegenError, CodegenErrorType, Text};
 use py_scope::SymbolScope;
 use std::alloc::{AllocError, Global};
 

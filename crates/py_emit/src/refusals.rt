@@ -6,8 +6,7 @@ ghost use Rattle.py_ir.specs.FlatCode.{info_of};
 ghost use Rattle.py_ir.specs.Refusals.{TooLong};
 ghost use Rattle.py_emit.specs.States.{IsStarved};
 
-use py_base::{LocatedError, Text};
-use py_forms::{CodegenError, CodegenErrorType};
+use py_base::{CodegenError, CodegenErrorType, LocatedError, Text};
 use py_ir::{FinalizeError, FlatCode};
 
 /// The number of entries that no table has.

@@ -3,14 +3,14 @@ ghost use Rattle.std.specs.Prelude.{◌≡◌, IfOk, IfErr, OnOk};
 ghost use Rattle.py_bytecode.specs.Equality.{const_eq, text_eq};
 ghost use Rattle.py_bytecode.specs.View.{constant as constant_of};
 ghost use Rattle.py_steps.specs.Emitting.{add_constant, add_varname, emit_constant, emit_name as emission_of_name, emit_varname as emission_of_varname, place_in, with_constant, with_name, with_varname};
-ghost use Rattle.py_steps.specs.EmissionParts.{no_assignment, unless_debug};
+ghost use Rattle.py_steps.specs.EmissionParts.{unless_debug};
+ghost use Rattle.py_steps.specs.Refused.{no_assignment};
 ghost use Rattle.py_emit.specs.States.{Emits, IsStarved, rest, state};
 
 use crate::emitter::Emitter;
 use crate::names::is_debug;
-use py_base::Text;
+use py_base::{CodegenError, CodegenErrorType, Text};
 use py_bytecode::{ConstantData, Instruction};
-use py_forms::{CodegenError, CodegenErrorType};
 
 impl Emitter {
     /// The place of a name in the name table, where it is entered if it is new.

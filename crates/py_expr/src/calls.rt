@@ -1,30 +1,22 @@
 //! Calls.
-ghost use Rattle.std.specs.Prelude.{◌≡◌, ◌+◌, ◌||◌, false, length, IfErr, IfOk, OnOk, if◌then◌else◌};
+ghost use Rattle.std.specs.Prelude.{◌≡◌, false, IfOk};
 ghost use Rattle.py_tree.specs.View.{expr_tree, exprs, keywords as keyword_trees};
 ghost use Rattle.py_steps.specs.EmissionParts.{elements, in_turn};
 ghost use Rattle.py_emission.specs.Emission.{all_emissions, emissions, keyword_emissions};
 ghost use Rattle.py_steps.specs.Elements.{bare, starred};
-ghost use Rattle.py_emit.specs.States.{Emits, IsStarved, rest};
-ghost use Rattle.py_expr.specs.Calling.{argument_tuple, arguments, call_operand, called, callee_value, calling, function_call, is_method, keyworded, method_call, positional, taken, type_of};
+ghost use Rattle.py_emit.specs.States.{Emits};
+ghost use Rattle.py_expr_parts.specs.Calls.{argument_tuple, arguments, called, callee_value, is_method, keyworded, positional, taken};
 
-use crate::elements::{close_run, compile_groups, has_star};
+use crate::elements::compile_groups;
 use crate::expressions::{compile_expression, compile_expressions};
-use crate::keywords::{check_keywords, compile_keyword_map, compile_named_values, has_double_star};
+use crate::keywords::{compile_keyword_map, compile_named_values};
+use py_base::{CodegenError, CodegenErrorType};
 use py_bytecode::Instruction;
 use py_emit::{Emitter, refuse};
-use py_forms::{CodegenError, CodegenErrorType};
+use py_expr_parts::calls::{CallType, call_type, emit_call, is_packed};
+use py_expr_parts::elements::{close_run, has_star};
+use py_expr_parts::keywords::check_keywords;
 use py_tree::{Expr, ExprCall, Exprs, Keyword, List};
-
-/// What a call takes.
-#[derive(Clone, Copy, PartialEq, Eq, Debug)]
-pub enum CallType {
-    /// So many values.
-    Positional { nargs: u32 },
-    /// So many values, the last of which are named, and the tuple of these names.
-    Keyword { nargs: u32 },
-    /// A tuple of the values, and a map of the named ones where there are any.
-    Ex { has_kwargs: bool },
-}
 
 /// Emits what is called, its arguments and the call.
 #[cycle(code)]
@@ -90,13 +82,6 @@ pub fn compile_call_inner(
     call_type(em, packed, additional, args, keywords)
 }
 
-/// Whether arguments come in one tuple and one map.
-fn is_packed(args: &[Expr], keywords: &[Keyword]) -> bool
-    ensures { result ≡ (starred (elements (all_emissions (exprs expr_tree args.now))) || starred (keyword_emissions (keyword_trees expr_tree keywords.now))) }
-{
-    has_star(args) || has_double_star(keywords)
-}
-
 /// Emits arguments, behind `additional` values, in their places or in one tuple.
 #[cycle(code)]
 fn compile_positional(
@@ -126,7 +111,7 @@ fn compile_plain(em: &mut Emitter, args: &[Expr]) -> Result<(), CodegenError>
 
 /// Emits a tuple of arguments, behind `additional` values: where some are starred, of these first.
 #[cycle(code)]
-#[tactic(auto, using(crate::proofs::Groups::many_elements))]
+#[tactic(auto, using(py_expr_parts::proofs::Groups::many_elements))]
 fn compile_argument_tuple(
     em: &mut Emitter,
     additional: u32,
@@ -162,82 +147,4 @@ fn compile_keywords(
         return compile_keyword_map(em, keywords);
     }
     compile_named_values(em, keywords)
-}
-
-/// What a call takes with `additional` values. More than 32 bits count are want of memory.
-fn call_type(
-    em: &mut Emitter,
-    packed: bool,
-    additional: u32,
-    args: &[Expr],
-    keywords: &[Keyword],
-) -> Result<CallType, CodegenError>
-    ensures call { IfOk result (λ c. c ≡ type_of packed (additional + length args.now) (length keywords.now)) }
-    ensures same { OnOk result (em.new ≡ em.old) }
-    ensures err { IfErr result (λ e. IsStarved e (rest em.old).path) }
-{
-    if packed {
-        return Ok(CallType::Ex {
-            has_kwargs: !keywords.is_empty(),
-        });
-    }
-    let values = (additional as usize).saturating_add(args.len());
-    let nargs = em.narrow(values.saturating_add(keywords.len()))?;
-    if keywords.is_empty() {
-        return Ok(CallType::Positional { nargs });
-    }
-    Ok(CallType::Keyword { nargs })
-}
-
-/// Emits the call of what lies below its arguments.
-pub fn emit_call(em: &mut Emitter, is_method: bool, call: CallType) -> Result<(), CodegenError>
-    ensures { Emits result (calling is_method call) em.old em.new }
-{
-    em.emit_count(
-        call_instruction(is_method, call),
-        call_operand(call) as usize,
-    )
-}
-
-fn call_instruction(is_method: bool, call: CallType) -> Instruction
-    ensures { result ≡ (if is_method then method_call call else function_call call) }
-{
-    if is_method {
-        method_call(call)
-    } else {
-        function_call(call)
-    }
-}
-
-/// The call of a method, of which its object lies below the arguments too.
-fn method_call(call: CallType) -> Instruction
-    ensures { result ≡ method_call call }
-{
-    match call {
-        CallType::Positional { nargs: _ } => Instruction::CallMethodPositional,
-        CallType::Keyword { nargs: _ } => Instruction::CallMethodKeyword,
-        CallType::Ex { has_kwargs: _ } => Instruction::CallMethodEx,
-    }
-}
-
-/// The call of what is no method.
-fn function_call(call: CallType) -> Instruction
-    ensures { result ≡ function_call call }
-{
-    match call {
-        CallType::Positional { nargs: _ } => Instruction::CallFunctionPositional,
-        CallType::Keyword { nargs: _ } => Instruction::CallFunctionKeyword,
-        CallType::Ex { has_kwargs: _ } => Instruction::CallFunctionEx,
-    }
-}
-
-/// How many values a call counts, or 1 where there is a map.
-fn call_operand(call: CallType) -> u32
-    ensures { result ≡ call_operand call }
-{
-    match call {
-        CallType::Positional { nargs } => nargs,
-        CallType::Keyword { nargs } => nargs,
-        CallType::Ex { has_kwargs } => { if has_kwargs { 1 } else { 0 } }
-    }
 }

@@ -1,27 +1,22 @@
 //! The clauses of comprehensions, each of which stands around those after it.
-ghost use Rattle.std.specs.Prelude.{◌≡◌, ◌<◌, ◌++◌, ◌∷◌, [], suc, IfErr, IfOk, OnOk};
+ghost use Rattle.std.specs.Prelude.{◌≡◌, ◌<◌, suc, IfErr, IfOk};
 ghost use Rattle.py_tree.specs.View.{expr_tree, exprs, generators as clause_trees};
 ghost use Rattle.py_steps.specs.Comprehensions.{conditions};
 ghost use Rattle.py_emission.specs.Emission.{all_emissions, clause_emissions, emission};
-ghost use Rattle.py_emit.specs.States.{Emits, IsStarved, Same, rest, state};
+ghost use Rattle.py_emit.specs.States.{Emits, Same, rest, state};
 ghost use Rattle.py_emit.specs.Steps.{IsOpen};
-ghost use Rattle.py_expr.specs.Clauses.{AllOpen, AreOpened, AreRefused, IsOpenClause, clause_of, closed, closing, iterator_of, opened, opened_clause};
+ghost use Rattle.py_expr_scopes.specs.Clauses.{AllOpen, AreOpened, AreRefused, IsOpenClause, clause_of, iterator_of, opened, opened_clause};
 
-use crate::conditions::{JumpIf, compile_test};
+use crate::conditions::compile_test;
 use crate::expressions::compile_expression;
 use crate::targets::compile_store;
+use py_base::CodegenError;
 use py_bytecode::Instruction;
 use py_emit::{Emitter, emit};
-use py_forms::{CodegenError, CodegenErrorType};
+use py_expr_parts::conditions::JumpIf;
+use py_expr_scopes::clauses::{ClauseBlocks, keep_blocks};
 use py_ir::BlockIdx;
 use py_tree::{Comprehension, Expr, List};
-
-/// The blocks of a clause: each turn begins at one, and the other follows the last turn.
-#[derive(Clone, Copy)]
-pub(crate) struct ClauseBlocks {
-    pub(crate) start: BlockIdx,
-    pub(crate) end: BlockIdx,
-}
 
 /// Emits what stands before what is within all clauses. Answers the blocks of each of them.
 #[cycle(code)]
@@ -43,26 +38,10 @@ pub(crate) fn open_clauses(
     Ok(blocks)
 }
 
-/// Puts the blocks of a clause behind the others, or leaves with want of memory.
-fn keep_blocks(
-    em: &mut Emitter,
-    blocks: &mut List<ClauseBlocks>,
-    next: ClauseBlocks,
-) -> Result<(), CodegenError>
-    ensures kept { OnOk result (blocks.new ≡ blocks.old ++ next ∷ []) }
-    ensures same { OnOk result (em.new ≡ em.old) }
-    ensures err { IfErr result (λ e. IsStarved e (rest em.old).path) }
-{
-    match blocks.push(next) {
-        Ok(()) => Ok(()),
-        Err(_) => Err(em.error(CodegenErrorType::OutOfMemory)),
-    }
-}
-
 /// Emits what stands before what is within a clause: the iterator, the store of what it gives, and the conditions. Answers
 /// the blocks of the clause.
 #[cycle(code)]
-#[tactic(auto, using(crate::proofs::Steps::steps))]
+#[tactic(auto, using(py_expr_parts::proofs::Steps::steps))]
 fn open_clause(
     em: &mut Emitter,
     clause: &Comprehension,
@@ -82,7 +61,7 @@ fn open_clause(
 
 /// Emits what stands before what is within a clause of these blocks.
 #[cycle(code)]
-#[tactic(auto, using(crate::proofs::Steps::steps))]
+#[tactic(auto, using(py_expr_parts::proofs::Steps::steps))]
 fn begin_clause(
     em: &mut Emitter,
     clause: &Comprehension,
@@ -131,31 +110,5 @@ fn compile_conditions(em: &mut Emitter, ifs: &[Expr], start: BlockIdx) -> Result
         };
         compile_test(em, condition, &jump)?;
     }
-    Ok(())
-}
-
-/// Emits what closes clauses, the last one first.
-pub(crate) fn close_clauses(
-    em: &mut Emitter,
-    blocks: List<ClauseBlocks>,
-) -> Result<(), CodegenError>
-    requires open { AllOpen blocks (state em.old) }
-    ensures { Emits result (closed blocks) em.old em.new }
-{
-    let mut blocks = blocks;
-    while let Some(clause) = blocks.pop() {
-        close_clause(em, &clause)?;
-    }
-    Ok(())
-}
-
-/// Emits what closes a clause: the jump to its next turn, and what follows the last one.
-#[tactic(auto, using(crate::proofs::Steps::steps))]
-fn close_clause(em: &mut Emitter, blocks: &ClauseBlocks) -> Result<(), CodegenError>
-    requires open { IsOpenClause blocks.now (state em.old) }
-    ensures { Emits result (closing blocks.now) em.old em.new }
-{
-    emit!(em, Instruction::Jump => blocks.start);
-    em.switch_to_block(blocks.end);
     Ok(())
 }

@@ -1,16 +1,17 @@
 //! Comparisons, one or a chain of them.
 ghost use Rattle.std.specs.Prelude.{◌≡◌, ◌<◌, length};
 ghost use Rattle.py_tree.specs.View.{expr_tree, exprs};
-ghost use Rattle.py_steps.specs.Emitting.{◌▸◌, emit as emitting};
-ghost use Rattle.py_steps.specs.EmissionParts.{chain, emission_of_compare, emission_of_comparison, emission_of_link, in_turn, links, first_comparison, values};
+ghost use Rattle.py_steps.specs.Emitting.{◌▸◌};
+ghost use Rattle.py_steps.specs.EmissionParts.{chain, emission_of_compare, in_turn, links, first_comparison, values};
 ghost use Rattle.py_emission.specs.Emission.{all_emissions, emissions};
 ghost use Rattle.py_emit.specs.States.{Emits};
-ghost use Rattle.py_expr.specs.Turns.{linked};
+ghost use Rattle.py_expr_parts.specs.Turns.{linked};
 
 use crate::expressions::{compile_expression, compile_expressions};
+use py_base::{CodegenError, CodegenErrorType};
 use py_bytecode::Instruction;
 use py_emit::{Emitter, emit, refuse};
-use py_forms::{CodegenError, CodegenErrorType};
+use py_expr_parts::comparisons::{compile_comparison, compile_first_comparison, compile_link};
 use py_ir::BlockIdx;
 use py_tree::{CmpOp, Expr, ExprCompare, Malformed};
 
@@ -33,7 +34,7 @@ pub(crate) fn compile_compare(em: &mut Emitter, e: &ExprCompare) -> Result<(), C
 }
 
 #[cycle(code)]
-#[tactic(auto, using(crate::proofs::Steps::steps))]
+#[tactic(auto, using(py_expr_parts::proofs::Steps::steps))]
 fn compile_one_comparison(em: &mut Emitter, e: &ExprCompare) -> Result<(), CodegenError>
     requires { 0 < length e.now.ops }
     ensures { Emits result ((emissions (expr_tree e.now.left.value)).value ▸ in_turn (values (all_emissions (exprs expr_tree e.now.comparators))) ▸ first_comparison e.now.ops) em.old em.new }
@@ -43,16 +44,9 @@ fn compile_one_comparison(em: &mut Emitter, e: &ExprCompare) -> Result<(), Codeg
     compile_first_comparison(em, e.ops.as_slice())
 }
 
-fn compile_first_comparison(em: &mut Emitter, ops: &[CmpOp]) -> Result<(), CodegenError>
-    requires { 0 < length ops.now }
-    ensures { Emits result (first_comparison ops.now) em.old em.new }
-{
-    compile_comparison(em, ops[0])
-}
-
 /// Emits a chain of comparisons. What a false one leaves lies above a value that goes.
 #[cycle(code)]
-#[tactic(auto, using(crate::proofs::Steps::steps))]
+#[tactic(auto, using(py_expr_parts::proofs::Steps::steps))]
 fn compile_chain(em: &mut Emitter, e: &ExprCompare) -> Result<(), CodegenError>
     requires { length e.now.ops ≡ length e.now.comparators }
     ensures { Emits result (chain (emissions (expr_tree e.now.left.value)).value e.now.ops (all_emissions (exprs expr_tree e.now.comparators))) em.old em.new }
@@ -104,43 +98,4 @@ fn compile_linked(
         return compile_link(em, op, out);
     }
     compile_comparison(em, op)
-}
-
-/// Emits a comparison whose right value the next one needs too.
-fn compile_link(em: &mut Emitter, op: CmpOp, out: BlockIdx) -> Result<(), CodegenError>
-    requires below { out.0 < 0xffff_ffff }
-    ensures { Emits result (emission_of_link op out.0) em.old em.new }
-{
-    emit!(em, Instruction::Duplicate);
-    emit!(em, Instruction::Rotate3);
-    compile_comparison(em, op)?;
-    emit!(em, Instruction::JumpIfFalseOrPop => out);
-    Ok(())
-}
-
-#[tactic(auto, using(crate::proofs::Steps::steps))]
-fn compile_comparison(em: &mut Emitter, op: CmpOp) -> Result<(), CodegenError>
-    ensures { Emits result (emission_of_comparison op) em.old em.new }
-{
-    let (instr, case) = comparison_case(op);
-    emit!(em, instr, case);
-    Ok(())
-}
-
-/// The instruction of a comparison, with the number of its case.
-fn comparison_case(op: CmpOp) -> (Instruction, u32)
-    ensures { emission_of_comparison op ≡ emitting result.0 result.1 }
-{
-    match op {
-        CmpOp::Lt => (Instruction::CompareOperation, 0),
-        CmpOp::Gt => (Instruction::CompareOperation, 1),
-        CmpOp::NotEq => (Instruction::CompareOperation, 2),
-        CmpOp::Eq => (Instruction::CompareOperation, 3),
-        CmpOp::LtE => (Instruction::CompareOperation, 4),
-        CmpOp::GtE => (Instruction::CompareOperation, 5),
-        CmpOp::In => (Instruction::TestOperation, 0),
-        CmpOp::NotIn => (Instruction::TestOperation, 1),
-        CmpOp::Is => (Instruction::TestOperation, 2),
-        CmpOp::IsNot => (Instruction::TestOperation, 3),
-    }
 }

@@ -1,29 +1,22 @@
 //! Tests, and the values of `and` and `or`.
-ghost use Rattle.std.specs.Prelude.{◌≡◌, ◌<◌, if◌then◌else◌};
+ghost use Rattle.std.specs.Prelude.{◌≡◌, ◌<◌};
 ghost use Rattle.py_bytecode.specs.Values.{flip};
 ghost use Rattle.py_tree.specs.View.{bool_op_tree, expr_tree, exprs};
 ghost use Rattle.py_steps.specs.TableParts.{deciding};
-ghost use Rattle.py_steps.specs.EmissionParts.{bool_test, bool_value, keeping_jump, past_tests, shorts, some_test, some_values, testing_jump, tests, values, truth_of};
+ghost use Rattle.py_steps.specs.EmissionParts.{bool_test, bool_value, past_tests, shorts, some_test, some_values, tests, values, truth_of};
 ghost use Rattle.py_emission.specs.Emission.{all_emissions, emission, emission_of_test};
 ghost use Rattle.py_emit.specs.States.{Emits, state};
-ghost use Rattle.py_expr.specs.Turns.{short};
+ghost use Rattle.py_expr_parts.specs.Turns.{short};
 
 use crate::expressions::compile_expression;
-use py_bytecode::Instruction;
+use py_base::{CodegenError, CodegenErrorType};
 use py_emit::{Emitter, emit, refuse};
-use py_forms::{CodegenError, CodegenErrorType};
+use py_expr_parts::conditions::{JumpIf, deciding, either, keeping_jump, testing_jump};
 use py_ir::BlockIdx;
 use py_tree::{BoolOp, Expr, ExprBoolOp, Malformed, UnaryOp};
 
-/// Where a test jumps: to the block, where the truth is this.
-#[derive(Clone, Copy)]
-pub(crate) struct JumpIf {
-    pub(crate) truth: bool,
-    pub(crate) block: BlockIdx,
-}
-
 #[cycle(code)]
-#[tactic(auto, using(crate::proofs::Steps::steps))]
+#[tactic(auto, using(py_expr_parts::proofs::Steps::steps))]
 pub(crate) fn compile_bool_op(em: &mut Emitter, e: &ExprBoolOp) -> Result<(), CodegenError>
     requires at { (state em.old).location ≡ e.now.location }
     ensures { Emits result (emission (bool_op_tree e.now)) em.old em.new }
@@ -44,7 +37,7 @@ fn compile_bool_value(em: &mut Emitter, op: BoolOp, values: &[Expr]) -> Result<(
 
 /// Emits values, each but the last of which decides where its truth does.
 #[cycle(code)]
-#[tactic(auto, using(crate::proofs::Steps::steps))]
+#[tactic(auto, using(py_expr_parts::proofs::Steps::steps))]
 fn compile_some_values(em: &mut Emitter, op: BoolOp, values: &[Expr]) -> Result<(), CodegenError>
     ensures { Emits result (some_values op (all_emissions (exprs expr_tree values.now))) em.old em.new }
 {
@@ -90,38 +83,6 @@ fn compile_short(
     Ok(())
 }
 
-/// The truth at which a value decides.
-pub(crate) fn deciding(op: BoolOp) -> bool
-    ensures { result ≡ deciding op }
-{
-    match op {
-        BoolOp::And => false,
-        BoolOp::Or => true,
-    }
-}
-
-/// The jump that keeps a value where its truth is this.
-fn keeping_jump(truth: bool) -> Instruction
-    ensures { result ≡ keeping_jump truth }
-{
-    if truth {
-        Instruction::JumpIfTrueOrPop
-    } else {
-        Instruction::JumpIfFalseOrPop
-    }
-}
-
-/// The jump that takes a value off where it tests its truth.
-pub(crate) fn testing_jump(truth: bool) -> Instruction
-    ensures { result ≡ testing_jump truth }
-{
-    if truth {
-        Instruction::JumpIfTrue
-    } else {
-        Instruction::JumpIfFalse
-    }
-}
-
 /// Emits the code that jumps to a block where the truth of an expression is the condition, and else goes on. Neither leaves
 /// a value. The target is a block that was made.
 ///
@@ -145,7 +106,7 @@ pub fn compile_jump_if(
 
 /// Emits an expression as a test.
 #[cycle(code)]
-#[tactic(auto, using(py_tree::proofs::View::trees, crate::proofs::Steps::steps))]
+#[tactic(auto, using(py_tree::proofs::View::trees, py_expr_parts::proofs::Steps::steps))]
 pub(crate) fn compile_test(em: &mut Emitter, expr: &Expr, jump: &JumpIf) -> Result<(), CodegenError>
     requires below { jump.now.block.0 < 0xffff_ffff }
     ensures { Emits result (emission_of_test (expr_tree expr.now) jump.now.truth jump.now.block.0) em.old em.new }
@@ -162,7 +123,7 @@ pub(crate) fn compile_test(em: &mut Emitter, expr: &Expr, jump: &JumpIf) -> Resu
 
 /// Emits the test that is turned: that of `not` where the operand is this.
 #[cycle(code)]
-#[tactic(auto, using(crate::proofs::Steps::steps))]
+#[tactic(auto, using(py_expr_parts::proofs::Steps::steps))]
 fn compile_not(em: &mut Emitter, operand: &Expr, jump: &JumpIf) -> Result<(), CodegenError>
     requires below { jump.now.block.0 < 0xffff_ffff }
     ensures { Emits result (emission_of_test (expr_tree operand.now) (flip jump.now.truth) jump.now.block.0) em.old em.new }
@@ -217,7 +178,7 @@ fn compile_some_test(
 
 /// Emits values as tests, where one that decides goes past the others.
 #[cycle(code)]
-#[tactic(auto, using(crate::proofs::Steps::steps))]
+#[tactic(auto, using(py_expr_parts::proofs::Steps::steps))]
 fn compile_past_tests(
     em: &mut Emitter,
     deciding: bool,
@@ -254,11 +215,4 @@ fn compile_tests(
         compile_test(em, value, jump)?;
     }
     Ok(())
-}
-
-/// The first where more tests follow, else the last.
-fn either<'a>(more: bool, stop: &'a JumpIf, last: &'a JumpIf) -> &'a JumpIf
-    ensures { result.now ≡ (if more then stop.now else last.now) }
-{
-    if more { stop } else { last }
 }

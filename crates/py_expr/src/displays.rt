@@ -1,22 +1,24 @@
 //! Displays of lists, tuples, sets and dicts, and slices.
-ghost use Rattle.std.specs.Prelude.{◌≡◌, ◌≤◌, ◌<◌, ◌⊎◌, length};
+ghost use Rattle.std.specs.Prelude.{◌≡◌};
 ghost use Rattle.py_tree.specs.View.{expr_tree, exprs, list_tree, opt_box, opt_expr, opt_exprs, set_tree, slice_tree, tuple_tree};
 ghost use Rattle.py_bytecode.specs.Objects as object;
 ghost use Rattle.py_steps.specs.Elements.{pairs};
 ghost use Rattle.py_steps.specs.EmissionParts.{dict_value, display, elements, emission_of_dict, slice_step, value_or, values};
 ghost use Rattle.py_emission.specs.Emission.{all_emissions, emission, opt_emission, opt_emissions};
 ghost use Rattle.py_emit.specs.States.{Emits, state};
-ghost use Rattle.py_expr.specs.Dicts.{begun_by, closed_pairs, entry_begun, entry_ended, pairs_by};
+ghost use Rattle.py_expr_parts.specs.Dicts.{entry_begun};
 
-use crate::elements::{compile_unpacked, has_star};
+use crate::elements::compile_unpacked;
 use crate::expressions::{compile_expression, compile_expressions};
+use py_base::{CodegenError, CodegenErrorType};
 use py_bytecode::{ConstantData, Instruction};
 use py_emit::{Emitter, emit, refuse};
-use py_forms::{CodegenError, CodegenErrorType};
+use py_expr_parts::displays::{begun_after, close_pairs, end_entry, pair_count, run_after};
+use py_expr_parts::elements::has_star;
 use py_tree::{Expr, ExprDict, ExprList, ExprSet, ExprSlice, ExprTuple, Malformed};
 
 #[cycle(code)]
-#[tactic(auto, using(crate::proofs::Steps::steps))]
+#[tactic(auto, using(py_expr_parts::proofs::Steps::steps))]
 pub(crate) fn compile_list(em: &mut Emitter, e: &ExprList) -> Result<(), CodegenError>
     requires at { (state em.old).location ≡ e.now.location }
     ensures { Emits result (emission (list_tree e.now)) em.old em.new }
@@ -30,7 +32,7 @@ pub(crate) fn compile_list(em: &mut Emitter, e: &ExprList) -> Result<(), Codegen
 }
 
 #[cycle(code)]
-#[tactic(auto, using(crate::proofs::Steps::steps))]
+#[tactic(auto, using(py_expr_parts::proofs::Steps::steps))]
 pub(crate) fn compile_tuple(em: &mut Emitter, e: &ExprTuple) -> Result<(), CodegenError>
     requires at { (state em.old).location ≡ e.now.location }
     ensures { Emits result (emission (tuple_tree e.now)) em.old em.new }
@@ -44,7 +46,7 @@ pub(crate) fn compile_tuple(em: &mut Emitter, e: &ExprTuple) -> Result<(), Codeg
 }
 
 #[cycle(code)]
-#[tactic(auto, using(crate::proofs::Steps::steps))]
+#[tactic(auto, using(py_expr_parts::proofs::Steps::steps))]
 pub(crate) fn compile_set(em: &mut Emitter, e: &ExprSet) -> Result<(), CodegenError>
     requires at { (state em.old).location ≡ e.now.location }
     ensures { Emits result (emission (set_tree e.now)) em.old em.new }
@@ -87,17 +89,6 @@ pub(crate) fn compile_dict(em: &mut Emitter, e: &ExprDict) -> Result<(), Codegen
     compile_entries(em, e)
 }
 
-/// How many values have a key or none beside them.
-fn pair_count(e: &ExprDict) -> usize
-    ensures keys { result ≤ length e.now.keys }
-    ensures values { result ≤ length e.now.values }
-    ensures all { (result ≡ length e.now.keys) ⊎ (result ≡ length e.now.values) }
-{
-    let keys = e.keys.len();
-    let values = e.values.len();
-    if keys < values { keys } else { values }
-}
-
 /// Emits the entries of a dict display in their order: a map of the first pairs, to which each later run of pairs and each
 /// unpacked value is added.
 #[cycle(code)]
@@ -136,50 +127,8 @@ fn begin_entry(
     }
 }
 
-/// Emits what adds an unpacked value to the map below it.
-fn end_entry(em: &mut Emitter, key: &Option<Expr>) -> Result<(), CodegenError>
-    ensures { Emits result (entry_ended (opt_expr expr_tree key.now)) em.old em.new }
-{
-    match key {
-        Some(_) => Ok(()),
-        None => {
-            emit!(em, Instruction::DictUpdate);
-            Ok(())
-        }
-    }
-}
-
-/// Whether the first map is built behind an entry.
-fn begun_after(key: &Option<Expr>, begun: bool) -> bool
-    ensures { result ≡ begun_by begun key.now }
-{
-    if key.is_none() { true } else { begun }
-}
-
-/// How many pairs stand together behind an entry, where so many stand before it.
-fn run_after(key: &Option<Expr>, run: usize) -> usize
-    requires { run < 0xffff_ffff_ffff_ffff }
-    ensures { result ≡ pairs_by run key.now }
-{
-    if key.is_none() { 0 } else { run + 1 }
-}
-
-/// Makes a map of a run of so many pairs: the first map, or one that is added to it, where there are any.
-fn close_pairs(em: &mut Emitter, begun: bool, run: usize) -> Result<(), CodegenError>
-    ensures { Emits result (closed_pairs begun run) em.old em.new }
-{
-    if begun && run == 0 {
-        return Ok(());
-    }
-    em.emit_count(Instruction::BuildMap, run)?;
-    if begun {
-        emit!(em, Instruction::DictUpdate);
-    }
-    Ok(())
-}
-
 #[cycle(code)]
-#[tactic(auto, using(crate::proofs::Steps::steps))]
+#[tactic(auto, using(py_expr_parts::proofs::Steps::steps))]
 pub(crate) fn compile_slice(em: &mut Emitter, e: &ExprSlice) -> Result<(), CodegenError>
     requires at { (state em.old).location ≡ e.now.location }
     ensures { Emits result (emission (slice_tree e.now)) em.old em.new }

@@ -1,9 +1,7 @@
 //! Expressions.
 ghost use Rattle.std.specs.Prelude.{◌≡◌};
 ghost use Rattle.py_tree.specs.Tree.{expr_location};
-ghost use Rattle.py_tree.specs.View.{attribute_tree, bin_op_tree, expr_tree, exprs, if_exp_tree, name_tree, starred_tree, subscript_tree, unary_op_tree};
-ghost use Rattle.py_steps.specs.TableParts.{binary_case, unary_case};
-ghost use Rattle.py_steps.specs.Emitting.{refuse};
+ghost use Rattle.py_tree.specs.View.{attribute_tree, bin_op_tree, expr_tree, exprs, if_exp_tree, subscript_tree, unary_op_tree};
 ghost use Rattle.py_emission.specs.Emission.{emission, emission_of_exprs};
 ghost use Rattle.py_emit.specs.States.{Emits, state};
 
@@ -12,26 +10,28 @@ use crate::comparisons::compile_compare;
 use crate::comprehensions::{
     compile_dict_comp, compile_generator_exp, compile_list_comp, compile_set_comp,
 };
-use crate::conditions::{JumpIf, compile_bool_op, compile_test};
+use crate::conditions::{compile_bool_op, compile_test};
 use crate::displays::{compile_dict, compile_list, compile_set, compile_slice, compile_tuple};
 use crate::functions::compile_lambda;
 use crate::targets::compile_named_expr;
-use crate::texts::{compile_constant, compile_formatted_value, compile_joined_str};
-use crate::yields::{compile_await, compile_yield, compile_yield_from};
+use crate::texts::{compile_formatted_value, compile_joined_str};
+use crate::yields::{compile_yield, compile_yield_from};
+use py_base::CodegenError;
 use py_bytecode::Instruction;
-use py_emit::{Emitter, NameUsage, emit, refuse};
-use py_forms::{CodegenError, CodegenErrorType};
-use py_tree::{
-    Expr, ExprAttribute, ExprBinOp, ExprIfExp, ExprName, ExprStarred, ExprSubscript, ExprUnaryOp,
-    Operator, UnaryOp,
+use py_emit::{Emitter, emit};
+use py_expr_parts::conditions::JumpIf;
+use py_expr_parts::expressions::{
+    case_of, compile_await, compile_name, compile_starred, unary_case_of,
 };
+use py_expr_parts::texts::compile_constant;
+use py_tree::{Expr, ExprAttribute, ExprBinOp, ExprIfExp, ExprSubscript, ExprUnaryOp};
 
 /// Emits the code that pushes an expression's value.
 ///
 /// # Errors
 /// The first compile fault of the expression, or OutOfMemory.
 #[cycle(code)]
-#[tactic(auto, using(crate::proofs::Steps::steps))]
+#[tactic(auto, using(py_expr_parts::proofs::Steps::steps))]
 pub fn compile_expression(em: &mut Emitter, expr: &Expr) -> Result<(), CodegenError>
     ensures { Emits result (emission (expr_tree expr.now)) em.old em.new }
 {
@@ -41,7 +41,7 @@ pub fn compile_expression(em: &mut Emitter, expr: &Expr) -> Result<(), CodegenEr
 
 /// Emits the value of an expression, at whose location the emitter is.
 #[cycle(code)]
-#[tactic(auto, using(py_tree::proofs::View::trees, crate::proofs::Steps::steps))]
+#[tactic(auto, using(py_tree::proofs::View::trees, py_expr_parts::proofs::Steps::steps))]
 pub(crate) fn compile_entered(em: &mut Emitter, expr: &Expr) -> Result<(), CodegenError>
     requires at { (state em.old).location ≡ expr_location (expr_tree expr.now) }
     ensures { Emits result (emission (expr_tree expr.now)) em.old em.new }
@@ -77,16 +77,8 @@ pub(crate) fn compile_entered(em: &mut Emitter, expr: &Expr) -> Result<(), Codeg
     }
 }
 
-/// Refuses a node of a kind that is not compiled yet.
-#[tactic(auto, using(crate::proofs::Steps::steps))]
-pub fn refuse_unbuilt(em: &mut Emitter) -> Result<(), CodegenError>
-    ensures { Emits result (refuse CodegenErrorType.NotImplementedYet) em.old em.new }
-{
-    refuse!(em, CodegenErrorType::NotImplementedYet);
-}
-
 #[cycle(code)]
-#[tactic(auto, using(crate::proofs::Steps::steps))]
+#[tactic(auto, using(py_expr_parts::proofs::Steps::steps))]
 fn compile_bin_op(em: &mut Emitter, e: &ExprBinOp) -> Result<(), CodegenError>
     requires at { (state em.old).location ≡ e.now.location }
     ensures { Emits result (emission (bin_op_tree e.now)) em.old em.new }
@@ -97,29 +89,8 @@ fn compile_bin_op(em: &mut Emitter, e: &ExprBinOp) -> Result<(), CodegenError>
     Ok(())
 }
 
-/// The number of a binary operator's case.
-pub fn case_of(op: Operator) -> u32
-    ensures { result ≡ binary_case op }
-{
-    match op {
-        Operator::Add => 0,
-        Operator::Sub => 1,
-        Operator::Mult => 2,
-        Operator::MatMult => 3,
-        Operator::Div => 4,
-        Operator::FloorDiv => 5,
-        Operator::Mod => 6,
-        Operator::Pow => 7,
-        Operator::LShift => 8,
-        Operator::RShift => 9,
-        Operator::BitOr => 10,
-        Operator::BitXor => 11,
-        Operator::BitAnd => 12,
-    }
-}
-
 #[cycle(code)]
-#[tactic(auto, using(crate::proofs::Steps::steps))]
+#[tactic(auto, using(py_expr_parts::proofs::Steps::steps))]
 fn compile_unary_op(em: &mut Emitter, e: &ExprUnaryOp) -> Result<(), CodegenError>
     requires at { (state em.old).location ≡ e.now.location }
     ensures { Emits result (emission (unary_op_tree e.now)) em.old em.new }
@@ -129,20 +100,8 @@ fn compile_unary_op(em: &mut Emitter, e: &ExprUnaryOp) -> Result<(), CodegenErro
     Ok(())
 }
 
-/// The number of a unary operator's case.
-fn unary_case_of(op: UnaryOp) -> u32
-    ensures { result ≡ unary_case op }
-{
-    match op {
-        UnaryOp::UAdd => 0,
-        UnaryOp::USub => 1,
-        UnaryOp::Not => 2,
-        UnaryOp::Invert => 3,
-    }
-}
-
 #[cycle(code)]
-#[tactic(auto, using(crate::proofs::Steps::steps))]
+#[tactic(auto, using(py_expr_parts::proofs::Steps::steps))]
 fn compile_if_exp(em: &mut Emitter, e: &ExprIfExp) -> Result<(), CodegenError>
     requires at { (state em.old).location ≡ e.now.location }
     ensures { Emits result (emission (if_exp_tree e.now)) em.old em.new }
@@ -163,7 +122,7 @@ fn compile_if_exp(em: &mut Emitter, e: &ExprIfExp) -> Result<(), CodegenError>
 }
 
 #[cycle(code)]
-#[tactic(auto, using(crate::proofs::Steps::steps))]
+#[tactic(auto, using(py_expr_parts::proofs::Steps::steps))]
 fn compile_attribute(em: &mut Emitter, e: &ExprAttribute) -> Result<(), CodegenError>
     requires at { (state em.old).location ≡ e.now.location }
     ensures { Emits result (emission (attribute_tree e.now)) em.old em.new }
@@ -173,7 +132,7 @@ fn compile_attribute(em: &mut Emitter, e: &ExprAttribute) -> Result<(), CodegenE
 }
 
 #[cycle(code)]
-#[tactic(auto, using(crate::proofs::Steps::steps))]
+#[tactic(auto, using(py_expr_parts::proofs::Steps::steps))]
 fn compile_subscript(em: &mut Emitter, e: &ExprSubscript) -> Result<(), CodegenError>
     requires at { (state em.old).location ≡ e.now.location }
     ensures { Emits result (emission (subscript_tree e.now)) em.old em.new }
@@ -182,23 +141,6 @@ fn compile_subscript(em: &mut Emitter, e: &ExprSubscript) -> Result<(), CodegenE
     compile_expression(em, &e.slice)?;
     emit!(em, Instruction::Subscript);
     Ok(())
-}
-
-/// Refuses a starred expression that is no element.
-#[tactic(auto, using(crate::proofs::Steps::steps))]
-fn compile_starred(em: &mut Emitter, e: &ExprStarred) -> Result<(), CodegenError>
-    requires at { (state em.old).location ≡ e.now.location }
-    ensures { Emits result (emission (starred_tree e.now)) em.old em.new }
-{
-    refuse!(em, CodegenErrorType::InvalidStarExpr);
-}
-
-#[tactic(auto, using(crate::proofs::Steps::steps))]
-pub(crate) fn compile_name(em: &mut Emitter, e: &ExprName) -> Result<(), CodegenError>
-    requires at { (state em.old).location ≡ e.now.location }
-    ensures { Emits result (emission (name_tree e.now)) em.old em.new }
-{
-    em.compile_name(NameUsage::Load, e.id.as_str())
 }
 
 /// Emits expressions one after the other.

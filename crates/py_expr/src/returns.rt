@@ -1,26 +1,28 @@
 //! The returns of values.
 ghost use Rattle.std.specs.Prelude.{◌≡◌};
 ghost use Rattle.py_tree.specs.Tree.{expr_location};
-ghost use Rattle.py_tree.specs.View.{constant_tree, expr_tree, exprs, joined_str_tree, name_tree};
+ghost use Rattle.py_tree.specs.View.{expr_tree, exprs, joined_str_tree};
 ghost use Rattle.py_emission.specs.Texts.{texts_of};
 ghost use Rattle.py_steps.specs.Emitting.{◌▸◌, emit as emitting};
 ghost use Rattle.py_steps.specs.EmissionParts.{values};
-ghost use Rattle.py_emission.specs.Emission.{all_emissions, emission, emission_of_return, joined_return, name_return};
-ghost use Rattle.py_emit.specs.States.{Emits, rest, state};
+ghost use Rattle.py_emission.specs.Emission.{all_emissions, emission, emission_of_return, joined_return};
+ghost use Rattle.py_emit.specs.States.{Emits, state};
 
 use crate::expressions::compile_entered;
-use crate::texts::{compile_parts, copied_constant, whole_text};
+use crate::texts::compile_parts;
+use py_base::CodegenError;
 use py_bytecode::{ConstantData, Instruction};
-use py_emit::{Emitter, NameUsage, debug_constant, emit, is_debug};
-use py_forms::CodegenError;
-use py_tree::{Expr, ExprConstant, ExprJoinedStr, ExprName};
+use py_emit::{Emitter, emit};
+use py_expr_parts::returns::{return_constant, return_name};
+use py_expr_parts::texts::whole_text;
+use py_tree::{Expr, ExprJoinedStr};
 
 /// Emits the code that returns an expression's value: a constant by one instruction.
 ///
 /// # Errors
 /// The first compile fault of the expression, or OutOfMemory.
 #[cycle(code)]
-#[tactic(auto, using(py_tree::proofs::View::trees, crate::proofs::Steps::steps))]
+#[tactic(auto, using(py_tree::proofs::View::trees, py_expr_parts::proofs::Steps::steps))]
 pub fn compile_return(em: &mut Emitter, expr: &Expr) -> Result<(), CodegenError>
     ensures { Emits result (emission_of_return (expr_tree expr.now)) em.old em.new }
 {
@@ -30,7 +32,7 @@ pub fn compile_return(em: &mut Emitter, expr: &Expr) -> Result<(), CodegenError>
 
 /// Emits the return of an expression's value, at whose location the emitter is.
 #[cycle(code)]
-#[tactic(auto, using(py_tree::proofs::View::trees, crate::proofs::Steps::steps))]
+#[tactic(auto, using(py_tree::proofs::View::trees, py_expr_parts::proofs::Steps::steps))]
 fn return_entered(em: &mut Emitter, expr: &Expr) -> Result<(), CodegenError>
     requires at { (state em.old).location ≡ expr_location (expr_tree expr.now) }
     ensures { Emits result (emission_of_return (expr_tree expr.now)) em.old em.new }
@@ -45,7 +47,7 @@ fn return_entered(em: &mut Emitter, expr: &Expr) -> Result<(), CodegenError>
 
 /// Emits a value and its return.
 #[cycle(code)]
-#[tactic(auto, using(crate::proofs::Steps::steps))]
+#[tactic(auto, using(py_expr_parts::proofs::Steps::steps))]
 fn return_value(em: &mut Emitter, expr: &Expr) -> Result<(), CodegenError>
     requires at { (state em.old).location ≡ expr_location (expr_tree expr.now) }
     ensures { Emits result (emission (expr_tree expr.now) ▸ emitting Instruction.ReturnValue 0) em.old em.new }
@@ -55,17 +57,8 @@ fn return_value(em: &mut Emitter, expr: &Expr) -> Result<(), CodegenError>
     Ok(())
 }
 
-#[tactic(auto, using(crate::proofs::Steps::steps))]
-fn return_constant(em: &mut Emitter, e: &ExprConstant) -> Result<(), CodegenError>
-    requires at { (state em.old).location ≡ e.now.location }
-    ensures { Emits result (emission_of_return (constant_tree e.now)) em.old em.new }
-{
-    let value = copied_constant(em, &e.value)?;
-    em.return_const(value)
-}
-
 #[cycle(code)]
-#[tactic(auto, using(crate::proofs::Steps::steps))]
+#[tactic(auto, using(py_expr_parts::proofs::Steps::steps))]
 fn return_joined_str(em: &mut Emitter, e: &ExprJoinedStr) -> Result<(), CodegenError>
     requires at { (state em.old).location ≡ e.now.location }
     ensures { Emits result (emission_of_return (joined_str_tree e.now)) em.old em.new }
@@ -83,28 +76,6 @@ fn return_joined(em: &mut Emitter, parts: &[Expr]) -> Result<(), CodegenError>
         return em.return_const(ConstantData::Str { value });
     }
     compile_parts(em, parts)?;
-    emit!(em, Instruction::ReturnValue);
-    Ok(())
-}
-
-#[tactic(auto, using(crate::proofs::Steps::steps))]
-fn return_name(em: &mut Emitter, e: &ExprName) -> Result<(), CodegenError>
-    requires at { (state em.old).location ≡ e.now.location }
-    ensures { Emits result (emission_of_return (name_tree e.now)) em.old em.new }
-{
-    return_access(em, e.id.as_str())
-}
-
-/// Emits the return of what a name stands for, which is a constant where it is `__debug__`.
-#[tactic(auto, unfolding(py_steps::specs::Emitting::by_level, py_emit::specs::States::rest))]
-fn return_access(em: &mut Emitter, name: &str) -> Result<(), CodegenError>
-    ensures { Emits result (name_return name.now) em.old em.new }
-{
-    if is_debug(name) {
-        let opts = em.opts();
-        return em.return_const(debug_constant(opts));
-    }
-    em.compile_name(NameUsage::Load, name)?;
     emit!(em, Instruction::ReturnValue);
     Ok(())
 }

@@ -1,24 +1,20 @@
 //! Targets: the code that stores to them or deletes them. A target is not entered: what is wrong with it stands where the code
 //! before it leaves off.
-ghost use Rattle.std.specs.Prelude.{◌≡◌, ◌<◌, ◌≢◌};
+ghost use Rattle.std.specs.Prelude.{◌≡◌};
 ghost use Rattle.py_tree.specs.View.{expr_tree, exprs, named_expr_tree};
-ghost use Rattle.py_tree.specs.PythonName.{python_name};
-ghost use Rattle.py_steps.specs.Elements.{bare, before_star, stars};
-ghost use Rattle.py_steps.specs.Emitting.{◌▸◌, emit_mangled, refuse, emit as emitting};
-ghost use Rattle.py_steps.specs.EmissionParts.{in_turn, lone_star, unless_debug, unpack, unpack_starred, unpacking};
-ghost use Rattle.py_emission.specs.Emission.{all_stores, deletion_name, emission, emission_of_delete, emission_of_deletes, emission_of_store, stores};
+ghost use Rattle.py_steps.specs.Elements.{bare};
+ghost use Rattle.py_steps.specs.Emitting.{◌▸◌, emit_mangled, emit as emitting};
+ghost use Rattle.py_steps.specs.EmissionParts.{in_turn, unless_debug, unpack};
+ghost use Rattle.py_emission.specs.Emission.{all_stores, emission, emission_of_delete, emission_of_deletes, emission_of_store, stores};
 ghost use Rattle.py_emit.specs.States.{Emits, state};
-ghost use Rattle.py_expr.specs.Targets.{bare_of};
+ghost use Rattle.py_expr_parts.specs.Targets.{bare_of};
 
-use crate::elements::is_star;
 use crate::expressions::compile_expression;
+use py_base::CodegenError;
 use py_bytecode::Instruction;
 use py_emit::{Emitter, NameUsage, emit, is_debug, refuse};
-use py_forms::{CodegenError, CodegenErrorType};
+use py_expr_parts::targets::{emit_unpack, refuse_delete, refuse_lone_star, refuse_store};
 use py_tree::{Expr, ExprAttribute, ExprNamedExpr, ExprSubscript, SourceLocation};
-
-/// The most targets that stand on one side of a star.
-const MOST_ASIDE: usize = 255;
 
 /// Emits the code that stores the value that lies there to an expression.
 ///
@@ -90,71 +86,6 @@ fn compile_unpack(
     compile_stores(em, elts)
 }
 
-/// Emits what unpacks a value to as many targets, or with a star to those around it and a list of the others.
-fn emit_unpack(
-    em: &mut Emitter,
-    location: SourceLocation,
-    elts: &[Expr],
-) -> Result<(), CodegenError>
-    ensures { Emits result (unpacking location (all_stores (exprs expr_tree elts.now))) em.old em.new }
-{
-    let starred = star_count(elts);
-    if starred == 0 {
-        return em.emit_count(Instruction::UnpackSequence, elts.len());
-    }
-    emit_starred_unpack(em, location, elts, starred)
-}
-
-/// Emits what unpacks a value around a star, or leaves where too many targets stand aside, or several are starred.
-fn emit_starred_unpack(
-    em: &mut Emitter,
-    location: SourceLocation,
-    elts: &[Expr],
-    starred: usize,
-) -> Result<(), CodegenError>
-    requires some { starred ≢ 0 }
-    requires counted { starred ≡ stars (all_stores (exprs expr_tree elts.now)) }
-    ensures { Emits result (unpack_starred location (all_stores (exprs expr_tree elts.now))) em.old em.new }
-{
-    let before = before_star(elts);
-    let after = elts.len() - before - 1;
-    if before > MOST_ASIDE || after > MOST_ASIDE {
-        em.set_location(location);
-        refuse!(em, CodegenErrorType::TooManyStarUnpack);
-    }
-    if starred > 1 {
-        refuse!(em, CodegenErrorType::MultipleStarArgs);
-    }
-    em.emit_arg(Instruction::UnpackEx, (before + 256 * after) as u32)
-}
-
-/// How many targets are starred.
-fn star_count(elts: &[Expr]) -> usize
-    ensures { result ≡ stars (all_stores (exprs expr_tree elts.now)) }
-{
-    let mut count = 0;
-    for elt in elts {
-        if is_star(elt) {
-            count += 1;
-        }
-    }
-    count
-}
-
-/// How many targets stand before the first that is starred.
-fn before_star(elts: &[Expr]) -> usize
-    ensures { result ≡ before_star (all_stores (exprs expr_tree elts.now)) }
-{
-    let mut count = 0;
-    for elt in elts {
-        if is_star(elt) {
-            return count;
-        }
-        count += 1;
-    }
-    count
-}
-
 /// Emits the code that stores to each target in turn.
 #[cycle(code)]
 fn compile_stores(em: &mut Emitter, elts: &[Expr]) -> Result<(), CodegenError>
@@ -176,22 +107,6 @@ fn compile_element_store(em: &mut Emitter, elt: &Expr) -> Result<(), CodegenErro
         Expr::Starred(e) => compile_store(em, &e.value),
         _ => compile_store(em, elt),
     }
-}
-
-/// Refuses a starred target that is no element.
-fn refuse_lone_star(em: &mut Emitter) -> Result<(), CodegenError>
-    ensures { Emits result (refuse (CodegenErrorType.SyntaxError lone_star)) em.old em.new }
-{
-    refuse!(em, SyntaxError: "starred assignment target must be in a list or tuple");
-}
-
-/// Refuses an expression that is no target.
-#[tactic(auto, using(crate::proofs::Steps::steps))]
-pub fn refuse_store(em: &mut Emitter, target: &Expr) -> Result<(), CodegenError>
-    ensures { Emits result (refuse (CodegenErrorType.Assign (python_name (expr_tree target.now)))) em.old em.new }
-{
-    let name = em.text(target.python_name())?;
-    refuse!(em, CodegenErrorType::Assign(name));
 }
 
 /// Emits the code that deletes an expression, a list or a tuple element by element.
@@ -232,30 +147,9 @@ pub fn compile_deletes(em: &mut Emitter, targets: &[Expr]) -> Result<(), Codegen
     Ok(())
 }
 
-/// Refuses an expression that cannot be deleted.
-#[tactic(auto, using(crate::proofs::Steps::steps))]
-fn refuse_delete(em: &mut Emitter, target: &Expr) -> Result<(), CodegenError>
-    ensures { Emits result (refuse (CodegenErrorType.Delete (deletion_name (expr_tree target.now)))) em.old em.new }
-{
-    let name = em.text(deletion_name(target))?;
-    refuse!(em, CodegenErrorType::Delete(name));
-}
-
-/// What a message calls an expression that cannot be deleted.
-#[tactic(auto, using(py_tree::proofs::View::trees))]
-fn deletion_name(target: &Expr) -> &'static str
-    ensures { result.now ≡ deletion_name (expr_tree target.now) }
-{
-    match target {
-        Expr::BinOp(_) => "expression",
-        Expr::UnaryOp(_) => "expression",
-        _ => target.python_name(),
-    }
-}
-
 /// Emits a value that is stored and kept.
 #[cycle(code)]
-#[tactic(auto, using(crate::proofs::Steps::steps))]
+#[tactic(auto, using(py_expr_parts::proofs::Steps::steps))]
 pub(crate) fn compile_named_expr(em: &mut Emitter, e: &ExprNamedExpr) -> Result<(), CodegenError>
     requires at { (state em.old).location ≡ e.now.location }
     ensures { Emits result (emission (named_expr_tree e.now)) em.old em.new }

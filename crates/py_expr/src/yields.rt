@@ -1,43 +1,22 @@
 //! What a generator hands on.
 ghost use Rattle.std.specs.Prelude.{◌≡◌};
-ghost use Rattle.py_tree.specs.View.{await_tree, expr_tree, opt_box, yield_from_tree, yield_tree};
+ghost use Rattle.py_tree.specs.View.{expr_tree, opt_box, yield_from_tree, yield_tree};
 ghost use Rattle.py_bytecode.specs.Objects as object;
-ghost use Rattle.py_steps.specs.Context.{is_function};
-ghost use Rattle.py_steps.specs.Emitting.{◌▸◌, emit as emitting, emit_constant, generating, keep};
+ghost use Rattle.py_steps.specs.Emitting.{◌▸◌, emit as emitting, emit_constant, generating};
 ghost use Rattle.py_steps.specs.EmissionParts.{only_in_function, value_or};
 ghost use Rattle.py_emission.specs.Emission.{emission, opt_emission};
 ghost use Rattle.py_emit.specs.States.{Emits, state};
 
 use crate::displays::compile_or_none;
 use crate::expressions::compile_expression;
+use py_base::{CodegenError, CodegenErrorType};
 use py_bytecode::{ConstantData, Instruction};
-use py_emit::{Emitter, emit, refuse};
-use py_forms::{CodegenError, CodegenErrorType};
-use py_scope::SymbolTableType;
-use py_tree::{Expr, ExprAwait, ExprYield, ExprYieldFrom};
-
-/// Whether a scope of this kind is a function: lambdas, comprehensions and scopes of type parameters are functions too.
-pub fn is_function(typ: SymbolTableType) -> bool
-    ensures { result ≡ is_function typ }
-{
-    !matches!(typ, SymbolTableType::Module | SymbolTableType::Class)
-}
-
-/// Leaves with this error where the present scope is no function.
-///
-/// # Errors
-/// The error alone.
-pub fn check_in_function(em: &mut Emitter, error: CodegenErrorType) -> Result<(), CodegenError>
-    ensures { Emits result (only_in_function error keep) em.old em.new }
-{
-    if is_function(em.scope_type()) {
-        return Ok(());
-    }
-    refuse!(em, error);
-}
+use py_emit::{Emitter, emit};
+use py_expr_parts::yields::check_in_function;
+use py_tree::{Expr, ExprYield, ExprYieldFrom};
 
 #[cycle(code)]
-#[tactic(auto, using(crate::proofs::Steps::steps))]
+#[tactic(auto, using(py_expr_parts::proofs::Steps::steps))]
 pub(crate) fn compile_yield(em: &mut Emitter, e: &ExprYield) -> Result<(), CodegenError>
     requires at { (state em.old).location ≡ e.now.location }
     ensures { Emits result (emission (yield_tree e.now)) em.old em.new }
@@ -56,7 +35,7 @@ fn yield_within(em: &mut Emitter, value: &Option<Box<Expr>>) -> Result<(), Codeg
 
 /// Emits a value, or None where it is missing, and what hands it on.
 #[cycle(code)]
-#[tactic(auto, using(crate::proofs::Steps::steps))]
+#[tactic(auto, using(py_expr_parts::proofs::Steps::steps))]
 fn yield_value(em: &mut Emitter, value: &Option<Box<Expr>>) -> Result<(), CodegenError>
     ensures { Emits result (generating ▸ value_or object.none (opt_emission (opt_box expr_tree value.now)) ▸ emitting Instruction.YieldValue 0) em.old em.new }
 {
@@ -67,7 +46,7 @@ fn yield_value(em: &mut Emitter, value: &Option<Box<Expr>>) -> Result<(), Codege
 }
 
 #[cycle(code)]
-#[tactic(auto, using(crate::proofs::Steps::steps))]
+#[tactic(auto, using(py_expr_parts::proofs::Steps::steps))]
 pub(crate) fn compile_yield_from(em: &mut Emitter, e: &ExprYieldFrom) -> Result<(), CodegenError>
     requires at { (state em.old).location ≡ e.now.location }
     ensures { Emits result (emission (yield_from_tree e.now)) em.old em.new }
@@ -96,13 +75,4 @@ fn yield_all(em: &mut Emitter, value: &Expr) -> Result<(), CodegenError>
     em.load_const(ConstantData::None)?;
     emit!(em, Instruction::YieldFrom);
     Ok(())
-}
-
-/// Refuses an `await`, since no function that is compiled is an `async def`.
-#[tactic(auto, using(crate::proofs::Steps::steps))]
-pub(crate) fn compile_await(em: &mut Emitter, e: &ExprAwait) -> Result<(), CodegenError>
-    requires at { (state em.old).location ≡ e.now.location }
-    ensures { Emits result (emission (await_tree e.now)) em.old em.new }
-{
-    refuse!(em, CodegenErrorType::InvalidAwait);
 }

@@ -1,33 +1,8 @@
--- Runs of items, what a scope means, and what it is for items with their children to agree with a scope.
-use Rattle.std.specs.Prelude.{◌≡◌, ◌⊎◌, ℕ, zero, suc, List, [], ◌∷◌, ◌++◌, false, Option, Some, None, nat_eq, if◌then◌else◌, slice_get}
+-- What a scope means, runs that are the same but for children, and the scopes that stand in a form.
+use Rattle.std.specs.Prelude.{◌≡◌, ◌⊎◌, ℕ, List, [], ◌∷◌, ◌++◌, None}
 use Rattle.py_bytecode.specs.Values.{Value, Constant, Given, Child, Cell, Entry, It, Cells, Unsaid, Event, Operates, Makes, Accesses, StoresCells, AsksTruth, AsksNext, Answer, Outcome, Returned, RaisedOut, Stopped, Wrong, Leaked, Going, Ran}
 use Rattle.py_forms.specs.Form.{VForm, VConst, VLoad, VOp, VMake, VShort, VChain, VChoice, VKeep, VSwap, VAt, VForms, VNone, VMore, VMethod, Shorts, OneShort, MoreShort, Links, LastLink, MoreLink, TForm, TTruth, TNot, TAll, Tests, OneTest, MoreTest, Target, GStore, GPut, GUnder, GUnpack, GDrop, Targets, NoTarget, MoreTarget, SForm, SSkip, SThen, SDo, SInto, SRemove, SIf, SIfElse, SWhile, SFor, SBreak, SContinue, SReturn, SClassEnd, SReraise, SAugment, SAugmentTwo, STry, STryFinal, SFinally, SWith, SGather, SGenerate, SAt, Handlers, HNone, HAny, HTyped, Clauses, CLast, CEach, Filters, NoFilter, MoreFilter, Head, Scope, MkScope, Interp, run, ended_so}
-use Rattle.py_forms.specs.Looped.{Looped}
-use Rattle.py_bytecode.specs.Machine.{Instr, Push, ReturnConst, at_places, Fetched, Found, Nothing, machine, start, fuel}
-use Rattle.py_forms.specs.Code.{Item, Do, Label, size, body_code}
-use Rattle.py_forms.specs.View.{View, whole, plain, ran_to}
-
--- a code's instructions, and the addresses of its labels
-abbrev pub instrs : {K : Type 0} → List (Item K) → List (Instr K ℕ)
-instrs [] = []
-instrs (Do i ∷ is) = i ∷ instrs is
-instrs (Label l ∷ is) = instrs is
-
--- how many instructions stand before a label, from n on
-abbrev pub place_of : {K : Type 0} → List (Item K) → ℕ → ℕ → ℕ
-place_of [] l n = n
-place_of (Do i ∷ is) l n = place_of is l (suc n)
-place_of (Label k ∷ is) l n = if nat_eq k l then n else place_of is l n
-
-abbrev pub found : {K : Type 0} → (ℕ → ℕ) → ℕ → Option (Instr K ℕ) → Fetched K ℕ
-found spot p None = Nothing
-found spot p (Some i) = Found (at_places spot i) (suc p)
-
-abbrev pub fetch_at : {K : Type 0} → List (Item K) → ℕ → Fetched K ℕ
-fetch_at is p = found (λ l. place_of is l 0) p (slice_get (instrs is) p)
-
-abbrev pub runs_code : {K : Type 0} → List (Item K) → List Answer → Ran K
-runs_code is answers = machine (fetch_at is) (fuel (size is) answers) 0 (start answers)
+use Rattle.py_bytecode.specs.Machine.{start}
 
 abbrev pub head_of : Scope → Head
 head_of (MkScope h f) = h
@@ -66,16 +41,6 @@ plainly s = record { child = λ t. t; kind = λ u x n. Unsaid; place = λ u x n.
 
 abbrev pub meaning_by : (Scope → Interp Scope) → Scope → List Answer → Ran Scope
 meaning_by view s answers = ended_so (run (view s) (form_of s) None (start answers))
-
--- code objects that nest at most n deep: items, whose children may be code objects one less deep
-abbrev pub CodeOf : ℕ → Type 0
-CodeOf zero = Unit {0}
-CodeOf (suc n) = List (Item (CodeOf n))
-
--- a scope's code object, down to n levels of children
-abbrev pub compile : (n : ℕ) → Scope → CodeOf n
-compile zero s = tt
-compile (suc n) s = body_code (exactly (compile n) s) (form_of s)
 
 -- the same but for children, which are related by R
 module _ {K L : Type 0} (R : K → L → Type 0) where
@@ -139,26 +104,6 @@ module _ {K L : Type 0} (R : K → L → Type 0) where
 abbrev pub AllOf : {A : Type 0} → (A → Type 0) → List A → Type 0
 AllOf p [] = Unit {0}
 AllOf p (x ∷ xs) = p x × AllOf p xs
-
--- the children that a code loads
-abbrev pub child_of : {K : Type 0} → Value K → List K
-child_of (Constant n) = []
-child_of (Given n k) = []
-child_of (Child k) = k ∷ []
-
-abbrev pub child_in : {K : Type 0} → Entry K → List K
-child_in (It x) = child_of x
-child_in (Cells cs) = []
-
-abbrev pub loaded : {K : Type 0} → Instr K ℕ → List K
-loaded (Push e) = child_in e
-loaded (ReturnConst x) = child_of x
-loaded _ = []
-
-abbrev pub children : {K : Type 0} → List (Item K) → List K
-children [] = []
-children (Do i ∷ is) = loaded i ++ children is
-children (Label l ∷ is) = children is
 
 -- the scopes that stand directly in a form
 abbrev mutual
@@ -246,20 +191,3 @@ abbrev mutual
   kids_h HNone = []
   kids_h (HAny t b hs) = kids_g t ++ (kids b ++ kids_h hs)
   kids_h (HTyped f t b hs) = kids_v f ++ (kids_g t ++ (kids b ++ kids_h hs))
-
--- items agree with a scope under a view, by recursion on nesting
-abbrev pub ItemsAgree : View → (Scope → Interp Scope) → (n : ℕ) → CodeOf n → Scope → Type 0
-ItemsAgree v view zero c s = Unit {0}
-ItemsAgree v view (suc n) c s =
-    ((answers : List Answer) → SameRan (ItemsAgree v view n) (ran_to (λ k. k) v (runs_code c answers)) (meaning_by view s answers))
-    × AllOf (λ k. OneOf (ItemsAgree v view n) k (kids (form_of s))) (children c)
-    × AllOf (λ t. OneOf (λ x k. ItemsAgree v view n k x) t (children c)) (kids (form_of s))
-
--- breaks and continues stand in loops, in a scope and in those within it, down to n levels
-abbrev pub AllLooped : ℕ → Scope → Type 0
-AllLooped zero s = Unit {0}
-AllLooped (suc n) s = Looped false (form_of s) × AllOf (AllLooped n) (kids (form_of s))
-
--- the code of every such scope agrees with it in both views, to any depth of nesting
-abbrev pub CompiledAgrees : Type 0
-CompiledAgrees = (n : ℕ) (s : Scope) → AllLooped n s → ItemsAgree whole fully n (compile n s) s × ItemsAgree plain plainly n (compile n s) s

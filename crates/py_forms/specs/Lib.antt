@@ -4,10 +4,6 @@ pub mod Fit
 pub mod Code
 pub mod View
 pub mod Agree
-pub mod Live
-pub mod Blocks
-pub mod Laws
 pub mod Places
-pub mod Walks
 pub mod Agreement
-pub mod Messages
+pub mod CodeRuns

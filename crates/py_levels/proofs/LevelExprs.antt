@@ -5,8 +5,7 @@ use Rattle.py_tree.specs.Tree as tree
 use Rattle.py_bytecode.specs.declared.instruction.Instruction.TheVariants as op
 use Rattle.py_bytecode.specs.Objects as const
 use Rattle.py_bytecode.specs.Values.{operation, Bare}
-use Rattle.py_steps.specs.Children.{lambda_inside}
-use Rattle.py_steps.specs.Comprehensions.{comprehension_inside}
+use Rattle.py_steps.specs.Within.{comprehension_inside, lambda_inside}
 use Rattle.py_steps.specs.Context.{Context, head_of, inside, mangled}
 use Rattle.py_steps.specs.Elements.{Single, Spread, Function, Method, pairs}
 use Rattle.py_emission.specs.Texts.{texts_of}

@@ -8,9 +8,7 @@ use Rattle.py_bytecode.specs.Objects as const
 use Rattle.py_bytecode.specs.Values.{operation, Bare, Number}
 use Rattle.py_counts.specs.Counts.{scopes_in_arg, scopes_in_returns}
 use Rattle.py_texts.specs.Annotation.{annotation}
-use Rattle.py_steps.specs.Children.{function_inside}
-use Rattle.py_steps.specs.Classes.{behind_name, class_path, class_within}
-use Rattle.py_steps.specs.TypeParameters.{handed, handed_parts, hidden_inside}
+use Rattle.py_steps.specs.Within.{behind_name, class_path, class_within, function_inside, handed, handed_parts, hidden_inside}
 use Rattle.py_steps.specs.Context.{Context, inside, is_function, mangled, qualified, with_path, within_class}
 use Rattle.py_steps.specs.Elements.{Function}
 use Rattle.py_emission.specs.Texts.{after_doc, doc_of, first_text}
@@ -18,7 +16,8 @@ use Rattle.py_forms.specs.Form.{VForm, VForms, VConst, VOp, VMake, VKeep, VSwap,
 use Rattle.py_steps.specs.TableParts.{built, call_form, elements, inplace, named}
 use Rattle.py_levels.specs.Levels.{FreeArg, FreeArgs, FreeArguments, FreeExpr, FreeExprs, FreeItems, FreeKeywords, FreeOpt, FreeOptArg, FreeParam, FreeParams, Undocumented}
 use Rattle.py_meaning.specs.StmtCounts.{scopes_in_param, scopes_in_stmts}
-use Rattle.py_meaning.specs.StmtParts.{annotated, annotated_form, annotation_target, assign_form, assigned, augment_form, class_function, class_value, declared_form, function_value, item_target, raise_form, removal, removals, return_form, with_form}
+use Rattle.py_meaning.specs.StmtParts.{annotated_form, annotation_target, assign_form, assigned, augment_form, class_function, class_value, declared_form, function_value, item_target, raise_form, removal, removals, return_form, with_form}
+use Rattle.py_emission.specs.Predicates.{annotated}
 use Rattle.py_meaning.specs.Table.{after, after_all, after_defaults, after_opt, expr_form, target_form}
 use Rattle.py_meaning.specs.TableNotes.{arg_note, arg_notes, note_form, note_forms, opt_arg_note, opt_note, param_notes, past_notes, past_opt_arg, text_form}
 use Rattle.py_meaning.specs.TableParams.{after_hidden, alias_form, alias_value, built_value, defined, hidden_call, kept_as, no_defaults, own_number, param_form, param_forms, params_form}

@@ -1,9 +1,7 @@
 -- Statements in which the level is not asked are the same forms at every level.
 use Rattle.std.proofs.Common.{◌≡◌, refl, ℕ, suc, ◌+◌}
 use Rattle.py_tree.specs.Tree as tree
-use Rattle.py_steps.specs.Children.{function_inside}
-use Rattle.py_steps.specs.Classes.{class_path, class_within}
-use Rattle.py_steps.specs.TypeParameters.{hidden_inside}
+use Rattle.py_steps.specs.Within.{class_path, class_within, function_inside, hidden_inside}
 use Rattle.py_meaning.specs.TableParams.{own_number}
 use Rattle.py_steps.specs.Context.{Context, inside, mangled, with_path, within_class}
 use Rattle.py_emission.specs.Texts.{stmt_text}
@@ -11,7 +9,8 @@ use Rattle.py_forms.specs.Form.{Resolved, GDrop, GStore, SThen, SInto, SIf, SIfE
 use Rattle.py_steps.specs.TableParts.{values}
 use Rattle.py_levels.specs.Levels.{FreeHandlers, FreeStmt, FreeStmts}
 use Rattle.py_meaning.specs.StmtCounts.{scopes_in_handlers, scopes_in_items}
-use Rattle.py_meaning.specs.StmtParts.{after_stmt, after_stmts, but_doc, handler_target, is_last_return, named_form, unless_last}
+use Rattle.py_meaning.specs.StmtParts.{after_stmt, after_stmts, handler_target, named_form, unless_last}
+use Rattle.py_emission.specs.Predicates.{but_doc, is_last_return}
 use Rattle.py_meaning.specs.Table.{after, after_all, after_defaults, after_opt, expr_form}
 use Rattle.py_meaning.specs.TableScopes.{decorated, iterator}
 use Rattle.py_meaning.specs.TableStmts.{ended_form, function_body, handler_forms, rest_form, stmt_form, stmts_form}

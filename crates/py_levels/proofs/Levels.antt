@@ -8,11 +8,13 @@ use Rattle.py_bytecode.specs.Objects as const
 use Rattle.py_steps.specs.Context.{Context, inside, outermost}
 use Rattle.py_emission.specs.Texts.{after_doc, unless_text}
 use Rattle.py_forms.specs.Form.{VConst, SForm, SThen, SReturn, SAt, MkScope}
-use Rattle.py_meaning.specs.Futures.{Future, after_future, behind_futures, future_form, future_of, postpones}
+use Rattle.py_emission.specs.Futures.{Future, after_future, future_of, postpones}
+use Rattle.py_meaning.specs.TableImports.{behind_futures, future_form}
 use Rattle.py_meaning.specs.Interactive.{block_form, interactive_form, last_form, printed, prompt_form, returned, single_form}
 use Rattle.py_levels.specs.Levels.{FreeStmt, FreeStmts, IsLevelFree, LevelsAgree, Undocumented}
 use Rattle.py_meaning.specs.Meaning.{body, mod_form}
-use Rattle.py_meaning.specs.StmtParts.{after_stmt, annotated, none}
+use Rattle.py_meaning.specs.StmtParts.{after_stmt}
+use Rattle.py_emission.specs.Predicates.{annotated, none}
 use Rattle.py_meaning.specs.Table.{after}
 use Rattle.py_meaning.specs.TableScopes.{setup_form}
 use Rattle.py_meaning.specs.TableStmts.{doc_form, program_form, stmts_form}

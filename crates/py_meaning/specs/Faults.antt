@@ -9,20 +9,19 @@ use Rattle.py_tree.specs.declared.modules.Mode.TheVariants as mode
 use Rattle.py_texts.specs.Annotation.{annotation}
 use Rattle.py_base.specs.declared.shapes.Malformed.{Malformed}
 use Rattle.py_base.specs.declared.limits.TreeLimit.TheVariants as limit
-use Rattle.py_steps.specs.EmissionParts.{no_assignment}
+use Rattle.py_steps.specs.Refused.{no_assignment}
 use Rattle.py_tree.specs.PythonName.{python_name}
 use Rattle.py_meaning.specs.Ends.{ends_of, expr_end, items_end, last_of, opt_end, some_of}
 use Rattle.py_meaning.specs.StmtEnds.{Setting, declared_end, function_start, param_end, param_ends, rest_end, scope_setting, stmt_end}
-use Rattle.py_meaning.specs.StmtParts.{but_doc, none}
+use Rattle.py_emission.specs.Predicates.{but_doc, itemless, none}
 use Rattle.py_emission.specs.Parameters.{parameters}
 use Rattle.py_emission.specs.Texts.{after_doc, stmt_text}
-use Rattle.py_forms.specs.declared.errors.CodegenErrorType.TheVariants as error
-use Rattle.py_forms.specs.declared.errors.CodegenErrorType.{CodegenErrorType}
+use Rattle.py_base.specs.declared.errors.CodegenErrorType.TheVariants as error
+use Rattle.py_base.specs.declared.errors.CodegenErrorType.{CodegenErrorType}
 use Rattle.py_base.specs.declared.location.SourceLocation.{SourceLocation}
 use Rattle.py_tree.specs.declared.statements.Alias.{Alias}
-use Rattle.py_meaning.specs.Imports.{from_future, import_name, taken_name, takes_all}
-use Rattle.py_meaning.specs.Futures.{Future, future_of, is_feature, postpones}
-use Rattle.py_meaning.specs.EmissionStmts.{itemless}
+use Rattle.py_emission.specs.Imports.{from_future, import_name, taken_name, takes_all}
+use Rattle.py_emission.specs.Futures.{Future, future_of, is_feature, postpones}
 use Rattle.py_meaning.specs.Scanned.{scan_faults}
 use Rattle.py_meaning.specs.ExprFaults.{Fault, all_faults, assign_faults, augment_faults, debug_faults, declared_faults, default_faults, deletes_faults, elements, expr_faults, exprs_faults, fault_at, faults_to, in_order, keyword_faults, keyword_values, opt_expr_faults, parameter_faults, unbuilt, when}
 

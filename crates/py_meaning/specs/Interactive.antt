@@ -8,8 +8,10 @@ use Rattle.py_bytecode.specs.Objects as const
 use Rattle.py_bytecode.specs.Values.{operation, Bare}
 use Rattle.py_steps.specs.Context.{Context}
 use Rattle.py_forms.specs.Form.{VForm, VConst, VKeep, VNone, Target, GPut, SForm, SThen, SInto, SReturn, SAt}
-use Rattle.py_meaning.specs.Futures.{after_future, behind_futures, future_form, future_of}
-use Rattle.py_meaning.specs.StmtParts.{after_stmt, none}
+use Rattle.py_emission.specs.Futures.{after_future, future_of}
+use Rattle.py_meaning.specs.TableImports.{behind_futures, future_form}
+use Rattle.py_meaning.specs.StmtParts.{after_stmt}
+use Rattle.py_emission.specs.Predicates.{none}
 use Rattle.py_meaning.specs.Table.{after, expr_form}
 use Rattle.py_meaning.specs.TableStmts.{stmt_form}
 

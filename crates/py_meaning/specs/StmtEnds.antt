@@ -5,7 +5,7 @@ use Rattle.py_base.specs.declared.location.SourceLocation.{SourceLocation}
 use Rattle.py_steps.specs.Context.{Context, is_function}
 use Rattle.py_emission.specs.Texts.{stmt_text}
 use Rattle.py_meaning.specs.Ends.{deletes_end, ends_of, expr_end, keyword_ends, last_of, opt_end, some_of, store_end, stores_end}
-use Rattle.py_meaning.specs.StmtParts.{but_doc}
+use Rattle.py_emission.specs.Predicates.{but_doc}
 
 -- what a statement is read with: the level, whether it stands in a function, and whether annotations are postponed
 pub record Setting : Type 0 where

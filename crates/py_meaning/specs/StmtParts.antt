@@ -1,12 +1,11 @@
 -- The forms of statements by the forms of the statements in them.
-use Rattle.std.specs.Prelude.{ℕ, suc, ◌+◌, ◌||◌, List, Bool, true, false, Option, Some, None, codes, nat_eq, if◌then◌else◌}
+use Rattle.std.specs.Prelude.{ℕ, suc, ◌+◌, List, Bool, true, false, Option, Some, None, codes, nat_eq, if◌then◌else◌}
 use Rattle.py_tree.specs.Tree as tree
 use Rattle.py_base.specs.declared.operators.Operator.{Operator}
 use Rattle.py_bytecode.specs.declared.instruction.Instruction.TheVariants as op
 use Rattle.py_bytecode.specs.Objects as const
 use Rattle.py_bytecode.specs.Values.{operation, Bare, Number}
-use Rattle.py_steps.specs.Children.{function_inside}
-use Rattle.py_steps.specs.Classes.{behind_name, class_within}
+use Rattle.py_steps.specs.Within.{behind_name, class_within, function_inside}
 use Rattle.py_steps.specs.Context.{Context, head_of, is_function, mangled, qualified}
 use Rattle.py_steps.specs.Elements.{Function}
 use Rattle.py_emission.specs.Texts.{after_doc, doc_of}
@@ -16,6 +15,7 @@ use Rattle.py_meaning.specs.StmtCounts.{scopes_in_stmt, scopes_in_stmts}
 use Rattle.py_meaning.specs.Table.{after, after_all, after_opt, all_forms, expr_form, keyword_forms, target_form, test_form}
 use Rattle.py_meaning.specs.TableNotes.{note_form, note_forms}
 use Rattle.py_meaning.specs.TableScopes.{build_class, class_form, function_form}
+use Rattle.py_emission.specs.Predicates.{annotated, message_count, none}
 
 -- what is deleted, a list or a tuple element by element
 abbrev mutual
@@ -65,22 +65,6 @@ annotation_target c other = GDrop
 abbrev pub annotated_form : Context → (next : ℕ) → (target annotation : tree.Expr) → SForm
 annotated_form c n target annotation = if is_function c.typ then SSkip else SInto (note_form c n annotation) (annotation_target c target)
 
--- whether an annotated assignment stands among the statements, or in those within them; handlers are left out
-abbrev mutual
-  pub annotates : tree.Stmt → Bool
-  annotates (tree.AnnAssign at target annotation value simple) = true
-  annotates (tree.For at target iter body orelse) = annotated body || annotated orelse
-  annotates (tree.While at t body orelse) = annotated body || annotated orelse
-  annotates (tree.If at t body orelse) = annotated body || annotated orelse
-  annotates (tree.With at items body) = annotated body
-  annotates (tree.Try at body excepts orelse finalbody) = annotated body || (annotated orelse || annotated finalbody)
-  annotates other = false
-
-  -- one of the statements does
-  pub annotated : tree.Stmts → Bool
-  annotated tree.no_stmts = false
-  annotated (tree.more_stmts s ss) = annotates s || annotated ss
-
 -- what a `with` enters is dropped, or stored
 abbrev pub item_target : Context → (next : ℕ) → tree.OptExpr → Target
 item_target c n tree.no_expr = GDrop
@@ -106,11 +90,6 @@ return_form c n (tree.some_expr e) = SReturn (expr_form c n e)
 abbrev pub message_parts : Context → (next : ℕ) → tree.OptExpr → VForms
 message_parts c n tree.no_expr = VNone
 message_parts c n (tree.some_expr e) = VMore (expr_form c n e) VNone
-
--- how many messages there are
-abbrev pub message_count : tree.OptExpr → ℕ
-message_count tree.no_expr = 0
-message_count (tree.some_expr e) = 1
 
 -- an assertion with its message
 abbrev pub assertion : Context → (next : ℕ) → tree.OptExpr → VForm
@@ -146,21 +125,6 @@ abbrev pub handler_target : Context → Option (List ℕ) → Target
 handler_target c None = GDrop
 handler_target c (Some name) = GStore Resolved (mangled c name)
 
--- all but a docstring
-abbrev pub but_doc : {A : Type 0} → (text : Option (List ℕ)) → (rest all : A) → A
-but_doc None rest all = all
-but_doc (Some text) rest all = rest
-
--- a return ends a function
-abbrev pub is_return : tree.Stmt → Bool
-is_return (tree.Return at value) = true
-is_return other = false
-
--- a return that no statement follows
-abbrev pub is_last_return : tree.Stmt → tree.Stmts → Bool
-is_last_return s tree.no_stmts = is_return s
-is_last_return s (tree.more_stmts t ts) = false
-
 -- what follows, or nothing after a return
 abbrev pub unless_last : Bool → SForm → SForm → SForm
 unless_last true f rest = f
@@ -173,8 +137,3 @@ after_stmt c n s = n + scopes_in_stmt c.postponed s
 -- the number after the scopes of statements
 abbrev pub after_stmts : Context → ℕ → tree.Stmts → ℕ
 after_stmts c n ss = n + scopes_in_stmts c.postponed ss
-
--- there are no statements
-abbrev pub none : tree.Stmts → Bool
-none tree.no_stmts = true
-none (tree.more_stmts s ss) = false

@@ -6,8 +6,7 @@ use Rattle.py_bytecode.specs.declared.instruction.Instruction.TheVariants as op
 use Rattle.py_bytecode.specs.Objects as const
 use Rattle.py_bytecode.specs.Values.{operation, Bare}
 use Rattle.py_counts.specs.Counts.{scopes_in, scopes_in_all, scopes_in_opt, scopes_in_args, scopes_in_clauses, scopes_in_defaults}
-use Rattle.py_steps.specs.Children.{lambda_inside}
-use Rattle.py_steps.specs.Comprehensions.{comprehension_inside}
+use Rattle.py_steps.specs.Within.{comprehension_inside, lambda_inside}
 use Rattle.py_steps.specs.Context.{Context, head_of, mangled}
 use Rattle.py_steps.specs.Elements.{Element, Single, Spread, Function, Method, pairs}
 use Rattle.py_emission.specs.Texts.{texts_of}

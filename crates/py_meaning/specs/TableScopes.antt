@@ -5,8 +5,7 @@ use Rattle.py_bytecode.specs.declared.instruction.Instruction.TheVariants as op
 use Rattle.py_bytecode.specs.Objects as const
 use Rattle.py_bytecode.specs.Values.{operation, Bare}
 use Rattle.py_forms.specs.Form.{VForm, VConst, VLoad, VOp, VMake, VKeep, VForms, VNone, VMore, FixedByName, FixedGlobal, GStore, GUnder, SForm, SSkip, SThen, SDo, SInto, SReturn, SClassEnd, SGather, SGenerate, Clauses, Scope}
-use Rattle.py_steps.specs.Children.{some_flag}
-use Rattle.py_steps.specs.Classes.{doc_const}
+use Rattle.py_steps.specs.Within.{doc_const, some_flag}
 use Rattle.py_steps.specs.TableParts.{built, counted, map_of, named, some_built}
 
 -- the defaults of a function: of the positional parameters, and of those that are keywords only, by their names

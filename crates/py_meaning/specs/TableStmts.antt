@@ -2,16 +2,15 @@
 use Rattle.std.specs.Prelude.{ℕ, suc, ◌+◌, List, Option, Some, None, codes}
 use Rattle.py_tree.specs.Tree as tree
 use Rattle.py_bytecode.specs.Objects as const
-use Rattle.py_steps.specs.Children.{function_inside}
-use Rattle.py_steps.specs.Classes.{class_path, class_within}
+use Rattle.py_steps.specs.Within.{class_path, class_within, function_inside}
 use Rattle.py_steps.specs.Context.{Context, mangled}
 use Rattle.py_emission.specs.Texts.{after_doc, doc_of, stmt_text}
 use Rattle.py_forms.specs.Form.{VConst, Resolved, FixedGlobal, GDrop, GStore, SForm, SSkip, SThen, SInto, SIf, SIfElse, SWhile, SFor, SBreak, SContinue, SReturn, STry, STryFinal, SAt, Handlers, HNone, HAny, HTyped}
 use Rattle.py_steps.specs.TableParts.{values}
-use Rattle.py_meaning.specs.Imports.{from_form, import_form}
-use Rattle.py_meaning.specs.Futures.{behind_futures}
+use Rattle.py_meaning.specs.TableImports.{behind_futures, from_form, import_form}
 use Rattle.py_meaning.specs.StmtCounts.{scopes_in_handlers, scopes_in_items}
-use Rattle.py_meaning.specs.StmtParts.{after_stmt, after_stmts, annotated, annotated_form, assert_form, assign_form, augment_form, but_doc, declared_form, handler_target, is_last_return, named_form, raise_form, removals, return_form, unless_last, with_form}
+use Rattle.py_meaning.specs.StmtParts.{after_stmt, after_stmts, annotated_form, assert_form, assign_form, augment_form, declared_form, handler_target, named_form, raise_form, removals, return_form, unless_last, with_form}
+use Rattle.py_emission.specs.Predicates.{annotated, but_doc, is_last_return}
 use Rattle.py_meaning.specs.TableParams.{alias_form, around_own, built_value, defined, function_number, own_number}
 use Rattle.py_meaning.specs.Table.{after, after_all, after_opt, all_forms, expr_form, target_form, test_form}
 use Rattle.py_meaning.specs.TableScopes.{decorated, iterator, setup_form}

@@ -1,2 +1,2 @@
-//! What form each node of the tree is, what is emitted of it, and its faults: definitions alone.
+//! What form each node of the tree is, and its faults: definitions alone.
 #![tactic(auto)]

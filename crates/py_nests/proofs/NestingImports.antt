@@ -5,12 +5,12 @@ use Rattle.py_bytecode.specs.declared.instruction.Instruction.TheVariants as op
 use Rattle.py_bytecode.specs.Nesting.{const_nesting, consts_nesting}
 use Rattle.py_bytecode.specs.Objects as const
 use Rattle.py_bytecode.specs.Objects.{Const, consts_of}
-use Rattle.py_forms.specs.declared.errors.CodegenErrorType.TheVariants as error
-use Rattle.py_meaning.specs.EmissionFutures.{check_features, emission_of_future, following}
-use Rattle.py_meaning.specs.EmissionImports.{emission_of_alias, emission_of_attributes, emission_of_from, emission_of_import, emission_of_imported, emission_of_module, emission_of_names, emission_of_star, import_step}
-use Rattle.py_meaning.specs.EmissionStmts.{emission_of_import_from}
-use Rattle.py_meaning.specs.Futures.{Future, is_feature, postpones}
-use Rattle.py_meaning.specs.Imports.{asked, asked_all, from_future, further_segments, import_name, taken_name, takes_all}
+use Rattle.py_base.specs.declared.errors.CodegenErrorType.TheVariants as error
+use Rattle.py_emission.specs.EmissionFutures.{check_features, emission_of_future, following}
+use Rattle.py_emission.specs.EmissionImports.{emission_of_alias, emission_of_attributes, emission_of_from, emission_of_import, emission_of_imported, emission_of_module, emission_of_names, emission_of_star, import_step}
+use Rattle.py_emission.specs.EmissionStmts.{emission_of_import_from}
+use Rattle.py_emission.specs.Futures.{Future, is_feature, postpones}
+use Rattle.py_emission.specs.Imports.{asked, asked_all, from_future, further_segments, import_name, taken_name, takes_all}
 use Rattle.py_steps.specs.Context.{is_function}
 use Rattle.py_steps.specs.Emitting.{Emission, ◌▸◌}
 use Rattle.py_nests.proofs.Nests.{Nests, at_nests, constant_nests, context_nests, emit_nests, if_nests, keep_nests, mangled_nests, postponing_nests, refuse_nests, stored_nests, then_nests}

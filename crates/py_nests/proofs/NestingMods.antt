@@ -8,11 +8,11 @@ use Rattle.py_bytecode.specs.declared.instruction.Instruction.TheVariants as op
 use Rattle.py_bytecode.specs.Nesting.{consts_nesting}
 use Rattle.py_bytecode.specs.Objects.{consts_of}
 use Rattle.py_emission.specs.Texts.{after_doc, doc_of, first_text, unless_text}
-use Rattle.py_meaning.specs.EmissionFutures.{emission_behind, emission_of_future, following}
-use Rattle.py_meaning.specs.EmissionMods.{emission_of_block, emission_of_doc, emission_of_interactive, emission_of_mod, emission_of_printed, emission_of_program, emission_of_prompt, emission_of_single, emission_of_value, emitted, stored_and_returned}
-use Rattle.py_meaning.specs.EmissionStmts.{emission_of_stmts}
-use Rattle.py_meaning.specs.Futures.{Future, future_of}
-use Rattle.py_meaning.specs.StmtParts.{annotated, none}
+use Rattle.py_emission.specs.EmissionFutures.{emission_behind, emission_of_future, following}
+use Rattle.py_emission.specs.EmissionMods.{emission_of_block, emission_of_doc, emission_of_interactive, emission_of_mod, emission_of_printed, emission_of_program, emission_of_prompt, emission_of_single, emission_of_value, emitted, stored_and_returned}
+use Rattle.py_emission.specs.EmissionStmts.{emission_of_stmts}
+use Rattle.py_emission.specs.Futures.{Future, future_of}
+use Rattle.py_emission.specs.Predicates.{annotated, none}
 use Rattle.py_steps.specs.Context.{Context}
 use Rattle.py_steps.specs.Emitting.{Emission, State, Done, ◌▸◌, nothing}
 use Rattle.py_nests.proofs.Nests.{DoneNests, Nests, at_nests, deepest, emit_nests, keep_nests, level_nests, name_nests, none_nests, stored_nests, text_nests, then_nests}

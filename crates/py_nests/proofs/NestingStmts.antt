@@ -12,15 +12,16 @@ use Rattle.py_bytecode.specs.declared.instruction.Instruction.TheVariants as op
 use Rattle.py_counts.specs.Counts.{scopes_in, scopes_in_annotation, scopes_in_opt}
 use Rattle.py_emission.specs.Emission.{all_emissions}
 use Rattle.py_emission.specs.Texts.{after_doc, stmt_text}
-use Rattle.py_forms.specs.declared.errors.CodegenErrorType.{CodegenErrorType}
-use Rattle.py_forms.specs.declared.errors.CodegenErrorType.TheVariants as error
-use Rattle.py_meaning.specs.EmissionDefs.{emission_of_built, emission_of_end, emission_of_function}
-use Rattle.py_meaning.specs.EmissionStmts.{emission_of_annotated, emission_of_annotation, emission_of_assert, emission_of_assign, emission_of_augment, emission_of_declared, emission_of_handlers, emission_of_item, emission_of_items, emission_of_last, emission_of_message, emission_of_operand, emission_of_raise, emission_of_rest, emission_of_returned, emission_of_stmt, emission_of_stmts, itemless, leave_loop}
-use Rattle.py_meaning.specs.StmtParts.{but_doc, message_count, none}
+use Rattle.py_base.specs.declared.errors.CodegenErrorType.{CodegenErrorType}
+use Rattle.py_base.specs.declared.errors.CodegenErrorType.TheVariants as error
+use Rattle.py_emission.specs.EmissionDefs.{emission_of_built, emission_of_end, emission_of_function}
+use Rattle.py_emission.specs.EmissionStmts.{emission_of_annotated, emission_of_annotation, emission_of_assert, emission_of_assign, emission_of_augment, emission_of_declared, emission_of_handlers, emission_of_item, emission_of_items, emission_of_last, emission_of_message, emission_of_operand, emission_of_raise, emission_of_rest, emission_of_returned, emission_of_stmt, emission_of_stmts, leave_loop}
+use Rattle.py_emission.specs.Predicates.{but_doc, itemless, message_count, none}
 use Rattle.py_steps.specs.Children.{decorated}
 use Rattle.py_steps.specs.Context.{is_function, mangled}
 use Rattle.py_steps.specs.Emitting.{Emission, LoopBlocks, ◌▸◌}
-use Rattle.py_steps.specs.EmissionParts.{no_assignment, values}
+use Rattle.py_steps.specs.EmissionParts.{values}
+use Rattle.py_steps.specs.Refused.{no_assignment}
 use Rattle.py_steps.specs.TableParts.{binary_case}
 use Rattle.py_nests.proofs.Nests.{Nests, at_nests, begin_nests, context_nests, emit_nests, if_nests, in_function_nests, jump_nests, keep_nests, level_nests, load_nests, loop_nests, loops_nest, mangled_nests, move_nests, name_nests, new_nests, none_nests, refuse_nests, scopes_nest, stored_nests, text_nests, then_nests, unless_debug_nests}
 use Rattle.py_nests.proofs.NestingParts.{values_nest}

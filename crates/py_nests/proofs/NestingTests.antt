@@ -9,7 +9,7 @@ use Rattle.py_base.specs.declared.operators.UnaryOp.TheVariants as unary
 use Rattle.py_base.specs.declared.shapes.Malformed.TheVariants as shape
 use Rattle.py_bytecode.specs.declared.instruction.Instruction.TheVariants as op
 use Rattle.py_bytecode.specs.Values.{flip}
-use Rattle.py_forms.specs.declared.errors.CodegenErrorType.TheVariants as error
+use Rattle.py_base.specs.declared.errors.CodegenErrorType.TheVariants as error
 use Rattle.py_steps.specs.Emitting.{Emission, ◌▸◌, emit, move}
 use Rattle.py_steps.specs.EmissionParts.{Emissions, bool_emissions, bool_test, bool_value, chain, choice, comparisons, emission_of_compare, first_comparison, keeping_jump, links, only, ordinary, past_tests, shorts, some_test, some_values, tested, testing_jump, tests, truth_of, unary_emissions, unary_value, values}
 use Rattle.py_steps.specs.TableParts.{deciding, unary_case}

@@ -1,12 +1,9 @@
 -- Each scope within a tree without faults finds the cells that it wants in the scope in which it stands.
-use Rattle.std.proofs.Common.{◌≡◌, refl, sym, ap, ◌∙◌, subst, ℕ, zero, suc, ◌<◌, true, List, [], ◌∷◌, length, map, slice_get, option_map, Option, Some, None, arith}
-use Rattle.std.proofs.lemmas.List.{length-map}
-use Rattle.std.proofs.lemmas.Option.{slice_get-map, slice_get_within}
+use Rattle.std.proofs.Common.{◌≡◌, refl, sym, ap, ◌∙◌, subst, ℕ, zero, suc, true, List, [], ◌∷◌, Option, Some, None}
 use Rattle.py_bytecode.specs.Equality.{text_eq}
 use Rattle.py_tree.specs.Tree as tree
 use Rattle.py_tree.specs.declared.modules.Mode.{Mode}
 use Rattle.py_scope.specs.Names.{Name}
-use Rattle.py_scope.specs.Outward.{parents}
 use Rattle.py_scope.proofs.NameLemmas.{names_same}
 use Rattle.py_scope.proofs.Truth.{left_or, right_or}
 use Rattle.py_uses.specs.Steps.{State}
@@ -17,16 +14,15 @@ use Rattle.py_meaning.specs.Faults.{faults}
 use Rattle.py_meaning.specs.Meaning.{body}
 use Rattle.py_meaning.specs.Scanned.{scopes_of}
 use Rattle.py_owners.specs.Cells.{CellsStand, StandUpTo, at_hand, is_one_of, wanted_at}
-use Rattle.py_owners.specs.Entered.{ScansTo, told, told_row}
+use Rattle.py_owners.specs.Entered.{ScansTo}
 use Rattle.py_owners.specs.Own.{IsOwn, IsScopeOf, OwnUpTo, hidden_scope, number_of, own_scope, value_scope}
-use Rattle.py_owners.specs.Owners.{Owner, Whole, Value, Own, Hidden, Placed}
+use Rattle.py_owners.specs.Owners.{Owner, Whole, Value, Own, Hidden}
 use Rattle.py_owners.specs.StmtOwners.{owners_of}
 use Rattle.py_owners.proofs.EachOwn.{each_is_its_own}
-use Rattle.py_owners.proofs.EnteringPrograms.{scan_enters_owners}
 use Rattle.py_owners.proofs.FreeNames.{free_names_stand}
-use Rattle.py_owners.proofs.Groves.{parent_told}
 use Rattle.py_owners.proofs.OwnerTables.{scan_done}
 use Rattle.py_owners.proofs.OwnScopes.{all_as}
+use Rattle.py_owners.proofs.OwnStanding.{own_standing}
 
 -- what is so of each of some names is so of all
 all_of_those : (P : Name → Type 0) (names : List Name) → ((x : Name) → is_one_of x names ≡ true → P x) → AllOf P names
@@ -67,22 +63,6 @@ free_told c (Value e) s i = subst (FreeOf c (number_of s)) i (free_of_value c (n
 free_told c (Own st) s i = subst (FreeOf c (number_of s)) i.1 (free_of_own c i.0 (number_of s) st)
 free_told c (Hidden st) s i = subst (FreeOf c (number_of s)) i (free_of_hidden c (number_of s) st)
 
--- at place 0 stands the whole tree
-abbrev owner_there : Option Placed → Owner
-owner_there None = Whole
-owner_there (Some p) = p.owner
-
-whole_first : (t : tree.Mod) (m : Mode) → owner_there (slice_get (owners_of t m) 0) ≡ Whole
-whole_first (tree.Module stmts) m = refl
-whole_first (tree.Interactive stmts) m = refl
-whole_first (tree.Expression value) m = refl
-whole_first other m = refl
-
--- and a node that has a scope behind it
-pub behind_whole : (t : tree.Mod) (m : Mode) (c : Context) (s : Scope) (p : Placed) (k : ℕ) → slice_get (owners_of t m) k ≡ Some p → IsScopeOf c p.owner s → 0 < k
-behind_whole t m c s p zero e i = absurd (subst (λ o. IsScopeOf c o s) (ap owner_there (sym e) ∙ whole_first t m) i)
-behind_whole t m c s p (suc k) e i = omega arith
-
 module _ (t : tree.Mod) (m : Mode) (level : ℕ) (h : faults t m level ≡ []) (s : State) (e : ScansTo t s) where
   abbrev AtHand : (here : ℕ) → Name → Type 0
   AtHand here x = is_one_of x (at_hand (scopes_of t) here) ≡ true
@@ -90,26 +70,10 @@ module _ (t : tree.Mod) (m : Mode) (level : ℕ) (h : faults t m level ≡ []) (
   -- of a scope that is its node's own
   own_stands : (here : ℕ) (x : Scope) → IsOwn (scopes_of t) (owners_of t m) here x → AllOf (AtHand here) (head_of x).free
   own_stands here x own =
+      let k = number_of x in
+      let at = own_standing t m level s h e here x own in
       subst (AllOf (AtHand here)) (sym (free_told own.around own.owner x own.is ∙ ap (λ scopes. wanted_at scopes k) own.told))
-      (all_of_those (AtHand here) (wanted_at (scopes_of t) k) (λ y w. subst (λ j. AtHand j y) around (free_names_stand t m level s h e k above there y w)))
-    where
-      k : ℕ
-      k = number_of x
-
-      p : Placed
-      p = record { owner = own.owner; around = here }
-
-      entered : map told_row s.scopes.rows ≡ map told (owners_of t m)
-      entered = scan_enters_owners t m level s h e
-
-      around : parents s.scopes.rows k ≡ here
-      around = parent_told s.scopes.rows (map told (owners_of t m)) (told p) k entered (slice_get-map told (owners_of t m) k ∙ ap (option_map told) own.stands)
-
-      above : 0 < k
-      above = behind_whole t m own.around x p k own.stands own.is
-
-      there : k < length s.scopes.rows
-      there = subst (λ n. k < n) (sym (length-map (owners_of t m) told) ∙ ap length (sym entered) ∙ length-map s.scopes.rows told_row) (slice_get_within (owners_of t m) k p own.stands)
+      (all_of_those (AtHand here) (wanted_at (scopes_of t) k) (λ y w. subst (λ j. AtHand j y) at.around (free_names_stand t m level s h e k at.above at.there y w)))
 
   -- and of those within it
   down : (n here : ℕ) (x : Scope) → OwnUpTo (scopes_of t) (owners_of t m) here n x → StandUpTo (scopes_of t) here n x

@@ -9,10 +9,12 @@ use Rattle.py_steps.specs.Context.{Context, inside, outermost}
 use Rattle.py_emission.specs.Texts.{after_doc, doc_of}
 use Rattle.py_forms.specs.Agree.{form_of, kids}
 use Rattle.py_forms.specs.Form.{SForm, SThen, Scope}
-use Rattle.py_meaning.specs.Futures.{Future, after_future, behind_futures, future_form, future_of, postpones}
+use Rattle.py_emission.specs.Futures.{Future, after_future, future_of, postpones}
+use Rattle.py_meaning.specs.TableImports.{behind_futures, future_form}
 use Rattle.py_meaning.specs.Interactive.{block_form, interactive_form, last_form, printed, prompt_form, single_form}
 use Rattle.py_meaning.specs.Meaning.{body, mod_form}
-use Rattle.py_meaning.specs.StmtParts.{after_stmt, annotated, none as is_none}
+use Rattle.py_meaning.specs.StmtParts.{after_stmt}
+use Rattle.py_emission.specs.Predicates.{annotated, none as is_none}
 use Rattle.py_meaning.specs.Table.{after, expr_form}
 use Rattle.py_meaning.specs.TableStmts.{doc_form, program_form, stmts_form}
 use Rattle.py_owners.specs.Owners.{Grove, Bare, Placed, placed, owners_in}

@@ -17,8 +17,8 @@ use Rattle.py_uses.specs.Steps.{State, Done, Step, ◌▸◌, begun_state, postp
 use Rattle.py_uses.specs.Parts.{check_future, is_future, names_annotations, use_aliases}
 use Rattle.py_scan.specs.Scan.{scan_stmt, scan_stmts}
 use Rattle.py_emission.specs.Texts.{after_doc, stmt_text, unless_text}
-use Rattle.py_meaning.specs.Imports.{from_future}
-use Rattle.py_meaning.specs.Futures.{Future, future_in, future_of, postpones}
+use Rattle.py_emission.specs.Imports.{from_future}
+use Rattle.py_emission.specs.Futures.{Future, future_in, future_of, postpones}
 use Rattle.py_meaning.specs.StmtEnds.{Setting}
 use Rattle.py_meaning.specs.Scanned.{scan_faults}
 use Rattle.py_meaning.specs.ExprFaults.{Fault, expr_faults}

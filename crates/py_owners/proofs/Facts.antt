@@ -1,76 +1,50 @@
--- What is so of the scopes that a scan enters and of the table that they resolve to.
-use Rattle.std.proofs.Common.{◌≡◌, refl, sym, ap, ◌∙◌, subst, ℕ, ◌<◌, List, [], length, map, option_map, Option, Some, None, arith}
+-- What is so of the scopes that the scan of a tree without faults enters, and of the table to which they resolve.
+use Rattle.std.proofs.Common.{◌≡◌, refl, sym, ap, ◌∙◌, subst, ℕ, zero, suc, ◌<◌, List, [], ◌∷◌, length, map, slice_get, Option, Some, None, arith}
 use Rattle.std.proofs.lemmas.List.{length-map}
-use Rattle.std.proofs.lemmas.Option.{slice_get-map, slice_get_within}
 use Rattle.py_tree.specs.Tree as tree
 use Rattle.py_tree.specs.declared.modules.Mode.{Mode}
 use Rattle.py_scope.specs.declared.flat.ScopeEntry.{ScopeEntry}
 use Rattle.py_scope.specs.declared.rows.Row.{Row}
 use Rattle.py_scope.specs.declared.table.SymbolTable.{SymbolTable}
-use Rattle.py_scope.specs.Flat.{flat_table}
-use Rattle.py_scope.specs.Laws.{CellsAreApart, CellsAreNeeded, NamesLead, SymbolsFollow, TableFollows}
-use Rattle.py_scope.specs.Outward.{IsNumbered, parents}
+use Rattle.py_scope.specs.Laws.{SymbolsFollow, TableFollows}
 use Rattle.py_scope.specs.Resolved.{first_fault, resolved}
-use Rattle.py_scope.specs.Scanned.{Scanned, IsScanned}
 use Rattle.py_scope.proofs.Follows.{table_follows}
-use Rattle.py_scope.proofs.UsesLaws as laws
+use Rattle.py_tables.specs.Laws.{Stands}
 use Rattle.py_tables.specs.Tables as tables
+use Rattle.py_tables.proofs.Preorder.{IsOrderly}
+use Rattle.py_tables.proofs.Standing.{none_refused, program_orderly, stands, value_orderly}
 use Rattle.py_uses.specs.Steps.{State, Outcome, Done}
-use Rattle.py_uses.specs.declared.usage.Usage.TheVariants.{Load}
-use Rattle.py_scan.specs.Scan.{scan_expr, scan_program, scan_stmts, scan_value}
-use Rattle.py_forms.specs.Form.{Scope}
+use Rattle.py_scan.specs.Scan.{scan_program, scan_value}
 use Rattle.py_steps.specs.Context.{symbols_in}
 use Rattle.py_meaning.specs.Faults.{faults}
-use Rattle.py_meaning.specs.Scanned.{entries_of, fault_as, scopes_of}
-use Rattle.py_owners.specs.Entered.{ScansTo, kind_in_table, kind_of_owner, told, told_row}
-use Rattle.py_owners.specs.Own.{IsOwn, number_of}
-use Rattle.py_owners.specs.Owners.{Grove, Placed}
-use Rattle.py_owners.specs.StmtOwners.{in_whole, owners_of}
-use Rattle.py_owners.proofs.CellsOfScopes.{behind_whole}
-use Rattle.py_owners.proofs.EnteringPrograms.{parts_none, scan_came, scan_enters_owners}
-use Rattle.py_owners.proofs.FreeNames.{follow_there, none_refused, scan_ordered}
-use Rattle.py_owners.proofs.Groves.{parent_told}
-use Rattle.py_owners.proofs.ListedTables.{symbols_there}
-use Rattle.py_owners.proofs.Ordering.{expr_orders}
-use Rattle.py_owners.proofs.OrderingStatements.{stmts_order}
+use Rattle.py_meaning.specs.Scanned.{entries_of, fault_as, scan_faults, scopes_of}
+use Rattle.py_owners.specs.Cells.{ScopesStand, TablesFollow}
+use Rattle.py_owners.specs.Entered.{ScansTo, kind_in_table, kind_of_owner}
+use Rattle.py_owners.specs.Owners.{Grove}
+use Rattle.py_owners.specs.StmtOwners.{owners_of}
+use Rattle.py_owners.proofs.EnteringPrograms.{parts_none, scan_came}
+use Rattle.py_owners.proofs.ListedTables.{numbered, or_none, symbols_there}
 use Rattle.py_owners.proofs.OwnerTables.{none_mapped, table_has_owners}
 
--- the symbols of each scope say what its uses say; cells and names from outside are as the uses have them; and each scope stands behind the one around it
-pub record Facts (rows : List Row) (scopes : List ScopeEntry) : Type 0 where
-  pub follows : (k : ℕ) → k < length rows → SymbolsFollow rows k (symbols_in scopes k)
-  pub cells : CellsAreNeeded rows
-  pub apart : CellsAreApart rows
-  pub lead : NamesLead rows
-  pub numbered : IsNumbered rows
+-- the scopes are in order, and nothing in them is refused
+record Clean (s : State) : Type 0 where
+  pub orderly : IsOrderly s.scopes
+  pub fine : first_fault s.scopes ≡ None
 
--- the scopes to which those of a scan resolve
-module _ (s : Scanned) (old : IsScanned s) (fine : first_fault s ≡ None) (g : Grove) (grown : map told_row s.rows ≡ map told (in_whole g)) where
-  facts_in_table : (table : SymbolTable) → TableFollows s.rows table → Facts s.rows (flat_table table 0)
-  facts_in_table table follows = record {
-    follows = λ j l.
-        subst (SymbolsFollow s.rows j)
-        (sym (symbols_there s.rows follows.symbols g grown follows.whole (Some table) follows.nested j))
-        (follow_there s.rows table follows j l);
-    cells = laws.cells_are_needed s old fine;
-    apart = laws.cells_are_apart s old fine;
-    lead = laws.names_lead s old fine;
-    numbered = old.numbered;
-  }
+unrefused : (o : Outcome) (s : State) → o ≡ Done s → map fault_as (tables.faults_of o) ≡ [] → first_fault s.scopes ≡ None
+unrefused o s e h = none_refused (first_fault s.scopes) (ap tables.faults_of (sym e) ∙ none_mapped fault_as (tables.faults_of o) h)
 
-  facts_in_scopes : (o : Option SymbolTable) → resolved s ≡ o → 0 < length (entries_of o) → Facts s.rows (entries_of o)
-  facts_in_scopes None e h = absurd (omega (arith, h))
-  facts_in_scopes (Some table) e h = facts_in_table table (table_follows s old fine table e)
+clean : (t : tree.Mod) (s : State) → scan_faults t ≡ [] → ScansTo t s → Clean s
+clean (tree.Module stmts) s h e = record { orderly = program_orderly stmts s e; fine = unrefused (scan_program stmts) s e h }
+clean (tree.Interactive stmts) s h e = record { orderly = program_orderly stmts s e; fine = unrefused (scan_program stmts) s e h }
+clean (tree.Expression value) s h e = record { orderly = value_orderly value s e; fine = unrefused (scan_value value) s e h }
+clean (tree.FunctionType argtypes returns) s h e = absurd e
 
--- of a scan that ends so
-facts_by : (o : Outcome) (s : State) → o ≡ Done s → IsScanned s.scopes → map fault_as (tables.faults_of o) ≡ [] → (g : Grove) → map told_row s.scopes.rows ≡ map told (in_whole g)
-    → 0 < length (entries_of (tables.table_of o)) → Facts s.scopes.rows (entries_of (tables.table_of o))
-facts_by o s e old h g grown l =
-    let fine : first_fault s.scopes ≡ None = none_refused (first_fault s.scopes) (ap tables.faults_of (sym e) ∙ none_mapped fault_as (tables.faults_of o) h) in
-    subst (λ (u : Outcome). Facts s.scopes.rows (entries_of (tables.table_of u))) (sym e)
-    (facts_in_scopes s.scopes old fine g grown (resolved s.scopes) refl (subst (λ (u : Outcome). 0 < length (entries_of (tables.table_of u))) e l))
+pub scopes_stand : ScopesStand
+scopes_stand t m level s h e = let c = clean t s (parts_none t m level h).1 e in stands s.scopes c.orderly c.fine
 
 -- a tree has its own scope at least
-some_owner : (t : tree.Mod) (m : Mode) → 0 < length (owners_of t m)
+pub some_owner : (t : tree.Mod) (m : Mode) → 0 < length (owners_of t m)
 some_owner (tree.Module stmts) m = omega arith
 some_owner (tree.Interactive stmts) m = omega arith
 some_owner (tree.Expression value) m = omega arith
@@ -84,45 +58,46 @@ some_entry t m level h =
     let d = some_owner t m in
     omega (arith, a, b, c, d)
 
+-- the scopes to which the names of a tree resolve are those of the table of its scan
+scopes_are : (t : tree.Mod) (s : State) → ScansTo t s → scopes_of t ≡ entries_of (resolved s.scopes)
+scopes_are (tree.Module stmts) s e = ap (λ o. entries_of (tables.table_of o)) e
+scopes_are (tree.Interactive stmts) s e = ap (λ o. entries_of (tables.table_of o)) e
+scopes_are (tree.Expression value) s e = ap (λ o. entries_of (tables.table_of o)) e
+scopes_are (tree.FunctionType argtypes returns) s e = absurd e
+
+some_table : (o : Option SymbolTable) → 0 < length (entries_of o) → (table : SymbolTable) × (o ≡ Some table)
+some_table None l = absurd (omega (arith, l))
+some_table (Some table) l = (table, refl)
+
+pub tables_follow : TablesFollow
+tables_follow t m level s h e =
+    let c = clean t s (parts_none t m level h).1 e in
+    let w = some_table (resolved s.scopes) (subst (λ es. 0 < length es) (scopes_are t s e) (some_entry t m level h)) in
+    (w.0, w.1, table_follows s.scopes c.orderly.scanned c.fine w.0 w.1)
+
+-- the scopes stand, and the symbols of each say what its uses say
+pub record Facts (rows : List Row) (scopes : List ScopeEntry) : Type 0 where
+  pub stands : Stands rows
+  pub follows : (k : ℕ) → k < length rows → SymbolsFollow rows k (symbols_in scopes k)
+
+-- a list that is there
+get_some : {A : Type 0} (xs : List A) (k : ℕ) → k < length xs → (x : A) × (slice_get xs k ≡ Some x)
+get_some [] k l = absurd (omega arith)
+get_some (x ∷ xs) zero l = (x, refl)
+get_some (x ∷ xs) (suc k) l = get_some xs k (omega arith)
+
+follow_there : (rows : List Row) (table : SymbolTable) (follows : TableFollows rows table) (k : ℕ) → k < length rows → SymbolsFollow rows k (numbered follows.symbols k)
+follow_there rows table follows k l =
+    let w = get_some follows.symbols k (let h = follows.whole in omega (arith, h, l)) in
+    subst (SymbolsFollow rows k) (sym (ap or_none w.1)) (follows.each k w.0 w.1)
+
 pub facts : (t : tree.Mod) (m : Mode) (level : ℕ) (s : State) → faults t m level ≡ [] → ScansTo t s → Facts s.scopes.rows (scopes_of t)
-facts (tree.Module stmts) m level s h e =
-    let c = scan_came (tree.Module stmts) m level s h e in
-    facts_by (scan_program stmts) s e (scan_ordered (scan_stmts stmts) (stmts_order stmts) s e) (parts_none (tree.Module stmts) m level h).1 c.0 c.2.1.rows (some_entry (tree.Module stmts) m level h)
-facts (tree.Interactive stmts) m level s h e =
-    let c = scan_came (tree.Interactive stmts) m level s h e in
-    facts_by (scan_program stmts) s e (scan_ordered (scan_stmts stmts) (stmts_order stmts) s e) (parts_none (tree.Interactive stmts) m level h).1 c.0 c.2.1.rows (some_entry (tree.Interactive stmts) m level h)
-facts (tree.Expression value) m level s h e =
-    let c = scan_came (tree.Expression value) m level s h e in
-    facts_by (scan_value value) s e (scan_ordered (scan_expr Load value) (expr_orders Load value) s e) (parts_none (tree.Expression value) m level h).1 c.0 c.2.1.rows (some_entry (tree.Expression value) m level h)
-facts (tree.FunctionType argtypes returns) m level s h e = absurd e
-
--- the scan has entered the scope of the whole tree
-pub whole_there : (t : tree.Mod) (m : Mode) (level : ℕ) (s : State) → faults t m level ≡ [] → ScansTo t s → 0 < length s.scopes.rows
-whole_there t m level s h e =
-    let a = ap length (scan_enters_owners t m level s h e) in
-    let b = length-map s.scopes.rows told_row in
-    let c = length-map (owners_of t m) told in
-    let d = some_owner t m in
-    omega (arith, a, b, c, d)
-
--- where the scan has entered the scope of a node: behind the one around it
-pub record Standing (rows : List Row) (here number : ℕ) : Type 0 where
-  pub around : parents rows number ≡ here
-  pub above : 0 < number
-  pub there : number < length rows
-
-pub own_standing : (t : tree.Mod) (m : Mode) (level : ℕ) (s : State) → faults t m level ≡ [] → ScansTo t s → (here : ℕ) (x : Scope) → IsOwn (scopes_of t) (owners_of t m) here x → Standing s.scopes.rows here (number_of x)
-own_standing t m level s h e here x own = record {
-  around = parent_told s.scopes.rows (map told (owners_of t m)) (told p) k entered (slice_get-map told (owners_of t m) k ∙ ap (option_map told) own.stands);
-  above = behind_whole t m own.around x p k own.stands own.is;
-  there = subst (λ n. k < n) (sym (length-map (owners_of t m) told) ∙ ap length (sym entered) ∙ length-map s.scopes.rows told_row) (slice_get_within (owners_of t m) k p own.stands);
-}
-  where
-    k : ℕ
-    k = number_of x
-
-    p : Placed
-    p = record { owner = own.owner; around = here }
-
-    entered : map told_row s.scopes.rows ≡ map told (owners_of t m)
-    entered = scan_enters_owners t m level s h e
+facts t m level s h e =
+    let c = scan_came t m level s h e in
+    let w = tables_follow t m level s h e in record {
+      stands = scopes_stand t m level s h e;
+      follows = λ k l.
+          subst (SymbolsFollow s.scopes.rows k)
+          (sym (ap (λ scopes. symbols_in scopes k) (scopes_are t s e ∙ ap entries_of w.1) ∙ symbols_there s.scopes.rows w.2.symbols c.0 c.2.1.rows w.2.whole (Some w.0) w.2.nested k))
+          (follow_there s.scopes.rows w.0 w.2 k l);
+    }

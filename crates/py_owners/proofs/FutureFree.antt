@@ -7,13 +7,12 @@ use Rattle.py_emission.specs.Parameters.{parameters}
 use Rattle.py_emission.specs.Texts.{stmt_text}
 use Rattle.py_meaning.specs.Ends.{ends_of, expr_end, items_end, last_of}
 use Rattle.py_meaning.specs.StmtEnds.{Setting, function_start, param_ends, rest_end, scope_setting, stmt_end}
-use Rattle.py_meaning.specs.StmtParts.{but_doc, none}
-use Rattle.py_meaning.specs.EmissionStmts.{itemless}
-use Rattle.py_meaning.specs.Imports.{from_future}
+use Rattle.py_emission.specs.Predicates.{but_doc, itemless, none}
+use Rattle.py_emission.specs.Imports.{from_future}
 use Rattle.py_meaning.specs.ExprFaults.{Fault, debug_faults, default_faults, expr_faults, exprs_faults, faults_to, fault_at, parameter_faults, when}
 use Rattle.py_meaning.specs.Faults.{base_faults, class_faults, def_faults, handlers_faults, items_faults, match_faults, names_faults, notes_faults, params_faults, placement_faults, rest_faults, stmt_faults, stmts_faults, within_params}
-use Rattle.py_forms.specs.declared.errors.CodegenErrorType.TheVariants as error
-use Rattle.py_steps.specs.EmissionParts.{no_assignment}
+use Rattle.py_base.specs.declared.errors.CodegenErrorType.TheVariants as error
+use Rattle.py_steps.specs.Refused.{no_assignment}
 use Rattle.py_owners.proofs.EnteringParts.{both_none}
 
 -- no statement of an asynchronous kind is the statement or stands in it, and no future import

@@ -5,11 +5,8 @@ use Rattle.py_tree.specs.declared.modules.Mode.{Mode}
 use Rattle.py_scope.specs.declared.flat.ScopeEntry.{ScopeEntry}
 use Rattle.py_forms.specs.Agree as scope
 use Rattle.py_forms.specs.Form.{Scope}
-use Rattle.py_steps.specs.Children.{function_inside, lambda_inside}
-use Rattle.py_steps.specs.Classes.{class_within}
-use Rattle.py_steps.specs.Comprehensions.{comprehension_inside}
+use Rattle.py_steps.specs.Within.{class_within, comprehension_inside, function_inside, hidden_inside, lambda_inside}
 use Rattle.py_steps.specs.Context.{Context, cells_among, frees_among, head_of, inside, outermost, symbols_in, with_path, within_class}
-use Rattle.py_steps.specs.TypeParameters.{hidden_inside}
 use Rattle.py_meaning.specs.Meaning.{body}
 use Rattle.py_owners.specs.Own.{IsOwn, IsScopeOf, hidden_scope, number_of, own_scope, value_scope}
 use Rattle.py_owners.specs.Owners.{Owner, Whole, Value, Own, Hidden, Placed}

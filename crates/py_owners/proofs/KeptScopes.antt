@@ -4,11 +4,9 @@ use Rattle.std.specs.Prelude.{if◌then◌else◌}
 use Rattle.py_bytecode.specs.declared.instruction.Instruction.TheVariants as op
 use Rattle.py_forms.specs.Agree.{AllOf, kids, kids_vs}
 use Rattle.py_forms.specs.Form.{SForm, Scope, VForm, VForms, VMake, VNone}
-use Rattle.py_steps.specs.Children.{some_flag}
-use Rattle.py_steps.specs.Classes.{behind_name}
+use Rattle.py_steps.specs.Within.{behind_name, handed_parts, some_flag}
 use Rattle.py_steps.specs.Elements.{Element, Single, Spread, starred}
 use Rattle.py_steps.specs.TableParts.{built, map_of, some_built}
-use Rattle.py_steps.specs.TypeParameters.{handed_parts}
 use Rattle.py_meaning.specs.TableScopes.{Defaults, called_at_once, class_form, decorated, default_parts, documented, function_form, setup_form}
 use Rattle.py_owners.proofs.Kept.{InNamed, InValue, Kept, OfElement, both, in_built, in_some, none, one}
 use Rattle.py_owners.proofs.KeptForms.{in_map}

@@ -10,8 +10,10 @@ use Rattle.py_steps.specs.TableParts.{named}
 use Rattle.py_emission.specs.Texts.{stmt_text}
 use Rattle.py_forms.specs.Agree.{kids, kids_g, kids_v}
 use Rattle.py_forms.specs.Form.{Resolved, GStore, SForm, Scope, VForm, VKeep, VMore, VNone, VOp}
-use Rattle.py_meaning.specs.Imports.{asked, attributes, from_form, further_segments, import_form, import_value, module_value, taken_from, taken_name, takes_all}
-use Rattle.py_meaning.specs.StmtParts.{but_doc, handler_target, named_form, unless_last}
+use Rattle.py_emission.specs.Imports.{asked, further_segments, taken_name, takes_all}
+use Rattle.py_meaning.specs.TableImports.{attributes, from_form, import_form, import_value, module_value, taken_from}
+use Rattle.py_meaning.specs.StmtParts.{handler_target, named_form, unless_last}
+use Rattle.py_emission.specs.Predicates.{but_doc}
 use Rattle.py_owners.proofs.Kept.{Kept, both, none}
 
 module _ {P : Scope → Type 0} where

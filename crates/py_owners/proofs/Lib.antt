@@ -27,11 +27,10 @@ mod OwnDefs
 mod OwnStmts
 pub mod EachOwn
 mod OwnSamples
-pub mod Ordering
-pub mod OrderingStatements
 pub mod Wanted
-pub mod FreeNames
-pub mod CellsOfScopes
 pub mod Facts
+pub mod FreeNames
+pub mod OwnStanding
+pub mod CellsOfScopes
 pub mod Heads
 mod CellSamples

@@ -5,17 +5,16 @@ use Rattle.py_base.specs.declared.location.SourceLocation.{SourceLocation}
 use Rattle.py_bytecode.specs.declared.instruction.Instruction.TheVariants as op
 use Rattle.py_bytecode.specs.Objects as const
 use Rattle.py_scope.specs.declared.flat.ScopeEntry.{ScopeEntry}
-use Rattle.py_steps.specs.Children.{function_inside}
-use Rattle.py_steps.specs.Classes.{class_path, class_within}
+use Rattle.py_steps.specs.Within.{class_path, class_within, function_inside, handed, handed_parts, hidden_inside}
 use Rattle.py_steps.specs.Context.{Context, head_of, inside, qualified, with_path, within_class}
 use Rattle.py_steps.specs.Elements.{Function}
 use Rattle.py_steps.specs.TableParts.{built, elements}
-use Rattle.py_steps.specs.TypeParameters.{handed, handed_parts, hidden_inside}
 use Rattle.py_emission.specs.Texts.{after_doc, doc_of}
 use Rattle.py_forms.specs.Agree.{kids, kids_v, kids_vs}
 use Rattle.py_forms.specs.Form.{MkScope, SForm, Scope, VConst, VForms, VMore, VNone}
 use Rattle.py_meaning.specs.StmtCounts.{scopes_in_stmts}
-use Rattle.py_meaning.specs.StmtParts.{annotated, class_function, class_value, function_value}
+use Rattle.py_meaning.specs.StmtParts.{class_function, class_value, function_value}
+use Rattle.py_emission.specs.Predicates.{annotated}
 use Rattle.py_meaning.specs.Table.{after_all, after_defaults, all_forms, default_forms, keyword_forms}
 use Rattle.py_meaning.specs.TableNotes.{note_forms}
 use Rattle.py_meaning.specs.TableParams.{after_hidden, alias_form, alias_value, built_value, defined, hidden_call, no_defaults, own_number, params_form}

@@ -2,16 +2,15 @@
 use Rattle.std.proofs.Common.{◌≡◌, subst, ℕ, suc, ◌+◌, List, Some}
 use Rattle.py_tree.specs.Tree as tree
 use Rattle.py_scope.specs.declared.flat.ScopeEntry.{ScopeEntry}
-use Rattle.py_steps.specs.Children.{function_inside}
-use Rattle.py_steps.specs.Classes.{class_path, class_within}
+use Rattle.py_steps.specs.Within.{class_path, class_within, function_inside, hidden_inside}
 use Rattle.py_steps.specs.Context.{Context, inside, with_path, within_class}
 use Rattle.py_steps.specs.TableParts.{values}
-use Rattle.py_steps.specs.TypeParameters.{hidden_inside}
 use Rattle.py_emission.specs.Texts.{stmt_text}
 use Rattle.py_forms.specs.Agree.{kids, kids_h, kids_v}
 use Rattle.py_forms.specs.Form.{Scope, VForm}
 use Rattle.py_meaning.specs.StmtCounts.{scopes_in_handlers, scopes_in_items}
-use Rattle.py_meaning.specs.StmtParts.{after_stmt, after_stmts, is_last_return}
+use Rattle.py_meaning.specs.StmtParts.{after_stmt, after_stmts}
+use Rattle.py_emission.specs.Predicates.{is_last_return}
 use Rattle.py_meaning.specs.Table.{after, after_all, after_defaults, after_opt, all_forms, expr_form}
 use Rattle.py_meaning.specs.TableParams.{built_value, defined, own_number}
 use Rattle.py_meaning.specs.TableScopes.{decorated}

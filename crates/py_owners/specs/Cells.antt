@@ -1,13 +1,17 @@
 -- No scope wants a cell that is not there: a name that a scope has from outside is a cell of the scope around it, or comes to that from outside in turn.
-use Rattle.std.specs.Prelude.{◌≡◌, ℕ, zero, suc, ◌<◌, Bool, true, List, [], ◌++◌, length}
+use Rattle.std.specs.Prelude.{◌≡◌, ℕ, zero, suc, ◌<◌, Bool, true, List, [], ◌++◌, Some, length}
 use Rattle.std.specs.List.{list_any}
 use Rattle.py_tree.specs.Tree as tree
 use Rattle.py_tree.specs.declared.modules.Mode.{Mode}
 use Rattle.py_bytecode.specs.Equality.{text_eq}
 use Rattle.py_scope.specs.declared.flat.ScopeEntry.{ScopeEntry}
+use Rattle.py_scope.specs.declared.table.SymbolTable.{SymbolTable}
+use Rattle.py_scope.specs.Laws.{TableFollows}
 use Rattle.py_scope.specs.Names.{Name}
 use Rattle.py_scope.specs.Outward.{parents}
-use Rattle.py_uses.specs.Steps.{State}
+use Rattle.py_tables.specs.Laws.{Stands}
+use Rattle.py_tables.specs.Tables.{table_of}
+use Rattle.py_uses.specs.Steps.{State, Done}
 use Rattle.py_forms.specs.Agree.{AllOf, form_of, head_of, kids}
 use Rattle.py_forms.specs.Form.{Scope}
 use Rattle.py_steps.specs.Context.{cells_among, frees_among, symbols_in}
@@ -43,3 +47,11 @@ StandUpTo scopes here (suc n) s = AllOf (λ x. is_one_of x (at_hand scopes here)
 -- so it is for each scope within a tree without faults, at every depth
 abbrev pub CellsStand : Type 0
 CellsStand = (t : tree.Mod) (m : Mode) (level n : ℕ) → faults t m level ≡ [] → AllOf (StandUpTo (scopes_of t) 0 n) (kids (form_of (body (scopes_of t) t m level)))
+
+-- the scopes of a tree without faults are numbered in preorder, each name that one needs leads to the cell of its binder, and no name is both a cell of a scope and needed there
+abbrev pub ScopesStand : Type 0
+ScopesStand = (t : tree.Mod) (m : Mode) (level : ℕ) (s : State) → faults t m level ≡ [] → ScansTo t s → Stands s.scopes.rows
+
+-- they resolve to a table, and it follows from their uses: it is their nested table, and the symbols of each scope say what its uses say
+abbrev pub TablesFollow : Type 0
+TablesFollow = (t : tree.Mod) (m : Mode) (level : ℕ) (s : State) → faults t m level ≡ [] → ScansTo t s → (table : SymbolTable) × (table_of (Done s) ≡ Some table) × TableFollows s.scopes.rows table

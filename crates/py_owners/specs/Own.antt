@@ -9,14 +9,12 @@ use Rattle.py_forms.specs.Agree as scope
 use Rattle.py_forms.specs.Form.{VConst, VForm, VMore, VNone, VSwap, SReturn, Scope, MkScope}
 use Rattle.py_bytecode.specs.Objects as const
 use Rattle.py_bytecode.specs.Values.{operation, Bare}
-use Rattle.py_steps.specs.Children.{function_inside, lambda_inside}
-use Rattle.py_steps.specs.Classes.{class_path, class_within}
-use Rattle.py_steps.specs.Comprehensions.{comprehension_inside}
+use Rattle.py_steps.specs.Within.{class_path, class_within, comprehension_inside, function_inside, handed, handed_parts, hidden_inside, lambda_inside}
 use Rattle.py_steps.specs.Context.{Context, head_of}
-use Rattle.py_steps.specs.TypeParameters.{handed, handed_parts, hidden_inside}
 use Rattle.py_emission.specs.Texts.{after_doc, doc_of}
 use Rattle.py_meaning.specs.Meaning.{body}
-use Rattle.py_meaning.specs.StmtParts.{annotated, class_value, function_value}
+use Rattle.py_meaning.specs.StmtParts.{class_value, function_value}
+use Rattle.py_emission.specs.Predicates.{annotated}
 use Rattle.py_meaning.specs.Table.{after, after_clauses, clause_forms, default_forms, expr_form}
 use Rattle.py_meaning.specs.TableParams.{after_hidden, own_number, params_form}
 use Rattle.py_meaning.specs.TableScopes.{class_form, default_flags, gathered, generated}

@@ -4,7 +4,7 @@ use Rattle.py_tree.specs.Tree as tree
 use Rattle.py_tree.specs.declared.modules.Mode.{Mode}
 use Rattle.py_tree.specs.declared.modules.Mode.TheVariants as mode
 use Rattle.py_emission.specs.Texts.{after_doc}
-use Rattle.py_meaning.specs.Futures.{future_of, postpones}
+use Rattle.py_emission.specs.Futures.{future_of, postpones}
 use Rattle.py_owners.specs.Owners.{Owner, Whole, Own, Hidden, Grove, Bare, Grown, ◌&◌, Placed, placed, owners_in, owners_in_all, owners_in_annotation, owners_in_defaults, owners_in_keywords, owners_in_notes, owners_in_opt, owners_in_opt_arg, owners_in_returns}
 
 -- the annotations of all parameters

@@ -6,16 +6,17 @@ use Rattle.py_shapes.specs.Valid.{exprs_shapes, keywords_shapes}
 use Rattle.py_base.specs.declared.location.SourceLocation.{SourceLocation}
 use Rattle.py_bytecode.specs.declared.instruction.Instruction.TheVariants as op
 use Rattle.py_bytecode.specs.Objects as const
-use Rattle.py_meaning.specs.EmissionDefs.{class_call, class_function, class_scope, emission_of_class, emission_of_setup}
+use Rattle.py_emission.specs.EmissionDefs.{class_call, class_function, class_scope, emission_of_class, emission_of_setup}
 use Rattle.py_meaning.specs.Ends.{ends_of, keyword_ends, last_of}
-use Rattle.py_meaning.specs.StmtParts.{annotated}
+use Rattle.py_emission.specs.Predicates.{annotated}
 use Rattle.py_meaning.specs.ExprFaults.{Fault, all_faults, in_order, keyword_faults, keyword_values}
 use Rattle.py_meaning.specs.ExprFaults as fault
 use Rattle.py_meaning.specs.Faults.{base_faults, class_faults}
 use Rattle.py_emission.specs.Emission.{all_emissions}
 use Rattle.py_emission.specs.Texts.{after_doc, doc_of}
 use Rattle.py_steps.specs.Children.{made}
-use Rattle.py_steps.specs.Classes.{behind_name, cell_returned, class_end, class_inside, class_names, class_path, class_shape, class_within, doc_const}
+use Rattle.py_steps.specs.Classes.{cell_returned, class_end, class_names, class_shape}
+use Rattle.py_steps.specs.Within.{behind_name, class_inside, class_path, class_within, doc_const}
 use Rattle.py_steps.specs.Context.{class_cells}
 use Rattle.py_steps.specs.Elements.{Function, Single, Spread, starred}
 use Rattle.py_steps.specs.Emitting.{Around, Emission, emit, emit_constant}

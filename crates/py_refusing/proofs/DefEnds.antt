@@ -6,12 +6,13 @@ use Rattle.py_base.specs.declared.location.SourceLocation.{SourceLocation}
 use Rattle.py_bytecode.specs.declared.instruction.Instruction.TheVariants as op
 use Rattle.py_bytecode.specs.Objects as const
 use Rattle.py_bytecode.specs.Objects.{Object}
-use Rattle.py_meaning.specs.EmissionDefs.{emission_of_def, emission_of_end, ends_in_return, function_value, notes}
+use Rattle.py_emission.specs.EmissionDefs.{emission_of_def, emission_of_end, ends_in_return, function_value, notes}
 use Rattle.py_meaning.specs.Ends.{last_of}
 use Rattle.py_meaning.specs.StmtEnds.{default_ends, note_ends}
 use Rattle.py_meaning.specs.ExprFaults.{Fault, parameter_faults}
 use Rattle.py_meaning.specs.Faults.{def_faults, notes_faults}
-use Rattle.py_steps.specs.Children.{decorated, decorations, documented, flags_of_defaults, function_inside, function_made, function_scope, made, some_flag}
+use Rattle.py_steps.specs.Children.{decorated, decorations, documented, flags_of_defaults, function_made, function_scope, made}
+use Rattle.py_steps.specs.Within.{function_inside, some_flag}
 use Rattle.py_steps.specs.Context.{qualified}
 use Rattle.py_steps.specs.Emitting.{Around, Emission}
 use Rattle.py_steps.specs.EmissionParts.{in_turn}

@@ -8,16 +8,16 @@ use Rattle.py_base.specs.declared.location.SourceLocation.{SourceLocation}
 use Rattle.py_tree.specs.declared.modules.Mode.{Mode}
 use Rattle.py_bytecode.specs.declared.instruction.Instruction.TheVariants as op
 use Rattle.py_bytecode.specs.Objects as const
-use Rattle.py_meaning.specs.EmissionMods.{emission_of_doc, emitted}
+use Rattle.py_emission.specs.EmissionMods.{emission_of_doc, emitted}
 use Rattle.py_meaning.specs.Ends.{expr_end}
 use Rattle.py_meaning.specs.ExprFaults.{Fault, expr_faults}
-use Rattle.py_meaning.specs.EmissionStmts.{emission_of_stmts}
+use Rattle.py_emission.specs.EmissionStmts.{emission_of_stmts}
 use Rattle.py_meaning.specs.Faults.{compile_faults, faults_behind, first_setting, interactive_faults, unbuilt_tree}
 use Rattle.py_meaning.specs.StmtEnds.{Setting, setting_of}
-use Rattle.py_meaning.specs.StmtParts.{annotated}
+use Rattle.py_emission.specs.Predicates.{annotated}
 use Rattle.py_emission.specs.Texts.{first_text, unless_text, after_doc, doc_of}
-use Rattle.py_forms.specs.declared.errors.CodegenErrorType.{CodegenErrorType}
-use Rattle.py_forms.specs.declared.errors.CodegenErrorType.TheVariants as error
+use Rattle.py_base.specs.declared.errors.CodegenErrorType.{CodegenErrorType}
+use Rattle.py_base.specs.declared.errors.CodegenErrorType.TheVariants as error
 use Rattle.py_scope.specs.declared.flat.ScopeEntry.{ScopeEntry}
 use Rattle.py_steps.specs.Context.{Context, inside, outermost}
 use Rattle.py_steps.specs.Emitting.{Around, State, Outcome, Done, Refused, nothing}

@@ -7,20 +7,21 @@ use Rattle.py_base.specs.declared.location.SourceLocation.{SourceLocation}
 use Rattle.py_bytecode.specs.declared.instruction.Instruction.TheVariants as op
 use Rattle.py_bytecode.specs.Objects as const
 use Rattle.py_bytecode.specs.Values.{Store}
-use Rattle.py_forms.specs.declared.errors.CodegenErrorType.TheVariants as error
+use Rattle.py_base.specs.declared.errors.CodegenErrorType.TheVariants as error
 use Rattle.py_emission.specs.Emission.{default_emissions, emission}
 use Rattle.py_emission.specs.Parameters.{parameters}
-use Rattle.py_meaning.specs.EmissionDefs.{alias_value, class_call, class_function, emission_of_alias, emission_of_built, emission_of_function, emission_of_generic_class, emission_of_generic_def, emission_of_param, emission_of_params, function_value, param_emissions}
+use Rattle.py_emission.specs.EmissionDefs.{alias_value, class_call, class_function, emission_of_alias, emission_of_built, emission_of_function, emission_of_generic_class, emission_of_generic_def, emission_of_param, emission_of_params, function_value, param_emissions}
 use Rattle.py_meaning.specs.Ends.{ends_of, expr_end, keyword_ends, last_of}
 use Rattle.py_meaning.specs.ExprFaults.{Fault, debug_faults, expr_faults, parameter_faults}
 use Rattle.py_meaning.specs.Faults.{alias_faults, base_faults, class_faults, def_faults, notes_faults, param_faults, params_faults, within_params}
 use Rattle.py_meaning.specs.StmtEnds.{function_end, function_start, note_ends, param_end, param_ends, scope_setting, setting_of}
-use Rattle.py_steps.specs.Children.{DefaultEmissions, emission_of_defaults, flags_of_defaults, function_inside, made}
-use Rattle.py_steps.specs.Classes.{class_inside, class_path, class_within}
+use Rattle.py_steps.specs.Children.{DefaultEmissions, emission_of_defaults, flags_of_defaults, made}
+use Rattle.py_steps.specs.Within.{class_inside, class_path, class_within, function_inside, handed, hidden_inside, hidden_name}
 use Rattle.py_steps.specs.Context.{Context, inside, with_path, within_class}
 use Rattle.py_steps.specs.Emitting.{Around, Emission, ◌▸◌, emit}
-use Rattle.py_steps.specs.EmissionParts.{in_turn, no_assignment}
-use Rattle.py_steps.specs.TypeParameters.{generic_alias, handed, hidden, hidden_inside, hidden_name, hidden_shape, kept_as, load_handed, no_defaults}
+use Rattle.py_steps.specs.EmissionParts.{in_turn}
+use Rattle.py_steps.specs.Refused.{no_assignment}
+use Rattle.py_steps.specs.TypeParameters.{generic_alias, hidden, hidden_shape, kept_as, load_handed, no_defaults}
 use Rattle.py_refusing.proofs.Refusing.{EndsAs, Passes, accessed_passes, child_ends, constant_passes, count_passes, emit_passes, ends_so, ends_there, in_function, last_ends, moved_ends, nothing_passes, outside, own_context_ends, refusal_ends, then_ends, unless_debug_last, varname_passes}
 use Rattle.py_refusing.proofs.RefusingDefaults.{defaults_end, made_passes}
 use Rattle.py_refusing.proofs.RefusingDisplays.{last_append}

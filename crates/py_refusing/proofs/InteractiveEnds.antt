@@ -8,16 +8,16 @@ use Rattle.py_base.specs.declared.location.SourceLocation.{SourceLocation}
 use Rattle.py_bytecode.specs.declared.instruction.Instruction.TheVariants as op
 use Rattle.py_bytecode.specs.Objects as const
 use Rattle.py_bytecode.specs.Values.{Store}
-use Rattle.py_meaning.specs.EmissionMods.{emission_of_block, emission_of_interactive, emission_of_prompt, emission_of_single, emission_of_value, stored_and_returned}
+use Rattle.py_emission.specs.EmissionMods.{emission_of_block, emission_of_interactive, emission_of_prompt, emission_of_single, emission_of_value, stored_and_returned}
 use Rattle.py_meaning.specs.Ends.{expr_end}
 use Rattle.py_meaning.specs.ExprFaults.{debug_faults, exprs_faults}
-use Rattle.py_meaning.specs.EmissionFutures.{emission_of_future, following}
+use Rattle.py_emission.specs.EmissionFutures.{emission_of_future, following}
 use Rattle.py_meaning.specs.Faults.{future_faults, interactive_faults, prompt_faults, setting_after, stmt_faults, stmts_faults}
-use Rattle.py_meaning.specs.Futures.{Future, after_future, future_of}
+use Rattle.py_emission.specs.Futures.{Future, after_future, future_of}
 use Rattle.py_meaning.specs.StmtEnds.{Setting, setting_of, stmt_end, stmts_end}
 use Rattle.py_steps.specs.Context.{Context}
 use Rattle.py_steps.specs.Emitting.{Around, ◌▸◌}
-use Rattle.py_steps.specs.EmissionParts.{no_assignment}
+use Rattle.py_steps.specs.Refused.{no_assignment}
 use Rattle.py_refusing.proofs.Refusing.{EndsAs, accessed_passes, alone_ends, constant_passes, emit_passes, in_function, last_ends, moved_ends, outside, then_ends, unless_debug_last}
 use Rattle.py_refusing.proofs.FutureEnds.{behind_ends, end_behind, future_then}
 use Rattle.py_refusing.proofs.RefusingExprs.{both_none, expr_ends}

@@ -7,9 +7,9 @@ use Rattle.py_base.specs.declared.location.SourceLocation.{SourceLocation}
 use Rattle.py_bytecode.specs.declared.instruction.Instruction.TheVariants as op
 use Rattle.py_bytecode.specs.Objects as const
 use Rattle.py_texts.specs.Annotation.{annotation}
-use Rattle.py_forms.specs.declared.errors.CodegenErrorType.TheVariants as error
+use Rattle.py_base.specs.declared.errors.CodegenErrorType.TheVariants as error
 use Rattle.py_emission.specs.Emission.{emission}
-use Rattle.py_meaning.specs.EmissionDefs.{arg_note, arg_notes, emission_of_note, emission_of_text, notes, opt_arg_note, opt_note}
+use Rattle.py_emission.specs.EmissionDefs.{arg_note, arg_notes, emission_of_note, emission_of_text, notes, opt_arg_note, opt_note}
 use Rattle.py_meaning.specs.Ends.{expr_end, last_of, opt_end, some_of}
 use Rattle.py_meaning.specs.StmtEnds.{arg_end, arg_ends, note_ends, opt_arg_end}
 use Rattle.py_meaning.specs.ExprFaults.{Fault}

@@ -12,12 +12,13 @@ use Rattle.py_bytecode.specs.Equality.{const_eq, text_eq}
 use Rattle.py_meaning.specs.ExprFaults.{Fault, fault_at, when, debug_faults}
 use Rattle.py_bytecode.specs.Values.{Usage, Load, Store, Delete, Kind, Unsaid, Fast, ByName, Global, Deref, ClassDeref}
 use Rattle.py_forms.specs.Form.{Resolved}
-use Rattle.py_steps.specs.Children.{Shape, behind_child, child, code_head, load_cell, on_sealed}
+use Rattle.py_steps.specs.Children.{behind_child, child, code_head, load_cell, on_sealed}
+use Rattle.py_steps.specs.Within.{Shape}
 use Rattle.py_steps.specs.Context.{Context, access_kind, cell_place, is_function, mangled}
 use Rattle.py_steps.specs.Accesses.{access_by, accessed}
 use Rattle.py_steps.specs.TableParts.{is_debug}
-use Rattle.py_forms.specs.declared.errors.CodegenErrorType.{CodegenErrorType}
-use Rattle.py_forms.specs.declared.errors.CodegenErrorType.TheVariants as error
+use Rattle.py_base.specs.declared.errors.CodegenErrorType.{CodegenErrorType}
+use Rattle.py_base.specs.declared.errors.CodegenErrorType.TheVariants as error
 use Rattle.py_steps.specs.Emitting.{State, Outcome, Done, TooWide, Refused, Around, Emission, LoopBlocks, ◌▸◌, add_constant, add_varname, begun, go_on, keep, Put, with_step, with_block, with_name, with_varname, with_constant, with_loops, with_postponed, place_in, located, refuse, emit, emit_count, emit_name, emit_varname, emit_mangled, emit_constant, generating, jump, begin, new_block, nothing, move, by_context, by_level, by_loops, in_loop, pass_over, postponing}
 use Rattle.py_steps.specs.EmissionParts.{only_in_function, pass_scopes, unless_debug, emission_of_comparison, emission_of_link}
 use Rattle.py_steps.specs.Sealed.{Head, sealed}

@@ -12,7 +12,8 @@ use Rattle.py_meaning.specs.ExprFaults.{Fault, in_order, faults_in, all_faults, 
 use Rattle.py_meaning.specs.ExprFaults as fault
 use Rattle.py_steps.specs.TableParts.{any}
 use Rattle.py_steps.specs.Emitting.{Around, Emission, ◌▸◌, emit_constant}
-use Rattle.py_steps.specs.EmissionParts.{elements, in_turn, built, call_by, checked, name_values, map_of, joined_map, names_in, values_in, packed_tuple, packed, placed, emission_of_call, no_assignment}
+use Rattle.py_steps.specs.EmissionParts.{elements, in_turn, built, call_by, checked, name_values, map_of, joined_map, names_in, values_in, packed_tuple, packed, placed, emission_of_call}
+use Rattle.py_steps.specs.Refused.{no_assignment}
 use Rattle.py_emission.specs.Emission.{emissions, all_emissions, keyword_emissions}
 use Rattle.py_refusing.proofs.Refusing.{EndsAs, in_function, then_ends, three_end, last_ends, alone_ends, unkept_ends, ends_so, nothing_passes, count_passes, mangled_passes, constant_passes, if_ends, unless_debug_last}
 use Rattle.py_refusing.proofs.RefusingTests.{CalleeEnds, EndsWell, AllEnding}

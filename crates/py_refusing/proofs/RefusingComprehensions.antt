@@ -10,9 +10,11 @@ use Rattle.py_bytecode.specs.Objects as const
 use Rattle.py_meaning.specs.Ends.{expr_end, ends_of, first_iterable_end, last_of, store_end}
 use Rattle.py_meaning.specs.ExprFaults.{Fault, all_faults, clause_faults, fault_at, faults_in, faults_to, first_iterable_faults, further_faults, in_order, retold_faults, when}
 use Rattle.py_meaning.specs.ExprFaults as fault
-use Rattle.py_forms.specs.declared.errors.CodegenErrorType.TheVariants as error
+use Rattle.py_base.specs.declared.errors.CodegenErrorType.TheVariants as error
 use Rattle.py_steps.specs.Children.{made}
-use Rattle.py_steps.specs.Comprehensions.{ClauseEmissions, as_element, called_at_once, clause, clauses, comprehension, comprehension_inside, comprehension_shape, conditions, further_clauses, gathered, generated, retold, retold_in}
+use Rattle.py_steps.specs.Comprehensions.{ClauseEmissions, as_element, called_at_once, clause, clauses, comprehension, comprehension_shape, conditions, further_clauses, gathered, generated, retold_in}
+use Rattle.py_steps.specs.Refused.{retold}
+use Rattle.py_steps.specs.Within.{comprehension_inside}
 use Rattle.py_steps.specs.Context.{Context, inside}
 use Rattle.py_steps.specs.Emitting.{Around, Emission, Outcome, ◌▸◌, begin, jump, new_block}
 use Rattle.py_emission.specs.Emission.{all_emissions, clause_emissions, emissions, stores}

@@ -9,8 +9,8 @@ use Rattle.py_bytecode.specs.declared.instruction.Instruction.TheVariants as op
 use Rattle.py_bytecode.specs.Objects as const
 use Rattle.py_bytecode.specs.Objects.{Const}
 use Rattle.py_steps.specs.Elements.{starred, bare, grouped, groups, front, behind, pairs, sides, flat}
-use Rattle.py_forms.specs.declared.errors.CodegenErrorType.{CodegenErrorType}
-use Rattle.py_forms.specs.declared.errors.CodegenErrorType.TheVariants as error
+use Rattle.py_base.specs.declared.errors.CodegenErrorType.{CodegenErrorType}
+use Rattle.py_base.specs.declared.errors.CodegenErrorType.TheVariants as error
 use Rattle.py_meaning.specs.Ends.{last_of, some_of, parts_entered, expr_end, ends_of, opt_end, opts_ends}
 use Rattle.py_meaning.specs.ExprFaults.{Fault, in_order, if_any, joined_faults, faults_in, all_faults, opt_faults, opts_faults}
 use Rattle.py_meaning.specs.ExprFaults as fault

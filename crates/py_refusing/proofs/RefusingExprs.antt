@@ -17,10 +17,11 @@ use Rattle.py_meaning.specs.ExprFaults as fault
 use Rattle.py_emission.specs.Awaits.{awaits, some_async}
 use Rattle.py_emission.specs.Texts.{texts_of}
 use Rattle.py_steps.specs.TableParts.{binary_case, conversion_case, constant_of, debug_constant, is_debug}
-use Rattle.py_forms.specs.declared.errors.CodegenErrorType.TheVariants as error
+use Rattle.py_base.specs.declared.errors.CodegenErrorType.TheVariants as error
 use Rattle.py_steps.specs.Emitting.{Around, Emission, ◌▸◌, refuse, emit_constant, emit_mangled, move}
 use Rattle.py_bytecode.specs.Values.{Load, Store}
-use Rattle.py_steps.specs.EmissionParts.{tested, elements, display, in_turn, values, no_assignment, lone_star}
+use Rattle.py_steps.specs.EmissionParts.{tested, elements, display, in_turn, values}
+use Rattle.py_steps.specs.Refused.{no_assignment, lone_star}
 use Rattle.py_emission.specs.Emission.{emissions, all_emissions, joined_return, name_return, opt_emissions, stores, all_stores}
 use Rattle.py_refusing.proofs.Refusing.{EndsAs, Passes, count_passes, generating_passes, in_function, function_ends, outside, then_ends, last_ends, nothing_passes, emit_passes, mangled_passes, accessed_passes, constant_passes, if_ends, level_ends, moved_ends, refusal_ends, unless_debug_ends, unless_debug_last}
 use Rattle.py_refusing.proofs.RefusingTests.{Ending, EndsWell, AllEnding, truth_ends, at_ends, by_return, turn_ends, value_returned, bool_ends, unary_ends, compare_ends, choice_ends}
@@ -31,7 +32,7 @@ use Rattle.py_refusing.proofs.RefusingTargets.{Storing, plain_ends, list_ends}
 use Rattle.py_refusing.proofs.RefusingDefaults.{ArgsEnding, DefaultsEnding, lambda_ends}
 use Rattle.py_refusing.proofs.RefusingComprehensions.{ClausesEnding, FurtherEnding, gather_ends, gather_pairs_end, generate_ends, scope_around}
 use Rattle.py_steps.specs.Accesses.{emission_of_name}
-use Rattle.py_steps.specs.Children.{lambda_inside}
+use Rattle.py_steps.specs.Within.{lambda_inside}
 
 -- no wrong shape in two parts
 pub both_none : {A : Type 0} (xs ys : List A) → xs ++ ys ≡ [] → (xs ≡ []) × (ys ≡ [])

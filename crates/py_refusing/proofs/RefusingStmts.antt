@@ -9,24 +9,25 @@ use Rattle.py_base.specs.declared.shapes.Malformed.TheVariants as shape
 use Rattle.py_bytecode.specs.declared.instruction.Instruction.{Instruction}
 use Rattle.py_bytecode.specs.declared.instruction.Instruction.TheVariants as op
 use Rattle.py_bytecode.specs.Objects as const
-use Rattle.py_meaning.specs.EmissionDefs.{emission_of_built, emission_of_end, emission_of_function}
-use Rattle.py_meaning.specs.EmissionStmts.{emission_of_handlers, emission_of_last, emission_of_rest, emission_of_returned, emission_of_stmt, emission_of_stmts, leave_loop}
+use Rattle.py_emission.specs.EmissionDefs.{emission_of_built, emission_of_end, emission_of_function}
+use Rattle.py_emission.specs.EmissionStmts.{emission_of_handlers, emission_of_last, emission_of_rest, emission_of_returned, emission_of_stmt, emission_of_stmts, leave_loop}
 use Rattle.py_meaning.specs.Ends.{last_of, expr_end, ends_of, items_end, opt_end, some_of, store_end}
 use Rattle.py_meaning.specs.ExprFaults.{Fault, debug_faults, fault_at, exprs_faults, opt_expr_faults}
 use Rattle.py_meaning.specs.ExprFaults as fault
 use Rattle.py_meaning.specs.Faults.{class_faults, def_faults, only_in_loop, handlers_faults, items_faults, rest_faults, stmt_faults, stmts_faults}
 use Rattle.py_meaning.specs.StmtEnds.{Setting, function_start, handlers_end, param_ends, rest_end, scope_setting, setting_of, stmt_end, stmts_end}
-use Rattle.py_meaning.specs.StmtParts.{but_doc, none}
+use Rattle.py_emission.specs.Predicates.{but_doc, none}
 use Rattle.py_emission.specs.Emission.{all_emissions}
 use Rattle.py_emission.specs.Texts.{after_doc, stmt_text}
-use Rattle.py_forms.specs.declared.errors.CodegenErrorType.{CodegenErrorType}
-use Rattle.py_forms.specs.declared.errors.CodegenErrorType.TheVariants as error
+use Rattle.py_base.specs.declared.errors.CodegenErrorType.{CodegenErrorType}
+use Rattle.py_base.specs.declared.errors.CodegenErrorType.TheVariants as error
 use Rattle.py_bytecode.specs.Values.{Store}
 use Rattle.py_steps.specs.Accesses.{emission_of_stored}
 use Rattle.py_steps.specs.Children.{decorated}
 use Rattle.py_steps.specs.Context.{Context}
 use Rattle.py_steps.specs.Emitting.{Around, Emission, LoopBlocks, ◌▸◌, begin, move, refuse}
-use Rattle.py_steps.specs.EmissionParts.{values, no_assignment, only, choice}
+use Rattle.py_steps.specs.EmissionParts.{values, only, choice}
+use Rattle.py_steps.specs.Refused.{no_assignment}
 use Rattle.py_refusing.proofs.Refusing.{EndsAs, accessed_passes, begin_passes, constant_passes, emit_passes, ends_so, in_function, jump_passes, last_ends, looping, loops_end, moved_ends, new_ends, nothing_passes, function_ends, outside, refusal_ends, then_ends, unkept_ends, unless_debug_last}
 use Rattle.py_refusing.proofs.RefusingTests.{TestEnds, choice_ends, turn_ends}
 use Rattle.py_refusing.proofs.RefusingExprs.{both_none, expr_ends, exprs_end, store_ends}

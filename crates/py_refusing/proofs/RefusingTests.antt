@@ -15,8 +15,8 @@ use Rattle.py_meaning.specs.Ends.{last_of, expr_end, ends_of}
 use Rattle.py_meaning.specs.ExprFaults.{Fault, ExprFaults, either, in_order, faults_in, all_faults}
 use Rattle.py_meaning.specs.ExprFaults as fault
 use Rattle.py_steps.specs.TableParts.{unary_case, deciding}
-use Rattle.py_forms.specs.declared.errors.CodegenErrorType.{CodegenErrorType}
-use Rattle.py_forms.specs.declared.errors.CodegenErrorType.TheVariants as error
+use Rattle.py_base.specs.declared.errors.CodegenErrorType.{CodegenErrorType}
+use Rattle.py_base.specs.declared.errors.CodegenErrorType.TheVariants as error
 use Rattle.py_steps.specs.Emitting.{Around, Emission, ◌▸◌, refuse, emit, jump, begin, new_block, move}
 use Rattle.py_steps.specs.EmissionParts.{keeping_jump, testing_jump, Emissions, ordinary, truth_of, tested, values, in_turn, shorts, tests, some_test, bool_emissions, unary_value, unary_emissions, links, chain, first_comparison, comparisons, emission_of_compare, choice}
 use Rattle.py_emission.specs.Emission.{emissions, all_emissions}

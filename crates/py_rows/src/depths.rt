@@ -2,10 +2,8 @@ ghost use Rattle.std.specs.Prelude.{◌≡◌, ◌≤◌, length};
 ghost use Rattle.py_rows_fields.specs.Gives.{Gives};
 ghost use Rattle.py_rows.specs.Rows.{further_levels, is_item, is_with, item_count, whole_depth};
 
+use py_base::NESTING_LIMIT;
 use py_rows_fields::{Kind, Part, Row, RowsError, Sort, StmtKind, depth_of};
-
-/// The nesting of a row is below this.
-const NESTING_LIMIT: u64 = 1024;
 
 /// How deep a row nests: one deeper than the deepest row that it names, and its further levels.
 ///
@@ -21,7 +19,7 @@ pub(crate) fn whole_depth(
 {
     let depth = depth_of(parts, rows, number)?;
     let whole = u64::from(depth) + further_levels(kind, parts);
-    if whole >= NESTING_LIMIT {
+    if whole >= u64::from(NESTING_LIMIT) {
         return Err(RowsError::TooDeep { row: number });
     }
     Ok(whole as u32)

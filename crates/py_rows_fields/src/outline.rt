@@ -5,9 +5,7 @@ ghost use Rattle.py_rows_fields.specs.Outline.{all_earlier, all_fit, checked, de
 use crate::error::RowsError;
 use crate::kinds::Sort;
 use crate::parts::Part;
-
-/// The nesting of a row is below this.
-const NESTING_LIMIT: u64 = 1024;
+use py_base::NESTING_LIMIT;
 
 /// A row that was read: what it may be named as, its nesting, and which of the nodes of its sort it made,
 /// counted from 0.
@@ -42,7 +40,7 @@ pub fn depth_of(parts: &[Part], rows: &[Row], row: u32) -> Result<u32, RowsError
     ensures { Gives (λ x. x) result (depth_of row parts.now rows.now) }
 {
     let depth = u64::from(deepest(rows, parts)) + 1;
-    if depth >= NESTING_LIMIT {
+    if depth >= u64::from(NESTING_LIMIT) {
         return Err(RowsError::TooDeep { row });
     }
     Ok(depth as u32)

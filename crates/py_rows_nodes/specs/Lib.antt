@@ -1,14 +1,3 @@
-pub mod Atoms
-pub mod Compound
-pub mod Constants
-pub mod Definitions
-pub mod Displays
-pub mod Exprs
 pub mod Making
 pub mod Mods
-pub mod Operations
-pub mod Pieces
 pub mod Programs
-pub mod Simple
-pub mod Stmts
-pub mod TypeParams

@@ -1,19 +1,9 @@
-//! What each kind of row makes of the nodes of the rows that it names, which it takes.
+//! What each kind of row makes of the nodes of the rows that it names, which it takes: programs here, and expressions
+//! and statements by the crates below.
 #![tactic(auto)]
 
-mod atoms;
-mod compound;
-mod constants;
-mod definitions;
-mod displays;
-mod exprs;
 mod making;
 mod mods;
-mod operations;
-mod pieces;
 mod programs;
-mod simple;
-mod stmts;
-mod type_params;
 
 pub use making::make;

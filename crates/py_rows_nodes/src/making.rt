@@ -1,28 +1,20 @@
 ghost use Rattle.serde_json.specs.View.{items_view};
 ghost use Rattle.py_rows_fields.specs.Gives.{Gives};
-ghost use Rattle.py_rows_nodes.specs.Making.{make, make_alias, make_arg, make_arguments, make_case, make_comprehension, make_constant, make_default, make_expr, make_handler, make_item, make_keyword, make_program, make_stmt, make_type_param};
+ghost use Rattle.py_rows_nodes.specs.Making.{make, make_program};
 ghost use Rattle.py_rows_slots.specs.Nodes.{nodes_view};
 
-use crate::constants::constant_node;
-use crate::exprs::expr_node;
 use crate::mods::mod_node;
-use crate::pieces::{
-    alias_node, arg_node, arguments_node, case_node, comprehension_node, default_node,
-    handler_node, item_node, keyword_node,
+use py_rows_exprs::{
+    make_arg, make_arguments, make_comprehension, make_constant, make_default, make_expr,
+    make_keyword,
 };
-use crate::stmts::stmt_node;
-use crate::type_params::type_param_node;
-use py_rows_fields::{
-    ConstantKind, ExprKind, Kind, ModKind, RowsError, StmtKind, TypeParamKind, behind_place, place,
-};
-use py_rows_slots::{
-    Nodes, add_alias, add_arg, add_arguments, add_case, add_comprehension, add_constant,
-    add_default, add_expr, add_handler, add_item, add_keyword, add_stmt, add_type_param,
-    set_program,
-};
+use py_rows_fields::{Kind, ModKind, RowsError};
+use py_rows_slots::{Nodes, set_program};
+use py_rows_stmts::{make_alias, make_case, make_handler, make_item, make_stmt, make_type_param};
 use serde_json::Value;
 use std::alloc::Global;
 
+/// The program of a row of this kind, which is kept as the tree.
 fn make_program(
     alloc: Global,
     kind: ModKind,
@@ -36,174 +28,13 @@ fn make_program(
     set_program(node, nodes)
 }
 
-fn make_stmt(
-    alloc: Global,
-    kind: StmtKind,
-    fields: &[Value],
-    nodes: &mut Nodes,
-    row: u32,
-) -> Result<usize, RowsError>
-    ensures { Gives (λ k. (k, nodes_view nodes.new)) result (make_stmt row kind (items_view fields.now) (nodes_view nodes.old)) }
-{
-    let node = stmt_node(alloc, kind, fields, nodes, row)?;
-    add_stmt(node, nodes)
-}
-
-fn make_expr(
-    alloc: Global,
-    kind: ExprKind,
-    fields: &[Value],
-    nodes: &mut Nodes,
-    row: u32,
-) -> Result<usize, RowsError>
-    ensures { Gives (λ k. (k, nodes_view nodes.new)) result (make_expr row kind (items_view fields.now) (nodes_view nodes.old)) }
-{
-    let node = expr_node(alloc, kind, fields, nodes, row)?;
-    add_expr(node, nodes)
-}
-
-fn make_constant(
-    alloc: Global,
-    kind: ConstantKind,
-    fields: &[Value],
-    nodes: &mut Nodes,
-    row: u32,
-) -> Result<usize, RowsError>
-    ensures { Gives (λ k. (k, nodes_view nodes.new)) result (make_constant row kind (items_view fields.now) (nodes_view nodes.old)) }
-{
-    let node = constant_node(alloc, kind, fields, nodes, row)?;
-    add_constant(node, nodes)
-}
-
-fn make_type_param(
-    alloc: Global,
-    kind: TypeParamKind,
-    fields: &[Value],
-    nodes: &mut Nodes,
-    row: u32,
-) -> Result<usize, RowsError>
-    ensures { Gives (λ k. (k, nodes_view nodes.new)) result (make_type_param row kind (items_view fields.now) (nodes_view nodes.old)) }
-{
-    let node = type_param_node(alloc, kind, fields, nodes, row)?;
-    add_type_param(node, nodes)
-}
-
-fn make_arguments(
-    alloc: Global,
-    fields: &[Value],
-    nodes: &mut Nodes,
-    row: u32,
-) -> Result<usize, RowsError>
-    ensures { Gives (λ k. (k, nodes_view nodes.new)) result (make_arguments row (items_view fields.now) (nodes_view nodes.old)) }
-{
-    let node = arguments_node(alloc, fields, nodes, row)?;
-    add_arguments(node, nodes)
-}
-
-fn make_default(
-    alloc: Global,
-    fields: &[Value],
-    nodes: &mut Nodes,
-    row: u32,
-) -> Result<usize, RowsError>
-    ensures { Gives (λ k. (k, nodes_view nodes.new)) result (make_default row (items_view fields.now) (nodes_view nodes.old)) }
-{
-    let node = default_node(alloc, fields, nodes, row)?;
-    add_default(node, nodes)
-}
-
-fn make_arg(
-    alloc: Global,
-    fields: &[Value],
-    nodes: &mut Nodes,
-    row: u32,
-) -> Result<usize, RowsError>
-    ensures { Gives (λ k. (k, nodes_view nodes.new)) result (make_arg row (items_view fields.now) (nodes_view nodes.old)) }
-{
-    let location = place(fields, row)?;
-    let own = behind_place(fields, row)?;
-    let node = arg_node(alloc, location, own, nodes, row)?;
-    add_arg(node, nodes)
-}
-
-fn make_keyword(
-    alloc: Global,
-    fields: &[Value],
-    nodes: &mut Nodes,
-    row: u32,
-) -> Result<usize, RowsError>
-    ensures { Gives (λ k. (k, nodes_view nodes.new)) result (make_keyword row (items_view fields.now) (nodes_view nodes.old)) }
-{
-    let node = keyword_node(alloc, fields, nodes, row)?;
-    add_keyword(node, nodes)
-}
-
-fn make_alias(
-    alloc: Global,
-    fields: &[Value],
-    nodes: &mut Nodes,
-    row: u32,
-) -> Result<usize, RowsError>
-    ensures { Gives (λ k. (k, nodes_view nodes.new)) result (make_alias row (items_view fields.now) (nodes_view nodes.old)) }
-{
-    let node = alias_node(alloc, fields, row)?;
-    add_alias(node, nodes)
-}
-
-fn make_item(
-    alloc: Global,
-    fields: &[Value],
-    nodes: &mut Nodes,
-    row: u32,
-) -> Result<usize, RowsError>
-    ensures { Gives (λ k. (k, nodes_view nodes.new)) result (make_item row (items_view fields.now) (nodes_view nodes.old)) }
-{
-    let node = item_node(alloc, fields, nodes, row)?;
-    add_item(node, nodes)
-}
-
-fn make_handler(
-    alloc: Global,
-    fields: &[Value],
-    nodes: &mut Nodes,
-    row: u32,
-) -> Result<usize, RowsError>
-    ensures { Gives (λ k. (k, nodes_view nodes.new)) result (make_handler row (items_view fields.now) (nodes_view nodes.old)) }
-{
-    let node = handler_node(alloc, fields, nodes, row)?;
-    add_handler(node, nodes)
-}
-
-fn make_comprehension(
-    alloc: Global,
-    fields: &[Value],
-    nodes: &mut Nodes,
-    row: u32,
-) -> Result<usize, RowsError>
-    ensures { Gives (λ k. (k, nodes_view nodes.new)) result (make_comprehension row (items_view fields.now) (nodes_view nodes.old)) }
-{
-    let node = comprehension_node(alloc, fields, nodes, row)?;
-    add_comprehension(node, nodes)
-}
-
-fn make_case(
-    alloc: Global,
-    fields: &[Value],
-    nodes: &mut Nodes,
-    row: u32,
-) -> Result<usize, RowsError>
-    ensures { Gives (λ k. (k, nodes_view nodes.new)) result (make_case row (items_view fields.now) (nodes_view nodes.old)) }
-{
-    let node = case_node(alloc, fields, nodes, row)?;
-    add_case(node, nodes)
-}
-
 /// Makes the node of a row of this kind, of the nodes of the rows that its fields name, which are taken, and
 /// tells its place among the nodes of its sort.
 ///
 /// # Errors
-/// `WrongRow` where the fields are not those of the kind, `WideInteger` where an integer is too wide,
-/// `NamedTwice` where an earlier row has taken a node.
+/// `WrongRow` where the fields are not those of the kind, `WideInteger` where an integer is outside the 128 bits of an
+/// `i128`, `LaterRow` where one names no earlier row, `NamedTwice` where an earlier row has taken a node that one names,
+/// `OutOfMemory`.
 pub fn make(
     alloc: Global,
     kind: Kind,

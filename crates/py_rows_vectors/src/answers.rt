@@ -11,8 +11,16 @@ pub fn answer(alloc: Global, bytes: &[u8]) -> Result<String, AllocError> {
         Ok(tree) => tree,
         Err(error) => return format!(in alloc; "{error}"),
     };
+    let rows = rows_of(alloc, &tree);
+    tree.discard();
+    let rows = rows?;
+    line_of(alloc, rows.as_slice())
+}
+
+/// The rows on one line, as a list.
+fn line_of(alloc: Global, rows: &[String]) -> Result<String, AllocError> {
     let mut line = String::from_str(alloc, "[")?;
-    for (i, row) in rows_of(alloc, &tree)?.iter().enumerate() {
+    for (i, row) in rows.iter().enumerate() {
         if i > 0 {
             line.push_str(",")?;
         }

@@ -12,7 +12,8 @@ use Rattle.py_scope.specs.Marks.{after, passing, capturing, or_new, looks, settl
 use Rattle.py_scope.specs.Flags.{is_passes}
 use Rattle.py_scope.specs.Needs.{entry_at, entry_of}
 use Rattle.py_scope.specs.Lifts.{Lift, Stays, Through, Holder, after_lift, held_as, holding, or_absent, lift_of, lift_effect, lifted, stages, outward_from, lifts, lifted_all, kind_of}
-use Rattle.py_scope.specs.Scanned.{Scanned, order_of, IsScanned, free_class_opt}
+use Rattle.py_scope.specs.Scanned.{Scanned, order_of}
+use Rattle.py_scope.specs.InOrder.{IsScanned, free_class_opt}
 use Rattle.py_scope.specs.Resolved.{first_fault}
 use Rattle.py_scope.specs.Resolved.{after_lifts, after_looks}
 use Rattle.py_scope.proofs.Chains.{equal_numbers}

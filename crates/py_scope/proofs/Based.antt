@@ -6,12 +6,13 @@ use Rattle.py_scope.specs.declared.rows.Row.{Row}
 use Rattle.py_scope.specs.declared.rows.Holds.{Holds}
 use Rattle.py_scope.specs.declared.rows.Holds.TheVariants.{Plain, DeclaredGlobal, DeclaredNonlocal, LiftedFree, LiftedGlobal, LiftedModule, Passed}
 use Rattle.py_scope.specs.Names.{Name, same_name, lookup}
-use Rattle.py_scope.specs.Outward.{look, enclosing, parents, meetings}
-use Rattle.py_scope.specs.Needs.{entry_at, entry_of, look_from}
+use Rattle.py_scope.specs.Outward.{enclosing, look, look_from, meetings, parents}
+use Rattle.py_scope.specs.Needs.{entry_at, entry_of}
 use Rattle.py_scope.specs.Roles.{bound_opt}
 use Rattle.py_scope.specs.Registered.{is_fresh}
 use Rattle.py_scope.specs.Lifts.{Lift, Stays, Through, Holder, after_lift, or_absent, held_as, holding, lift_of, lifted, stages, as_in, lifts, lift_effect, lifted_all, outward_from, holds_opt, kind_of}
-use Rattle.py_scope.specs.Scanned.{Scanned, order_of, IsScanned, is_function}
+use Rattle.py_scope.specs.Scanned.{Scanned, order_of, is_function}
+use Rattle.py_scope.specs.InOrder.{IsScanned}
 use Rattle.py_scope.specs.Resolved.{first_fault, after_lifts}
 use Rattle.py_scope.specs.Resolve.{kind_at, around, declared, holder, goes_through, is_held, lifted_to, holds_in, binds_in, stops_in, look_in}
 use Rattle.py_scope.proofs.ByLifts.{is_through, is_holder}

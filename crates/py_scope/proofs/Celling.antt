@@ -9,10 +9,10 @@ use Rattle.py_scope.specs.declared.rows.Holds.TheVariants.{Plain, DeclaredGlobal
 use Rattle.py_scope.specs.declared.outward.Meets.TheVariants.{Binding}
 use Rattle.py_scope.specs.declared.outward.Found.TheVariants.{FreeOf}
 use Rattle.py_scope.specs.Names.{Name, same_name, lookup}
-use Rattle.py_scope.specs.Outward.{asks, asks_as, asking, meetings, IsNumbered}
+use Rattle.py_scope.specs.Outward.{IsNumbered, asking, asks, asks_as, look_from, meetings}
 use Rattle.py_scope.specs.Marks.{asking_of}
 use Rattle.py_scope.specs.Flags.{captured_opt}
-use Rattle.py_scope.specs.Needs.{entry_of, entry_at, look_from, wants, wants_as, wants_for, asks_for, ChildNeeds, IsCaptured, CapturesAll}
+use Rattle.py_scope.specs.Needs.{entry_of, entry_at, wants, wants_as, wants_for, asks_for, ChildNeeds, IsCaptured, CapturesAll}
 use Rattle.py_scope.specs.Capture.{hands_on}
 use Rattle.py_scope.specs.Cells.{names_of, AreDistinct, IsOnce, is_lifted, is_lifted_as, LiftsCaptured, CellsWhereNeeded}
 use Rattle.py_scope.proofs.Needing.{captured_by_child, child_captures, is_there}

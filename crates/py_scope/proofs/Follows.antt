@@ -18,7 +18,8 @@ use Rattle.py_scope.specs.Tables.{kind_in, symbol_in, symbols_in, all_symbols, c
 use Rattle.py_scope.specs.Checks.{entries_of}
 use Rattle.py_scope.specs.Symbols.{AreApart}
 use Rattle.py_scope.specs.Laws.{is_from_outside, has_symbol, flags_by_uses, SymbolsFollow, TableFollows}
-use Rattle.py_scope.specs.Scanned.{Scanned, order_of, IsScanned}
+use Rattle.py_scope.specs.Scanned.{Scanned, order_of}
+use Rattle.py_scope.specs.InOrder.{IsScanned}
 use Rattle.py_scope.specs.Resolved.{each_row, first_fault, resolved, after_lifts, after_looks}
 use Rattle.py_scope.specs.Resolve.{is_free_kind, needs, resolve}
 use Rattle.py_scope.proofs.NameLemmas.{equal_names, names_same}

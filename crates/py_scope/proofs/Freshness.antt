@@ -20,7 +20,8 @@ use Rattle.py_scope.specs.Flags.{captured_opt}
 use Rattle.py_scope.specs.Lifts.{or_absent, holds_opt, walruses, is_comprehension}
 use Rattle.py_scope.specs.Registered.{is_fresh}
 use Rattle.py_scope.specs.Cells.{AreDistinct}
-use Rattle.py_scope.specs.Scanned.{role_in, walrus_in, used_in, IsFresh, assigned_opt, free_class_opt}
+use Rattle.py_scope.specs.Scanned.{role_in, walrus_in, used_in}
+use Rattle.py_scope.specs.InOrder.{IsFresh, assigned_opt, free_class_opt}
 use Rattle.py_scope.proofs.NameLemmas.{intersects-or}
 use Rattle.py_scope.proofs.Settling.{lookup_put}
 use Rattle.py_scope.proofs.LiftKeeps.{walrus_opt, walruses_put}

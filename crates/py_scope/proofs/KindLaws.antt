@@ -14,7 +14,8 @@ use Rattle.py_scope.specs.Needs.{entry_at, entry_of}
 use Rattle.py_scope.specs.Roles.{bound_opt}
 use Rattle.py_scope.specs.Lifts.{stages, stage_of, holds_opt, or_absent, held_as, holding, lifted, outward_from, lifted_all, lifts, kind_of}
 use Rattle.py_scope.specs.Tables.{is_plain}
-use Rattle.py_scope.specs.Scanned.{Scanned, order_of, IsScanned, assigned_opt}
+use Rattle.py_scope.specs.Scanned.{Scanned, order_of}
+use Rattle.py_scope.specs.InOrder.{IsScanned, assigned_opt}
 use Rattle.py_scope.specs.Resolved.{first_fault}
 use Rattle.py_scope.specs.Resolved.{after_lifts, after_looks}
 use Rattle.py_scope.proofs.ByLifts.{goes_through, is_held, holds_in, binds_in, stops_in}

@@ -12,15 +12,16 @@ use Rattle.py_scope.specs.declared.kinds.SymbolScope.{SymbolScope}
 use Rattle.py_scope.specs.declared.kinds.SymbolScope.TheVariants.{Local, GlobalExplicit, Free, Cell}
 use Rattle.py_scope.specs.Names.{Name}
 use Rattle.py_scope.specs.Bits.{is_bound}
-use Rattle.py_scope.specs.Outward.{counts, stop_of, look, enclosing, parents, meetings, Passes}
+use Rattle.py_scope.specs.Outward.{Passes, counts, enclosing, look, look_from, meetings, parents, stop_of}
 use Rattle.py_scope.specs.Marks.{looks, settled, touch_by}
 use Rattle.py_scope.specs.Flags.{captured_opt}
-use Rattle.py_scope.specs.Needs.{entry_at, entry_of, look_from, Needs}
+use Rattle.py_scope.specs.Needs.{entry_at, entry_of, Needs}
 use Rattle.py_scope.specs.Roles.{bound_opt}
 use Rattle.py_scope.specs.Lifts.{holds_opt, kind_of}
 use Rattle.py_scope.specs.Kinds.{kind_as}
 use Rattle.py_scope.specs.Tables.{is_plain, global_within, kind_in}
-use Rattle.py_scope.specs.Scanned.{Scanned, order_of, IsScanned}
+use Rattle.py_scope.specs.Scanned.{Scanned, order_of}
+use Rattle.py_scope.specs.InOrder.{IsScanned}
 use Rattle.py_scope.specs.Resolved.{first_fault, after_lifts, after_looks}
 use Rattle.py_scope.specs.Resolve.{kind_at, holds_in, binds_in, look_in, open_kind, is_needed_inside, is_declared_inside, own_kind, is_own, kind_by_uses}
 use Rattle.py_scope.proofs.Chains.{equal_numbers}

@@ -8,15 +8,16 @@ use Rattle.py_scope.specs.declared.outward.Found.{Found}
 use Rattle.py_scope.specs.declared.outward.Found.TheVariants.{Nowhere, Globally, FreeOf}
 use Rattle.py_scope.specs.declared.refusal.Refusal.{Refusal}
 use Rattle.py_scope.specs.Names.{Name, same_name, lookup}
-use Rattle.py_scope.specs.Outward.{IsNumbered}
+use Rattle.py_scope.specs.Outward.{IsNumbered, look_from}
 use Rattle.py_scope.specs.Marks.{looks, settled, IsSettled}
-use Rattle.py_scope.specs.Needs.{entry_at, entry_of, look_from, CapturesAll}
+use Rattle.py_scope.specs.Needs.{entry_at, entry_of, CapturesAll}
 use Rattle.py_scope.specs.Lifts.{lifts, lifted_all, first_of_two, holds_opt, IsLifted}
 use Rattle.py_scope.specs.Cells.{IsOnce, LiftsCaptured}
 use Rattle.py_scope.specs.Capture.{HandsOn, ClosuresLead}
 use Rattle.py_scope.specs.Registered.{IsRegistered, NonlocalsFound}
 use Rattle.py_scope.specs.Checks.{first_by, wrong_in, wrong_entry, wrong_nonlocal, wrong_class_name, entries_of}
-use Rattle.py_scope.specs.Scanned.{Scanned, order_of, IsScanned}
+use Rattle.py_scope.specs.Scanned.{Scanned, order_of}
+use Rattle.py_scope.specs.InOrder.{IsScanned}
 use Rattle.py_scope.specs.Resolved.{first_fault}
 use Rattle.py_scope.specs.Resolved.{after_lifts, after_looks}
 use Rattle.py_scope.proofs.Chains.{equal_numbers}

@@ -10,9 +10,9 @@ use Rattle.py_scope.specs.declared.rows.Row.{Row}
 use Rattle.py_scope.specs.declared.outward.Meets.TheVariants.{Past, Binding}
 use Rattle.py_scope.specs.declared.outward.Found.TheVariants.{FreeOf}
 use Rattle.py_scope.specs.Names.{Name, same_name, lookup}
-use Rattle.py_scope.specs.Outward.{enclosing, look, found_at, parents, meetings, meets, meets_of, stop_of, stop_of_entry, counts, IsNumbered}
+use Rattle.py_scope.specs.Outward.{IsNumbered, counts, enclosing, found_at, look, look_from, meetings, meets, meets_of, parents, stop_of, stop_of_entry}
 use Rattle.py_scope.specs.Flags.{captured_opt}
-use Rattle.py_scope.specs.Needs.{entry_at, entry_of, look_from}
+use Rattle.py_scope.specs.Needs.{entry_at, entry_of}
 use Rattle.py_scope.specs.Capture.{hands_on, hands_on_as, HandsOn}
 use Rattle.py_scope.specs.Registered.{is_fresh, IsRegistered, NonlocalsFound}
 use Rattle.py_scope.specs.Lifts.{assigned_as, after_lift, held_as, holding, or_absent, lifts, lift_effect, Stage, stages, holds_opt, as_in, lifted, lifted_by, Lift, Stays, Through, Holder, lift_of, outward_from, lifted_all, IsLifted, kind_of}

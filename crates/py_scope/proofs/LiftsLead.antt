@@ -10,10 +10,10 @@ use Rattle.py_scope.specs.declared.rows.Row.{Row}
 use Rattle.py_scope.specs.declared.outward.Meets.TheVariants.{Past, Binding}
 use Rattle.py_scope.specs.declared.outward.Found.TheVariants.{FreeOf}
 use Rattle.py_scope.specs.Names.{Name, same_name, lookup}
-use Rattle.py_scope.specs.Outward.{enclosing, look, found_at, parents, meetings, meets, meets_of, stop_of, stop_of_entry, counts, asks_as, IsNumbered}
+use Rattle.py_scope.specs.Outward.{IsNumbered, asks_as, counts, enclosing, found_at, look, look_from, meetings, meets, meets_of, parents, stop_of, stop_of_entry}
 use Rattle.py_scope.specs.Marks.{asking_of}
 use Rattle.py_scope.specs.Flags.{captured_opt}
-use Rattle.py_scope.specs.Needs.{entry_at, entry_of, look_from, asks_for}
+use Rattle.py_scope.specs.Needs.{entry_at, entry_of, asks_for}
 use Rattle.py_scope.specs.Capture.{hands_on, hands_on_as}
 use Rattle.py_scope.specs.Registered.{is_fresh}
 use Rattle.py_scope.specs.Lifts.{stages, stage_of, if_function, holds_opt, as_in, lifted, lifted_by, Stays, Through, lift_of, lift_here, outward_from, lifted_all, IsLifted, kind_of}

@@ -17,7 +17,8 @@ use Rattle.py_scope.specs.Outward.{chain, enclosing, look, found_at, stop_of, co
 use Rattle.py_scope.specs.Registered.{is_fresh}
 use Rattle.py_scope.specs.Lifts.{as_in, stages, refusal, refused_by, first_refusal, outward_from, is_comprehension, kind_of, lifts}
 use Rattle.py_scope.specs.Resolve.{among, kind_at, around, declared, stores, way, holder, goes_through, lifted_to, holds_in, binds_in, stops_in, look_in}
-use Rattle.py_scope.specs.Scanned.{is_function, Scanned, order_of, IsScanned, OneModule}
+use Rattle.py_scope.specs.Scanned.{is_function, Scanned, order_of}
+use Rattle.py_scope.specs.InOrder.{IsScanned, OneModule}
 use Rattle.py_scope.specs.Resolved.{first_fault}
 use Rattle.py_scope.proofs.Chains.{equal_numbers, tells_same, outward}
 use Rattle.py_scope.proofs.Lawful.{none_first, none_second}

@@ -5,8 +5,7 @@ use Rattle.py_scope.specs.declared.outward.Meets.{Meets}
 use Rattle.py_scope.specs.declared.outward.Meets.TheVariants.{Past}
 use Rattle.py_scope.specs.declared.outward.Found.{Found}
 use Rattle.py_scope.specs.declared.rows.Row.{Row}
-use Rattle.py_scope.specs.Outward.{enclosing, look, parent_of, parents, meets, meets_of, meetings, IsNumbered}
-use Rattle.py_scope.specs.Needs.{look_from}
+use Rattle.py_scope.specs.Outward.{IsNumbered, enclosing, look, look_from, meetings, meets, meets_of, parent_of, parents}
 use Rattle.py_scope.proofs.Chains.{outward, look_past}
 use Rattle.py_scope.specs.Names.{Name}
 

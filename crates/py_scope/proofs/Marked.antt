@@ -15,7 +15,8 @@ use Rattle.py_scope.specs.Tables.{is_plain, flags_in}
 use Rattle.std.specs.List.{list_any}
 use Rattle.py_scope.specs.Laws.{hands_through, flags_by_uses}
 use Rattle.py_scope.specs.Resolve.{scopes, kind_at, declared, is_held, is_free_past}
-use Rattle.py_scope.specs.Scanned.{Scanned, order_of, IsScanned, assigned_opt}
+use Rattle.py_scope.specs.Scanned.{Scanned, order_of}
+use Rattle.py_scope.specs.InOrder.{IsScanned, assigned_opt}
 use Rattle.py_scope.specs.Resolved.{first_fault, after_looks, after_lifts}
 use Rattle.py_scope.proofs.NameLemmas.{equal_names, intersects-or}
 use Rattle.py_scope.proofs.Settling.{lookup_put}

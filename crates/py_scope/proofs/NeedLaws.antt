@@ -12,15 +12,16 @@ use Rattle.py_scope.specs.declared.outward.Meets.TheVariants.{Past}
 use Rattle.py_scope.specs.declared.outward.Found.TheVariants.{Nowhere, FreeOf}
 use Rattle.py_scope.specs.declared.kinds.SymbolScope.TheVariants.{Local, GlobalExplicit, Cell}
 use Rattle.py_scope.specs.Names.{Name, same_name}
-use Rattle.py_scope.specs.Outward.{counts, stop_of, enclosing, parents, meetings, Passes}
+use Rattle.py_scope.specs.Outward.{Passes, counts, enclosing, look_from, meetings, parents, stop_of}
 use Rattle.py_scope.specs.Marks.{looks, touch_by, is_class}
 use Rattle.py_scope.specs.Flags.{is_captures, is_passes}
-use Rattle.py_scope.specs.Needs.{entry_at, entry_of, look_from, asks_for, wants_as, wants_for, Needs}
+use Rattle.py_scope.specs.Needs.{entry_at, entry_of, asks_for, wants_as, wants_for, Needs}
 use Rattle.py_scope.specs.Cells.{is_lifted}
 use Rattle.py_scope.specs.Lifts.{lifts, kind_of}
 use Rattle.py_scope.specs.Kinds.{kind_as}
 use Rattle.py_scope.specs.Tables.{is_plain, kind_in}
-use Rattle.py_scope.specs.Scanned.{Scanned, order_of, IsScanned}
+use Rattle.py_scope.specs.Scanned.{Scanned, order_of}
+use Rattle.py_scope.specs.InOrder.{IsScanned}
 use Rattle.py_scope.specs.Resolved.{first_fault, after_lifts, after_looks}
 use Rattle.py_scope.specs.Resolve.{kind_at, holds_in, binds_in, look_in, is_free_kind, open_kind, is_used, is_free_in, needs, is_needed_inside, is_declared_inside, own_kind, is_own, kind_by_uses}
 use Rattle.py_scope.proofs.NameLemmas.{equal_names, names_same}

@@ -10,7 +10,8 @@ use Rattle.py_scope.specs.declared.roles.Role.{Role}
 use Rattle.py_scope.specs.Names.{Name}
 use Rattle.py_scope.specs.Outward.{chain, enclosing, parents, parent_of, IsNumbered}
 use Rattle.py_scope.specs.Lifts.{kind_of}
-use Rattle.py_scope.specs.Scanned.{Scanned, order_of, entered_row, entered, used_in, changed, with_use, gone_out, inner, nests, IsFresh, IsScanned, IsWithin}
+use Rattle.py_scope.specs.Scanned.{Scanned, order_of, entered_row, entered, used_in, changed, with_use, gone_out, inner, nests, IsWithin}
+use Rattle.py_scope.specs.InOrder.{IsFresh, IsScanned}
 use Rattle.py_scope.proofs.Chains.{outward, tells_same, tells_apart, equal_numbers, unequal_numbers}
 use Rattle.py_scope.proofs.Freshness.{fresh_empty, fresh_used}
 

@@ -16,7 +16,8 @@ use Rattle.py_scope.specs.Cells.{names_of, AreDistinct, IsOnce}
 use Rattle.py_scope.specs.Lifts.{holds_opt}
 use Rattle.py_scope.specs.Declarations.{is_declared_global}
 use Rattle.py_scope.specs.Tables.{declares, declares_in, global_within}
-use Rattle.py_scope.specs.Scanned.{Scanned, order_of, IsScanned}
+use Rattle.py_scope.specs.Scanned.{Scanned, order_of}
+use Rattle.py_scope.specs.InOrder.{IsScanned}
 use Rattle.py_scope.specs.Resolved.{first_fault, after_lifts, after_looks}
 use Rattle.py_scope.specs.Resolve.{stands_in, holds_in, is_declared_inside}
 use Rattle.py_scope.proofs.NameLemmas.{equal_names}

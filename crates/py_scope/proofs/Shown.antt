@@ -11,7 +11,8 @@ use Rattle.py_scope.specs.Flags.{is_passes}
 use Rattle.py_scope.specs.Needs.{entry_at, entry_of, asks_for, wants_for}
 use Rattle.py_scope.specs.Roles.{bound_opt}
 use Rattle.py_scope.specs.Lifts.{lifts, lifted_all, holds_opt, kind_of}
-use Rattle.py_scope.specs.Scanned.{Scanned, order_of, IsScanned, is_function}
+use Rattle.py_scope.specs.Scanned.{Scanned, order_of, is_function}
+use Rattle.py_scope.specs.InOrder.{IsScanned}
 use Rattle.py_scope.specs.Resolved.{first_fault, after_lifts, after_looks}
 use Rattle.py_scope.specs.Resolve.{scopes, kind_at, goes_through, is_held, is_used, is_free_past, needs}
 use Rattle.py_scope.proofs.NameLemmas.{equal_names, names_same}

@@ -12,7 +12,8 @@ use Rattle.py_scope.specs.Outward.{Touch, Leaves, Passes, Captures, touch, touch
 use Rattle.py_scope.specs.Marks.{after, passing, capturing, or_new, looks, settled, touch_by}
 use Rattle.py_scope.specs.Flags.{is_captures, is_passes}
 use Rattle.py_scope.specs.Needs.{entry_at, entry_of, asks_for, wants_for, Needs}
-use Rattle.py_scope.specs.Scanned.{Scanned, order_of, IsScanned}
+use Rattle.py_scope.specs.Scanned.{Scanned, order_of}
+use Rattle.py_scope.specs.InOrder.{IsScanned}
 use Rattle.py_scope.specs.Resolved.{first_fault, after_lifts, after_looks}
 use Rattle.py_scope.proofs.NameLemmas.{equal_names}
 use Rattle.py_scope.proofs.Settling.{lookup_put}

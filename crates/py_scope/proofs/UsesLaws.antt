@@ -19,7 +19,8 @@ use Rattle.py_scope.specs.Lifts.{holds_opt}
 use Rattle.py_scope.specs.Kinds.{kind_as, nowhere}
 use Rattle.py_scope.specs.Tables.{is_plain}
 use Rattle.py_scope.specs.Laws.{CellsAreNeeded, CellsAreApart, LeadsTo, NamesLead}
-use Rattle.py_scope.specs.Scanned.{Scanned, IsScanned}
+use Rattle.py_scope.specs.Scanned.{Scanned}
+use Rattle.py_scope.specs.InOrder.{IsScanned}
 use Rattle.py_scope.specs.Resolved.{first_fault, after_lifts}
 use Rattle.py_scope.specs.Resolve.{kind_at, stands_in, holds_in, binds_in, look_in, open_kind, needs, is_needed_inside, is_declared_inside, own_kind, is_own, kind_by_uses}
 use Rattle.py_scope.proofs.Needing.{captured_by_child}

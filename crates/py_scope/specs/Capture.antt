@@ -8,8 +8,8 @@ use Rattle.py_scope.specs.declared.outward.Meets.{Meets}
 use Rattle.py_scope.specs.declared.outward.Meets.TheVariants.{Past, Binding, Explicit}
 use Rattle.py_scope.specs.declared.outward.Found.TheVariants.{FreeOf}
 use Rattle.py_scope.specs.Names.{Name}
-use Rattle.py_scope.specs.Outward.{enclosing, parents, meetings}
-use Rattle.py_scope.specs.Needs.{Needs, IsCaptured, entry_at, look_from}
+use Rattle.py_scope.specs.Outward.{enclosing, look_from, meetings, parents}
+use Rattle.py_scope.specs.Needs.{Needs, IsCaptured, entry_at}
 
 -- a scope may store a name that is bound further out
 abbrev pub hands_on_as : Holds → Bool

@@ -9,9 +9,9 @@ use Rattle.py_scope.specs.declared.rows.Holds.TheVariants.{Plain, DeclaredGlobal
 use Rattle.py_scope.specs.declared.outward.Meets.TheVariants.{Binding}
 use Rattle.py_scope.specs.declared.outward.Found.TheVariants.{FreeOf}
 use Rattle.py_scope.specs.Names.{Name, same_name}
-use Rattle.py_scope.specs.Outward.{meetings}
+use Rattle.py_scope.specs.Outward.{look_from, meetings}
 use Rattle.py_scope.specs.Flags.{captured_opt}
-use Rattle.py_scope.specs.Needs.{entry_at, look_from, asks_for, ChildNeeds}
+use Rattle.py_scope.specs.Needs.{entry_at, asks_for, ChildNeeds}
 use Rattle.py_scope.specs.Capture.{hands_on}
 
 abbrev pub names_of : Option Row → List Name

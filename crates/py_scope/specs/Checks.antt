@@ -11,9 +11,8 @@ use Rattle.py_scope.specs.declared.refusal.Refusal.{Refusal}
 use Rattle.py_scope.specs.declared.refusal.Refusal.TheVariants.{NoBinding, NoEnclosingScope, ClassName}
 use Rattle.py_scope.specs.Names.{Name, same_name, class_cell, lookup}
 use Rattle.py_scope.specs.Bits.{is_bound}
-use Rattle.py_scope.specs.Outward.{parents, is_free}
+use Rattle.py_scope.specs.Outward.{is_free, look_from, parents}
 use Rattle.py_scope.specs.Marks.{is_class}
-use Rattle.py_scope.specs.Needs.{look_from}
 use Rattle.py_scope.specs.Lifts.{kind_of, first_of_two}
 use Rattle.py_scope.specs.Roles.{bound_opt}
 

@@ -24,3 +24,5 @@ pub mod Refusals
 pub mod Symbols
 pub mod SymbolList
 pub mod Registered
+pub mod Texts
+pub mod InOrder

@@ -6,11 +6,10 @@ use Rattle.py_scope.specs.declared.rows.Entry.{Entry}
 use Rattle.py_scope.specs.declared.rows.Holds.{Holds}
 use Rattle.py_scope.specs.declared.rows.Holds.TheVariants.{Plain, DeclaredGlobal, DeclaredNonlocal, LiftedFree, LiftedGlobal, LiftedModule, Passed}
 use Rattle.py_scope.specs.declared.outward.Meets.TheVariants.{Binding}
-use Rattle.py_scope.specs.declared.outward.Found.{Found}
 use Rattle.py_scope.specs.declared.outward.Found.TheVariants.{FreeOf}
 use Rattle.py_scope.specs.Names.{Name, same_name, lookup}
 use Rattle.py_scope.specs.Bits.{is_bound}
-use Rattle.py_scope.specs.Outward.{Passes, look, enclosing, parents, meetings}
+use Rattle.py_scope.specs.Outward.{Passes, parents, meetings, look_from}
 use Rattle.py_scope.specs.Marks.{touch_by, asking_of}
 use Rattle.py_scope.specs.Flags.{captured_opt}
 
@@ -42,10 +41,6 @@ entry_at rows s n = entry_of n (slice_get rows s)
 
 abbrev pub wants_for : List Row → ℕ → Name → Bool
 wants_for rows s n = wants (entry_at rows s n)
-
--- what the look from s for n ends with
-abbrev pub look_from : List Row → ℕ → Name → Found
-look_from rows s n = look (meetings rows n) (enclosing (parents rows) s)
 
 -- scope c needs n from outside: some scope, c itself or one inside, wants n, and its look goes out past c to a binding
 pub record Needs (rows : List Row) (c : ℕ) (n : Name) : Type 0 where

@@ -125,3 +125,7 @@ meetings rows n e = meets_of n (slice_get rows e)
 -- each scope but the first stands after the scope around it
 abbrev pub IsNumbered : List Row → Type 0
 IsNumbered rows = (k : ℕ) → 0 < k → k < length rows → parents rows k < k
+
+-- what the look from s for n ends with
+abbrev pub look_from : List Row → ℕ → Name → Found
+look_from rows s n = look (meetings rows n) (enclosing (parents rows) s)

@@ -6,7 +6,8 @@ use Rattle.py_scope.specs.declared.rows.Holds.TheVariants.{Plain, DeclaredGlobal
 use Rattle.py_scope.specs.declared.rows.Row.{Row}
 use Rattle.py_scope.specs.Names.{Name}
 use Rattle.py_scope.specs.Flags.{captured_opt}
-use Rattle.py_scope.specs.Needs.{entry_at, look_from}
+use Rattle.py_scope.specs.Needs.{entry_at}
+use Rattle.py_scope.specs.Outward.{look_from}
 use Rattle.py_scope.specs.declared.outward.Found.TheVariants.{FreeOf}
 use Rattle.py_scope.specs.Lifts.{holds_opt, kind_of, WalrusesInComprehensions}
 

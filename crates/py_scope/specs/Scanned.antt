@@ -1,24 +1,17 @@
 -- The scopes of a program as they are collected.
-use Rattle.std.specs.Prelude.{◌≡◌, ℕ, zero, suc, ◌<◌, Bool, true, false, ◌||◌, List, [], ◌∷◌, ◌++◌, Option, Some, None, length, slice_get, nat_eq, All, codes, if◌then◌else◌}
-use Rattle.std.specs.List.{list_any}
+use Rattle.std.specs.Prelude.{ℕ, zero, suc, ◌<◌, Bool, true, false, ◌||◌, List, [], ◌∷◌, ◌++◌, Option, Some, None, length, slice_get, codes, if◌then◌else◌}
 use Rattle.py_scope.specs.declared.table_type.SymbolTableType.{SymbolTableType}
 use Rattle.py_scope.specs.declared.table_type.SymbolTableType.TheVariants.{Module, Class, Function, Comprehension, TypeParams}
 use Rattle.py_scope.specs.declared.roles.Role.{Role}
 use Rattle.py_scope.specs.declared.roles.Role.TheVariants.{Used, Assigned, Imported, Parameter, AnnotatedParameter, AnnotationAssigned, Walrus, Iterated, Global, Nonlocal}
 use Rattle.py_scope.specs.declared.rows.Row.{Row}
-use Rattle.py_scope.specs.declared.rows.Entry.{Entry}
 use Rattle.py_scope.specs.Names.{Name, lookup}
-use Rattle.py_scope.specs.Outward.{enclosing, parents, IsNumbered}
+use Rattle.py_scope.specs.Outward.{enclosing, parents}
 use Rattle.py_scope.specs.Marks.{with_entries}
 use Rattle.py_scope.specs.Roles.{register}
-use Rattle.py_scope.specs.Lifts.{holds_opt, kind_of, is_comprehension, walruses_of}
-use Rattle.py_scope.specs.Needs.{entry_of}
+use Rattle.py_scope.specs.Lifts.{kind_of, is_comprehension}
 use Rattle.py_scope.specs.declared.refusal.Refusal.{Refusal}
-use Rattle.py_scope.specs.Declarations.{bits_of, refused_use}
-use Rattle.py_scope.specs.Bits.{intersects}
-use Rattle.py_scope.specs.Flags.{captured_opt}
-use Rattle.py_scope.specs.Registered.{is_fresh}
-use Rattle.py_scope.specs.Cells.{names_of, AreDistinct}
+use Rattle.py_scope.specs.Declarations.{refused_use}
 
 -- the scopes in the order in which they were entered, the one that is open now, and those that were left, in this order
 pub record Scanned : Type 0 where
@@ -101,38 +94,6 @@ pub record IsWithin (s : Scanned) : Type 0 where
 
 abbrev pub gone_out : Scanned → Scanned
 gone_out s = record { rows = s.rows; current = parents s.rows s.current; left = s.left ++ s.current ∷ [] }
-
-abbrev pub assigned_opt : Option Entry → Bool
-assigned_opt None = false
-assigned_opt (Some s) = s.assigned_within
-
-abbrev pub free_class_opt : Option Entry → Bool
-free_class_opt None = false
-free_class_opt (Some s) = s.free_class
-
--- a scope whose names come from uses alone
-pub record IsFresh (o : Option Row) : Type 0 where
-  pub fresh : (n : Name) → is_fresh (holds_opt (entry_of n o)) ≡ true
-  pub uncaptured : (n : Name) → captured_opt (entry_of n o) ≡ false
-  pub unassigned : (n : Name) → assigned_opt (entry_of n o) ≡ false
-  pub unpassed : (n : Name) → free_class_opt (entry_of n o) ≡ false
-  pub unmarked : (n : Name) → intersects (bits_of (entry_of n o)) 0x100 ≡ false
-  pub walruses : is_comprehension (kind_of o) ≡ false → walruses_of o ≡ []
-  pub once : AreDistinct (names_of o)
-
--- no scope but the first is a module
-abbrev pub OneModule : List Row → Type 0
-OneModule rows = (k : ℕ) → 0 < k → k < length rows → kind_of (slice_get rows k) ≡ Module → ⊥
-
--- the calls came in order
-pub record IsScanned (s : Scanned) : Type 0 where
-  pub numbered : IsNumbered s.rows
-  pub first : kind_of (slice_get s.rows 0) ≡ Module
-  pub only : OneModule s.rows
-  pub inside : s.current < length s.rows
-  pub below : All (λ k. k < length s.rows) s.left
-  pub complete : (k : ℕ) → k < length s.rows → list_any (nat_eq k) (order_of s) ≡ true
-  pub fresh : (k : ℕ) → IsFresh (slice_get s.rows k)
 
 -- why a use in a scope is refused
 abbrev pub refused_in : Row → Name → Role → Option Refusal

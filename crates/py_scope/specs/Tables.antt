@@ -13,7 +13,7 @@ use Rattle.py_scope.specs.declared.table.SymbolTable.{SymbolTable, roll-SymbolTa
 use Rattle.py_scope.specs.Names.{Name, same_name}
 use Rattle.py_scope.specs.Bits.{is_bound}
 use Rattle.py_scope.specs.Declarations.{is_declared_global}
-use Rattle.py_scope.specs.Needs.{look_from}
+use Rattle.py_scope.specs.Outward.{look_from}
 use Rattle.py_scope.specs.Lifts.{kind_of}
 use Rattle.py_scope.specs.Kinds.{kind_of_entry}
 use Rattle.py_scope.specs.Checks.{entries_of}

@@ -5,7 +5,7 @@ ghost use Rattle.py_scope.specs.Outward.{enclosing, parents, IsNumbered};
 ghost use Rattle.py_scope.specs.Lifts.{kind_of};
 ghost use Rattle.py_scope.specs.declared.table_type.SymbolTableType.TheVariants.{Module};
 ghost use Rattle.py_scope.specs.Resolved.{first_fault, resolved};
-ghost use Rattle.py_scope.specs.Laws.{TableFollows, NamesLead, CellsAreApart, CellsAreNeeded};
+ghost use Rattle.py_scope.specs.Laws.{TableFollows};
 ghost use Rattle.py_scope.specs.Faults.{Tells, TellsRefusal, TellsNone};
 
 use crate::declarations::refused_use;
@@ -30,7 +30,8 @@ pub struct ScopeBuilder {
 }
 
 impl Model for ScopeBuilder {
-    ghost use Rattle.py_scope.specs.Scanned.{Scanned, IsScanned};
+    ghost use Rattle.py_scope.specs.Scanned.{Scanned};
+    ghost use Rattle.py_scope.specs.InOrder.{IsScanned};
 
     ghost Value = { Scanned };
 
@@ -263,29 +264,5 @@ impl ScopeBuilder {
             Err(Fault::Refused(refusal)) => Err(refuse(alloc, refusal, None)),
             Err(Fault::OutOfMemory) => Err(SymbolTableError::out_of_memory()),
         }
-    }
-
-    /// Where there is no fault, each name that a scope needs from outside leads to the cell of its binder.
-    pub fn names_lead(&self)
-        requires { first_fault self.now ≡ None }
-        ensures { NamesLead self.now.rows }
-    {
-        let _ = &self.current;
-    }
-
-    /// Where there is no fault, a name that a scope binds is a cell exactly where a scope directly inside needs it.
-    pub fn cells_are_needed(&self)
-        requires { first_fault self.now ≡ None }
-        ensures { CellsAreNeeded self.now.rows }
-    {
-        let _ = &self.current;
-    }
-
-    /// Where there is no fault, no name of a scope is both a cell and handed on by a class.
-    pub fn cells_are_apart(&self)
-        requires { first_fault self.now ≡ None }
-        ensures { CellsAreApart self.now.rows }
-    {
-        let _ = &self.current;
     }
 }

@@ -1,8 +1,7 @@
 //! The kind to which a name resolves.
 ghost use Rattle.std.specs.Prelude.{◌≡◌, ◌<◌, ℕ, length, slice_get, ◌∷◌, List, if◌then◌else◌};
 ghost use Rattle.py_scope.specs.declared.kinds.SymbolScope.TheVariants.{Cell, Local};
-ghost use Rattle.py_scope.specs.Outward.{look, enclosing, parents, meetings, IsNumbered};
-ghost use Rattle.py_scope.specs.Needs.{look_from};
+ghost use Rattle.py_scope.specs.Outward.{IsNumbered, enclosing, look, look_from, meetings, parents};
 ghost use Rattle.py_scope.specs.Lifts.{kind_of};
 ghost use Rattle.py_scope.specs.Kinds.{nowhere, kind_found, kind_of_entry};
 

@@ -53,6 +53,11 @@ impl SymbolTable {
 }
 
 impl fmt::Debug for SymbolTable {
+    ghost use Rattle.std.specs.Prelude.{Some};
+    ghost use Rattle.py_scope.specs.Texts.{table_text};
+
+    ghost debug_output = { λ t. Some (table_text t) };
+
     fn fmt<W: fmt::Write>(&self, f: &mut fmt::Formatter<W>) -> fmt::Result {
         write!(
             f,

@@ -12,13 +12,18 @@ pub enum SymbolTableType {
 }
 
 impl fmt::Display for SymbolTableType {
+    ghost use Rattle.std.specs.Prelude.{Some};
+    ghost use Rattle.py_scope.specs.Texts.{kind_text};
+
+    ghost output = { λ k. Some (kind_text k) };
+
     fn fmt<W: fmt::Write>(&self, f: &mut fmt::Formatter<W>) -> fmt::Result {
-        f.write_str(match self {
-            SymbolTableType::Module => "module",
-            SymbolTableType::Class => "class",
-            SymbolTableType::Function => "function",
-            SymbolTableType::Comprehension => "comprehension",
-            SymbolTableType::TypeParams => "type parameter",
-        })
+        match self {
+            SymbolTableType::Module => f.write_str("module"),
+            SymbolTableType::Class => f.write_str("class"),
+            SymbolTableType::Function => f.write_str("function"),
+            SymbolTableType::Comprehension => f.write_str("comprehension"),
+            SymbolTableType::TypeParams => f.write_str("type parameter"),
+        }
     }
 }

@@ -7,8 +7,9 @@ use Rattle.py_forms.specs.Form.{Interp, SForm, SThen}
 use Rattle.py_forms.specs.Fit.{Loops}
 use Rattle.py_forms.specs.Code.{code, labels}
 use Rattle.py_steps.specs.Context.{Context}
-use Rattle.py_meaning.specs.Futures.{Future, after_future, behind_futures, future_form, future_in, future_of}
-use Rattle.py_meaning.specs.Imports.{from_future}
+use Rattle.py_emission.specs.Futures.{Future, after_future, future_in, future_of}
+use Rattle.py_meaning.specs.TableImports.{behind_futures, future_form}
+use Rattle.py_emission.specs.Imports.{from_future}
 use Rattle.py_adds.proofs.Burden.{burden, burden-append}
 use Rattle.py_sizes.proofs.SmallAssigns.{CodeSmall}
 use Rattle.py_sizes.proofs.SmallImports.{from_small}

@@ -9,11 +9,10 @@ use Rattle.py_bytecode.specs.Objects.{Object}
 use Rattle.py_forms.specs.Form.{Interp, VConst, SForm, SThen, SReturn}
 use Rattle.py_forms.specs.Fit.{Loops}
 use Rattle.py_forms.specs.Code.{labels, labels_v, code, code_v}
-use Rattle.py_steps.specs.Children.{function_inside}
-use Rattle.py_steps.specs.Classes.{class_path, class_within}
+use Rattle.py_steps.specs.Within.{class_path, class_within, function_inside}
 use Rattle.py_steps.specs.Context.{Context}
 use Rattle.py_meaning.specs.Interactive.{block_form, interactive_form, last_form, prompt_form, single_form}
-use Rattle.py_meaning.specs.Futures.{after_future, future_of}
+use Rattle.py_emission.specs.Futures.{after_future, future_of}
 use Rattle.py_meaning.specs.StmtParts.{after_stmt}
 use Rattle.py_meaning.specs.Table.{after, after_all, expr_form}
 use Rattle.py_meaning.specs.TableParams.{around_own, function_number, own_number}

@@ -15,11 +15,12 @@ use Rattle.py_forms.specs.Agree.{exactly, form_of}
 use Rattle.py_forms.specs.Code.{class_code, closes, closing, labels, labels_v, code, code_v, body_code}
 use Rattle.py_scope.specs.declared.flat.ScopeEntry.{ScopeEntry}
 use Rattle.py_steps.specs.Context.{Context, head_of, outermost}
-use Rattle.py_steps.specs.TypeParameters.{handed, handed_parts}
+use Rattle.py_steps.specs.Within.{handed, handed_parts}
 use Rattle.py_emission.specs.Texts.{after_doc, doc_of, first_text, stmt_text, unless_text}
 use Rattle.py_meaning.specs.Interactive.{interactive_form}
 use Rattle.py_meaning.specs.Meaning.{body, mod_form}
-use Rattle.py_meaning.specs.StmtParts.{after_stmt, annotated, but_doc, class_value, function_value, is_last_return, unless_last}
+use Rattle.py_meaning.specs.StmtParts.{after_stmt, class_value, function_value, unless_last}
+use Rattle.py_emission.specs.Predicates.{annotated, but_doc, is_last_return}
 use Rattle.py_meaning.specs.Table.{after, after_all, clause_forms, expr_form, expr_forms, filter_forms, further_forms, target_forms}
 use Rattle.py_meaning.specs.TableParams.{params_form}
 use Rattle.py_meaning.specs.TableScopes.{class_form, gathered, generated, iterator, setup_form}

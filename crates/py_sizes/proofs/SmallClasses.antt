@@ -10,12 +10,13 @@ use Rattle.py_bytecode.specs.Objects.{Const, Object}
 use Rattle.py_bytecode.specs.Values.{Operation}
 use Rattle.py_forms.specs.Form.{Interp, VForm, VConst, VOp, VForms, VNone, VMore, SForm, MkScope}
 use Rattle.py_emission.specs.Texts.{after_doc, doc_of}
-use Rattle.py_steps.specs.Classes.{behind_name, class_within}
+use Rattle.py_steps.specs.Within.{behind_name, class_within}
 use Rattle.py_steps.specs.Context.{Context, head_of}
 use Rattle.py_steps.specs.Elements.{Element, Single, Spread, Function, starred, bare, groups}
 use Rattle.py_steps.specs.TableParts.{Keywords, any, built, call_by, call_form, counted, elements, joined_map, map_of, names_in, packed, parts_of, placed, unpacked, values_in}
 use Rattle.py_meaning.specs.StmtCounts.{scopes_in_stmts}
-use Rattle.py_meaning.specs.StmtParts.{annotated, class_function, class_value}
+use Rattle.py_meaning.specs.StmtParts.{class_function, class_value}
+use Rattle.py_emission.specs.Predicates.{annotated}
 use Rattle.py_meaning.specs.Table.{after_all, all_forms, keyword_forms}
 use Rattle.py_meaning.specs.TableScopes.{build_class, class_form}
 use Rattle.py_adds.proofs.Burden.{burden-append}

@@ -6,7 +6,7 @@ use Rattle.py_bytecode.specs.Objects.{Object}
 use Rattle.py_bytecode.specs.Values.{operation, Bare, Cell}
 use Rattle.py_forms.specs.Form.{Interp, VForm, VConst, VOp, VMake, VForms, VNone, VMore, Scope}
 use Rattle.py_forms.specs.Code.{labels_v, labels_vs, cell_codes, closure_code, code_v, code_vs}
-use Rattle.py_steps.specs.Children.{some_flag}
+use Rattle.py_steps.specs.Within.{some_flag}
 use Rattle.py_steps.specs.TableParts.{parts_of, built, map_of, name_values, some_built, value_or}
 use Rattle.py_meaning.specs.TableScopes.{Defaults, default_parts, documented, function_form, decorated, iterator}
 use Rattle.py_adds.proofs.Burden.{burden, burden-append}

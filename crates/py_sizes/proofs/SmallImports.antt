@@ -13,7 +13,8 @@ use Rattle.py_forms.specs.Form.{Interp, VForm, VOp, VKeep, VMore, VNone, GStore,
 use Rattle.py_forms.specs.Code.{labels}
 use Rattle.py_steps.specs.Context.{Context, mangled}
 use Rattle.py_steps.specs.TableParts.{named}
-use Rattle.py_meaning.specs.Imports.{asked, asked_all, attributes, from_form, further_segments, import_form, import_name, import_value, module_value, taken_from, taken_name, takes_all}
+use Rattle.py_emission.specs.Imports.{asked, asked_all, further_segments, import_name, taken_name, takes_all}
+use Rattle.py_meaning.specs.TableImports.{attributes, from_form, import_form, import_value, module_value, taken_from}
 use Rattle.py_adds.proofs.Burden.{burden-append}
 use Rattle.py_sizes.proofs.Small.{FormSmall, one_small}
 use Rattle.py_sizes.proofs.SmallAssigns.{CodeSmall}

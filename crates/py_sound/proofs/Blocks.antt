@@ -7,11 +7,11 @@ use Rattle.py_bytecode.specs.Blocks.{Block, Place, Of, block_at, settled, at_ind
 use Rattle.py_walks.specs.Walks.{seen}
 use Rattle.py_forms.specs.Code.{labels, body_code}
 use Rattle.py_forms.specs.Agree.{exactly, form_of}
-use Rattle.py_forms.proofs.BlockMachine.{block_ground, spot_in, stands_in_blocks}
+use Rattle.py_simulation.proofs.BlockMachine.{block_ground, spot_in, stands_in_blocks}
 use Rattle.py_sound.specs.Blocks.{BlocksAreSound, LaidIsSound}
-use Rattle.py_forms.specs.Blocks.{Ends}
-use Rattle.py_forms.proofs.Laying.{end_settles}
-use Rattle.py_forms.proofs.LaidOut.{body_lies}
+use Rattle.py_simulation.specs.Blocks.{Ends}
+use Rattle.py_simulation.proofs.Laying.{end_settles}
+use Rattle.py_simulation.proofs.LaidOut.{body_lies}
 use Rattle.py_sound.proofs.Standing.{stands_seen}
 use Rattle.py_sound.proofs.Refusals.{sound}
 use Rattle.py_sound.proofs.CodesAreSound.{laid_out}

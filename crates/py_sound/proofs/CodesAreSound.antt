@@ -4,13 +4,13 @@ use Rattle.std.specs.Prelude.{slice_get}
 use Rattle.py_walks.specs.Walks.{Seen}
 use Rattle.py_forms.specs.Form.{Interp, SForm}
 use Rattle.py_forms.specs.Code.{body_code}
-use Rattle.py_forms.specs.Walks.{Shape, rises}
+use Rattle.py_simulation.specs.Walks.{Shape, rises}
 use Rattle.py_forms.specs.Looped.{Looped}
 use Rattle.py_forms.specs.Agree.{exactly, form_of, AllOf}
-use Rattle.py_forms.proofs.Labels.{placed_once}
-use Rattle.py_forms.proofs.LabelShapes.{shapes, len}
-use Rattle.py_forms.proofs.CodesWalk.{shape_at, known_within, body_walks}
-use Rattle.py_forms.proofs.Heights.{Bounded, body_high}
+use Rattle.py_simulation.proofs.Labels.{placed_once}
+use Rattle.py_simulation.proofs.LabelShapes.{shapes, len}
+use Rattle.py_simulation.proofs.CodesWalk.{shape_at, known_within, body_walks}
+use Rattle.py_simulation.proofs.Heights.{Bounded, body_high}
 use Rattle.py_sound.specs.Sound.{Sees, CodesAreSound}
 use Rattle.py_sound.proofs.Seats.{Laid}
 use Rattle.py_sound.proofs.Refusals.{sound}

@@ -11,13 +11,13 @@ use Rattle.py_walks.specs.Flow.{flow_of}
 use Rattle.py_walks.specs.Flat.{look_at, fetch_at, sees, decoded}
 use Rattle.py_walks.proofs.Rows.{RowIs, row_is}
 use Rattle.py_forms.specs.Code.{Item, Do, Label, body_code}
-use Rattle.py_forms.specs.Live.{live}
+use Rattle.py_simulation.specs.Live.{live}
 use Rattle.py_forms.specs.Agree.{exactly, form_of}
-use Rattle.py_forms.proofs.Moves.{Stands}
-use Rattle.py_forms.proofs.Reach.{Ground}
-use Rattle.py_forms.proofs.Assembly.{simulated, simulated_at, fuel_covers}
-use Rattle.py_forms.proofs.Labels.{once}
-use Rattle.py_forms.proofs.DecodeAt.{option_at, decode_at}
+use Rattle.py_simulation.proofs.Moves.{Stands}
+use Rattle.py_simulation.proofs.Reach.{Ground}
+use Rattle.py_simulation.proofs.Assembly.{simulated, simulated_at, fuel_covers}
+use Rattle.py_simulation.proofs.Labels.{once}
+use Rattle.py_simulation.proofs.DecodeAt.{option_at, decode_at}
 use Rattle.py_sound.proofs.Standing.{flow_at_places}
 use Rattle.py_sound.specs.Sound.{seen_as, Sees}
 use Rattle.py_sound.specs.Flat.{Lies, FlatRuns, FlatIsSound}

@@ -4,7 +4,7 @@ use Rattle.std.specs.Prelude.{nat_eq, not, ◌&&◌, if◌then◌else◌}
 use Rattle.py_walks.specs.declared.flow.Kind.{Kind}
 use Rattle.py_walks.specs.declared.flow.Mark as theirs
 use Rattle.py_walks.specs.Walks as walks
-use Rattle.py_forms.specs.Walks.{Sort, LoopSort, ExceptSort, FinallySort, ExitSort, HandlerSort, LastSort, CleanupSort, OpenSort, Mark, Shape, floor, loop_at, at_loop, cut_sort, resting, cut_height, rest_of, Tops, Entered, Handles, Lasts, EndsFinally, EndsWith, opened_as, top_as, Joins}
+use Rattle.py_simulation.specs.Walks.{Sort, LoopSort, ExceptSort, FinallySort, ExitSort, HandlerSort, LastSort, CleanupSort, OpenSort, Mark, Shape, floor, loop_at, at_loop, cut_sort, resting, cut_height, rest_of, Tops, Entered, Handles, Lasts, EndsFinally, EndsWith, opened_as, top_as, Joins}
 
 abbrev pub kind_of : Sort → Kind
 kind_of LoopSort = Kind.Loop

@@ -6,10 +6,10 @@ use Rattle.py_walks.specs.Flow as flow
 use Rattle.py_walks.specs.Walks as walks
 use Rattle.py_walks.specs.Walks.{Seen, Edge}
 use Rattle.py_forms.specs.Code.{Item, Do, Label, size}
-use Rattle.py_forms.specs.Walks.{Shape, shape, Then, Falls, Never, after, IsFine, Walks, rise, rises}
-use Rattle.py_forms.proofs.CodesWalk.{from_label, state_after, after_append}
-use Rattle.py_forms.proofs.Heights.{rises-append}
-use Rattle.py_forms.proofs.Moves.{size-append}
+use Rattle.py_simulation.specs.Walks.{Shape, shape, Then, Falls, Never, after, IsFine, Walks, rise, rises}
+use Rattle.py_simulation.proofs.CodesWalk.{from_label, state_after, after_append}
+use Rattle.py_simulation.proofs.Heights.{rises-append}
+use Rattle.py_simulation.proofs.Moves.{size-append}
 use Rattle.py_sound.specs.Sound.{seen_as, Sees}
 use Rattle.py_sound.proofs.Like.{Like, alike, no_clash}
 use Rattle.py_sound.proofs.Moves.{Moves, moves, Falling, Jumping}
@@ -196,6 +196,6 @@ module _ {K P : Type 0} (look : P → Option (Seen P)) (spot : ℕ → P) (at : 
           let g = subst (λ (u : Shape). Rattle.py_sound.proofs.Like.LikeMarks u.marks e.other.shape) (sym same) b.seat.like.marks in
           go a.seat.shape.marks a.seat.like.marks g e.differ
         where
-          go : (ms : List Rattle.py_forms.specs.Walks.Mark) → Rattle.py_sound.proofs.Like.LikeMarks ms e.one.shape → Rattle.py_sound.proofs.Like.LikeMarks ms e.other.shape → walks.Differ e.one.shape e.other.shape → ⊥
+          go : (ms : List Rattle.py_simulation.specs.Walks.Mark) → Rattle.py_sound.proofs.Like.LikeMarks ms e.one.shape → Rattle.py_sound.proofs.Like.LikeMarks ms e.other.shape → walks.Differ e.one.shape e.other.shape → ⊥
           go ms h g (inl d) = d (alike ms e.one.shape e.other.shape h g)
           go ms h g (inr d) = no_clash ms e.one.shape e.other.shape h g d

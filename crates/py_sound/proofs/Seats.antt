@@ -6,10 +6,10 @@ use Rattle.py_bytecode.specs.Machine.{Instr}
 use Rattle.py_walks.specs.Walks as walks
 use Rattle.py_walks.specs.Walks.{Seen, Edge}
 use Rattle.py_forms.specs.Code.{Item, Do, Label}
-use Rattle.py_forms.specs.Walks.{Shape, shape, Then, Falls, Never, after, IsFine, Walks, Joins, rise, rises}
-use Rattle.py_forms.proofs.Assembly.{occurs}
-use Rattle.py_forms.proofs.CodesWalk.{from_label, state_after, after_append}
-use Rattle.py_forms.proofs.Heights.{Bounded}
+use Rattle.py_simulation.specs.Walks.{Shape, shape, Then, Falls, Never, after, IsFine, Walks, Joins, rise, rises}
+use Rattle.py_simulation.proofs.Assembly.{occurs}
+use Rattle.py_simulation.proofs.CodesWalk.{from_label, state_after, after_append}
+use Rattle.py_simulation.proofs.Heights.{Bounded}
 use Rattle.py_sound.specs.Sound.{Sees}
 use Rattle.py_sound.proofs.Like.{Like, join_like}
 use Rattle.py_sound.proofs.Moves.{Low}
@@ -59,7 +59,7 @@ module _ {K P : Type 0} (look : P → Option (Seen P)) (spot : ℕ → P) (at : 
     pub joined : before ++ rest ≡ is
     pub stands : Sees look spot rest p q
     pub shape : Shape
-    pub known : state_after at before (Falls (Rattle.py_forms.specs.Walks.shape 0 [])) ≡ Falls shape
+    pub known : state_after at before (Falls (Rattle.py_simulation.specs.Walks.shape 0 [])) ≡ Falls shape
     pub walk : Walks at rest (Falls shape) Never
     pub like : Like shape t
     pub low : Low shape
@@ -78,7 +78,7 @@ module _ {K P : Type 0} (look : P → Option (Seen P)) (spot : ℕ → P) (at : 
     joined = append_assoc s.before (Label l ∷ []) rest ∙ s.joined;
     stands = s.stands.1;
     shape = s.walk.0;
-    known = after_append at s.before (Label l ∷ []) (Falls (Rattle.py_forms.specs.Walks.shape 0 [])) ∙ ap from_label s.walk.1;
+    known = after_append at s.before (Label l ∷ []) (Falls (Rattle.py_simulation.specs.Walks.shape 0 [])) ∙ ap from_label s.walk.1;
     walk = s.walk.3;
     like = join_like s.shape s.walk.0 t s.walk.2 s.like;
     low = (laid.bounded l s.walk.0 s.walk.1).0;
@@ -95,10 +95,10 @@ module _ {K P : Type 0} (look : P → Option (Seen P)) (spot : ℕ → P) (at : 
     before = [];
     joined = refl;
     stands = laid.sees;
-    shape = Rattle.py_forms.specs.Walks.shape 0 [];
+    shape = Rattle.py_simulation.specs.Walks.shape 0 [];
     known = refl;
     walk = laid.walk;
-    like = subst (Like (Rattle.py_forms.specs.Walks.shape 0 [])) (sym e) (record { height = refl; marks = tt });
+    like = subst (Like (Rattle.py_simulation.specs.Walks.shape 0 [])) (sym e) (record { height = refl; marks = tt });
     low = omega arith;
     height = omega arith;
   }

@@ -4,8 +4,8 @@ use Rattle.py_bytecode.specs.Machine.{Instr, Push, Access, Operate, MakeFunction
 use Rattle.py_walks.specs.Flow.{flow_of, target_of}
 use Rattle.py_walks.specs.Walks.{seen}
 use Rattle.py_forms.specs.Code.{Item, Do, Label}
-use Rattle.py_forms.proofs.Moves.{Stands}
-use Rattle.py_forms.proofs.Reach.{Ground}
+use Rattle.py_simulation.proofs.Moves.{Stands}
+use Rattle.py_simulation.proofs.Reach.{Ground}
 use Rattle.py_sound.specs.Sound.{Sees}
 
 -- the flow of an instruction has no places

@@ -4,7 +4,7 @@ use Rattle.py_bytecode.specs.Values.{Load, Store, Delete}
 use Rattle.py_bytecode.specs.Machine as M
 use Rattle.py_bytecode.specs.Machine.{Instr, at_places}
 use Rattle.py_walks.specs.Flow as flow
-use Rattle.py_forms.specs.Walks.{Shape, Then, Falls, Never, after, IsFine, rise}
+use Rattle.py_simulation.specs.Walks.{Shape, Then, Falls, Never, after, IsFine, rise}
 use Rattle.py_sound.proofs.Moves.{Low}
 
 abbrev pub height_then : Then → ℕ

@@ -6,8 +6,8 @@ use Rattle.py_bytecode.specs.Blocks.{Block, Place, Of, settled, fetch_block}
 use Rattle.py_walks.specs.Walks.{seen, Sound}
 use Rattle.py_forms.specs.Form.{Scope}
 use Rattle.py_forms.specs.Code.{labels, body_code}
-use Rattle.py_forms.specs.Blocks.{Lies, Laid, Ends}
-use Rattle.py_forms.specs.Walks.{rises}
+use Rattle.py_simulation.specs.Blocks.{Lies, Laid, Ends}
+use Rattle.py_simulation.specs.Walks.{rises}
 use Rattle.py_forms.specs.Looped.{Looped}
 use Rattle.py_forms.specs.Agree.{exactly, form_of}
 

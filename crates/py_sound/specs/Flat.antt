@@ -9,10 +9,11 @@ use Rattle.py_walks.specs.Walks.{Sound}
 use Rattle.py_walks.specs.Flat.{look_at, fetch_at}
 use Rattle.py_forms.specs.Form.{Scope}
 use Rattle.py_forms.specs.Code.{Item, Do, Label, body_code}
-use Rattle.py_forms.specs.Live.{live}
-use Rattle.py_forms.specs.Walks.{rises}
+use Rattle.py_simulation.specs.Live.{live}
+use Rattle.py_simulation.specs.Walks.{rises}
 use Rattle.py_forms.specs.Looped.{Looped}
-use Rattle.py_forms.specs.Agree.{exactly, form_of, runs_code}
+use Rattle.py_forms.specs.Agree.{exactly, form_of}
+use Rattle.py_forms.specs.CodeRuns.{runs_code}
 
 -- The items lie in the list from one place to another: the instructions decode from its entries one after another, where a jump names a
 -- block by its number, and where a label is placed the block of that number starts.

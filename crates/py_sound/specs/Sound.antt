@@ -6,7 +6,7 @@ use Rattle.py_walks.specs.Flow.{flow_of, target_of}
 use Rattle.py_walks.specs.Walks.{Seen, Sound}
 use Rattle.py_forms.specs.Form.{Scope}
 use Rattle.py_forms.specs.Code.{Item, Do, Label, body_code}
-use Rattle.py_forms.specs.Walks.{rises}
+use Rattle.py_simulation.specs.Walks.{rises}
 use Rattle.py_forms.specs.Looped.{Looped}
 use Rattle.py_forms.specs.Agree.{exactly, form_of}
 

@@ -6,7 +6,8 @@ use Rattle.py_forms.specs.Form.{Resolved}
 use Rattle.py_steps.specs.TableParts.{debug_constant, is_debug}
 use Rattle.py_steps.specs.Context.{Context, access_kind, cell_place, mangled}
 use Rattle.py_steps.specs.Emitting.{Emission, by_level, emit, emit_constant, emit_name, emit_varname}
-use Rattle.py_steps.specs.EmissionParts.{no_assignment, no_deletion, unless_debug}
+use Rattle.py_steps.specs.EmissionParts.{unless_debug}
+use Rattle.py_steps.specs.Refused.{no_assignment, no_deletion}
 
 -- a name is loaded
 abbrev pub load_by : Kind → List ℕ → (place : ℕ) → Emission

@@ -6,19 +6,12 @@ use Rattle.py_bytecode.specs.declared.instruction.Instruction.TheVariants as op
 use Rattle.py_bytecode.specs.Equality.{text_eq}
 use Rattle.py_bytecode.specs.Objects as const
 use Rattle.py_bytecode.specs.Objects.{Object}
-use Rattle.py_scope.specs.declared.table_type.SymbolTableType.TheVariants as kind
-use Rattle.py_steps.specs.Context.{Context, cell_place, function_path, inside, mangled, qualified, with_path}
+use Rattle.py_steps.specs.Context.{Context, cell_place, mangled, qualified}
 use Rattle.py_steps.specs.Emitting.{Emission, Outcome, State, ◌▸◌, Done, TooWide, Refused, add_constant, add_varname, begun, by_context, emit, emit_constant, emit_count, emit_name, keep}
-use Rattle.py_steps.specs.EmissionParts.{built, in_turn, map_of, no_assignment, unless_debug}
+use Rattle.py_steps.specs.EmissionParts.{built, in_turn, map_of, unless_debug}
+use Rattle.py_steps.specs.Refused.{no_assignment}
 use Rattle.py_steps.specs.Sealed.{Head, sealed}
-
--- what a node says of its scope's code object
-pub record Shape : Type 0 where
-  pub flags : ℕ
-  pub posonlyarg_count : ℕ
-  pub arg_count : ℕ
-  pub kwonlyarg_count : ℕ
-  pub obj_name : List ℕ
+use Rattle.py_steps.specs.Within.{Shape, some_flag}
 
 -- the head of a scope's code object, whose first line is that of the place where it begins
 abbrev pub code_head : Context → Shape → SourceLocation → Head
@@ -65,11 +58,6 @@ abbrev pub closure : List (List ℕ) → Emission
 closure [] = keep
 closure (x ∷ xs) = built op.BuildTuple (cell_loads (x ∷ xs))
 
--- a flag, where there is anything
-abbrev pub some_flag : {A : Type 0} → (flag : ℕ) → List A → ℕ
-some_flag flag [] = 0
-some_flag flag (x ∷ xs) = flag
-
 -- the names that the code object has from outside
 abbrev pub free_names : Object → List (List ℕ)
 free_names o = (const.head o).freevars
@@ -96,14 +84,6 @@ emission_of_defaults d = some_emitted (built op.BuildTuple) d.positional ▸ som
 -- the flags of the defaults that there are
 abbrev pub flags_of_defaults : DefaultEmissions → ℕ
 flags_of_defaults d = some_flag 0x08 d.positional + some_flag 0x04 d.keyword
-
--- within a lambda, around which the qualified name stays as it is
-abbrev pub lambda_inside : Context → (number : ℕ) → Context
-lambda_inside c n = inside kind.Function n c
-
--- within a function of this name
-abbrev pub function_inside : (name : List ℕ) → Context → (number : ℕ) → Context
-function_inside name c n = with_path (function_path c name) (inside kind.Function n c)
 
 -- the parameters are the first names of the code object's own, and none is `__debug__`
 abbrev pub enter_parameters : List (List ℕ) → Emission

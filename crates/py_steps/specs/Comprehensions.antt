@@ -4,21 +4,16 @@ use Rattle.py_base.specs.declared.shapes.Malformed.TheVariants as shape
 use Rattle.py_bytecode.specs.declared.instruction.Instruction.{Instruction}
 use Rattle.py_bytecode.specs.declared.instruction.Instruction.TheVariants as op
 use Rattle.py_bytecode.specs.Objects as const
-use Rattle.py_scope.specs.declared.table_type.SymbolTableType.TheVariants as kind
-use Rattle.py_forms.specs.declared.errors.CodegenErrorType.{CodegenErrorType}
-use Rattle.py_forms.specs.declared.errors.CodegenErrorType.TheVariants as error
-use Rattle.py_steps.specs.Context.{Context, inside}
-use Rattle.py_steps.specs.Children.{Shape, child, made}
+use Rattle.py_base.specs.declared.errors.CodegenErrorType.TheVariants as error
+use Rattle.py_steps.specs.Children.{child, made}
+use Rattle.py_steps.specs.Within.{Shape, comprehension_inside}
 use Rattle.py_steps.specs.Emitting.{Emission, Outcome, ◌▸◌, Done, TooWide, Refused, begin, emit, emit_constant, emit_count, emit_varname, generating, jump, keep, new_block, refuse}
 use Rattle.py_steps.specs.EmissionParts.{Emissions}
+use Rattle.py_steps.specs.Refused.{retold}
 
 -- a comprehension takes the first iterator; it has names of its own, and quick locals
 abbrev pub comprehension_shape : (name : List ℕ) → Shape
 comprehension_shape name = record { flags = 0x21; posonlyarg_count = 1; arg_count = 1; kwonlyarg_count = 0; obj_name = name }
-
--- within a comprehension, around which the qualified name stays as it is
-abbrev pub comprehension_inside : Context → (number : ℕ) → Context
-comprehension_inside c n = inside kind.Comprehension n c
 
 -- the first iterator, which is handed in
 abbrev pub handed_iterator : Emission
@@ -49,14 +44,6 @@ further_clauses (c ∷ cs) within = clause (c.iterable ▸ emit op.GetIter 0) c 
 abbrev pub clauses : List ClauseEmissions → (within : Emission) → Emission
 clauses [] within = within
 clauses (c ∷ cs) within = clause handed_iterator c (further_clauses cs within)
-
--- a star in an element is told in other words
-abbrev pub no_unpacking : List ℕ
-no_unpacking = codes "iterable unpacking cannot be used in comprehension"
-
-abbrev pub retold : CodegenErrorType → CodegenErrorType
-retold error.InvalidStarExpr = error.SyntaxError no_unpacking
-retold other = other
 
 abbrev pub retold_in : Outcome → Outcome
 retold_in (Done s) = Done s

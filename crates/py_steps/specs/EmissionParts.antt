@@ -1,5 +1,5 @@
 -- What is emitted of a node, by what is emitted of its parts.
-use Rattle.std.specs.Prelude.{ℕ, ◌+◌, ◌*◌, ◌||◌, ◌&&◌, List, [], ◌∷◌, length, Bool, true, false, Option, Some, None, codes, nat_eq, nat_lt, if◌then◌else◌}
+use Rattle.std.specs.Prelude.{ℕ, ◌+◌, ◌*◌, ◌||◌, List, [], ◌∷◌, length, Bool, true, false, Option, Some, None, nat_eq, nat_lt, if◌then◌else◌}
 use Rattle.py_base.specs.declared.location.SourceLocation.{SourceLocation}
 use Rattle.py_base.specs.declared.operators.BoolOp.{BoolOp}
 use Rattle.py_base.specs.declared.operators.CmpOp.{CmpOp}
@@ -12,12 +12,13 @@ use Rattle.py_bytecode.specs.declared.instruction.Instruction.TheVariants as op
 use Rattle.py_bytecode.specs.Objects as const
 use Rattle.py_bytecode.specs.Objects.{Const, Consts, no_consts, more_consts}
 use Rattle.py_bytecode.specs.Values.{flip}
-use Rattle.py_forms.specs.declared.errors.CodegenErrorType.{CodegenErrorType}
-use Rattle.py_forms.specs.declared.errors.CodegenErrorType.TheVariants as error
+use Rattle.py_base.specs.declared.errors.CodegenErrorType.{CodegenErrorType}
+use Rattle.py_base.specs.declared.errors.CodegenErrorType.TheVariants as error
 use Rattle.py_steps.specs.Context.{is_function}
 use Rattle.py_steps.specs.Elements.{Element, Single, Spread, Callee, Function, Method, starred, bare, stars, before_star, after_star, groups, front, behind, pairs, sides}
 use Rattle.py_steps.specs.TableParts.{unary_case, deciding, is_debug, any}
 use Rattle.py_steps.specs.Emitting.{Emission, ◌▸◌, begin, by_context, emit, emit_constant, emit_count, emit_mangled, jump, keep, move, new_block, pass_over, refuse}
+use Rattle.py_steps.specs.Refused.{few_aside, no_assignment}
 
 -- the jump that keeps a value where its truth is this
 abbrev pub keeping_jump : Bool → Instruction
@@ -103,12 +104,6 @@ Keywords = List (Element (List ℕ × Emission) Emission)
 -- the name `__debug__` is a constant, which nothing changes
 abbrev pub unless_debug : (text name : List ℕ) → Emission → Emission
 unless_debug text name change = if is_debug name then refuse (error.SyntaxError text) else change
-
-abbrev pub no_assignment : List ℕ
-no_assignment = codes "cannot assign to __debug__"
-
-abbrev pub no_deletion : List ℕ
-no_deletion = codes "cannot delete __debug__"
 
 -- no keyword is `__debug__`
 abbrev pub checked : Keywords → Emission
@@ -282,10 +277,6 @@ only test body = new_block (λ end. test false end ▸ body ▸ begin end)
 abbrev pub choice : ((truth : Bool) → (block : ℕ) → Emission) → (body orelse : Emission) → Emission
 choice test body orelse = new_block (λ other. new_block (λ end. test false other ▸ body ▸ jump op.Jump end ▸ begin other ▸ orelse ▸ begin end))
 
--- at most 255 targets stand on each side of a star
-abbrev pub few_aside : {A : Type 0} → List (Element A A) → Bool
-few_aside es = nat_lt (before_star es) 256 && nat_lt (after_star es) 256
-
 -- one star, with few targets on each side
 abbrev pub unpack_starred : SourceLocation → List (Element Emission Emission) → Emission
 unpack_starred at es =
@@ -307,6 +298,3 @@ pub record Stores : Type 0 where
 
 abbrev pub plain_store : Emission → Stores
 plain_store v = record { alone = v; element = Single v }
-
-abbrev pub lone_star : List ℕ
-lone_star = codes "starred assignment target must be in a list or tuple"

@@ -11,3 +11,5 @@ pub mod Comprehensions
 pub mod Everywhere
 pub mod Classes
 pub mod TypeParameters
+pub mod Within
+pub mod Refused

@@ -1,21 +1,11 @@
 -- What is emitted of type parameters: a hidden scope around a function, a class or an alias, which is called at once with the defaults that it is handed.
-use Rattle.std.specs.Prelude.{ℕ, ◌+◌, length, List, [], ◌∷◌, ◌++◌, codes}
+use Rattle.std.specs.Prelude.{ℕ, length, List, [], ◌∷◌}
 use Rattle.py_bytecode.specs.declared.instruction.Instruction.TheVariants as op
 use Rattle.py_bytecode.specs.Objects as const
-use Rattle.py_forms.specs.Form.{VForms, VMore, VLoad, FixedFast}
-use Rattle.py_scope.specs.declared.table_type.SymbolTableType.TheVariants as kind
 use Rattle.py_steps.specs.Accesses.{emission_of_stored}
-use Rattle.py_steps.specs.Children.{DefaultEmissions, Shape, child, emission_of_defaults, made}
-use Rattle.py_steps.specs.Context.{Context, inside}
+use Rattle.py_steps.specs.Children.{DefaultEmissions, child, emission_of_defaults, made}
+use Rattle.py_steps.specs.Within.{Shape, handed, hidden_inside, hidden_name}
 use Rattle.py_steps.specs.Emitting.{Emission, ◌▸◌, emit, emit_constant, emit_count, emit_varname, keep}
-
--- the name of a hidden scope
-abbrev pub hidden_name : (name : List ℕ) → List ℕ
-hidden_name name = codes "<generic parameters of " ++ (name ++ codes ">")
-
--- within a hidden scope, around which the class and the qualified name stay as they are
-abbrev pub hidden_inside : Context → (number : ℕ) → Context
-hidden_inside c n = inside kind.TypeParams n c
 
 -- a hidden scope takes what it is handed by its place
 abbrev pub hidden_shape : (count : ℕ) → (name : List ℕ) → Shape
@@ -33,24 +23,10 @@ plain name = emit_constant op.LoadConst (const.str name) ▸ emit op.TypeVar 0 �
 abbrev pub bounded : (bound : Emission) → (name : List ℕ) → Emission
 bounded v name = v ▸ emit_constant op.LoadConst (const.str name) ▸ emit op.TypeVarWithBound 0 ▸ kept_as name
 
--- a name, where there is anything of its kind
-abbrev pub some_name : {A : Type 0} → (name : List ℕ) → List A → List (List ℕ)
-some_name name [] = []
-some_name name (x ∷ xs) = name ∷ []
-
--- the names under which a hidden scope has the defaults that it is handed
-abbrev pub handed : {A B : Type 0} → (positional : List A) → (keyword : List B) → List (List ℕ)
-handed ps ks = some_name (codes ".defaults") ps ++ some_name (codes ".kwdefaults") ks
-
 -- what is handed is loaded in order
 abbrev pub load_handed : (names : List (List ℕ)) → Emission
 load_handed [] = keep
 load_handed (x ∷ xs) = emit_varname op.LoadFast x ▸ load_handed xs
-
--- the same as parts of a function
-abbrev pub handed_parts : (names : List (List ℕ)) → VForms → VForms
-handed_parts [] rest = rest
-handed_parts (x ∷ xs) rest = VMore (VLoad FixedFast x) (handed_parts xs rest)
 
 -- a hidden scope returns what is made in it, and is called with the defaults
 abbrev pub hidden : (name : List ℕ) → DefaultEmissions → (value : Emission) → Emission

@@ -8,19 +8,20 @@ use Rattle.py_tree.specs.declared.statements.StmtClassDefOf.{StmtClassDefOf}
 use Rattle.py_tree.specs.declared.statements.TypeParam.{TypeParam}
 use Rattle.py_bytecode.specs.declared.instruction.Instruction.TheVariants as op
 use Rattle.py_bytecode.specs.Objects as const
-use Rattle.py_steps.specs.Classes.{behind_name, class_path}
+use Rattle.py_steps.specs.Within.{behind_name, class_path}
 use Rattle.py_steps.specs.Elements.{Element, Function, Single, Spread, bare, groups, starred}
 use Rattle.py_steps.specs.Emitting.{Emission, ◌▸◌, by_context, emit, emit_constant, emit_count, keep}
 use Rattle.py_steps.specs.EmissionParts.{Keywords, built, checked, elements, in_turn}
 use Rattle.py_steps.specs.TypeParameters.{hidden, no_defaults}
 use Rattle.py_emission.specs.Emission.{all_emissions, keyword_emissions}
-use Rattle.py_meaning.specs.EmissionDefs.{class_call as emission_of_class_call, emission_of_built, emission_of_class, emission_of_generic_class}
-use Rattle.py_meaning.specs.EmissionStmts.{emission_of_rest}
+use Rattle.py_emission.specs.EmissionDefs.{class_call as emission_of_class_call, emission_of_built, emission_of_class, emission_of_generic_class}
+use Rattle.py_emission.specs.EmissionStmts.{emission_of_rest}
 use Rattle.py_emit.proofs.Joined.{joined}
-use Rattle.py_expr.specs.Calling.{argument_tuple, arguments, calling, keyworded, positional, taken, type_of}
-use Rattle.py_expr.proofs.Calling.{call_is}
+use Rattle.py_expr_parts.specs.Calls.{argument_tuple, arguments, calling, keyworded, positional, taken, type_of}
+use Rattle.py_expr_parts.proofs.CallOperands.{call_is}
 use Rattle.py_stmt.specs.Classes.{built_emission, built_of, class_body, class_built, class_emission, class_params, function_emission, generic_emission, placed}
-use Rattle.py_stmt.specs.Generics.{params_flag, some_params}
+use Rattle.py_stmt_parts.specs.Generics.{params_flag}
+use Rattle.py_stmt_simple.specs.Generics.{some_params}
 
 -- what a call of a tuple takes does not depend on the number of values
 packed_type : (m n k : ℕ) → type_of true m k ≡ type_of true n k

@@ -2,7 +2,7 @@
 use Rattle.std.proofs.Common.{◌≡◌, refl}
 use Rattle.py_tree.specs.Tree as tree
 use Rattle.py_steps.specs.Emitting.{State, located, move}
-use Rattle.py_meaning.specs.EmissionStmts.{emission_of_stmt}
+use Rattle.py_emission.specs.EmissionStmts.{emission_of_stmt}
 
 pub entering : (x : tree.Stmt) (s : State) → emission_of_stmt x s ≡ emission_of_stmt x (located (tree.stmt_location x) s)
 unfolding move located

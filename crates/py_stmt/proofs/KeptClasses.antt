@@ -5,17 +5,18 @@ use Rattle.py_tree.specs.Tree as tree
 use Rattle.py_bytecode.specs.declared.instruction.Instruction.TheVariants as op
 use Rattle.py_bytecode.specs.Objects as const
 use Rattle.py_steps.specs.Children.{made}
-use Rattle.py_steps.specs.Classes.{behind_name, class_path, class_shape, class_within}
+use Rattle.py_steps.specs.Classes.{class_shape}
+use Rattle.py_steps.specs.Within.{behind_name, class_path, class_within}
 use Rattle.py_steps.specs.Elements.{Element, Function, Single, Spread, starred}
 use Rattle.py_steps.specs.Emitting.{Emission, emit, emit_constant}
 use Rattle.py_steps.specs.EmissionParts.{built, elements}
 use Rattle.py_emission.specs.Emission.{all_emissions, keyword_emissions}
-use Rattle.py_meaning.specs.EmissionDefs.{class_call, class_function, class_scope, emission_of_class}
-use Rattle.py_expr.proofs.Keeping.{Keeps, constant_keeps, context_keeps, emit_keeps}
-use Rattle.py_expr.proofs.KeptCalls.{call_keeps}
-use Rattle.py_expr.proofs.KeptDisplays.{ElementsKeep, built_keeps, elements_keep}
-use Rattle.py_expr.proofs.KeptScopes.{child_keeps, made_keeps}
-use Rattle.py_expr.proofs.Opening.{exprs_keep, keywords_keep}
+use Rattle.py_emission.specs.EmissionDefs.{class_call, class_function, class_scope, emission_of_class}
+use Rattle.py_expr_scopes.proofs.OpenBlocks.{Keeps, constant_keeps, context_keeps, emit_keeps}
+use Rattle.py_expr_scopes.proofs.KeptCalls.{call_keeps}
+use Rattle.py_expr_scopes.proofs.KeptDisplays.{ElementsKeep, built_keeps, elements_keep}
+use Rattle.py_expr_scopes.proofs.KeptScopes.{child_keeps, made_keeps}
+use Rattle.py_expr_scopes.proofs.KeptExpressions.{exprs_keep, keywords_keep}
 
 -- the function and the name, before the bases
 behind_keep : (f x : Emission) (es : List (Element Emission Emission)) → Keeps f → Keeps x → ElementsKeep es → ElementsKeep (behind_name (built op.BuildTuple) f x es)

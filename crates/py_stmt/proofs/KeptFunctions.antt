@@ -1,23 +1,24 @@
 -- What is emitted of functions keeps a block from beginning.
 use Rattle.std.proofs.Common.{ℕ, ◌+◌, List, [], ◌∷◌, Option, Some, None}
-use Rattle.std.specs.Prelude.{codes, if◌then◌else◌}
+use Rattle.std.specs.Prelude.{codes}
 use Rattle.py_tree.specs.Tree as tree
 use Rattle.py_bytecode.specs.declared.instruction.Instruction.TheVariants as op
 use Rattle.py_bytecode.specs.Objects as const
 use Rattle.py_bytecode.specs.Objects.{Object}
-use Rattle.py_steps.specs.Children.{decorated, decorations, documented, emission_of_defaults, flags_of_defaults, function_inside, function_made, made, noted, some_emitted, some_flag}
+use Rattle.py_steps.specs.Children.{decorated, decorations, documented, emission_of_defaults, flags_of_defaults, function_made, made, some_emitted}
+use Rattle.py_steps.specs.Within.{function_inside, some_flag}
 use Rattle.py_steps.specs.Context.{mangled, qualified}
 use Rattle.py_steps.specs.Emitting.{Emission, by_context, emit, emit_constant, emit_count, emit_name}
 use Rattle.py_steps.specs.EmissionParts.{built, in_turn}
 use Rattle.py_emission.specs.Emission.{default_emissions}
 use Rattle.py_emission.specs.Texts.{doc_of}
-use Rattle.py_meaning.specs.EmissionDefs.{arg_note, arg_notes, emission_of_def, emission_of_note, notes, opt_arg_note, opt_note}
-use Rattle.py_expr.proofs.Keeping.{Keeps, constant_keeps, context_keeps, count_keeps, emit_keeps, idle_keeps, level_keeps, name_keeps, then_keeps}
-use Rattle.py_expr.proofs.KeptParts.{TurnsKeep, turn_keeps}
-use Rattle.py_expr.proofs.KeptDisplays.{append_keep, built_keeps}
-use Rattle.py_expr.proofs.KeptScopes.{child_keeps, defaults_keep, made_keeps}
-use Rattle.py_expr.proofs.Opening.{defaults_each}
-use Rattle.py_stmt.proofs.KeptNotes.{note_keeps}
+use Rattle.py_emission.specs.EmissionDefs.{arg_note, arg_notes, emission_of_def, emission_of_note, notes, opt_arg_note, opt_note}
+use Rattle.py_expr_scopes.proofs.OpenBlocks.{Keeps, constant_keeps, context_keeps, count_keeps, emit_keeps, idle_keeps, level_keeps, name_keeps, then_keeps}
+use Rattle.py_expr_scopes.proofs.KeptParts.{TurnsKeep, turn_keeps}
+use Rattle.py_expr_scopes.proofs.KeptDisplays.{append_keep, built_keeps}
+use Rattle.py_expr_scopes.proofs.KeptScopes.{child_keeps, defaults_keep, made_keeps}
+use Rattle.py_expr_scopes.proofs.KeptExpressions.{defaults_each}
+use Rattle.py_stmt_simple.proofs.KeptNotes.{note_keeps}
 
 opt_note_keeps : (name : List ℕ) (t : tree.OptExpr) → TurnsKeep (opt_note name t)
 opt_note_keeps name tree.no_expr = tt

@@ -6,16 +6,16 @@ use Rattle.py_bytecode.specs.declared.instruction.Instruction.TheVariants as op
 use Rattle.py_bytecode.specs.Objects as const
 use Rattle.py_bytecode.specs.Objects.{Const}
 use Rattle.py_bytecode.specs.Values.{Store}
-use Rattle.py_forms.specs.declared.errors.CodegenErrorType.TheVariants as error
+use Rattle.py_base.specs.declared.errors.CodegenErrorType.TheVariants as error
 use Rattle.py_steps.specs.Accesses.{accessed, emission_of_stored}
 use Rattle.py_steps.specs.Context.{Context, is_function}
 use Rattle.py_steps.specs.Emitting.{Emission, ◌▸◌, emit, emit_constant, emit_mangled, refuse}
-use Rattle.py_steps.specs.EmissionParts.{no_assignment}
-use Rattle.py_meaning.specs.Imports.{asked, asked_all, from_future, further_segments, import_name, taken_name, takes_all}
-use Rattle.py_meaning.specs.EmissionImports.{emission_of_alias, emission_of_attributes, emission_of_from, emission_of_import, emission_of_imported, emission_of_module, emission_of_names, emission_of_star, emission_of_taken, import_step}
-use Rattle.py_meaning.specs.EmissionStmts.{emission_of_import_from}
-use Rattle.py_expr.proofs.Keeping.{Keeps, accessed_keeps, constant_keeps, context_keeps, either_keeps, emit_keeps, idle_keeps, mangled_keeps, refuse_keeps, then_keeps}
-use Rattle.py_expr.proofs.KeptTargets.{debug_keeps}
+use Rattle.py_steps.specs.Refused.{no_assignment}
+use Rattle.py_emission.specs.Imports.{asked, asked_all, from_future, further_segments, import_name, taken_name, takes_all}
+use Rattle.py_emission.specs.EmissionImports.{emission_of_alias, emission_of_attributes, emission_of_from, emission_of_import, emission_of_imported, emission_of_module, emission_of_names, emission_of_star, emission_of_taken, import_step}
+use Rattle.py_emission.specs.EmissionStmts.{emission_of_import_from}
+use Rattle.py_expr_scopes.proofs.OpenBlocks.{Keeps, accessed_keeps, constant_keeps, context_keeps, either_keeps, emit_keeps, idle_keeps, mangled_keeps, refuse_keeps, then_keeps}
+use Rattle.py_expr_scopes.proofs.KeptTargets.{debug_keeps}
 
 stored_keeps : (x : List ℕ) → Keeps (emission_of_stored x)
 stored_keeps x = debug_keeps no_assignment x (accessed Store x) (accessed_keeps Store x)

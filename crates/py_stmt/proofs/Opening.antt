@@ -1,80 +1,38 @@
 -- A block that has not begun stays so through the emission of a statement.
-use Rattle.std.proofs.Common.{◌≡◌, ℕ, ◌+◌, List, Bool, false, Option, Some, None}
-use Rattle.std.specs.Prelude.{codes, nat_eq, not, if◌then◌else◌}
+use Rattle.std.proofs.Common.{◌≡◌, ℕ, List, Bool, false, Option, Some, None}
+use Rattle.std.specs.Prelude.{not}
 use Rattle.py_tree.specs.Tree as tree
 use Rattle.py_base.specs.declared.location.SourceLocation.{SourceLocation}
-use Rattle.py_base.specs.declared.operators.Operator.{Operator}
-use Rattle.py_base.specs.declared.shapes.Malformed.TheVariants as shape
-use Rattle.py_tree.specs.PythonName.{python_name}
 use Rattle.py_bytecode.specs.declared.instruction.Instruction.{Instruction}
 use Rattle.py_bytecode.specs.declared.instruction.Instruction.TheVariants as op
-use Rattle.py_bytecode.specs.Objects as const
-use Rattle.py_steps.specs.TableParts.{binary_case}
-use Rattle.py_forms.specs.declared.errors.CodegenErrorType.{CodegenErrorType}
-use Rattle.py_forms.specs.declared.errors.CodegenErrorType.TheVariants as error
-use Rattle.py_steps.specs.Emitting.{State, Done, Emission, LoopBlocks, ◌▸◌, begin, by_context, emit, emit_count, emit_mangled, emit_name, emit_constant, in_loop, jump, refuse}
+use Rattle.py_base.specs.declared.errors.CodegenErrorType.{CodegenErrorType}
+use Rattle.py_base.specs.declared.errors.CodegenErrorType.TheVariants as error
+use Rattle.py_steps.specs.Emitting.{State, Done, Emission, LoopBlocks, ◌▸◌, begin, emit, in_loop, jump, refuse}
 use Rattle.py_bytecode.specs.Values.{Store}
-use Rattle.py_steps.specs.Accesses.{accessed, emission_of_name, emission_of_stored}
-use Rattle.py_steps.specs.Context.{is_function, mangled}
-use Rattle.py_steps.specs.EmissionParts.{choice, no_assignment, only, pass_scopes, values}
+use Rattle.py_steps.specs.Accesses.{accessed, emission_of_stored}
+use Rattle.py_steps.specs.EmissionParts.{choice, only, values}
+use Rattle.py_steps.specs.Refused.{no_assignment}
 use Rattle.py_emission.specs.Emission.{all_emissions, emission, emission_of_test, emissions, stores}
 use Rattle.py_emission.specs.Texts.{after_doc}
-use Rattle.py_counts.specs.Counts.{scopes_in, scopes_in_annotation, scopes_in_opt}
-use Rattle.py_meaning.specs.EmissionDefs.{emission_of_end, emission_of_note}
-use Rattle.py_meaning.specs.ControlEmissions.{any_match, asserted, before_last, caught, named_body, to_last, typed_match}
-use Rattle.py_meaning.specs.EmissionStmts.{emission_of_annotated, emission_of_annotation, emission_of_rest, emission_of_returned, emission_of_assert, emission_of_assign, emission_of_augment, emission_of_declared, emission_of_handlers, emission_of_item, emission_of_items, emission_of_last, emission_of_message, emission_of_operand, emission_of_raise, emission_of_stmt, emission_of_stmts, itemless, leave_loop}
-use Rattle.py_meaning.specs.StmtParts.{message_count, none}
+use Rattle.py_emission.specs.EmissionDefs.{emission_of_end}
+use Rattle.py_emission.specs.ControlEmissions.{any_match, before_last, caught, named_body, to_last, typed_match}
+use Rattle.py_emission.specs.EmissionStmts.{emission_of_annotated, emission_of_rest, emission_of_returned, emission_of_assert, emission_of_assign, emission_of_declared, emission_of_handlers, emission_of_item, emission_of_items, emission_of_last, emission_of_stmt, emission_of_stmts, leave_loop}
+use Rattle.py_emission.specs.Predicates.{itemless, none}
 use Rattle.py_emit.specs.Steps.{IsOpen}
-use Rattle.py_expr.proofs.Keeping.{Keeps, begin_keeps, block_from, constant_keeps, count_keeps, either_keeps, emit_keeps, idle_keeps, jump_keeps, level_keeps, loop_keeps, loops_keep, move_keeps, moved_keeps, name_keeps, accessed_keeps, context_keeps, mangled_keeps, opens, refuse_keeps, then_from, then_keeps}
-use Rattle.py_expr.proofs.KeptParts.{choice_keeps, only_keeps, values_keep}
-use Rattle.py_expr.proofs.KeptScopes.{function_keeps, pass_keeps}
-use Rattle.py_expr.proofs.KeptTargets.{debug_keeps}
-use Rattle.py_expr.proofs.Opening.{deletes_keep, expr_keeps, exprs_keep, named_keeps, store_keeps, unbuilt_keeps}
-use Rattle.py_stmt.specs.Managing.{entered, full_body}
-use Rattle.py_stmt.specs.Parts.{each_begun, each_ended, each_turn, emission_of_caught, emission_of_match, guarded, handled, unguarded}
+use Rattle.py_expr_scopes.proofs.OpenBlocks.{Keeps, begin_keeps, block_from, either_keeps, emit_keeps, idle_keeps, jump_keeps, level_keeps, loop_keeps, loops_keep, move_keeps, moved_keeps, accessed_keeps, opens, refuse_keeps, then_from, then_keeps}
+use Rattle.py_expr_scopes.proofs.KeptParts.{choice_keeps, only_keeps, values_keep}
+use Rattle.py_expr_scopes.proofs.KeptScopes.{function_keeps}
+use Rattle.py_expr_scopes.proofs.KeptTargets.{debug_keeps}
+use Rattle.py_expr_scopes.proofs.KeptExpressions.{deletes_keep, expr_keeps, exprs_keep, store_keeps, unbuilt_keeps}
+use Rattle.py_stmt.specs.Managing.{full_body}
+use Rattle.py_stmt.specs.Parts.{each_ended, each_turn, emission_of_caught, guarded, unguarded}
+use Rattle.py_stmt_simple.specs.Parts.{emission_of_match}
+use Rattle.py_stmt_parts.specs.Parts.{handled}
 use Rattle.py_stmt.proofs.KeptFunctions.{decorated_keeps}
 use Rattle.py_stmt.proofs.KeptGenerics.{alias_keeps, built_class_keeps, function_keeps as def_keeps}
 use Rattle.py_stmt.proofs.KeptImports.{from_keeps, import_keeps}
-use Rattle.py_stmt.proofs.KeptNotes.{note_keeps}
-use Rattle.py_stmt.proofs.KeptControl.{asserted_keeps, before_keeps, each_keeps, entered_keeps, handler_keeps, managed_keeps, match_keeps, named_body_keeps, to_last_keeps, try_keeps}
-
-assign_keeps : (ts : tree.Exprs) → Keeps (emission_of_assign ts)
-assign_keeps tree.no_exprs = refuse_keeps (error.MalformedTree shape.NoTarget)
-assign_keeps (tree.more_exprs t tree.no_exprs) = (store_keeps t).alone
-assign_keeps (tree.more_exprs t (tree.more_exprs u ts)) = then_keeps (emit op.Duplicate 0) _ (emit_keeps op.Duplicate 0) (then_keeps (stores t).alone (emission_of_assign (tree.more_exprs u ts)) (store_keeps t).alone (assign_keeps (tree.more_exprs u ts)))
-
-operand_keeps : (d : Operator) (v : Emission) → Keeps v → Keeps (emission_of_operand d v)
-operand_keeps d v h = then_keeps v (emit op.BinaryOperationInplace (binary_case d)) h (emit_keeps op.BinaryOperationInplace (binary_case d))
-
-augment_keeps : (t : tree.Expr) (d : Operator) (v : Emission) → Keeps v → Keeps (emission_of_augment t d v)
-augment_keeps (tree.Name at x) d v h = then_keeps (emission_of_name x) _ (named_keeps x) (then_keeps (emission_of_operand d v) _ (operand_keeps d v h) (debug_keeps no_assignment x (accessed Store x) (accessed_keeps Store x)))
-augment_keeps (tree.Attribute at value x) d v h =
-    debug_keeps no_assignment x _
-    (then_keeps (emissions value).value _ (expr_keeps value).value (then_keeps (emit op.Duplicate 0) _ (emit_keeps op.Duplicate 0) (then_keeps (emit_mangled op.LoadAttr x) _ (mangled_keeps op.LoadAttr x)
-    (then_keeps (emission_of_operand d v) _ (operand_keeps d v h) (then_keeps (emit op.Rotate2 0) (emit_mangled op.StoreAttr x) (emit_keeps op.Rotate2 0) (mangled_keeps op.StoreAttr x))))))
-augment_keeps (tree.Subscript at value slice) d v h =
-    then_keeps (emissions value).value _ (expr_keeps value).value (then_keeps (emissions slice).value _ (expr_keeps slice).value (then_keeps (emit op.Duplicate2 0) _ (emit_keeps op.Duplicate2 0) (then_keeps (emit op.Subscript 0) _ (emit_keeps op.Subscript 0)
-    (then_keeps (emission_of_operand d v) _ (operand_keeps d v h) (then_keeps (emit op.Rotate3 0) (emit op.StoreSubscript 0) (emit_keeps op.Rotate3 0) (emit_keeps op.StoreSubscript 0))))))
-augment_keeps t d v h = refuse_keeps (error.Assign (python_name t))
-
-declared_keeps : (t : tree.Expr) (v : tree.OptExpr) → Keeps (emission_of_declared t v)
-declared_keeps t tree.no_expr = pass_keeps (λ postponed. scopes_in postponed t)
-declared_keeps t (tree.some_expr v) = then_keeps (emissions v).value (stores t).alone (expr_keeps v).value (store_keeps t).alone
-
-annotation_keeps : (t : tree.Expr) → Keeps (emission_of_annotation t)
-annotation_keeps (tree.Name at x) =
-    then_keeps (emit_name op.LoadNameAny (codes "__annotations__")) _ (name_keeps op.LoadNameAny (codes "__annotations__")) (then_keeps (by_context (λ c. emit_constant op.LoadConst (const.str (mangled c x)))) (emit op.StoreSubscript 0) (context_keeps (λ c. emit_constant op.LoadConst (const.str (mangled c x))) (λ c. constant_keeps op.LoadConst (const.str (mangled c x)))) (emit_keeps op.StoreSubscript 0))
-annotation_keeps t = emit_keeps op.Pop 0
-
-annotated_keeps : (t note : tree.Expr) → Keeps (emission_of_annotated t note)
-annotated_keeps t note =
-    context_keeps (λ c. if is_function c.typ then pass_scopes (λ postponed. scopes_in_annotation postponed note) else emission_of_note note ▸ emission_of_annotation t)
-    (λ c. either_keeps (is_function c.typ) (pass_scopes (λ postponed. scopes_in_annotation postponed note)) (emission_of_note note ▸ emission_of_annotation t) (pass_keeps (λ postponed. scopes_in_annotation postponed note))
-    (then_keeps (emission_of_note note) (emission_of_annotation t) (note_keeps note) (annotation_keeps t)))
-
-returned_keeps : (t : tree.OptExpr) → Keeps (emission_of_returned t)
-returned_keeps tree.no_expr = constant_keeps op.ReturnConst const.none
-returned_keeps (tree.some_expr e) = (expr_keeps e).returned
+use Rattle.py_stmt_simple.proofs.KeptControl.{before_keeps, each_keeps, handler_keeps, managed_keeps, match_keeps, named_body_keeps, to_last_keeps, try_keeps}
+use Rattle.py_stmt_simple.proofs.Opening.{assign_keeps, augment_keeps, declared_keeps, annotated_keeps, returned_keeps, item_keeps, raise_keeps, assert_keeps}
 
 leave_keeps : (i : Instruction) (to : LoopBlocks → ℕ) (e : CodegenErrorType) (x : Option LoopBlocks) → Keeps (leave_loop i to e x)
 leave_keeps i to e None = refuse_keeps e
@@ -91,27 +49,9 @@ while_keeps t body orelse b o at = moved_keeps at _ (λ z. block_from z _ (λ st
     (then_from z (emit op.PopBlock 0) _ (emit_keeps op.PopBlock 0 z)
     (then_from z (emission_of_stmts orelse) (begin end) (o z) (begin_keeps end z n))))))))))))
 
-item_keeps : (t : tree.OptExpr) → Keeps (emission_of_item t)
-item_keeps tree.no_expr = emit_keeps op.Pop 0
-item_keeps (tree.some_expr t) = moved_keeps (tree.expr_location t) (stores t).alone (store_keeps t).alone
-
 items_keep : (at : SourceLocation) (ts : tree.WithItems) (body : Emission) → Keeps body → Keeps (emission_of_items at ts body)
 items_keep at tree.no_items body b = b
 items_keep at (tree.more_items e t ts) body b = managed_keeps at (emission e) (emission_of_item t) (emission_of_items at ts body) (expr_keeps e).value (item_keeps t) (items_keep at ts body b)
-
-raise_keeps : (e cause : tree.OptExpr) → Keeps (emission_of_raise e cause)
-raise_keeps tree.no_expr cause = emit_keeps op.Raise 2
-raise_keeps (tree.some_expr e) tree.no_expr = then_keeps (emissions e).value (emit op.Raise 0) (expr_keeps e).value (emit_keeps op.Raise 0)
-raise_keeps (tree.some_expr e) (tree.some_expr cause) = then_keeps (emissions e).value _ (expr_keeps e).value (then_keeps (emissions cause).value (emit op.Raise 1) (expr_keeps cause).value (emit_keeps op.Raise 1))
-
-message_keeps : (t : tree.OptExpr) → Keeps (emission_of_message t)
-message_keeps tree.no_expr = idle_keeps
-message_keeps (tree.some_expr t) = (expr_keeps t).value
-
-assert_keeps : (t : tree.Expr) (msg : tree.OptExpr) (level : ℕ) → Keeps (emission_of_assert t msg level)
-assert_keeps t msg level =
-    either_keeps (nat_eq level 0) (asserted (emission_of_test t) (emission_of_message msg) (message_count msg)) (pass_scopes (λ postponed. scopes_in postponed t + scopes_in_opt postponed msg))
-    (asserted_keeps (emission_of_test t) (emission_of_message msg) (message_count msg) (expr_keeps t).test (message_keeps msg)) (pass_keeps (λ postponed. scopes_in postponed t + scopes_in_opt postponed msg))
 
 last_keeps : (ts : tree.Stmts) (last : Emission) → Keeps last → Keeps (emission_of_last ts last)
 last_keeps tree.no_stmts last h = idle_keeps
@@ -178,28 +118,10 @@ loop_opens x ts = opens (in_loop x (emission_of_stmts ts)) (loop_keeps x (emissi
 pub handlers_open : (ts : tree.Handlers) (last : Bool) (end : ℕ) (s r : State) (b : ℕ) → emission_of_handlers ts last end s ≡ Done r → IsOpen b s → IsOpen b r
 handlers_open ts last end = opens (emission_of_handlers ts last end) (handlers_keep ts last end)
 
-pub message_opens : (t : tree.OptExpr) (s r : State) (b : ℕ) → emission_of_message t s ≡ Done r → IsOpen b s → IsOpen b r
-message_opens t = opens (emission_of_message t) (message_keeps t)
-
-pub name_opens : (i : Instruction) (x : List ℕ) (s r : State) (b : ℕ) → emit_name i x s ≡ Done r → IsOpen b s → IsOpen b r
-name_opens i x = opens (emit_name i x) (name_keeps i x)
-
-pub count_opens : (i : Instruction) (n : ℕ) (s r : State) (b : ℕ) → emit_count i n s ≡ Done r → IsOpen b s → IsOpen b r
-count_opens i n = opens (emit_count i n) (count_keeps i n)
-
-pub item_opens : (t : tree.OptExpr) (s r : State) (b : ℕ) → emission_of_item t s ≡ Done r → IsOpen b s → IsOpen b r
-item_opens t = opens (emission_of_item t) (item_keeps t)
-
-pub items_entered : (at : SourceLocation) (e : tree.Expr) (t : tree.OptExpr) (s r : State) (b : ℕ) → entered at (emission e) (emission_of_item t) s ≡ Done r → IsOpen b s → IsOpen b r
-items_entered at e t = opens (entered at (emission e) (emission_of_item t)) (entered_keeps at (emission e) (emission_of_item t) (expr_keeps e).value (item_keeps t))
-
 pub full_opens : (ts : tree.Stmts) (s r : State) (b : ℕ) → full_body ts s ≡ Done r → IsOpen b s → IsOpen b r
 full_opens ts = opens (full_body ts) (full_keeps ts (stmts_keep ts))
 
 -- the parts of a loop, of a `try` and of a handler
-pub each_begun_opens : (t : tree.Expr) (s r : State) (b : ℕ) → each_begun (emission t) s ≡ Done r → IsOpen b s → IsOpen b r
-each_begun_opens t = opens (each_begun (emission t)) (then_keeps (emit op.SetupLoop 0) _ (emit_keeps op.SetupLoop 0) (then_keeps (emission t) (emit op.GetIter 0) (expr_keeps t).value (emit_keeps op.GetIter 0)))
-
 pub each_turn_opens : (t : tree.Expr) (ts : tree.Stmts) (start other end : ℕ) (s r : State) (b : ℕ) → each_turn (stores t).alone (emission_of_stmts ts) start other end s ≡ Done r → IsOpen b s → IsOpen b r
 each_turn_opens t ts start other end =
     let x : LoopBlocks = record { on_break = end; on_continue = start } in

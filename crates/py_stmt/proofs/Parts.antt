@@ -9,21 +9,14 @@ use Rattle.py_tree.specs.declared.statements.ExceptHandlerOf.{ExceptHandlerOf}
 use Rattle.py_bytecode.specs.declared.instruction.Instruction.TheVariants as op
 use Rattle.py_steps.specs.Emitting.{Emission, State, ◌▸◌, begin, emit, in_loop, jump, new_block, with_block}
 use Rattle.py_emission.specs.Emission.{emission}
-use Rattle.py_meaning.specs.ControlEmissions.{any_match, before_last, caught, for_each, handler, named_body, to_last, try_body, typed_match}
-use Rattle.py_meaning.specs.EmissionStmts.{emission_of_handlers, emission_of_last, emission_of_stmts}
+use Rattle.py_emission.specs.ControlEmissions.{any_match, before_last, caught, for_each, handler, named_body, to_last, try_body, typed_match}
+use Rattle.py_emission.specs.EmissionStmts.{emission_of_handlers, emission_of_last, emission_of_stmts}
 use Rattle.py_emit.proofs.Joined.{joined}
-use Rattle.py_expr.proofs.Steps.{block_goes}
-use Rattle.py_stmt.specs.Parts.{each_begun, each_by_parts, each_ended, each_turn, emission_of_handler, guarded, handled, one_handler, try_by_parts, unguarded}
-
--- the first of several, taken together
-pub first_three : (a b c d : Emission) → a ▸ b ▸ c ▸ d ≡ (a ▸ b ▸ c) ▸ d
-first_three a b c d = sym (joined a (b ▸ c) d ∙ ap (λ w. a ▸ w) (joined b c d))
-
-pub first_four : (a b c d e : Emission) → a ▸ b ▸ c ▸ d ▸ e ≡ (a ▸ b ▸ c ▸ d) ▸ e
-first_four a b c d e = ap (λ w. a ▸ w) (first_three b c d e) ∙ sym (joined a (b ▸ c ▸ d) e)
-
-pub first_five : (a b c d e f : Emission) → a ▸ b ▸ c ▸ d ▸ e ▸ f ≡ (a ▸ b ▸ c ▸ d ▸ e) ▸ f
-first_five a b c d e f = ap (λ w. a ▸ w) (first_four b c d e f) ∙ sym (joined a (b ▸ c ▸ d ▸ e) f)
+use Rattle.py_expr_parts.proofs.Steps.{block_goes}
+use Rattle.py_stmt_simple.specs.Parts.{each_begun}
+use Rattle.py_stmt.specs.Parts.{each_by_parts, each_ended, each_turn, emission_of_handler, guarded, one_handler, try_by_parts, unguarded}
+use Rattle.py_stmt_parts.specs.Parts.{handled}
+use Rattle.py_stmt_simple.proofs.Grouping.{first_three, first_four, first_five}
 
 -- what follows a block that is made
 pub block_then : (a : ℕ → Emission) (k : Emission) → new_block (λ n. a n ▸ k) ≡ new_block a ▸ k

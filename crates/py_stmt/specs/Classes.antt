@@ -1,23 +1,24 @@
 -- What is emitted of a class.
-use Rattle.std.specs.Prelude.{ℕ, List, [], ◌∷◌, Bool, false, codes, if◌then◌else◌}
+use Rattle.std.specs.Prelude.{ℕ, List, false}
 use Rattle.py_tree.specs.Tree as tree
 use Rattle.py_tree.specs.View.{expr_tree, exprs, keywords, stmt_tree, stmts, type_params}
 use Rattle.py_tree.specs.declared.statements.Stmt.{Stmt}
 use Rattle.py_tree.specs.declared.statements.StmtClassDefOf.{StmtClassDefOf}
 use Rattle.py_bytecode.specs.declared.instruction.Instruction.TheVariants as op
 use Rattle.py_bytecode.specs.Objects as const
-use Rattle.py_bytecode.specs.Objects.{Const, Object}
-use Rattle.py_steps.specs.Children.{child, load_cell}
+use Rattle.py_bytecode.specs.Objects.{Object}
+use Rattle.py_steps.specs.Children.{child}
 use Rattle.py_steps.specs.Classes.{class_shape}
 use Rattle.py_steps.specs.Context.{Context}
 use Rattle.py_steps.specs.Elements.{Element}
-use Rattle.py_steps.specs.Emitting.{Emission, ◌▸◌, emit, emit_constant, emit_count, emit_name}
+use Rattle.py_steps.specs.Emitting.{Emission, ◌▸◌, emit, emit_constant, emit_count}
 use Rattle.py_steps.specs.EmissionParts.{Keywords, elements}
 use Rattle.py_emission.specs.Emission.{all_emissions, keyword_emissions}
-use Rattle.py_meaning.specs.EmissionDefs.{class_function, class_scope, emission_of_built}
-use Rattle.py_meaning.specs.EmissionStmts.{emission_of_rest}
-use Rattle.py_expr.specs.Calling.{arguments, calling, taken}
-use Rattle.py_stmt.specs.Generics.{hidden_made, params_flag, some_params}
+use Rattle.py_emission.specs.EmissionDefs.{class_function, class_scope, emission_of_built}
+use Rattle.py_emission.specs.EmissionStmts.{emission_of_rest}
+use Rattle.py_expr_parts.specs.Calls.{arguments, calling, taken}
+use Rattle.py_stmt_simple.specs.Generics.{hidden_made, some_params}
+use Rattle.py_stmt_parts.specs.Generics.{params_flag}
 
 abbrev pub class_body : StmtClassDefOf Stmt → tree.Stmts
 class_body s = stmts stmt_tree s.body
@@ -58,11 +59,6 @@ abbrev pub placed : (path : List ℕ) → StmtClassDefOf Stmt → tree.TypeParam
 placed path s tree.no_type_params = built_emission path s
 placed path s (tree.more_type_params t ts) = generic_emission path s
 
--- the call of what builds a class, behind its function
-abbrev pub builder_called : (name : List ℕ) → (bases : tree.Exprs) → tree.Keywords → Emission
-builder_called name bases ks =
-    emit_constant op.LoadConst (const.str name) ▸ arguments 2 (elements (all_emissions bases)) (keyword_emissions ks) ▸ calling false (taken 2 (elements (all_emissions bases)) (keyword_emissions ks))
-
 -- what is emitted in the class's own scope
 abbrev pub own_emission : tree.Stmts → Emission
 own_emission body = class_scope body (emission_of_rest body)
@@ -70,19 +66,3 @@ own_emission body = class_scope body (emission_of_rest body)
 -- its own scope, and what follows with its code object
 abbrev pub own_scope : (within : Context → (number : ℕ) → Context) → (name : List ℕ) → tree.Stmts → (Object → Emission) → Emission
 own_scope within name body k = child within (class_shape name) (own_emission body) k
-
--- a global name is stored under another
-abbrev pub copied : (from to : List ℕ) → Emission
-copied from to = emit_name op.LoadGlobal from ▸ emit_name op.StoreLocal to
-
--- a constant is stored under a name
-abbrev pub stored_as : (name : List ℕ) → Const → Emission
-stored_as name c = emit_constant op.LoadConst c ▸ emit_name op.StoreLocal name
-
--- the cell of `__class__`, where it is kept
-abbrev pub cells_kept : Bool → List (List ℕ)
-cells_kept kept = if kept then codes "__class__" ∷ [] else []
-
--- a cell is kept under a name and returned
-abbrev pub cell_kept : (cell name : List ℕ) → Emission
-cell_kept cell name = load_cell cell ▸ emit op.Duplicate 0 ▸ emit_name op.StoreLocal name ▸ emit op.ReturnValue 0

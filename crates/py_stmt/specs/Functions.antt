@@ -1,11 +1,11 @@
 -- What is emitted of a function.
 use Rattle.std.specs.Prelude.{ℕ, List, length, true}
-use Rattle.py_tree.specs.View.{arguments, expr_tree, opt_box, stmt_tree, stmts, type_params}
+use Rattle.py_tree.specs.View.{expr_tree, opt_box, stmt_tree, stmts, type_params}
 use Rattle.py_tree.specs.declared.statements.Stmt.{Stmt}
 use Rattle.py_tree.specs.declared.statements.StmtFunctionDefOf.{StmtFunctionDefOf}
 use Rattle.py_tree.specs.Tree as tree
 use Rattle.py_bytecode.specs.Objects.{Object}
-use Rattle.py_steps.specs.Children.{child, function_made, function_scope}
+use Rattle.py_steps.specs.Children.{child, function_scope}
 use Rattle.py_steps.specs.Context.{Context, inside}
 use Rattle.py_scope.specs.declared.table_type.SymbolTableType.TheVariants as kind
 use Rattle.py_emit.specs.declared.context.Naming.TheVariants as naming
@@ -14,17 +14,16 @@ use Rattle.py_steps.specs.Emitting.{Emission, ◌▸◌}
 use Rattle.py_steps.specs.TypeParameters.{load_handed}
 use Rattle.py_emission.specs.Parameters.{function_shape, parameters}
 use Rattle.py_emission.specs.Texts.{after_doc}
-use Rattle.py_meaning.specs.EmissionDefs.{emission_of_def, emission_of_end, emission_of_function, emission_of_generic_def, emission_of_params, function_value, notes}
-use Rattle.py_meaning.specs.EmissionStmts.{emission_of_rest}
-use Rattle.py_expr.specs.declared.functions.Defaults.{Defaults}
-use Rattle.py_stmt.specs.Generics.{given_flags, handed_by, hidden_made}
+use Rattle.py_emission.specs.EmissionDefs.{emission_of_def, emission_of_end, emission_of_function, emission_of_generic_def, emission_of_params, function_value}
+use Rattle.py_emission.specs.EmissionStmts.{emission_of_rest}
+use Rattle.py_expr_scopes.specs.declared.functions.Defaults.{Defaults}
+use Rattle.py_stmt_parts.specs.Generics.{given_flags, handed_by}
+use Rattle.py_stmt_simple.specs.Generics.{hidden_made}
+use Rattle.py_stmt_simple.specs.Functions.{params_of}
 
 -- the statements of a function but its docstring, and a return of None where no return ends them
 abbrev pub body_emission : tree.Stmts → Emission
 body_emission body = emission_of_rest body ▸ emission_of_end (after_doc body)
-
-abbrev pub params_of : StmtFunctionDefOf Stmt → tree.Arguments
-params_of s = arguments expr_tree s.args.value
 
 abbrev pub body_of : StmtFunctionDefOf Stmt → tree.Stmts
 body_of s = stmts stmt_tree s.body
@@ -64,11 +63,3 @@ scope_emission within name s k = child within (function_shape (params_of s) name
 -- the scope of a function around whose names this path stands
 abbrev pub within_path : (path : List ℕ) → Context → (number : ℕ) → Context
 within_path path c n = inside kind.Function n (named_in (naming.Function path) c)
-
--- the annotations of a function
-abbrev pub notes_of : StmtFunctionDefOf Stmt → List Emission
-notes_of s = notes (params_of s) (opt_box expr_tree s.returns)
-
--- the function that is made of a code object with these flags
-abbrev pub made_emission : (flags : ℕ) → StmtFunctionDefOf Stmt → Object → Emission
-made_emission flags s o = function_made flags (notes_of s) s.name o

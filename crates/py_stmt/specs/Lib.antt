@@ -1,8 +1,5 @@
-pub mod Assigning
 pub mod Managing
 pub mod Parts
-pub mod Generics
 pub mod Functions
 pub mod Classes
 pub mod Interactive
-pub mod Futures

@@ -3,13 +3,10 @@ use Rattle.std.specs.Prelude.{ℕ, List, Bool, Option}
 use Rattle.py_tree.specs.Tree as tree
 use Rattle.py_bytecode.specs.declared.instruction.Instruction.TheVariants as op
 use Rattle.py_steps.specs.Emitting.{Emission, ◌▸◌, begin, emit, in_loop, jump, new_block}
-use Rattle.py_emission.specs.Emission.{emission}
-use Rattle.py_meaning.specs.ControlEmissions.{any_match, before_last, caught, named_body, to_last, typed_match}
-use Rattle.py_meaning.specs.EmissionStmts.{emission_of_stmts}
-
--- the iterator of a loop
-abbrev pub each_begun : (iter : Emission) → Emission
-each_begun iter = emit op.SetupLoop 0 ▸ iter ▸ emit op.GetIter 0
+use Rattle.py_emission.specs.ControlEmissions.{before_last, named_body, to_last}
+use Rattle.py_emission.specs.EmissionStmts.{emission_of_stmts}
+use Rattle.py_stmt_simple.specs.Parts.{each_begun, emission_of_match}
+use Rattle.py_stmt_parts.specs.Parts.{handled}
 
 -- one turn of a loop
 abbrev pub each_turn : (store body : Emission) → (start other end : ℕ) → Emission
@@ -35,18 +32,9 @@ abbrev pub try_by_parts : (last : Bool) → (body : Emission) → (handlers : (e
 try_by_parts last body handlers orelse finalbody =
     new_block (λ catch. new_block (λ other. new_block (λ end. guarded last body catch other end ▸ begin catch ▸ handlers end ▸ begin other ▸ unguarded last orelse ▸ begin end ▸ finalbody)))
 
--- the way out of a handler
-abbrev pub handled : (last : Bool) → (end : ℕ) → Emission
-handled last end = emit op.PopException 0 ▸ to_last last ▸ jump op.Jump end
-
 -- one handler, which is followed by the others
 abbrev pub one_handler : (last : Bool) → (end : ℕ) → (matches : (next : ℕ) → Emission) → (body : Emission) → Emission
 one_handler last end matches body = new_block (λ next. matches next ▸ body ▸ handled last end ▸ begin next)
-
--- what an exception has to be, by a handler's type
-abbrev pub emission_of_match : (type : tree.OptExpr) → (name : Option (List ℕ)) → (next : ℕ) → Emission
-emission_of_match tree.no_expr name = any_match
-emission_of_match (tree.some_expr e) name = typed_match (emission e) (caught name)
 
 -- a handler without a type has no name
 abbrev pub emission_of_caught : (type : tree.OptExpr) → (name : Option (List ℕ)) → (body : Emission) → Emission

@@ -1,37 +1,34 @@
 //! Definitions of functions.
 ghost use Rattle.std.specs.Prelude.{◌≡◌, ◌≤◌, drop, length};
 ghost use Rattle.py_tree.specs.View.{expr_tree, exprs, function_def_tree, stmt_tree, stmts};
-ghost use Rattle.py_bytecode.specs.View.{object};
-ghost use Rattle.py_steps.specs.Context.{qualified};
-ghost use Rattle.py_steps.specs.Children.{decorated, decorations, documented, function_inside, made};
-ghost use Rattle.py_steps.specs.Emitting.{by_context, by_level};
+ghost use Rattle.py_steps.specs.Children.{decorated};
+ghost use Rattle.py_steps.specs.Within.{function_inside};
 ghost use Rattle.py_steps.specs.EmissionParts.{values};
 ghost use Rattle.py_emission.specs.Emission.{all_emissions};
-ghost use Rattle.py_emission.specs.Texts.{doc_of};
-ghost use Rattle.py_meaning.specs.EmissionDefs.{emission_of_end, ends_in_return};
-ghost use Rattle.py_meaning.specs.StmtParts.{is_return};
-ghost use Rattle.py_meaning.specs.EmissionStmts.{emission_of_stmt, emission_of_stmts};
+ghost use Rattle.py_emission.specs.EmissionStmts.{emission_of_stmt, emission_of_stmts};
 ghost use Rattle.py_emit.specs.States.{AreMade, Emits, Same, rest, state};
-ghost use Rattle.py_expr.specs.Functions.{Gives};
-ghost use Rattle.py_stmt.specs.Functions.{body_emission, def_emission, generic_emission, hidden_function, hidden_value, inner_emission, made_emission, plain_emission, scope_emission, value_emission, within_path};
-ghost use Rattle.py_stmt.specs.Generics.{given_flags, handed_by, hidden_scope, returned};
+ghost use Rattle.py_expr_scopes.specs.Functions.{Gives};
+ghost use Rattle.py_stmt.specs.Functions.{body_emission, def_emission, generic_emission, hidden_function, hidden_value, inner_emission, plain_emission, scope_emission, value_emission, within_path};
+ghost use Rattle.py_stmt_simple.specs.Functions.{made_emission};
+ghost use Rattle.py_stmt_parts.specs.Generics.{given_flags, handed_by};
+ghost use Rattle.py_stmt_simple.specs.Generics.{hidden_scope, returned};
 
-use crate::docs::{split_doc, statements_from};
-use crate::generics::{
-    call_hidden, compile_type_params, enter_hidden, given_defaults, handed_count, load_defaults,
-    made_flags, make_hidden,
-};
-use crate::notes::compile_notes;
 use crate::statements::compile_statement;
-use py_bytecode::{CodeObject, ConstantData, Instruction, MakeFunctionFlags};
+use py_base::{CodegenError, CodegenErrorType};
+use py_bytecode::{CodeObject, Instruction};
 use py_emit::{Emitter, NameUsage, Naming, emit, refuse};
-use py_expr::{Defaults, begin_function, compile_defaults, compile_expressions, enter_function};
-use py_forms::{CodegenError, CodegenErrorType};
-use py_tree::{Expr, Stmt, StmtFunctionDef, Stmts, Text};
+use py_expr::{compile_defaults, compile_expressions};
+use py_expr_scopes::functions::{Defaults, begin_function, enter_function};
+use py_stmt_parts::{
+    call_decorators, end_function, enter_hidden, given_defaults, handed_count, load_defaults,
+    make_hidden, split_doc, statements_from, store_doc,
+};
+use py_stmt_simple::{call_hidden, compile_type_params, make_noted};
+use py_tree::{Stmt, StmtFunctionDef, Stmts, Text};
 
 /// Emits the definition of a function, and what stores it under its name.
 #[cycle(code)]
-#[tactic(auto, using(crate::proofs::Steps::steps))]
+#[tactic(auto, using(py_stmt_parts::proofs::Steps::steps))]
 pub(crate) fn compile_function_def(
     em: &mut Emitter,
     s: &StmtFunctionDef,
@@ -51,16 +48,6 @@ pub(crate) fn compile_decorated(em: &mut Emitter, s: &StmtFunctionDef) -> Result
     compile_expressions(em, s.decorator_list.as_slice())?;
     compile_function(em, s)?;
     call_decorators(em, s.decorator_list.as_slice())
-}
-
-/// Emits the call of each decorator.
-pub(crate) fn call_decorators(em: &mut Emitter, items: &[Expr]) -> Result<(), CodegenError>
-    ensures { Emits result (decorations (values (all_emissions (exprs expr_tree items.now)))) em.old em.new }
-{
-    for _decorator in items {
-        em.emit_count(Instruction::CallFunctionPositional, 1)?;
-    }
-    Ok(())
 }
 
 /// Emits a function. One with type parameters is made in a hidden scope (language reference, "Generic functions").
@@ -209,7 +196,7 @@ fn compile_inner(em: &mut Emitter, s: &StmtFunctionDef) -> Result<(), CodegenErr
 
 /// Emits the statements of a function but its docstring, and a return of None where no return ends them.
 #[cycle(code)]
-#[tactic(auto, using(crate::proofs::LastReturn::rest_is))]
+#[tactic(auto, using(crate::proofs::FunctionParts::rest_is))]
 fn compile_body(em: &mut Emitter, body: &Stmts) -> Result<(), CodegenError>
     requires loops { AreMade (rest em.old).context.loop_blocks }
     ensures { Emits result (body_emission (stmts stmt_tree body.now)) em.old em.new }
@@ -232,89 +219,4 @@ pub(crate) fn compile_rest(em: &mut Emitter, body: &[Stmt], from: usize) -> Resu
         compile_statement(em, &body[i])?;
     }
     Ok(())
-}
-
-/// Emits a return of None, unless the last of the statements is a return.
-#[tactic(auto, using(py_bytecode::proofs::View::views))]
-fn end_function(em: &mut Emitter, body: &[Stmt]) -> Result<(), CodegenError>
-    ensures { Emits result (emission_of_end (stmts stmt_tree body.now)) em.old em.new }
-{
-    if ends_in_return(body) {
-        return Ok(());
-    }
-    em.return_const(ConstantData::None)
-}
-
-/// Whether the last of the statements is a return.
-#[tactic(auto, using(crate::proofs::LastReturn::ends_some, crate::proofs::LastReturn::ends_none))]
-fn ends_in_return(body: &[Stmt]) -> bool
-    ensures { result ≡ ends_in_return (stmts stmt_tree body.now) }
-{
-    match body.last() {
-        Some(statement) => is_return(statement),
-        None => false,
-    }
-}
-
-#[tactic(auto, using(py_tree::proofs::View::trees))]
-fn is_return(statement: &Stmt) -> bool
-    ensures { result ≡ is_return (stmt_tree statement.now) }
-{
-    matches!(statement, Stmt::Return(_))
-}
-
-/// Emits the annotations of a function and what makes it of its code.
-fn make_noted(
-    em: &mut Emitter,
-    s: &StmtFunctionDef,
-    defaults: Defaults,
-    generic: bool,
-    code: CodeObject,
-) -> Result<(), CodegenError>
-    ensures { Emits result (made_emission (given_flags defaults generic) s.now (object code)) em.old em.new }
-{
-    let annotated = compile_notes(em, &s.args, &s.returns)?;
-    let flags = made_flags(defaults, annotated, generic);
-    make_named(em, s.name.as_str(), flags, code)
-}
-
-/// Emits what makes a function of its code, under its qualified name.
-#[tactic(auto, unfolding(py_steps::specs::Emitting::by_context))]
-fn make_named(
-    em: &mut Emitter,
-    name: &str,
-    flags: MakeFunctionFlags,
-    code: CodeObject,
-) -> Result<(), CodegenError>
-    ensures { Emits result (by_context (λ c. made flags.0 (qualified c name.now) (object code))) em.old em.new }
-{
-    let full = em.qualified(name)?;
-    em.make_function(flags, full, code)
-}
-
-/// Emits what stores the docstring of a body to the function that lies there, where it has one and it is kept.
-#[tactic(auto, unfolding(py_steps::specs::Emitting::by_level, py_emit::specs::States::rest))]
-fn store_doc(em: &mut Emitter, body: &Stmts) -> Result<(), CodegenError>
-    ensures { Emits result (by_level (λ l. documented (doc_of l (stmts stmt_tree body.now)))) em.old em.new }
-{
-    match split_doc(em.alloc(), body, em.opts()) {
-        Ok((doc, _)) => store_text(em, doc),
-        Err(_) => refuse!(em, CodegenErrorType::OutOfMemory),
-    }
-}
-
-/// Emits what stores a docstring to the function that lies there, where there is one.
-#[tactic(auto, using(py_bytecode::proofs::View::views))]
-fn store_text(em: &mut Emitter, doc: Option<Text>) -> Result<(), CodegenError>
-    ensures { Emits result (documented doc) em.old em.new }
-{
-    match doc {
-        Some(value) => {
-            emit!(em, Instruction::Duplicate);
-            em.load_const(ConstantData::Str { value })?;
-            emit!(em, Instruction::Rotate2);
-            em.emit_name(Instruction::StoreAttr, "__doc__")
-        }
-        None => Ok(()),
-    }
 }

@@ -1,20 +1,20 @@
 //! Statements at a prompt, and blocks whose last value is given.
-ghost use Rattle.py_tree.specs.View.{class_def_tree, expr_tree, function_def_tree, stmt_tree, stmts};
 ghost use Rattle.py_bytecode.specs.Objects.{none};
-ghost use Rattle.py_steps.specs.Emitting.{◌▸◌, emit as emitting, emit_constant};
-ghost use Rattle.py_emission.specs.Emission.{emission};
-ghost use Rattle.py_meaning.specs.EmissionMods.{emission_of_block, emission_of_single, emission_of_value, stored_and_returned};
-ghost use Rattle.py_meaning.specs.EmissionStmts.{emission_of_stmt, emission_of_stmts};
+ghost use Rattle.py_tree.specs.View.{class_def_tree, function_def_tree, stmt_tree, stmts};
+ghost use Rattle.py_steps.specs.Emitting.{◌▸◌, emit_constant};
+ghost use Rattle.py_emission.specs.EmissionMods.{emission_of_block, emission_of_single, emission_of_value};
+ghost use Rattle.py_emission.specs.EmissionStmts.{emission_of_stmt, emission_of_stmts};
 ghost use Rattle.py_emit.specs.States.{AreMade, Emits, rest};
 ghost use Rattle.py_stmt.specs.Interactive.{all_prompted, prompted, shown};
 
 use crate::statements::{compile_statement, compile_statements};
 use crate::{classes, functions};
+use py_base::CodegenError;
 use py_bytecode::{ConstantData, Instruction};
-use py_emit::{Emitter, NameUsage, emit};
-use py_expr::{compile_expression, compile_return};
-use py_forms::CodegenError;
-use py_tree::{Expr, Stmt, StmtClassDef, StmtFunctionDef};
+use py_emit::Emitter;
+use py_expr::compile_return;
+use py_stmt_simple::{print_value, show_value, store_and_return};
+use py_tree::{Stmt, StmtClassDef, StmtFunctionDef};
 
 /// Emits statements at a prompt behind others: an expression that stands there itself is printed, and the last is returned too; after
 /// another last statement None is returned.
@@ -65,15 +65,6 @@ fn compile_prompted_one(em: &mut Emitter, statement: &Stmt) -> Result<(), Codege
     }
 }
 
-/// Emits a value and what prints it.
-pub(crate) fn print_value(em: &mut Emitter, value: &Expr) -> Result<(), CodegenError>
-    ensures { Emits result (emission (expr_tree value.now) ▸ emitting Instruction.PrintExpr 0) em.old em.new }
-{
-    compile_expression(em, value)?;
-    emit!(em, Instruction::PrintExpr);
-    Ok(())
-}
-
 /// Emits the last statement at a prompt.
 #[tactic(auto, using(py_tree::proofs::View::trees))]
 fn compile_shown(em: &mut Emitter, statement: &Stmt) -> Result<(), CodegenError>
@@ -84,17 +75,6 @@ fn compile_shown(em: &mut Emitter, statement: &Stmt) -> Result<(), CodegenError>
         Stmt::Expr(s) => show_value(em, &s.value),
         _ => compile_ended(em, statement),
     }
-}
-
-/// Emits a value, what prints it, and its return.
-fn show_value(em: &mut Emitter, value: &Expr) -> Result<(), CodegenError>
-    ensures { Emits result (emission (expr_tree value.now) ▸ emitting Instruction.Duplicate 0 ▸ emitting Instruction.PrintExpr 0 ▸ emitting Instruction.ReturnValue 0) em.old em.new }
-{
-    compile_expression(em, value)?;
-    emit!(em, Instruction::Duplicate);
-    emit!(em, Instruction::PrintExpr);
-    emit!(em, Instruction::ReturnValue);
-    Ok(())
 }
 
 /// Emits a statement and a return of None.
@@ -134,7 +114,7 @@ fn compile_block_parts(em: &mut Emitter, first: &[Stmt], last: &Stmt) -> Result<
 }
 
 /// Emits the last statement of a block, and the return of its value.
-#[tactic(auto, using(py_tree::proofs::View::trees, crate::proofs::Steps::steps))]
+#[tactic(auto, using(py_tree::proofs::View::trees, py_stmt_parts::proofs::Steps::steps))]
 fn compile_value(em: &mut Emitter, statement: &Stmt) -> Result<(), CodegenError>
     requires loops { AreMade (rest em.old).context.loop_blocks }
     ensures { Emits result (emission_of_value (stmt_tree statement.now)) em.old em.new }
@@ -151,7 +131,7 @@ fn compile_value(em: &mut Emitter, statement: &Stmt) -> Result<(), CodegenError>
 }
 
 /// Emits a function that is stored and returned.
-#[tactic(auto, using(crate::proofs::Steps::steps))]
+#[tactic(auto, using(py_stmt_parts::proofs::Steps::steps))]
 fn return_function(em: &mut Emitter, s: &StmtFunctionDef) -> Result<(), CodegenError>
     ensures { Emits result (emission_of_value (function_def_tree s.now)) em.old em.new }
 {
@@ -161,21 +141,11 @@ fn return_function(em: &mut Emitter, s: &StmtFunctionDef) -> Result<(), CodegenE
 }
 
 /// Emits a class that is stored and returned.
-#[tactic(auto, using(crate::proofs::Steps::steps))]
+#[tactic(auto, using(py_stmt_parts::proofs::Steps::steps))]
 fn return_class(em: &mut Emitter, s: &StmtClassDef) -> Result<(), CodegenError>
     ensures { Emits result (emission_of_value (class_def_tree s.now)) em.old em.new }
 {
     em.set_location(s.location);
     classes::compile_decorated(em, s)?;
     store_and_return(em, s.name.as_str())
-}
-
-/// Emits what stores a value under a name and returns it.
-fn store_and_return(em: &mut Emitter, name: &str) -> Result<(), CodegenError>
-    ensures { Emits result (stored_and_returned name.now) em.old em.new }
-{
-    emit!(em, Instruction::Duplicate);
-    em.compile_name(NameUsage::Store, name)?;
-    emit!(em, Instruction::ReturnValue);
-    Ok(())
 }

@@ -1,23 +1,24 @@
-//! Loops, and what leaves them.
+//! Loops.
 ghost use Rattle.std.specs.Prelude.{◌≡◌, ◌<◌};
 ghost use Rattle.py_tree.specs.View.{expr_tree, stmt_tree, stmts, while_tree};
 ghost use Rattle.py_steps.specs.Emitting.{in_loop};
 ghost use Rattle.py_emission.specs.Emission.{emission, emission_of_store};
-ghost use Rattle.py_meaning.specs.EmissionStmts.{emission_of_stmt, emission_of_stmts, leave_loop};
-ghost use Rattle.py_emit.specs.States.{AreMade, Emits, Goes, rest, state};
-ghost use Rattle.py_stmt.specs.Parts.{each_begun, each_by_parts, each_ended, each_turn};
+ghost use Rattle.py_emission.specs.EmissionStmts.{emission_of_stmt, emission_of_stmts};
+ghost use Rattle.py_emit.specs.States.{AreMade, Emits, rest, state};
+ghost use Rattle.py_stmt.specs.Parts.{each_by_parts, each_ended, each_turn};
 
 use crate::statements::compile_statements;
+use py_base::CodegenError;
 use py_bytecode::Instruction;
-use py_emit::{Emitter, emit, refuse};
-use py_expr::{compile_expression, compile_jump_if, compile_store};
-use py_forms::{CodegenError, CodegenErrorType};
+use py_emit::{Emitter, emit};
+use py_expr::{compile_jump_if, compile_store};
 use py_ir::BlockIdx;
-use py_tree::{Expr, Stmt, StmtFor, StmtWhile};
+use py_stmt_simple::begin_each;
+use py_tree::{Stmt, StmtFor, StmtWhile};
 
 /// Emits a loop over the values of an iterator. Its else part runs where there are no more, and stands outside its block.
 #[cycle(code)]
-#[tactic(auto, using(crate::proofs::Steps::steps))]
+#[tactic(auto, using(py_stmt_parts::proofs::Steps::steps))]
 pub(crate) fn compile_for(em: &mut Emitter, s: &StmtFor) -> Result<(), CodegenError>
     requires loops { AreMade (rest em.old).context.loop_blocks }
     ensures { Emits result (each_by_parts (emission (expr_tree s.now.iter.value)) (emission_of_store (expr_tree s.now.target.value)) (emission_of_stmts (stmts stmt_tree s.now.body)) (emission_of_stmts (stmts stmt_tree s.now.orelse))) em.old em.new }
@@ -31,16 +32,6 @@ pub(crate) fn compile_for(em: &mut Emitter, s: &StmtFor) -> Result<(), CodegenEr
     em.switch_to_block(other);
     end_each(em, s.orelse.as_slice())?;
     em.switch_to_block(end);
-    Ok(())
-}
-
-/// Emits what takes the iterator of a value, in a block of its own.
-fn begin_each(em: &mut Emitter, iter: &Expr) -> Result<(), CodegenError>
-    ensures { Emits result (each_begun (emission (expr_tree iter.now))) em.old em.new }
-{
-    emit!(em, Instruction::SetupLoop);
-    compile_expression(em, iter)?;
-    emit!(em, Instruction::GetIter);
     Ok(())
 }
 
@@ -77,7 +68,7 @@ fn end_each(em: &mut Emitter, orelse: &[Stmt]) -> Result<(), CodegenError>
 
 /// Emits a loop. Its else part runs where the test ends it, and stands outside its block.
 #[cycle(code)]
-#[tactic(auto, using(crate::proofs::Steps::steps))]
+#[tactic(auto, using(py_stmt_parts::proofs::Steps::steps))]
 pub(crate) fn compile_while(em: &mut Emitter, s: &StmtWhile) -> Result<(), CodegenError>
     requires loops { AreMade (rest em.old).context.loop_blocks }
     requires at { (state em.old).location ≡ s.now.location }
@@ -115,34 +106,4 @@ fn compile_loop_body(
     compile_statements(em, body)?;
     em.set_loops(around);
     Ok(())
-}
-
-/// Leaves the innermost loop of the scope, where there is one.
-#[tactic(auto, unfolding(py_emit::specs::States::rest), using(crate::proofs::Steps::steps))]
-pub(crate) fn compile_break(em: &mut Emitter) -> Result<(), CodegenError>
-    requires loops { AreMade (rest em.old).context.loop_blocks }
-    ensures { Emits result (leave_loop Instruction.Break (λ x. x.on_break) CodegenErrorType.InvalidBreak (state em.old).around.loops) em.old em.new }
-{
-    match em.context().loop_blocks {
-        Some((_, end)) => {
-            emit!(em, Instruction::Break => end);
-            Ok(())
-        }
-        None => refuse!(em, CodegenErrorType::InvalidBreak),
-    }
-}
-
-/// Goes to the next turn of the innermost loop of the scope, where there is one.
-#[tactic(auto, unfolding(py_emit::specs::States::rest), using(crate::proofs::Steps::steps))]
-pub(crate) fn compile_continue(em: &mut Emitter) -> Result<(), CodegenError>
-    requires loops { AreMade (rest em.old).context.loop_blocks }
-    ensures { Emits result (leave_loop Instruction.Continue (λ x. x.on_continue) CodegenErrorType.InvalidContinue (state em.old).around.loops) em.old em.new }
-{
-    match em.context().loop_blocks {
-        Some((start, _)) => {
-            emit!(em, Instruction::Continue => start);
-            Ok(())
-        }
-        None => refuse!(em, CodegenErrorType::InvalidContinue),
-    }
 }

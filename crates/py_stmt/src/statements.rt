@@ -1,29 +1,33 @@
 //! Statements.
 ghost use Rattle.std.specs.Prelude.{◌≡◌};
 ghost use Rattle.py_tree.specs.Tree.{stmt_location};
-ghost use Rattle.py_tree.specs.View.{expr_tree, if_tree, stmt_expr_tree, stmt_tree, stmts};
+ghost use Rattle.py_tree.specs.View.{expr_tree, if_tree, stmt_tree, stmts};
 ghost use Rattle.py_steps.specs.EmissionParts.{choice, only};
 ghost use Rattle.py_emission.specs.Emission.{emission_of_test};
-ghost use Rattle.py_meaning.specs.EmissionStmts.{emission_of_stmt, emission_of_stmts};
+ghost use Rattle.py_emission.specs.EmissionStmts.{emission_of_stmt, emission_of_stmts};
 ghost use Rattle.py_emit.specs.States.{AreMade, Emits, rest, state};
 
-use crate::aliases::compile_type_alias;
-use crate::assignments::{compile_ann_assign, compile_assign, compile_aug_assign};
 use crate::classes::compile_class_def;
 use crate::functions::compile_function_def;
-use crate::imports::{compile_import, compile_import_from};
-use crate::loops::{compile_break, compile_continue, compile_for, compile_while};
-use crate::raises::{compile_assert, compile_raise};
-use crate::returns::return_from_function;
+use crate::loops::{compile_for, compile_while};
 use crate::tries::compile_try;
 use crate::withs::compile_with;
+use py_base::CodegenError;
 use py_bytecode::Instruction;
 use py_emit::{Emitter, emit};
-use py_expr::{compile_deletes, compile_expression, compile_jump_if, refuse_unbuilt};
-use py_forms::CodegenError;
-use py_tree::{Stmt, StmtExpr, StmtIf};
+use py_expr::{compile_deletes, compile_jump_if};
+use py_expr_parts::expressions::refuse_unsupported;
+use py_stmt_parts::{compile_break, compile_continue, compile_import, compile_import_from};
+use py_stmt_simple::{
+    compile_ann_assign, compile_assert, compile_assign, compile_aug_assign, compile_expr_statement,
+    compile_raise, compile_type_alias, return_from_function,
+};
+use py_tree::{Stmt, StmtIf};
 
 /// Emits statements one after the other. The context has the blocks to which the innermost loop of this scope goes.
+///
+/// # Errors
+/// The first compile fault of the statements, or OutOfMemory.
 #[cycle(code)]
 pub fn compile_statements(em: &mut Emitter, body: &[Stmt]) -> Result<(), CodegenError>
     requires loops { AreMade (rest em.old).context.loop_blocks }
@@ -36,7 +40,7 @@ pub fn compile_statements(em: &mut Emitter, body: &[Stmt]) -> Result<(), Codegen
 }
 
 #[cycle(code)]
-#[tactic(auto, using(crate::proofs::Steps::steps))]
+#[tactic(auto, using(py_stmt_parts::proofs::Steps::steps))]
 pub(crate) fn compile_statement(em: &mut Emitter, statement: &Stmt) -> Result<(), CodegenError>
     requires loops { AreMade (rest em.old).context.loop_blocks }
     ensures { Emits result (emission_of_stmt (stmt_tree statement.now)) em.old em.new }
@@ -47,7 +51,7 @@ pub(crate) fn compile_statement(em: &mut Emitter, statement: &Stmt) -> Result<()
 
 /// Emits a statement, at whose location the emitter is.
 #[cycle(code)]
-#[tactic(auto, using(py_tree::proofs::View::trees, crate::proofs::Steps::steps))]
+#[tactic(auto, using(py_tree::proofs::View::trees, py_stmt_parts::proofs::Steps::steps))]
 fn compile_entered(em: &mut Emitter, statement: &Stmt) -> Result<(), CodegenError>
     requires loops { AreMade (rest em.old).context.loop_blocks }
     requires at { (state em.old).location ≡ stmt_location (stmt_tree statement.now) }
@@ -79,22 +83,12 @@ fn compile_entered(em: &mut Emitter, statement: &Stmt) -> Result<(), CodegenErro
         | Stmt::AsyncFor(_)
         | Stmt::AsyncWith(_)
         | Stmt::Match(_)
-        | Stmt::TryStar(_) => refuse_unbuilt(em),
+        | Stmt::TryStar(_) => refuse_unsupported(em),
     }
 }
 
-#[tactic(auto, using(crate::proofs::Steps::steps))]
-fn compile_expr_statement(em: &mut Emitter, s: &StmtExpr) -> Result<(), CodegenError>
-    requires at { (state em.old).location ≡ s.now.location }
-    ensures { Emits result (emission_of_stmt (stmt_expr_tree s.now)) em.old em.new }
-{
-    compile_expression(em, &s.value)?;
-    emit!(em, Instruction::Pop);
-    Ok(())
-}
-
 #[cycle(code)]
-#[tactic(auto, using(crate::proofs::Steps::steps))]
+#[tactic(auto, using(py_stmt_parts::proofs::Steps::steps))]
 fn compile_if(em: &mut Emitter, s: &StmtIf) -> Result<(), CodegenError>
     requires loops { AreMade (rest em.old).context.loop_blocks }
     requires at { (state em.old).location ≡ s.now.location }
@@ -108,7 +102,7 @@ fn compile_if(em: &mut Emitter, s: &StmtIf) -> Result<(), CodegenError>
 
 /// Emits a body that runs where a test holds.
 #[cycle(code)]
-#[tactic(auto, using(crate::proofs::Steps::steps))]
+#[tactic(auto, using(py_stmt_parts::proofs::Steps::steps))]
 fn compile_only(em: &mut Emitter, s: &StmtIf) -> Result<(), CodegenError>
     requires loops { AreMade (rest em.old).context.loop_blocks }
     ensures { Emits result (only (emission_of_test (expr_tree s.now.test.value)) (emission_of_stmts (stmts stmt_tree s.now.body))) em.old em.new }
@@ -122,7 +116,7 @@ fn compile_only(em: &mut Emitter, s: &StmtIf) -> Result<(), CodegenError>
 
 /// Emits a choice between two bodies.
 #[cycle(code)]
-#[tactic(auto, using(crate::proofs::Steps::steps))]
+#[tactic(auto, using(py_stmt_parts::proofs::Steps::steps))]
 fn compile_choice(em: &mut Emitter, s: &StmtIf) -> Result<(), CodegenError>
     requires loops { AreMade (rest em.old).context.loop_blocks }
     ensures { Emits result (choice (emission_of_test (expr_tree s.now.test.value)) (emission_of_stmts (stmts stmt_tree s.now.body)) (emission_of_stmts (stmts stmt_tree s.now.orelse))) em.old em.new }

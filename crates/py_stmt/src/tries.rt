@@ -1,23 +1,23 @@
 //! `try`, its handlers and its last part.
 ghost use Rattle.std.specs.Prelude.{◌≡◌, ◌<◌};
 ghost use Rattle.py_tree.specs.View.{expr_tree, handlers as handler_trees, opt_box, stmt_tree, stmts, try_tree};
-ghost use Rattle.py_emission.specs.Emission.{emission};
-ghost use Rattle.py_meaning.specs.ControlEmissions.{before_last, caught, finally_do, forgotten, named_body, to_last, typed_match};
-ghost use Rattle.py_meaning.specs.EmissionStmts.{emission_of_handlers, emission_of_last, emission_of_stmt, emission_of_stmts};
+ghost use Rattle.py_emission.specs.ControlEmissions.{finally_do, forgotten, named_body};
+ghost use Rattle.py_emission.specs.EmissionStmts.{emission_of_handlers, emission_of_last, emission_of_stmt, emission_of_stmts};
 ghost use Rattle.py_emit.specs.States.{AreMade, Emits, rest, state};
-ghost use Rattle.py_stmt.specs.Parts.{emission_of_caught, emission_of_handler, emission_of_match, guarded, handled, try_by_parts, unguarded};
+ghost use Rattle.py_stmt.specs.Parts.{emission_of_caught, emission_of_handler, guarded, try_by_parts, unguarded};
 
 use crate::statements::compile_statements;
-use py_bytecode::{ConstantData, Instruction};
-use py_emit::{Emitter, NameUsage, emit};
-use py_expr::compile_expression;
-use py_forms::CodegenError;
+use py_base::CodegenError;
+use py_bytecode::Instruction;
+use py_emit::{Emitter, emit};
 use py_ir::BlockIdx;
-use py_tree::{ExceptHandler, Expr, Stmt, StmtTry, Text};
+use py_stmt_parts::{enter_last, forget, leave_handler, set_up_last};
+use py_stmt_simple::compile_match;
+use py_tree::{ExceptHandler, Stmt, StmtTry, Text};
 
 /// Emits a body, what handles its exceptions, an else part, and a last part that runs on every way out.
 #[cycle(code)]
-#[tactic(auto, using(crate::proofs::Steps::steps))]
+#[tactic(auto, using(py_stmt_parts::proofs::Steps::steps))]
 pub(crate) fn compile_try(em: &mut Emitter, s: &StmtTry) -> Result<(), CodegenError>
     requires loops { AreMade (rest em.old).context.loop_blocks }
     requires at { (state em.old).location ≡ s.now.location }
@@ -28,7 +28,7 @@ pub(crate) fn compile_try(em: &mut Emitter, s: &StmtTry) -> Result<(), CodegenEr
 
 /// Emits the parts of a `try`, which has a last part where `last` says so.
 #[cycle(code)]
-#[tactic(auto, using(crate::proofs::Steps::steps))]
+#[tactic(auto, using(py_stmt_parts::proofs::Steps::steps))]
 fn compile_parts(em: &mut Emitter, s: &StmtTry, last: bool) -> Result<(), CodegenError>
     requires loops { AreMade (rest em.old).context.loop_blocks }
     ensures { Emits result (try_by_parts last (emission_of_stmts (stmts stmt_tree s.now.body)) (emission_of_handlers (handler_trees stmt_tree s.now.handlers) last) (emission_of_stmts (stmts stmt_tree s.now.orelse)) (emission_of_last (stmts stmt_tree s.now.finalbody) (emission_of_stmts (stmts stmt_tree s.now.finalbody)))) em.old em.new }
@@ -79,28 +79,6 @@ fn compile_unguarded(em: &mut Emitter, orelse: &[Stmt], last: bool) -> Result<()
     enter_last(em, last)
 }
 
-/// Emits what sets a last part up, where there is one.
-fn set_up_last(em: &mut Emitter, last: bool, end: BlockIdx) -> Result<(), CodegenError>
-    requires end { end.0 < 0xffff_ffff }
-    ensures { Emits result (before_last last end.0) em.old em.new }
-{
-    if last {
-        emit!(em, Instruction::SetupFinally => end);
-    }
-    Ok(())
-}
-
-/// Emits what enters a last part, where there is one.
-fn enter_last(em: &mut Emitter, last: bool) -> Result<(), CodegenError>
-    ensures { Emits result (to_last last) em.old em.new }
-{
-    if last {
-        emit!(em, Instruction::PopBlock);
-        emit!(em, Instruction::EnterFinally);
-    }
-    Ok(())
-}
-
 /// Emits the last part, where there is one.
 #[cycle(code)]
 fn compile_last(em: &mut Emitter, body: &[Stmt]) -> Result<(), CodegenError>
@@ -136,7 +114,7 @@ fn compile_handlers(
 
 /// Emits one handler: an exception that it does not take goes on behind it.
 #[cycle(code)]
-#[tactic(auto, using(crate::proofs::Steps::steps))]
+#[tactic(auto, using(py_stmt_parts::proofs::Steps::steps))]
 fn compile_handler(
     em: &mut Emitter,
     handler: &ExceptHandler,
@@ -153,54 +131,6 @@ fn compile_handler(
     leave_handler(em, last, end)?;
     em.switch_to_block(next);
     Ok(())
-}
-
-/// Emits what goes on behind a handler where the exception is of another type, and else stores or drops it.
-fn compile_match(
-    em: &mut Emitter,
-    type_: &Option<Box<Expr>>,
-    name: &Option<Text>,
-    next: BlockIdx,
-) -> Result<(), CodegenError>
-    requires next { next.0 < 0xffff_ffff }
-    ensures { Emits result (emission_of_match (opt_box expr_tree type_.now) name.now next.0) em.old em.new }
-{
-    match type_ {
-        None => {
-            emit!(em, Instruction::Pop);
-            Ok(())
-        }
-        Some(type_) => compile_typed(em, type_, name, next),
-    }
-}
-
-fn compile_typed(
-    em: &mut Emitter,
-    type_: &Expr,
-    name: &Option<Text>,
-    next: BlockIdx,
-) -> Result<(), CodegenError>
-    requires next { next.0 < 0xffff_ffff }
-    ensures { Emits result (typed_match (emission (expr_tree type_.now)) (caught name.now) next.0) em.old em.new }
-{
-    emit!(em, Instruction::Duplicate);
-    compile_expression(em, type_)?;
-    emit!(em, Instruction::TestOperation, 4);
-    emit!(em, Instruction::JumpIfFalse => next);
-    store_caught(em, name)
-}
-
-/// Emits what stores the exception to the name of a handler, or drops it.
-fn store_caught(em: &mut Emitter, name: &Option<Text>) -> Result<(), CodegenError>
-    ensures { Emits result (caught name.now) em.old em.new }
-{
-    match name {
-        None => {
-            emit!(em, Instruction::Pop);
-            Ok(())
-        }
-        Some(name) => em.compile_name(NameUsage::Store, name.as_str()),
-    }
 }
 
 /// Emits the body of a handler. One without a type has no name.
@@ -228,7 +158,7 @@ fn compile_named(em: &mut Emitter, name: &Option<Text>, body: &[Stmt]) -> Result
 }
 
 #[cycle(code)]
-#[tactic(auto, using(crate::proofs::Steps::steps))]
+#[tactic(auto, using(py_stmt_parts::proofs::Steps::steps))]
 fn compile_forgetting(em: &mut Emitter, name: &Text, body: &[Stmt]) -> Result<(), CodegenError>
     requires loops { AreMade (rest em.old).context.loop_blocks }
     ensures { Emits result (finally_do (emission_of_stmts (stmts stmt_tree body.now)) (forgotten name.now)) em.old em.new }
@@ -240,26 +170,5 @@ fn compile_forgetting(em: &mut Emitter, name: &Text, body: &[Stmt]) -> Result<()
     em.switch_to_block(end);
     forget(em, name)?;
     emit!(em, Instruction::EndFinally);
-    Ok(())
-}
-
-/// Emits what sets a name to None and deletes it.
-#[tactic(auto, using(py_bytecode::proofs::View::views))]
-fn forget(em: &mut Emitter, name: &Text) -> Result<(), CodegenError>
-    ensures { Emits result (forgotten name.now) em.old em.new }
-{
-    em.load_const(ConstantData::None)?;
-    em.access(NameUsage::Store, name.as_str())?;
-    em.access(NameUsage::Delete, name.as_str())
-}
-
-/// Emits the way out of a handler.
-fn leave_handler(em: &mut Emitter, last: bool, end: BlockIdx) -> Result<(), CodegenError>
-    requires end { end.0 < 0xffff_ffff }
-    ensures { Emits result (handled last end.0) em.old em.new }
-{
-    emit!(em, Instruction::PopException);
-    enter_last(em, last)?;
-    emit!(em, Instruction::Jump => end);
     Ok(())
 }

@@ -1,14 +1,11 @@
 -- Constants as Python writes them.
-use Rattle.std.specs.Prelude.{ℕ, ℤ, pos, negsuc, List, [], ◌∷◌, ◌++◌, Bool, true, false, codes}
+use Rattle.std.specs.Prelude.{ℕ, ℤ, pos, negsuc, List, [], ◌∷◌, ◌++◌, codes}
 use Rattle.std.specs.Fmt.{signed_decimal}
 use Rattle.py_base.specs.Literal as literal
 use Rattle.py_base.specs.Literal.{Literal, Literals}
-use Rattle.py_bytecode.specs.Quote.{quote, quote_bytes}
+use Rattle.py_quote.specs.Plain.{bool_text}
+use Rattle.py_quote.specs.Quote.{quote, quote_bytes}
 use Rattle.py_texts.specs.Lists.{bracketed, comma, separated}
-
-abbrev pub bool_text : Bool → List ℕ
-bool_text true = codes "True"
-bool_text false = codes "False"
 
 -- a tuple of one element has a comma after it
 abbrev pub tuple_end : Literals → List ℕ

@@ -2,12 +2,12 @@
 ghost use Rattle.std.specs.Prelude.{◌≡◌, ◌++◌, [], string_bytes, OnOk};
 ghost use Rattle.std.specs.Fmt.{signed_decimal};
 ghost use Rattle.py_tree.specs.View.{literal_list, literal_of};
-ghost use Rattle.py_texts.specs.Constants.{bool_text, constant_text, integer_level, literal_text, literal_texts, tuple_end};
+ghost use Rattle.py_texts.specs.Constants.{constant_text, integer_level, literal_text, literal_texts, tuple_end};
 ghost use Rattle.py_texts.specs.Lists.{bracketed, comma, separated};
 ghost use Rattle.py_base.specs.Literal as literal;
 
 use crate::lists::{push_closing, push_opening};
-use crate::quote::{push_quote, push_quote_bytes};
+use py_quote::{push_bool, push_decimal, push_quote, push_quote_bytes};
 use py_tree::Constant;
 use std::alloc::AllocError;
 use std::fmt::Write;
@@ -59,22 +59,6 @@ fn push_literal(out: &mut String, value: &Constant) -> Result<(), AllocError>
         Constant::Tuple(items) => push_tuple(out, items.as_slice()),
         Constant::Ellipsis => out.push_str("Ellipsis"),
     }
-}
-
-fn push_bool(out: &mut String, value: bool) -> Result<(), AllocError>
-    ensures { OnOk result (string_bytes out.new ≡ string_bytes out.old ++ bool_text value) }
-{
-    if value {
-        out.push_str("True")
-    } else {
-        out.push_str("False")
-    }
-}
-
-fn push_decimal(out: &mut String, value: i128) -> Result<(), AllocError>
-    ensures { OnOk result (string_bytes out.new ≡ string_bytes out.old ++ signed_decimal value) }
-{
-    write!(out, "{value}")
 }
 
 #[cycle(literal)]

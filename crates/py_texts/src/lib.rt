@@ -13,7 +13,6 @@ mod f_strings;
 mod lambdas;
 mod lists;
 mod operations;
-mod quote;
 mod signs;
 
 pub use error::TextError;

@@ -96,8 +96,8 @@ module _ (K P : Type 0) (look : P → Option (Seen P)) (start : P) where
         (λ v rest e. got_step K P look start (truth_of v w) (λ t w1. meets c t (At p (It v ∷ rest) bs slot w1) (At n rest bs slot w1)) rest bs slot (raised rest (omega (arith, f, e))) (λ t w1. meets_step K P look start c t (At p (It v ∷ rest) bs slot w1) (At n rest bs slot w1) (here K P look start p (It v ∷ rest) bs slot w1 (length s - 1 + 1) ms rt (omega (arith, e)) mt) (there rest w1 (length s - 1 + 0) rn (omega (arith, e)))))
 
     iterates : (p : P) → 1 ≤ length s → height_of ms ≤ length s - 1 → At_walk n (length s - 0 + 1) ms → At_walk p (length s - 1 + 0) ms → Does (act (M.ForIter p) n s bs slot w)
-    iterates p l f rn rt = top_step K P look start s w (λ v rest. on_got (next_of v w) (λ x w1. on_some x (λ u. At n (It u ∷ It v ∷ rest) bs slot w1) (At p rest bs slot w1)) (raise rest bs slot) stopped) l
-        (λ v rest e. got_step K P look start (next_of v w) (λ x w1. on_some x (λ u. At n (It u ∷ It v ∷ rest) bs slot w1) (At p rest bs slot w1)) rest bs slot (raised rest (omega (arith, f, e))) (λ x w1. some_step K P look start x (λ u. At n (It u ∷ It v ∷ rest) bs slot w1) (At p rest bs slot w1) (λ u. there (It u ∷ It v ∷ rest) w1 (length s - 0 + 1) rn (omega (arith, e))) (here K P look start p rest bs slot w1 (length s - 1 + 0) ms rt (omega (arith, e)) mt)))
+    iterates p l f rn rt = top_step K P look start s w (λ v rest. on_got (next_of v w) (λ x w1. on_some x (λ u. At n (It u ∷ It v ∷ rest) bs slot w1) (At p rest bs slot w1)) (raise (It v ∷ rest) bs slot) stopped) l
+        (λ v rest e. got_step K P look start (next_of v w) (λ x w1. on_some x (λ u. At n (It u ∷ It v ∷ rest) bs slot w1) (At p rest bs slot w1)) (It v ∷ rest) bs slot (raised (It v ∷ rest) (omega (arith, f, e))) (λ x w1. some_step K P look start x (λ u. At n (It u ∷ It v ∷ rest) bs slot w1) (At p rest bs slot w1) (λ u. there (It u ∷ It v ∷ rest) w1 (length s - 0 + 1) rn (omega (arith, e))) (here K P look start p rest bs slot w1 (length s - 1 + 0) ms rt (omega (arith, e)) mt)))
 
     ends_finally : tops (ends (λ m. m.exit) (length s)) ms ≡ true → At_walk n (length s - 0 + 0) (rest_of ms) → Does (act M.EndFinally n s bs slot w)
     ends_finally hb r = last_step K P look start bs w (λ h k old bs1. go_on k n s bs1 old w) ms mt (tops_weaken (ends (λ m. m.exit) (length s)) (λ m. is_final m.kind) ms (λ m e. (and_three (is_final m.kind) (nat_eq m.height (length s)) (not m.exit) e).0) hb)

@@ -252,8 +252,8 @@ module _ {K P Q : Type 0} (f : P → Q) where
   act_same EndFinally n s bs slot w = last_at bs w (λ h r old bs1. go_on r n s bs1 old w) (λ h r old bs1. go_on r (f n) s bs1 old w) (λ h r old bs1. go_on_at r n s bs1 old w)
   act_same Reraise n s bs slot w = reraise_at slot n s bs w
   act_same (ForIter p) n s bs slot w =
-      top_at s w (λ v rest. on_got (next_of v w) (λ x w1. on_some x (λ u. At n (It u ∷ It v ∷ rest) bs slot w1) (At p rest bs slot w1)) (raise rest bs slot) stopped) (λ v rest. on_got (next_of v w) (λ x w1. on_some x (λ u. At (f n) (It u ∷ It v ∷ rest) (blocks_at bs) slot w1) (At (f p) rest (blocks_at bs) slot w1)) (raise rest (blocks_at bs) slot) stopped)
-      (λ v rest. got_at (next_of v w) (λ x w1. on_some x (λ u. At n (It u ∷ It v ∷ rest) bs slot w1) (At p rest bs slot w1)) (λ x w1. on_some x (λ u. At (f n) (It u ∷ It v ∷ rest) (blocks_at bs) slot w1) (At (f p) rest (blocks_at bs) slot w1)) rest bs slot (λ x w1. some_at x (λ u. At n (It u ∷ It v ∷ rest) bs slot w1) (At p rest bs slot w1) (λ u. At (f n) (It u ∷ It v ∷ rest) (blocks_at bs) slot w1) (λ u. refl)))
+      top_at s w (λ v rest. on_got (next_of v w) (λ x w1. on_some x (λ u. At n (It u ∷ It v ∷ rest) bs slot w1) (At p rest bs slot w1)) (raise (It v ∷ rest) bs slot) stopped) (λ v rest. on_got (next_of v w) (λ x w1. on_some x (λ u. At (f n) (It u ∷ It v ∷ rest) (blocks_at bs) slot w1) (At (f p) rest (blocks_at bs) slot w1)) (raise (It v ∷ rest) (blocks_at bs) slot) stopped)
+      (λ v rest. got_at (next_of v w) (λ x w1. on_some x (λ u. At n (It u ∷ It v ∷ rest) bs slot w1) (At p rest bs slot w1)) (λ x w1. on_some x (λ u. At (f n) (It u ∷ It v ∷ rest) (blocks_at bs) slot w1) (At (f p) rest (blocks_at bs) slot w1)) (It v ∷ rest) bs slot (λ x w1. some_at x (λ u. At n (It u ∷ It v ∷ rest) bs slot w1) (At p rest bs slot w1) (λ u. At (f n) (It u ∷ It v ∷ rest) (blocks_at bs) slot w1) (λ u. refl)))
   act_same (SetupWith p) n s bs slot w =
       top_at s w (λ v rest. on_got (ask_for (Operates enter_with (v ∷ [])) (Some 2) w) (λ gs w1. At n (push gs rest) (Finally (length (It v ∷ rest)) p ∷ bs) slot w1) (raise rest bs slot) stopped) (λ v rest. on_got (ask_for (Operates enter_with (v ∷ [])) (Some 2) w) (λ gs w1. At (f n) (push gs rest) (Finally (length (It v ∷ rest)) (f p) ∷ blocks_at bs) slot w1) (raise rest (blocks_at bs) slot) stopped)
       (λ v rest. got_at (ask_for (Operates enter_with (v ∷ [])) (Some 2) w) (λ gs w1. At n (push gs rest) (Finally (length (It v ∷ rest)) p ∷ bs) slot w1) (λ gs w1. At (f n) (push gs rest) (Finally (length (It v ∷ rest)) (f p) ∷ blocks_at bs) slot w1) rest bs slot (λ gs w1. refl))

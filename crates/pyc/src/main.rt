@@ -1,32 +1,12 @@
 //! The compiler as a program: rows of a syntax tree on standard input, the listing of its code on standard output.
 #![tactic(auto)]
 
-mod buffer;
-mod clean;
-mod engine;
-#[cfg(test)]
-mod interrupted;
-mod lines;
-mod memory;
-mod preparing;
-mod reading;
-mod report;
-mod sink;
-mod source;
-mod standard;
-#[cfg(test)]
-mod tests;
-mod words;
-mod writing;
-
-use engine::run;
-use py_tree::{List, Text};
-use report::Status;
-use standard::{StdSink, StdSource};
+use py_base::{List, Text};
+use py_devices::{StdSink, StdSource};
+use py_run::{Status, Words, run};
 use std::env::{self, Env};
 use std::io;
 use std::process::ExitCode;
-use words::Words;
 
 /// Runs the words after the program's name over the three standard ends, and ends with the status of the run.
 fn main(rt: HostRuntime) -> ExitCode {

@@ -1,7 +1,7 @@
 //! What is written of a case.
 
 use bitflags::Flags;
-use py_forms::CodegenError;
+use py_base::CodegenError;
 use py_rows::read_rows;
 use py_tree::{Mod, Text};
 use std::alloc::{AllocError, Global};
@@ -74,7 +74,9 @@ pub fn answer(alloc: Global, rows: &str) -> Result<String, AllocError> {
         Ok(tree) => tree,
         Err(error) => return format!(in alloc; "input: {error}\n"),
     };
-    match table_of(alloc, &tree) {
+    let table = table_of(alloc, &tree);
+    tree.discard();
+    match table {
         None => String::from_str(alloc, "a type of a function has no scopes\n"),
         Some(Err(error)) => refusal(alloc, error),
         Some(Ok(table)) => {

@@ -2,8 +2,7 @@
 ghost use Rattle.std.specs.Prelude.{◌≡◌};
 ghost use Rattle.symboltable.specs.Errors.{codegen_error};
 
-use py_base::{LocatedError, Text};
-use py_forms::{CodegenError, CodegenErrorType};
+use py_base::{CodegenError, CodegenErrorType, LocatedError, Text};
 use py_scope::{ScanFault, SymbolTableError};
 
 fn codegen_error(fault: ScanFault) -> CodegenErrorType

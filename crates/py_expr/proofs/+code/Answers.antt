@@ -9,7 +9,7 @@ use Rattle.std.proofs.Common.{arith, rules, Bool, false, ◌<◌, Err, List, [],
 use Rattle.std.specs.Prelude.{nat_eq}
 use Rattle.py_bytecode.specs.declared.instruction.Instruction.TheVariants as op
 use Rattle.py_base.specs.declared.operators.CmpOp.TheVariants as comparison
-use Rattle.py_forms.specs.declared.errors.CodegenErrorType.TheVariants as error
+use Rattle.py_base.specs.declared.errors.CodegenErrorType.TheVariants as error
 use Rattle.py_steps.specs.TableParts.{deciding}
 use Rattle.py_tree.specs.View.{expr_tree, exprs, opt_exprs}
 use Rattle.py_steps.specs.Elements.{Callee, Element}
@@ -18,8 +18,8 @@ use Rattle.py_steps.specs.EmissionParts.{Emissions, elements, in_turn, some_test
 use Rattle.py_emission.specs.Emission.{all_emissions, emission, emission_of_return, emissions, opt_emissions}
 use Rattle.py_emit.specs.States.{state}
 use Rattle.py_emit.proofs.Joined.{first_refuses, goes_as, refuses_as, same_error, went}
-use Rattle.py_expr.specs.Calling.{callee_value, is_method}
-use Rattle.py_expr.specs.Turns.{element_behind, group_count, group_rest, groups_by, run_behind}
+use Rattle.py_expr_parts.specs.Calls.{callee_value, is_method}
+use Rattle.py_expr_parts.specs.Turns.{element_behind, group_count, group_rest, groups_by, run_behind}
 use Rattle.py_expr.proofs.+code.Answers.CallSteps.{call_entered, named_goes, plain_goes, positional_plain, tuple_plain, type_taken}
 use Rattle.py_expr.proofs.+code.Answers.ClauseSteps.{clause_begins, clause_refused, clauses_go_on, condition_refused, conditions_go_on, end_is, end_waits, start_waits}
 use Rattle.py_expr.proofs.+code.Answers.ComprehensionSteps.{body_refused, clauses_closed, clauses_refused, clauses_wait, comprehension_awaits, comprehension_called, comprehension_goes, comprehension_inner, comprehension_left, comprehension_made, comprehension_refused, dict_goes, function_refused, generator_goes, iterable_refused, no_generator, turn_refused, unstarred_done, unstarred_refused}
@@ -27,14 +27,14 @@ use Rattle.py_expr.proofs.+code.Answers.LambdaSteps.{defaults_refused, lambda_go
 use Rattle.py_expr.proofs.+code.Answers.MapLoops.{keyword_refused, map_alone, map_refused, maps_begin, maps_go_on, maps_joined}
 use Rattle.py_expr.proofs.+code.Answers.StoreLoops.{attribute_stored, element_stored, store_refused, stores_go_on}
 use Rattle.py_expr.proofs.+code.Answers.PairLoops.{begin_refused, end_refused, entries_begin, entries_done, entries_go_on, value_refused}
-use Rattle.py_expr.proofs.Entering.{entering, entering_return}
-use Rattle.py_expr.proofs.Mapping.{values_at}
-use Rattle.py_expr.proofs.Groups.{display_plain, elements_at, few_groups, groups_count, groups_rest, many_values, none_more}
-use Rattle.py_expr.proofs.Otherwise.{function_callee, plain_element, truth_test, value_return}
-use Rattle.py_expr.proofs.Opening.{apart, begin_opens, block_opens, emit_opens, expr_opens, jump_opens, links_open, shorts_open, test_opens, tests_open}
-use Rattle.py_expr.proofs.Signatures.{inside_function}
-use Rattle.py_expr.proofs.Steps.{many_emissions}
-use Rattle.py_expr.proofs.Turns.{a_chain, either_jump, even_dict, if_not, if_so, links_at, many_keys, no_operand, one_comparison, other_test, path_of, refused_shape, shorts_at, tests_at, uneven_dict, uneven_lists}
+use Rattle.py_expr.proofs.Locations.{entering, entering_return}
+use Rattle.py_expr_parts.proofs.KeywordMaps.{values_at}
+use Rattle.py_expr_parts.proofs.Groups.{display_plain, elements_at, few_groups, groups_count, groups_rest, many_values, none_more}
+use Rattle.py_expr_parts.proofs.Otherwise.{function_callee, plain_element, truth_test, value_return}
+use Rattle.py_expr_scopes.proofs.KeptExpressions.{apart, begin_opens, block_opens, emit_opens, expr_opens, jump_opens, links_open, shorts_open, test_opens, tests_open}
+use Rattle.py_expr_parts.proofs.InFunctions.{inside_function}
+use Rattle.py_expr_parts.proofs.Steps.{many_emissions}
+use Rattle.py_expr_parts.proofs.Turns.{a_chain, either_jump, even_dict, if_not, if_so, links_at, many_keys, no_operand, one_comparison, other_test, path_of, refused_shape, shorts_at, tests_at, uneven_dict, uneven_lists}
 use Rattle.py_expr.proofs.+code.Goals as goal
 
 pub expressions::compile_expression-returns : goal.expressions::compile_expression-returns

@@ -9,14 +9,14 @@ use Rattle.py_steps.specs.Emitting.{Emission, ◌▸◌}
 use Rattle.py_steps.specs.EmissionParts.{map_of, values_in, built, elements, dict_value, in_turn, links, shorts, tests}
 use Rattle.py_emission.specs.Emission.{all_emissions, all_stores, clause_emissions, keyword_emissions, emission_of_exprs}
 use Rattle.py_emit.specs.States.{rest, state}
-use Rattle.py_expr.specs.Calling.{map_rest}
-use Rattle.py_expr.specs.Clauses.{AllOpen, clauses_by, closed}
-use Rattle.py_expr.specs.Dicts.{dict_rest}
-use Rattle.py_expr.specs.Functions.{default_values}
-use Rattle.py_expr.specs.Turns.{group_count, group_rest, pairs_of}
-use Rattle.py_expr.specs.declared.comprehensions.ComprehensionElement.{ComprehensionElement}
-use Rattle.py_expr.specs.declared.comprehensions.ComprehensionElement.TheVariants as element
-use Rattle.py_expr.proofs.OpenClauses.{none_open}
+use Rattle.py_expr_parts.specs.Calls.{map_rest}
+use Rattle.py_expr_scopes.specs.Clauses.{AllOpen, clauses_by, closed}
+use Rattle.py_expr_parts.specs.Dicts.{dict_rest}
+use Rattle.py_expr_scopes.specs.Functions.{default_values}
+use Rattle.py_expr_parts.specs.Turns.{group_count, group_rest, pairs_of}
+use Rattle.py_expr_scopes.specs.declared.comprehensions.ComprehensionElement.{ComprehensionElement}
+use Rattle.py_expr_scopes.specs.declared.comprehensions.ComprehensionElement.TheVariants as element
+use Rattle.py_expr_scopes.proofs.OpenClauses.{none_open}
 use Rattle.py_expr.proofs.+code.Given as goal
 
 abbrev pub invariant-expressions::compile_expressions-loop-item : goal.invariant-expressions::compile_expressions-loop-item

@@ -1,6 +1,6 @@
 use Rattle.std.proofs.Common.{◌≡◌, ◌+◌, ◌*◌, drop}
 use Rattle.py_tree.specs.View.{handlers, stmt_tree, stmts}
-use Rattle.py_meaning.specs.EmissionStmts.{emission_of_handlers, emission_of_stmts}
+use Rattle.py_emission.specs.EmissionStmts.{emission_of_handlers, emission_of_stmts}
 use Rattle.py_emit.specs.States.{rest, state}
 use Rattle.py_stmt.proofs.+code.Given as goal
 

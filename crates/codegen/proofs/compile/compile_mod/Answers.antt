@@ -4,8 +4,8 @@ use Rattle.codegen.specs.Calls.{tree_of}
 use Rattle.py_base.specs.declared.location.LocatedError.{LocatedError}
 use Rattle.py_ir.specs.Final.{IsFinal}
 use Rattle.py_steps.specs.Context.{outermost}
-use Rattle.py_meaning.specs.EmissionMods.{emitted}
-use Rattle.py_forms.specs.declared.errors.CodegenErrorType.{CodegenErrorType}
+use Rattle.py_emission.specs.EmissionMods.{emitted}
+use Rattle.py_base.specs.declared.errors.CodegenErrorType.{CodegenErrorType}
 use Rattle.py_emit.specs.Emitted.{IsEmitted}
 use Rattle.py_emit.specs.States.{Rest, info, rest, state}
 use Rattle.codegen.specs.Compiled.{HasFewSymbols, IsRefused}

@@ -9,12 +9,12 @@ use Rattle.py_steps.specs.EmissionParts.{elements, emission_of_call, in_turn}
 use Rattle.py_emission.specs.Emission.{all_emissions, emission, emissions, keyword_emissions}
 use Rattle.py_emit.specs.States.{state}
 use Rattle.py_emit.proofs.Joined.{goes_as, went}
-use Rattle.py_expr.specs.Calling.{taken}
-use Rattle.py_expr.specs.declared.calls.CallType.{CallType}
-use Rattle.py_expr.proofs.Calling.{call_is, first_false, not_empty, some_named, type_is}
-use Rattle.py_expr.proofs.Groups.{plain_elements}
-use Rattle.py_expr.proofs.Mapping.{many_keywords}
-use Rattle.py_expr.proofs.Steps.{stays}
+use Rattle.py_expr_parts.specs.Calls.{taken}
+use Rattle.py_expr_parts.specs.declared.calls.CallType.{CallType}
+use Rattle.py_expr_parts.proofs.CallOperands.{call_is, first_false, not_empty, some_named, type_is}
+use Rattle.py_expr_parts.proofs.Groups.{plain_elements}
+use Rattle.py_expr_parts.proofs.KeywordMaps.{many_keywords}
+use Rattle.py_expr_parts.proofs.Steps.{stays}
 use Rattle.py_expr.proofs.+code.Goals as goal
 
 pub call_entered : goal.expressions::compile_entered-returns-in-Call

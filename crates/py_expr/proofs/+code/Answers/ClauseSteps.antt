@@ -7,9 +7,9 @@ use Rattle.py_steps.specs.Emitting.{Done, Emission, Refused, State, ◌▸◌, w
 use Rattle.py_emission.specs.Emission.{clause_emissions, emission}
 use Rattle.py_emit.specs.States.{rest, state}
 use Rattle.py_emit.proofs.Joined.{first_refuses, went}
-use Rattle.py_expr.specs.Clauses.{AllOpen, AreRefused, clause_of, clauses_by, closed, iterator_of}
-use Rattle.py_expr.proofs.OpenClauses.{clause_opens, clauses_at, conditions_at, end_opens, iterator_opens, none_is, none_open, opened_more, opened_to, opens_push, some_open}
-use Rattle.py_expr.proofs.Opening.{apart, block_opens}
+use Rattle.py_expr_scopes.specs.Clauses.{AllOpen, AreRefused, clause_of, clauses_by, closed, iterator_of}
+use Rattle.py_expr_scopes.proofs.OpenClauses.{clause_opens, clauses_at, conditions_at, end_opens, iterator_opens, none_is, none_open, opened_more, opened_to, opens_push, some_open}
+use Rattle.py_expr_scopes.proofs.KeptExpressions.{apart, block_opens}
 use Rattle.py_expr.proofs.+code.Goals as goal
 
 pub clauses_go_on : goal.clauses::open_clauses-loop-clause-preserved

@@ -2,14 +2,15 @@
 use Rattle.std.proofs.Common.{rules, ◌≡◌, ◌∙◌, Err, List, ap, get_or, sym, refl, arith}
 use Rattle.std.specs.Prelude.{◌||◌, codes}
 use Rattle.py_bytecode.specs.declared.instruction.Instruction.TheVariants as op
-use Rattle.py_forms.specs.declared.errors.CodegenErrorType.TheVariants as error
+use Rattle.py_base.specs.declared.errors.CodegenErrorType.TheVariants as error
 use Rattle.py_scope.specs.declared.table_type.SymbolTableType.TheVariants as kind
 use Rattle.py_tree.specs.Tree as tree
 use Rattle.py_tree.specs.View.{expr_tree, generators}
 use Rattle.py_tree.specs.declared.expressions.ComprehensionOf.{ComprehensionOf}
 use Rattle.py_tree.specs.declared.expressions.Expr.{Expr}
 use Rattle.py_steps.specs.Children.{made}
-use Rattle.py_steps.specs.Comprehensions.{as_element, called_at_once, comprehension, comprehension_shape, gathered, generated, retold}
+use Rattle.py_steps.specs.Comprehensions.{as_element, called_at_once, comprehension, comprehension_shape, gathered, generated}
+use Rattle.py_steps.specs.Refused.{retold}
 use Rattle.py_steps.specs.Emitting.{Emission, Refused, ◌▸◌, emit_count, keep}
 use Rattle.py_emission.specs.Awaits.{awaits, some_async}
 use Rattle.py_emission.specs.Emission.{clause_emissions, emission}
@@ -17,13 +18,13 @@ use Rattle.py_emit.specs.States.{state}
 use Rattle.py_emit.proofs.Joined.{first_refuses, goes_as, refuses_as, went}
 use Rattle.py_emit.proofs.Within.{inner}
 use Rattle.py_emit.specs.declared.context.Naming.TheVariants as naming
-use Rattle.py_expr.specs.Clauses.{closed}
-use Rattle.py_expr.specs.Comprehensions.{added, element_of, first_iterable, name_of, scope_of, turn}
-use Rattle.py_expr.proofs.OpenClauses.{all_stay, many_clauses}
-use Rattle.py_expr.proofs.Comprehending.{called_is, first_is, no_clause, scope_as, some_clause, told_done, told_refused, turn_opens}
-use Rattle.py_expr.proofs.Scopes.{left_gives, left_keeps, refused_gives, same_path}
-use Rattle.py_expr.proofs.Steps.{stays}
-use Rattle.py_expr.proofs.Turns.{if_not, if_so, path_of, refused_by, refused_shape}
+use Rattle.py_expr_scopes.specs.Clauses.{closed}
+use Rattle.py_expr_scopes.specs.Comprehensions.{added, element_of, first_iterable, name_of, scope_of, turn}
+use Rattle.py_expr_scopes.proofs.OpenClauses.{all_stay, many_clauses}
+use Rattle.py_expr_scopes.proofs.ComprehensionScopes.{called_is, first_is, no_clause, scope_as, some_clause, told_done, told_refused, turn_opens}
+use Rattle.py_expr_scopes.proofs.Scopes.{left_gives, left_keeps, refused_gives, same_path}
+use Rattle.py_expr_parts.proofs.Steps.{stays}
+use Rattle.py_expr_parts.proofs.Turns.{if_not, if_so, path_of, refused_by, refused_shape}
 use Rattle.py_expr.proofs.+code.Goals as goal
 
 pub comprehension_left : goal.comprehensions::compile_comprehension_scope-returns

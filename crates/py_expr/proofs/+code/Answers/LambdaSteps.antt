@@ -2,7 +2,7 @@
 use Rattle.std.proofs.Common.{rules, Err, Result, refl, ◌≡◌, ◌∙◌, arith, subst}
 use Rattle.py_base.specs.declared.location.LocatedError.{LocatedError}
 use Rattle.py_bytecode.specs.View.{object}
-use Rattle.py_forms.specs.declared.errors.CodegenErrorType.{CodegenErrorType}
+use Rattle.py_base.specs.declared.errors.CodegenErrorType.{CodegenErrorType}
 use Rattle.py_tree.specs.View.{arguments, expr_tree}
 use Rattle.py_tree.specs.declared.expressions.ArgumentsOf.{ArgumentsOf}
 use Rattle.py_tree.specs.declared.expressions.Expr.{Expr}
@@ -17,7 +17,7 @@ use Rattle.py_emit.specs.declared.emitter.Emitter.{Emitter}
 use Rattle.py_emit.proofs.Joined.{goes_as, refuses_as}
 use Rattle.py_emit.specs.declared.context.Naming.TheVariants as naming
 use Rattle.py_emit.proofs.Within.{inner}
-use Rattle.py_expr.proofs.Scopes.{body_refused, defaults_refuse, lambda_done, left_gives, left_keeps, opening_refused, refused_gives, same_path, scope_as, scope_done, scope_refuses}
+use Rattle.py_expr_scopes.proofs.Scopes.{body_refused, defaults_refuse, lambda_done, left_gives, left_keeps, opening_refused, refused_gives, same_path, scope_as, scope_done, scope_refuses}
 use Rattle.py_expr.proofs.+code.Goals as goal
 
 pub lambda_left : goal.functions::compile_lambda_scope-returns

@@ -8,10 +8,10 @@ use Rattle.py_steps.specs.EmissionParts.{Keywords, map_of}
 use Rattle.py_emission.specs.Emission.{keyword_emissions}
 use Rattle.py_emit.specs.States.{state}
 use Rattle.py_emit.proofs.Joined.{first_refuses, goes_as, went}
-use Rattle.py_expr.specs.Calling.{keyword_emission, map_rest}
-use Rattle.py_expr.specs.Turns.{group_count, run_behind}
-use Rattle.py_expr.proofs.Groups.{few_groups}
-use Rattle.py_expr.proofs.Mapping.{few_maps, joined_as, keywords_at, many_maps, maps_count, maps_rest, none_more}
+use Rattle.py_expr_parts.specs.Calls.{keyword_emission, map_rest}
+use Rattle.py_expr_parts.specs.Turns.{group_count, run_behind}
+use Rattle.py_expr_parts.proofs.Groups.{few_groups}
+use Rattle.py_expr_parts.proofs.KeywordMaps.{few_maps, joined_as, keywords_at, many_maps, maps_count, maps_rest, none_more}
 use Rattle.py_expr.proofs.+code.Goals as goal
 
 pub maps_begin : goal.keywords::compile_maps-loop-keyword-init

@@ -6,11 +6,11 @@ use Rattle.py_steps.specs.Emitting.{Emission, ◌▸◌}
 use Rattle.py_steps.specs.EmissionParts.{dict_value}
 use Rattle.py_emission.specs.Emission.{emission}
 use Rattle.py_emit.specs.States.{state}
-use Rattle.py_expr.specs.Dicts.{begun_behind, dict_rest, entry_begun, entry_ended, entry_of}
-use Rattle.py_expr.specs.Turns.{pairs_of, run_behind}
+use Rattle.py_expr_parts.specs.Dicts.{begun_behind, dict_rest, entry_begun, entry_ended, entry_of}
+use Rattle.py_expr_parts.specs.Turns.{pairs_of, run_behind}
 use Rattle.py_tree.specs.declared.expressions.Expr.{Expr}
-use Rattle.py_expr.proofs.Dicts.{dict_as_rest, entry_next}
-use Rattle.py_expr.proofs.Pairs.{begun_at, first, pairs_at, pairs_over, run_at, run_more}
+use Rattle.py_expr_parts.proofs.Dicts.{dict_as_rest, entry_next}
+use Rattle.py_expr_parts.proofs.Pairs.{begun_at, first, pairs_at, pairs_over, run_at, run_more}
 use Rattle.py_emit.proofs.Joined.{first_refuses, goes_as, went}
 use Rattle.py_expr.proofs.+code.Goals as goal
 

@@ -9,8 +9,8 @@ use Rattle.py_steps.specs.Emitting.{Emission}
 use Rattle.py_emission.specs.Emission.{emission_of_store}
 use Rattle.py_emit.specs.States.{state}
 use Rattle.py_emit.proofs.Joined.{first_refuses, goes_as, went}
-use Rattle.py_expr.specs.Targets.{bare_of}
-use Rattle.py_expr.proofs.Stores.{plain_target, stored_at}
+use Rattle.py_expr_parts.specs.Targets.{bare_of}
+use Rattle.py_expr_parts.proofs.Stores.{plain_target, stored_at}
 use Rattle.py_expr.proofs.+code.Goals as goal
 
 pub stores_go_on : goal.targets::compile_stores-loop-elt-preserved

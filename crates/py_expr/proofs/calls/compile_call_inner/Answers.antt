@@ -3,9 +3,9 @@ use Rattle.std.specs.Prelude.{IfOk}
 use Rattle.py_tree.specs.View.{expr_tree, exprs, keywords}
 use Rattle.py_steps.specs.EmissionParts.{elements}
 use Rattle.py_emission.specs.Emission.{all_emissions, keyword_emissions}
-use Rattle.py_expr.specs.Calling.{taken}
-use Rattle.py_expr.specs.declared.calls.CallType.{CallType}
-use Rattle.py_expr.proofs.Calling.{type_is}
+use Rattle.py_expr_parts.specs.Calls.{taken}
+use Rattle.py_expr_parts.specs.declared.calls.CallType.{CallType}
+use Rattle.py_expr_parts.proofs.CallOperands.{type_is}
 use Rattle.py_expr.proofs.calls.compile_call_inner.Goals as goal
 
 pub returns-clause-call : goal.returns-clause-call

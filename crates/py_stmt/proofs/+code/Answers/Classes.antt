@@ -5,7 +5,8 @@ use Rattle.py_tree.specs.declared.statements.TypeParam.{TypeParam}
 use Rattle.py_scope.specs.declared.table_type.SymbolTableType.TheVariants as kind
 use Rattle.py_steps.specs.Accesses.{emission_of_stored}
 use Rattle.py_steps.specs.Children.{decorated, made}
-use Rattle.py_steps.specs.Classes.{class_path, class_shape, class_within}
+use Rattle.py_steps.specs.Classes.{class_shape}
+use Rattle.py_steps.specs.Within.{class_path, class_within}
 use Rattle.py_steps.specs.Emitting.{Emission, State, ◌▸◌, by_context, go_on}
 use Rattle.py_steps.specs.EmissionParts.{values}
 use Rattle.py_emission.specs.Emission.{all_emissions}
@@ -14,13 +15,14 @@ use Rattle.py_emit.specs.declared.context.Naming.TheVariants as naming
 use Rattle.py_emit.specs.declared.emitter.Emitter.{Emitter}
 use Rattle.py_emit.proofs.Joined.{first_refuses, goes_as, refuses_as, went}
 use Rattle.py_emit.proofs.Within.{inner}
-use Rattle.py_expr.specs.Functions.{Gives}
-use Rattle.py_expr.proofs.Scopes.{left_gives, left_keeps, refused_gives, same_path}
-use Rattle.py_expr.proofs.Steps.{stays}
+use Rattle.py_expr_scopes.specs.Functions.{Gives}
+use Rattle.py_expr_scopes.proofs.Scopes.{left_gives, left_keeps, refused_gives, same_path}
+use Rattle.py_expr_parts.proofs.Steps.{stays}
 use Rattle.py_stmt.specs.Classes.{class_body, class_emission, class_params, function_emission, own_emission, own_scope, placed}
-use Rattle.py_stmt.specs.Generics.{params_flag, some_params}
+use Rattle.py_stmt_parts.specs.Generics.{params_flag}
+use Rattle.py_stmt_simple.specs.Generics.{some_params}
 use Rattle.py_stmt.proofs.Building.{class_is, some_params_placed}
-use Rattle.py_stmt.proofs.ClassParts.{entered_path}
+use Rattle.py_stmt_parts.proofs.ClassParts.{entered_path}
 use Rattle.py_stmt.proofs.+code.Goals as goal
 
 pub scope_left : goal.classes::compile_class_scope-returns

@@ -10,25 +10,28 @@ use Rattle.py_scope.specs.declared.table_type.SymbolTableType.TheVariants as kin
 use Rattle.py_emission.specs.Parameters.{function_shape, parameters}
 use Rattle.py_bytecode.specs.Objects as const
 use Rattle.py_steps.specs.Accesses.{emission_of_stored}
-use Rattle.py_steps.specs.Children.{code_head, decorated, documented, emission_of_defaults, enter_parameters, flags_of_defaults, function_inside}
+use Rattle.py_steps.specs.Children.{code_head, decorated, documented, emission_of_defaults, enter_parameters, flags_of_defaults}
+use Rattle.py_steps.specs.Within.{function_inside}
 use Rattle.py_steps.specs.Context.{function_path}
 use Rattle.py_steps.specs.Emitting.{Emission, State, ◌▸◌, add_constant, by_level, go_on}
 use Rattle.py_steps.specs.EmissionParts.{values}
 use Rattle.py_emission.specs.Emission.{all_emissions, default_emissions}
 use Rattle.py_emission.specs.Texts.{doc_of}
-use Rattle.py_meaning.specs.EmissionDefs.{emission_of_def}
+use Rattle.py_emission.specs.EmissionDefs.{emission_of_def}
 use Rattle.py_emit.specs.States.{AreMade, Rest, entered, entered_rest, rest, state}
 use Rattle.py_emit.specs.declared.emitter.Emitter.{Emitter}
 use Rattle.py_emit.proofs.Joined.{first_refuses, goes_as, joined, refuses_as, went}
 use Rattle.py_emit.specs.declared.context.Naming.{Naming}
 use Rattle.py_emit.specs.declared.context.Naming.TheVariants as naming
 use Rattle.py_emit.proofs.Within.{inner}
-use Rattle.py_expr.proofs.Steps.{stays}
-use Rattle.py_expr.proofs.Scopes.{left_gives, left_keeps, refused_gives, same_path}
-use Rattle.py_stmt.specs.Functions.{body_emission, body_of, def_emission, inner_emission, made_emission, params_of, plain_emission, scope_emission, value_emission}
-use Rattle.py_stmt.specs.Generics.{given_flags}
-use Rattle.py_stmt.proofs.Handing.{plain_flags, some_generic}
-use Rattle.py_stmt.proofs.LastReturn.{none_left, scope_as, statement_at}
+use Rattle.py_expr_parts.proofs.Steps.{stays}
+use Rattle.py_expr_scopes.proofs.Scopes.{left_gives, left_keeps, refused_gives, same_path}
+use Rattle.py_stmt.specs.Functions.{body_emission, body_of, def_emission, inner_emission, plain_emission, scope_emission, value_emission}
+use Rattle.py_stmt_simple.specs.Functions.{made_emission, params_of}
+use Rattle.py_stmt_parts.specs.Generics.{given_flags}
+use Rattle.py_stmt_parts.proofs.Handing.{plain_flags}
+use Rattle.py_stmt.proofs.Handing.{some_generic}
+use Rattle.py_stmt.proofs.FunctionParts.{none_left, scope_as, statement_at}
 use Rattle.py_stmt.proofs.+code.Goals as goal
 
 -- what is kept on entering, by the parameters as the tree has them

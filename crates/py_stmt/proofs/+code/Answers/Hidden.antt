@@ -6,18 +6,21 @@ use Rattle.py_tree.specs.declared.expressions.Expr.{Expr}
 use Rattle.py_scope.specs.declared.table_type.SymbolTableType.TheVariants as kind
 use Rattle.py_steps.specs.Children.{code_head, made}
 use Rattle.py_steps.specs.Emitting.{Emission, ◌▸◌}
-use Rattle.py_steps.specs.TypeParameters.{hidden_name, hidden_shape}
+use Rattle.py_steps.specs.TypeParameters.{hidden_shape}
+use Rattle.py_steps.specs.Within.{hidden_name}
 use Rattle.py_bytecode.specs.View.{object}
 use Rattle.py_emit.specs.States.{Rest, entered, entered_rest, rest, state}
 use Rattle.py_emit.specs.declared.context.Naming.TheVariants as naming
 use Rattle.py_emit.specs.declared.emitter.Emitter.{Emitter}
 use Rattle.py_emit.proofs.Joined.{first_refuses, goes_as, refuses_as, went}
 use Rattle.py_emit.proofs.Within.{inner}
-use Rattle.py_expr.specs.declared.functions.Defaults.{Defaults}
-use Rattle.py_expr.proofs.Scopes.{left_gives, left_keeps, refused_gives, same_path}
+use Rattle.py_expr_scopes.specs.declared.functions.Defaults.{Defaults}
+use Rattle.py_expr_scopes.proofs.Scopes.{left_gives, left_keeps, refused_gives, same_path}
 use Rattle.py_stmt.specs.Classes.{built_emission}
-use Rattle.py_stmt.specs.Functions.{hidden_function, hidden_value, params_of}
-use Rattle.py_stmt.specs.Generics.{defaults_of, handed_by, hidden_called, returned}
+use Rattle.py_stmt.specs.Functions.{hidden_function, hidden_value}
+use Rattle.py_stmt_simple.specs.Functions.{params_of}
+use Rattle.py_stmt_parts.specs.Generics.{defaults_of, handed_by}
+use Rattle.py_stmt_simple.specs.Generics.{hidden_called, returned}
 use Rattle.py_stmt.proofs.Handing.{generic_is}
 use Rattle.py_stmt.proofs.+code.Goals as goal
 

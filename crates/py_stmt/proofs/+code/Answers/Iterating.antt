@@ -7,14 +7,16 @@ use Rattle.py_tree.specs.View.{expr_tree, stmt_tree, stmts}
 use Rattle.py_tree.proofs.View.{tree_For}
 use Rattle.py_steps.specs.Emitting.{Emission, ◌▸◌, begin, located}
 use Rattle.py_emission.specs.Emission.{emission, emission_of_store}
-use Rattle.py_meaning.specs.ControlEmissions.{for_each}
-use Rattle.py_meaning.specs.EmissionStmts.{emission_of_stmt, emission_of_stmts}
+use Rattle.py_emission.specs.ControlEmissions.{for_each}
+use Rattle.py_emission.specs.EmissionStmts.{emission_of_stmt, emission_of_stmts}
 use Rattle.py_emit.specs.States.{state}
 use Rattle.py_emit.proofs.Joined.{first_refuses, goes_as, went}
-use Rattle.py_expr.proofs.Opening.{apart, begin_opens, block_opens}
-use Rattle.py_expr.proofs.Steps.{begin_goes, stays}
-use Rattle.py_stmt.specs.Parts.{each_begun, each_by_parts, each_ended, each_turn}
-use Rattle.py_stmt.proofs.Opening.{each_begun_opens, each_ended_opens, each_turn_opens}
+use Rattle.py_expr_scopes.proofs.KeptExpressions.{apart, begin_opens, block_opens}
+use Rattle.py_expr_parts.proofs.Steps.{begin_goes, stays}
+use Rattle.py_stmt_simple.specs.Parts.{each_begun}
+use Rattle.py_stmt.specs.Parts.{each_by_parts, each_ended, each_turn}
+use Rattle.py_stmt_simple.proofs.Opening.{each_begun_opens}
+use Rattle.py_stmt.proofs.Opening.{each_ended_opens, each_turn_opens}
 use Rattle.py_stmt.proofs.Parts.{each_parts, three_blocks}
 use Rattle.py_stmt.proofs.+code.Goals as goal
 

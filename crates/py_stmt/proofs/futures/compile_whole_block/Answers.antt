@@ -1,10 +1,10 @@
 use Rattle.std.proofs.Common.{rules, ◌∙◌, List, ap, sym}
 use Rattle.py_tree.specs.View.{stmt_tree, stmts}
 use Rattle.py_tree.specs.declared.statements.Stmt.{Stmt}
-use Rattle.py_meaning.specs.EmissionMods.{emission_of_block}
+use Rattle.py_emission.specs.EmissionMods.{emission_of_block}
 use Rattle.py_emit.specs.States.{state}
 use Rattle.py_emit.specs.declared.context.EmitContext.{EmitContext}
-use Rattle.py_stmt.proofs.Leading.{flag, flag_is, restored_last, slice_rest}
+use Rattle.py_stmt_parts.proofs.Leading.{flag, flag_is, restored_last, slice_rest}
 use Rattle.py_stmt.proofs.futures.compile_whole_block.Goals as goal
 
 pub returns : goal.returns

@@ -4,10 +4,10 @@ use Rattle.py_steps.specs.Children.{decorated}
 use Rattle.py_steps.specs.Emitting.{◌▸◌, go_on}
 use Rattle.py_steps.specs.EmissionParts.{values}
 use Rattle.py_emission.specs.Emission.{all_emissions}
-use Rattle.py_meaning.specs.EmissionMods.{stored_and_returned}
+use Rattle.py_emission.specs.EmissionMods.{stored_and_returned}
 use Rattle.py_emit.specs.States.{state}
 use Rattle.py_emit.proofs.Joined.{first_refuses, goes_as, went}
-use Rattle.py_expr.proofs.Steps.{move_goes}
+use Rattle.py_expr_parts.proofs.Steps.{move_goes}
 use Rattle.py_stmt.specs.Functions.{def_emission}
 use Rattle.py_stmt.proofs.interactive.return_function.Goals as goal
 

@@ -1,5 +1,6 @@
 use Rattle.std.proofs.Common.{sym, ap, ◌∙◌, subst, ◌++◌, ◌∷◌, [], arith}
-use Rattle.py_scope.specs.Scanned.{IsScanned, IsWithin, Scanned, entered}
+use Rattle.py_scope.specs.Scanned.{IsWithin, Scanned, entered}
+use Rattle.py_scope.specs.InOrder.{IsScanned}
 use Rattle.py_scope.proofs.Scanning.{scanned, scanned_entered, entered_within, after_enter}
 use Rattle.py_scope.proofs.builder.ScopeBuilder.enter.Goals as goal
 

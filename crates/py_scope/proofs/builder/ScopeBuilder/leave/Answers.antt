@@ -1,5 +1,6 @@
 use Rattle.std.proofs.Common.{sym, ap, ◌∙◌, subst, ◌<◌}
-use Rattle.py_scope.specs.Scanned.{IsScanned, Scanned, gone_out}
+use Rattle.py_scope.specs.Scanned.{Scanned, gone_out}
+use Rattle.py_scope.specs.InOrder.{IsScanned}
 use Rattle.py_scope.proofs.Scanning.{scanned, scanned_left, after_leave}
 use Rattle.py_scope.proofs.builder.ScopeBuilder.leave.Goals as goal
 

@@ -1,0 +1,5 @@
+use Rattle.codegen.proofs.Determined.{equal_trees}
+use Rattle.codegen.proofs.laws.equal_trees_have_equal_code.Goals as goal
+
+pub returns : goal.returns
+returns c = equal_trees

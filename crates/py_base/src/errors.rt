@@ -1,0 +1,117 @@
+//! Why a tree is refused.
+ghost use Rattle.std.specs.Prelude.{◌≡◌, Some};
+
+use crate::{LocatedError, Malformed, Text, TreeLimit};
+use std::error::Error;
+use std::fmt;
+
+/// Why a tree is refused, or that there was no memory.
+#[derive(Debug, Drop)]
+pub enum CodegenErrorType {
+    /// A target that cannot be assigned to; the text says what it is.
+    Assign(Text),
+    /// A target that cannot be deleted; the text says what it is.
+    Delete(Text),
+    /// The text says what is wrong.
+    SyntaxError(Text),
+    /// A second star among the targets of one assignment.
+    MultipleStarArgs,
+    /// Over 255 targets before or after a star.
+    TooManyStarUnpack,
+    /// A starred expression where elements are not gathered.
+    InvalidStarExpr,
+    /// A `break` with no loop of its own scope around it.
+    InvalidBreak,
+    /// A `continue` with no loop of its own scope around it.
+    InvalidContinue,
+    /// A `return` in no function.
+    InvalidReturn,
+    /// A `yield` in no function.
+    InvalidYield,
+    /// A `yield from` in no function.
+    InvalidYieldFrom,
+    /// An `await`, which only an async function may hold.
+    InvalidAwait,
+    /// Never given: async functions are refused.
+    AsyncYieldFrom,
+    /// Never given: async functions are refused.
+    AsyncReturnValue,
+    /// A future import after another statement.
+    InvalidFuturePlacement,
+    /// A future import of what no Python knows.
+    InvalidFutureFeature(Text),
+    /// An `import *` in a function.
+    FunctionImportStar,
+    /// A `with` without items.
+    EmptyWithItems,
+    /// A `with` without a body.
+    EmptyWithBody,
+    /// What this compiler does not know yet.
+    NotImplementedYet,
+    /// A shape that no tree of a program has.
+    MalformedTree(Malformed),
+    /// The tree reaches a limit.
+    TooLarge(TreeLimit),
+    /// There was no memory. Alone of all, this says nothing of the tree.
+    OutOfMemory,
+}
+
+/// A refusal, with the location of the statement or expression at fault and the path of the source. Refusals of the
+/// whole tree, and want of memory, have no location.
+pub type CodegenError = LocatedError<CodegenErrorType>;
+
+impl fmt::Display for CodegenErrorType {
+    ghost use Rattle.std.specs.Prelude.{Some};
+    ghost use Rattle.py_base.specs.Messages.{message};
+
+    ghost output = { λ e. Some (message e) };
+
+    fn fmt<W: fmt::Write>(&self, f: &mut fmt::Formatter<W>) -> fmt::Result {
+        match self {
+            CodegenErrorType::Assign(text) => write!(f, "cannot assign to {}", text.as_str()),
+            CodegenErrorType::Delete(text) => write!(f, "cannot delete {}", text.as_str()),
+            CodegenErrorType::SyntaxError(text) => write!(f, "{}", text.as_str()),
+            CodegenErrorType::MultipleStarArgs => f.write_str(
+                "two starred expressions in assignment",
+            ),
+            CodegenErrorType::TooManyStarUnpack => f.write_str(
+                "too many expressions in star-unpacking assignment",
+            ),
+            CodegenErrorType::InvalidStarExpr => f.write_str("cannot use starred expression here"),
+            CodegenErrorType::InvalidBreak => f.write_str("'break' outside loop"),
+            CodegenErrorType::InvalidContinue => f.write_str("'continue' outside loop"),
+            CodegenErrorType::InvalidReturn => f.write_str("'return' outside function"),
+            CodegenErrorType::InvalidYield => f.write_str("'yield' outside function"),
+            CodegenErrorType::InvalidYieldFrom => f.write_str("'yield from' outside function"),
+            CodegenErrorType::InvalidAwait => f.write_str("'await' outside async function"),
+            CodegenErrorType::AsyncYieldFrom => f.write_str("'yield from' inside async function"),
+            CodegenErrorType::AsyncReturnValue => f.write_str(
+                "'return' with value inside async generator",
+            ),
+            CodegenErrorType::InvalidFuturePlacement => f.write_str(
+                "from __future__ imports must occur at the beginning of the file",
+            ),
+            CodegenErrorType::InvalidFutureFeature(text) => write!(
+                f,
+                "future feature {} is not defined",
+                text.as_str()
+            ),
+            CodegenErrorType::FunctionImportStar => f.write_str(
+                "import * only allowed at module level",
+            ),
+            CodegenErrorType::EmptyWithItems => f.write_str("empty items on With"),
+            CodegenErrorType::EmptyWithBody => f.write_str("empty body on With"),
+            CodegenErrorType::NotImplementedYet => f.write_str(
+                "RustPython does not implement this feature yet",
+            ),
+            CodegenErrorType::MalformedTree(shape) => write!(f, "malformed tree: {}", shape.name()),
+            CodegenErrorType::TooLarge(TreeLimit::Nodes) => f.write_str("tree is too large: nodes"),
+            CodegenErrorType::TooLarge(TreeLimit::Depth) => f.write_str(
+                "tree is too large: nesting",
+            ),
+            CodegenErrorType::OutOfMemory => f.write_str("out of memory"),
+        }
+    }
+}
+
+impl Error for CodegenErrorType {}

@@ -1,0 +1,30 @@
+ghost use Rattle.std.specs.Prelude.{List, ℕ, Option, Bool, false};
+ghost use Rattle.py_devices.specs.Devices.{WriteTakes, WriteCounts, WriteKeepsCount, HasRoom};
+
+/// What a write answers.
+#[derive(Clone, Copy, Debug, PartialEq, Eq)]
+pub enum WriteAnswer {
+    /// So many bytes were taken, from the front.
+    Took(usize),
+    /// The write failed, and took nothing.
+    Failed,
+}
+
+/// Where bytes go.
+pub trait Sink {
+    // The bytes held, where they are told.
+    ghost held: { Self → Option (List ℕ) };
+    // How many more bytes it takes, where it says so.
+    ghost room: { Self → Option ℕ };
+    // How many faults were met so far.
+    ghost faults: { Self → ℕ };
+    // Whether the count goes up in failed calls alone.
+    ghost counts_failures: { Bool } = { false };
+
+    /// Takes bytes from the front of `bytes`.
+    fn write(&mut self, bytes: &[u8]) -> WriteAnswer
+        ensures bytes { WriteTakes (held self.old) (held self.new) result bytes.now }
+        ensures cause { WriteCounts (faults self.old) (faults self.new) result bytes.now }
+        ensures still { WriteKeepsCount counts_failures (faults self.old) (faults self.new) result bytes.now }
+        ensures room { HasRoom (room self.old) (room self.new) (faults self.old) (faults self.new) result bytes.now };
+}

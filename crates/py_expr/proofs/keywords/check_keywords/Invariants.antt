@@ -1,9 +1,0 @@
-use Rattle.std.proofs.Common.{◌≡◌, drop}
-use Rattle.py_tree.specs.View.{expr_tree, keywords}
-use Rattle.py_steps.specs.EmissionParts.{checked}
-use Rattle.py_emission.specs.Emission.{keyword_emissions}
-use Rattle.py_emit.specs.States.{rest, state}
-use Rattle.py_expr.proofs.keywords.check_keywords.Given as goal
-
-abbrev pub invariant-loop-keyword : goal.invariant-loop-keyword
-invariant-loop-keyword l = (rest l.em ≡ rest l.initial.em) × (checked (keyword_emissions (keywords expr_tree l.keywords)) (state l.initial.em) ≡ checked (keyword_emissions (keywords expr_tree (drop l.keyword-index l.keywords))) (state l.em))

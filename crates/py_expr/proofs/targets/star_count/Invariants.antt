@@ -1,8 +1,0 @@
-use Rattle.std.proofs.Common.{◌≡◌, ◌≤◌, ◌+◌, drop}
-use Rattle.py_tree.specs.View.{expr_tree, exprs}
-use Rattle.py_steps.specs.Elements.{stars}
-use Rattle.py_emission.specs.Emission.{all_stores}
-use Rattle.py_expr.proofs.targets.star_count.Given as goal
-
-abbrev pub invariant-loop-elt : goal.invariant-loop-elt
-invariant-loop-elt l = (l.count ≤ l.elt-index) × (l.count + stars (all_stores (exprs expr_tree (drop l.elt-index l.elts))) ≡ stars (all_stores (exprs expr_tree l.elts)))

@@ -1,0 +1,24 @@
+-- What only a function may do: whether the present scope is one, and what follows.
+use Rattle.std.proofs.Common.{◌≡◌, Bool, true, false, refl, ap}
+use Rattle.std.specs.Prelude.{if◌then◌else◌}
+use Rattle.py_base.specs.declared.errors.CodegenErrorType.{CodegenErrorType}
+use Rattle.py_steps.specs.Context.{is_function}
+use Rattle.py_steps.specs.Emitting.{Emission, State, ◌▸◌, by_context, keep, refuse}
+use Rattle.py_steps.specs.EmissionParts.{only_in_function}
+
+-- where the present scope is a function, what follows goes on
+pub inside_function : (e : CodegenErrorType) (v : Emission) (s : State) → only_in_function e v s ≡ (only_in_function e keep ▸ v) s
+unfolding by_context refuse
+inside_function e v s = by_test (is_function s.around.context.typ)
+  where
+    by_test : (b : Bool) → (if b then v else refuse e) s ≡ ((if b then keep else refuse e) ▸ v) s
+    by_test true = refl
+    by_test false = refl
+
+pub within_function : (e : CodegenErrorType) (v : Emission) (s : State) → is_function s.around.context.typ ≡ true → only_in_function e v s ≡ v s
+unfolding by_context
+within_function e v s f = ap (λ (b : Bool). (if b then v else refuse e) s) f
+
+pub outside_function : (e : CodegenErrorType) (v : Emission) (s : State) → is_function s.around.context.typ ≡ false → only_in_function e v s ≡ refuse e s
+unfolding by_context
+outside_function e v s f = ap (λ (b : Bool). (if b then v else refuse e) s) f

@@ -1,0 +1,11 @@
+pub mod Steps
+pub mod Turns
+pub mod Groups
+pub mod Pairs
+pub mod Dicts
+pub mod Otherwise
+pub mod JoinedTexts
+pub mod Stores
+pub mod KeywordMaps
+pub mod CallOperands
+pub mod InFunctions

@@ -1,0 +1,5 @@
+pub mod Turns
+pub mod Dicts
+pub mod Texts
+pub mod Targets
+pub mod Calls

@@ -1,0 +1,68 @@
+//! The instructions of comparisons.
+ghost use Rattle.std.specs.Prelude.{◌≡◌, ◌<◌, length};
+ghost use Rattle.py_steps.specs.Emitting.{emit as emitting};
+ghost use Rattle.py_steps.specs.EmissionParts.{emission_of_comparison, emission_of_link, first_comparison};
+ghost use Rattle.py_emit.specs.States.{Emits};
+
+use py_base::CodegenError;
+use py_bytecode::Instruction;
+use py_emit::{Emitter, emit};
+use py_ir::BlockIdx;
+use py_tree::CmpOp;
+
+/// Emits the first of some comparisons.
+///
+/// # Errors
+/// OutOfMemory alone.
+pub fn compile_first_comparison(em: &mut Emitter, ops: &[CmpOp]) -> Result<(), CodegenError>
+    requires { 0 < length ops.now }
+    ensures { Emits result (first_comparison ops.now) em.old em.new }
+{
+    compile_comparison(em, ops[0])
+}
+
+/// Emits a comparison whose right value the next one needs too, and the jump where it is false.
+///
+/// # Errors
+/// OutOfMemory alone.
+pub fn compile_link(em: &mut Emitter, op: CmpOp, out: BlockIdx) -> Result<(), CodegenError>
+    requires below { out.0 < 0xffff_ffff }
+    ensures { Emits result (emission_of_link op out.0) em.old em.new }
+{
+    emit!(em, Instruction::Duplicate);
+    emit!(em, Instruction::Rotate3);
+    compile_comparison(em, op)?;
+    emit!(em, Instruction::JumpIfFalseOrPop => out);
+    Ok(())
+}
+
+/// Emits the comparison of the two values that lie there.
+///
+/// # Errors
+/// OutOfMemory alone.
+#[tactic(auto, using(crate::proofs::Steps::steps))]
+pub fn compile_comparison(em: &mut Emitter, op: CmpOp) -> Result<(), CodegenError>
+    ensures { Emits result (emission_of_comparison op) em.old em.new }
+{
+    let (instr, case) = comparison_case(op);
+    emit!(em, instr, case);
+    Ok(())
+}
+
+/// The instruction of a comparison, with the number of its case.
+fn comparison_case(op: CmpOp) -> (Instruction, u32)
+    ensures { emission_of_comparison op ≡ emitting result.0 result.1 }
+{
+    match op {
+        CmpOp::Lt => (Instruction::CompareOperation, 0),
+        CmpOp::Gt => (Instruction::CompareOperation, 1),
+        CmpOp::NotEq => (Instruction::CompareOperation, 2),
+        CmpOp::Eq => (Instruction::CompareOperation, 3),
+        CmpOp::LtE => (Instruction::CompareOperation, 4),
+        CmpOp::GtE => (Instruction::CompareOperation, 5),
+        CmpOp::In => (Instruction::TestOperation, 0),
+        CmpOp::NotIn => (Instruction::TestOperation, 1),
+        CmpOp::Is => (Instruction::TestOperation, 2),
+        CmpOp::IsNot => (Instruction::TestOperation, 3),
+    }
+}

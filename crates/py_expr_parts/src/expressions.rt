@@ -1,0 +1,91 @@
+//! The cases of operators, names, and expressions that are refused.
+ghost use Rattle.std.specs.Prelude.{◌≡◌};
+ghost use Rattle.py_tree.specs.View.{name_tree, starred_tree, await_tree};
+ghost use Rattle.py_steps.specs.TableParts.{binary_case, unary_case};
+ghost use Rattle.py_steps.specs.Emitting.{refuse};
+ghost use Rattle.py_emission.specs.Emission.{emission};
+ghost use Rattle.py_emit.specs.States.{Emits, state};
+
+use py_base::{CodegenError, CodegenErrorType};
+use py_emit::{Emitter, NameUsage, refuse};
+use py_tree::{ExprAwait, ExprName, ExprStarred, Operator, UnaryOp};
+
+/// Refuses a node of a kind that is not supported.
+///
+/// # Errors
+/// NotImplementedYet.
+#[tactic(auto, using(crate::proofs::Steps::steps))]
+pub fn refuse_unsupported(em: &mut Emitter) -> Result<(), CodegenError>
+    ensures { Emits result (refuse CodegenErrorType.NotImplementedYet) em.old em.new }
+{
+    refuse!(em, CodegenErrorType::NotImplementedYet);
+}
+
+/// The number of a binary operator's case.
+pub fn case_of(op: Operator) -> u32
+    ensures { result ≡ binary_case op }
+{
+    match op {
+        Operator::Add => 0,
+        Operator::Sub => 1,
+        Operator::Mult => 2,
+        Operator::MatMult => 3,
+        Operator::Div => 4,
+        Operator::FloorDiv => 5,
+        Operator::Mod => 6,
+        Operator::Pow => 7,
+        Operator::LShift => 8,
+        Operator::RShift => 9,
+        Operator::BitOr => 10,
+        Operator::BitXor => 11,
+        Operator::BitAnd => 12,
+    }
+}
+
+/// The number of a unary operator's case.
+pub fn unary_case_of(op: UnaryOp) -> u32
+    ensures { result ≡ unary_case op }
+{
+    match op {
+        UnaryOp::UAdd => 0,
+        UnaryOp::USub => 1,
+        UnaryOp::Not => 2,
+        UnaryOp::Invert => 3,
+    }
+}
+
+/// Refuses a starred expression that is no element.
+///
+/// # Errors
+/// InvalidStarExpr.
+#[tactic(auto, using(crate::proofs::Steps::steps))]
+pub fn compile_starred(em: &mut Emitter, e: &ExprStarred) -> Result<(), CodegenError>
+    requires at { (state em.old).location ≡ e.now.location }
+    ensures { Emits result (emission (starred_tree e.now)) em.old em.new }
+{
+    refuse!(em, CodegenErrorType::InvalidStarExpr);
+}
+
+/// Emits the load of a name.
+///
+/// # Errors
+/// OutOfMemory alone.
+#[tactic(auto, using(crate::proofs::Steps::steps))]
+pub fn compile_name(em: &mut Emitter, e: &ExprName) -> Result<(), CodegenError>
+    requires at { (state em.old).location ≡ e.now.location }
+    ensures { Emits result (emission (name_tree e.now)) em.old em.new }
+{
+    em.compile_name(NameUsage::Load, e.id.as_str())
+}
+
+/// Refuses an `await`, since no function that is compiled is an `async def`.
+///
+/// # Errors
+/// InvalidAwait.
+#[tactic(auto, using(crate::proofs::Steps::steps))]
+pub fn compile_await(em: &mut Emitter, e: &ExprAwait) -> Result<(), CodegenError>
+    requires at { (state em.old).location ≡ e.now.location }
+    ensures { Emits result (emission (await_tree e.now)) em.old em.new }
+{
+    refuse!(em, CodegenErrorType::InvalidAwait);
+}

@@ -1,0 +1,152 @@
+-- The parameters of functions and their defaults, one at a time, and what a code object says of them.
+use Rattle.std.proofs.Common.{◌≡◌, ℕ, suc, ◌+◌, ◌<◌, List, [], ◌∷◌, ◌++◌, length, drop, get_or, Bool, true, false, Option, Some, None, refl, sym, ap, ◌∙◌, arith}
+use Rattle.std.proofs.Math.Seq.{drop-cons}
+use Rattle.std.proofs.lemmas.List.{length-append}
+use Rattle.std.specs.Option as option
+use Rattle.std.specs.declared.alloc.Global.{Global}
+use Rattle.std.specs.declared.boxed.Box.{Box}
+use Rattle.py_tree.specs.Tree as tree
+use Rattle.py_tree.specs.View.{args, arg, arguments, expr_tree, opt_arg, opt_box}
+use Rattle.py_tree.specs.declared.expressions.Expr.{Expr}
+use Rattle.py_tree.specs.declared.expressions.ArgOf.{ArgOf}
+use Rattle.py_tree.specs.declared.expressions.ArgWithDefaultOf.{ArgWithDefaultOf}
+use Rattle.py_tree.specs.declared.expressions.ArgumentsOf.{ArgumentsOf}
+use Rattle.py_bytecode.specs.declared.instruction.Instruction.TheVariants as op
+use Rattle.py_bytecode.specs.Objects as const
+use Rattle.py_steps.specs.Children.{enter_parameters, some_emitted}
+use Rattle.py_steps.specs.Within.{Shape, some_flag}
+use Rattle.py_steps.specs.Emitting.{Emission, ◌▸◌, emit_constant, emit_count}
+use Rattle.py_steps.specs.EmissionParts.{built, in_turn, map_of, name_values}
+use Rattle.py_emission.specs.Emission.{default_emissions, emission, keyword_only_emissions, positional_emissions}
+use Rattle.py_emission.specs.Parameters.{arg_names, names_with_default, names_without_default, opt_arg_names, parameters, function_shape}
+use Rattle.py_emit.proofs.Joined.{joined, turn_append}
+use Rattle.py_expr_scopes.specs.Functions.{closed_by, default_values, flag_if, is_some, names_given, parameter, parameter_given}
+
+one_more : (i : ℕ) → suc i ≡ i + 1
+one_more i = omega arith
+
+-- parameters one after the other
+enter_append : (xs ys : List (List ℕ)) → enter_parameters (xs ++ ys) ≡ enter_parameters xs ▸ enter_parameters ys
+enter_append [] ys = refl
+enter_append (x ∷ xs) ys = ap (λ (v : Emission). parameter x ▸ v) (enter_append xs ys) ∙ sym (joined (parameter x) (enter_parameters xs) (enter_parameters ys))
+
+then_as : (a b c : Emission) → b ≡ c → a ▸ b ≡ a ▸ c
+then_as a b c e = ap (λ v. a ▸ v) e
+
+pub parameters_are : (p : ArgumentsOf Expr) → enter_parameters (parameters (arguments expr_tree p)) ≡ enter_parameters (arg_names (args expr_tree p.posonlyargs)) ▸ enter_parameters (arg_names (args expr_tree p.args)) ▸ enter_parameters (names_given false (args expr_tree p.kwonlyargs)) ▸ enter_parameters (names_given true (args expr_tree p.kwonlyargs)) ▸ enter_parameters (opt_arg_names (opt_arg expr_tree p.vararg)) ▸ enter_parameters (opt_arg_names (opt_arg expr_tree p.kwarg))
+parameters_are p =
+    let a = arg_names (args expr_tree p.posonlyargs) in
+    let b = arg_names (args expr_tree p.args) in
+    let c = names_without_default (args expr_tree p.kwonlyargs) in
+    let d = names_with_default (args expr_tree p.kwonlyargs) in
+    let e = opt_arg_names (opt_arg expr_tree p.vararg) in
+    let f = opt_arg_names (opt_arg expr_tree p.kwarg) in
+    enter_append a (b ++ (c ++ (d ++ (e ++ f))))
+    ∙ then_as (enter_parameters a) _ _ (enter_append b (c ++ (d ++ (e ++ f)))
+    ∙ then_as (enter_parameters b) _ _ (enter_append c (d ++ (e ++ f))
+    ∙ then_as (enter_parameters c) _ _ (enter_append d (e ++ f)
+    ∙ then_as (enter_parameters d) _ _ (enter_append e f))))
+
+given_next : (given : Bool) (a : ArgOf Expr) (default : tree.OptExpr) (rest : tree.Args) → enter_parameters (names_given given (tree.more_args (arg expr_tree a) default rest)) ≡ parameter_given given a.arg default ▸ enter_parameters (names_given given rest)
+given_next true a tree.no_expr rest = refl
+given_next true a (tree.some_expr e) rest = refl
+given_next false a tree.no_expr rest = refl
+given_next false a (tree.some_expr e) rest = refl
+
+-- the parameter at a place
+pub parameter_at : (xs : List (ArgWithDefaultOf Expr)) (i : ℕ) (d x : ArgWithDefaultOf Expr) → x ≡ get_or xs i d → i < length xs → enter_parameters (arg_names (args expr_tree (drop i xs))) ≡ parameter x.def.arg ▸ enter_parameters (arg_names (args expr_tree (drop (i + 1) xs)))
+parameter_at xs i d x is lt =
+    ap (λ ys. enter_parameters (arg_names (args expr_tree ys))) (drop-cons xs i d lt)
+    ∙ ap (λ j. enter_parameters (arg_names (args expr_tree (get_or xs i d ∷ drop j xs)))) (one_more i)
+    ∙ ap (λ (y : ArgWithDefaultOf Expr). parameter y.def.arg ▸ enter_parameters (arg_names (args expr_tree (drop (i + 1) xs)))) (sym is)
+
+pub given_at : (given : Bool) (xs : List (ArgWithDefaultOf Expr)) (i : ℕ) (d x : ArgWithDefaultOf Expr) → x ≡ get_or xs i d → i < length xs → enter_parameters (names_given given (args expr_tree (drop i xs))) ≡ parameter_given given x.def.arg (opt_box expr_tree x.default) ▸ enter_parameters (names_given given (args expr_tree (drop (i + 1) xs)))
+given_at given xs i d x is lt =
+    ap (λ ys. enter_parameters (names_given given (args expr_tree ys))) (drop-cons xs i d lt)
+    ∙ ap (λ j. enter_parameters (names_given given (args expr_tree (get_or xs i d ∷ drop j xs)))) (one_more i)
+    ∙ ap (λ y. enter_parameters (names_given given (args expr_tree (y ∷ drop (i + 1) xs)))) (sym is)
+    ∙ given_next given x.def (opt_box expr_tree x.default) (args expr_tree (drop (i + 1) xs))
+
+-- the defaults of positional parameters have no names
+positional_are : (xs : tree.Args) → default_values false xs ≡ positional_emissions xs
+positional_are tree.no_args = refl
+positional_are (tree.more_args a tree.no_expr rest) = positional_are rest
+positional_are (tree.more_args (tree.arg at name note) (tree.some_expr e) rest) = ap (λ vs. emission e ∷ vs) (positional_are rest)
+
+-- those of keyword-only ones have
+keyword_are : (xs : tree.Args) → default_values true xs ≡ name_values (keyword_only_emissions xs)
+keyword_are tree.no_args = refl
+keyword_are (tree.more_args a tree.no_expr rest) = keyword_are rest
+keyword_are (tree.more_args (tree.arg at name note) (tree.some_expr e) rest) = ap (λ vs. (emit_constant op.LoadConst (const.str name) ▸ emission e) ∷ vs) (keyword_are rest)
+
+some_built : (vs : List Emission) → some_emitted (built op.BuildTuple) vs ≡ in_turn vs ▸ closed_by op.BuildTuple (length vs)
+some_built [] = refl
+some_built (v ∷ vs) = refl
+
+some_mapped : (ps : List (List ℕ × Emission)) → some_emitted map_of ps ≡ in_turn (name_values ps) ▸ closed_by op.BuildMap (length (name_values ps))
+some_mapped [] = refl
+some_mapped (p ∷ ps) = ap (λ n. in_turn (name_values (p ∷ ps)) ▸ emit_count op.BuildMap (suc n)) (many ps)
+  where
+    many : (qs : List (List ℕ × Emission)) → length qs ≡ length (name_values qs)
+    many [] = refl
+    many (q ∷ qs) = ap suc (many qs)
+
+flag_by : {A : Type 0} (flag : ℕ) (xs : List A) (any : Bool) → any ≡ is_some (length xs) → some_flag flag xs ≡ flag_if flag any
+flag_by flag [] any e = ap (flag_if flag) (sym e)
+flag_by flag (x ∷ xs) any e = ap (flag_if flag) (sym e)
+
+module _ (p : ArgumentsOf Expr) where
+  abbrev posonly : List Emission
+  posonly = default_values false (args expr_tree p.posonlyargs)
+
+  abbrev others : List Emission
+  others = default_values false (args expr_tree p.args)
+
+  abbrev named : List Emission
+  named = default_values true (args expr_tree p.kwonlyargs)
+
+  both : posonly ++ others ≡ (default_emissions (arguments expr_tree p)).positional
+  both = ap (λ vs. vs ++ others) (positional_are (args expr_tree p.posonlyargs)) ∙ ap (λ vs. positional_emissions (args expr_tree p.posonlyargs) ++ vs) (positional_are (args expr_tree p.args))
+
+  -- the tuple of the defaults of positional parameters
+  pub positional_goes : some_emitted (built op.BuildTuple) (default_emissions (arguments expr_tree p)).positional ≡ in_turn posonly ▸ in_turn others ▸ closed_by op.BuildTuple (length posonly + length others)
+  positional_goes =
+      ap (some_emitted (built op.BuildTuple)) (sym both)
+      ∙ some_built (posonly ++ others)
+      ∙ ap (λ v. v ▸ closed_by op.BuildTuple (length (posonly ++ others))) (turn_append posonly others)
+      ∙ joined (in_turn posonly) (in_turn others) (closed_by op.BuildTuple (length (posonly ++ others)))
+      ∙ ap (λ n. in_turn posonly ▸ in_turn others ▸ closed_by op.BuildTuple n) (length-append posonly others)
+
+  pub positional_any : (any : Bool) → any ≡ is_some (length posonly + length others) → some_flag 0x08 (default_emissions (arguments expr_tree p)).positional ≡ flag_if 0x08 any
+  positional_any any e = ap (some_flag 0x08) (sym both) ∙ flag_by 0x08 (posonly ++ others) any (e ∙ ap is_some (sym (length-append posonly others)))
+
+  -- the map of those of keyword-only ones
+  pub keyword_goes : some_emitted map_of (default_emissions (arguments expr_tree p)).keyword ≡ in_turn named ▸ closed_by op.BuildMap (length named)
+  keyword_goes =
+      some_mapped (keyword_only_emissions (args expr_tree p.kwonlyargs))
+      ∙ ap (λ vs. in_turn vs ▸ closed_by op.BuildMap (length vs)) (sym (keyword_are (args expr_tree p.kwonlyargs)))
+
+  pub keyword_any : (any : Bool) → any ≡ is_some (length named) → some_flag 0x04 (default_emissions (arguments expr_tree p)).keyword ≡ flag_if 0x04 any
+  keyword_any any e = named_flag (keyword_only_emissions (args expr_tree p.kwonlyargs)) (e ∙ ap (λ vs. is_some (length vs)) (keyword_are (args expr_tree p.kwonlyargs)))
+    where
+      named_flag : (ps : List (List ℕ × Emission)) → any ≡ is_some (length (name_values ps)) → some_flag 0x04 ps ≡ flag_if 0x04 any
+      named_flag [] h = ap (flag_if 0x04) (sym h)
+      named_flag (q ∷ ps) h = ap (flag_if 0x04) (sym h)
+
+many_names : (xs : List (ArgWithDefaultOf Expr)) → length (arg_names (args expr_tree xs)) ≡ length xs
+many_names [] = refl
+many_names (x ∷ xs) = ap suc (many_names xs)
+
+taken_flag : (flag : ℕ) (o : Option (Box (ArgOf Expr) Global)) → some_flag flag (opt_arg_names (opt_arg expr_tree o)) ≡ flag_if flag (option.is_some o)
+taken_flag flag None = refl
+taken_flag flag (Some x) = refl
+
+-- what a code object says of its function
+pub shape_is : (p : ArgumentsOf Expr) (s : Shape) → s.flags ≡ 0x21 + (flag_if 0x08 (option.is_some p.vararg) + flag_if 0x10 (option.is_some p.kwarg)) → s.posonlyarg_count ≡ length p.posonlyargs → s.arg_count ≡ length p.posonlyargs + length p.args → s.kwonlyarg_count ≡ length p.kwonlyargs → s ≡ function_shape (arguments expr_tree p) s.obj_name
+shape_is p s f g h k = λ i. record {
+  flags = (f ∙ ap (λ n. 0x21 + (n + flag_if 0x10 (option.is_some p.kwarg))) (sym (taken_flag 0x08 p.vararg)) ∙ ap (λ n. 0x21 + (some_flag 0x08 (opt_arg_names (opt_arg expr_tree p.vararg)) + n)) (sym (taken_flag 0x10 p.kwarg))) i;
+  posonlyarg_count = (g ∙ sym (many_names p.posonlyargs)) i;
+  arg_count = (h ∙ ap (λ n. n + length p.args) (sym (many_names p.posonlyargs)) ∙ ap (λ n. length (arg_names (args expr_tree p.posonlyargs)) + n) (sym (many_names p.args))) i;
+  kwonlyarg_count = (k ∙ sym (many_names p.kwonlyargs)) i;
+  obj_name = s.obj_name;
+}

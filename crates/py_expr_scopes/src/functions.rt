@@ -1,0 +1,159 @@
+//! What lambdas share with the definitions of functions: the scope within, its flags, names of defaults, and the scopes that are
+//! passed over.
+ghost use Rattle.std.specs.Prelude.{◌≡◌, ◌+◌, ℕ, Bool, suc, codes, IfErr, IfOk, OnOk};
+ghost use Rattle.py_counts.specs.Counts.{IsSum, scopes_in_annotations as annotation_scopes};
+ghost use Rattle.py_tree.specs.View.{arguments, expr_tree};
+ghost use Rattle.py_bytecode.specs.Objects as object;
+ghost use Rattle.py_bytecode.specs.View.{object as code_object};
+ghost use Rattle.py_steps.specs.Children.{code_head, enter_parameters, made};
+ghost use Rattle.py_steps.specs.Emitting.{◌▸◌, add_constant, begun, emit_constant};
+ghost use Rattle.py_steps.specs.EmissionParts.{pass_scopes};
+ghost use Rattle.py_emission.specs.Parameters.{function_shape, parameters};
+ghost use Rattle.py_emit.specs.States.{Emits, Goes, IsStarved, Same, entered, entered_rest, rest, state};
+ghost use Rattle.py_expr_scopes.specs.Functions.{closed_by, default_name, flag_if, is_some};
+ghost use Rattle.py_bytecode.specs.Objects.{str};
+
+use crate::parameters::{enter_names, function_head};
+use bitflags::Flags;
+use py_base::{CodegenError, CodegenErrorType};
+use py_bytecode::{CodeObject, ConstantData, Instruction, MakeFunctionFlags};
+use py_counts::scopes_in_annotations;
+use py_emit::{Emitter, Naming, refuse};
+use py_scope::SymbolTableType;
+use py_tree::{Arguments, Text};
+
+/// Which defaults lie there: a tuple of those of positional parameters, and a map of those of keyword-only ones.
+#[derive(Clone, Copy, PartialEq, Eq, Debug)]
+pub struct Defaults {
+    /// Whether the tuple lies there.
+    pub positional: bool,
+    /// Whether the map lies there.
+    pub keyword: bool,
+}
+
+/// Makes a function of a lambda's code, and passes the scopes of its annotations over.
+///
+/// # Errors
+/// OutOfMemory alone.
+pub fn make_lambda(
+    em: &mut Emitter,
+    params: &Arguments,
+    defaults: Defaults,
+    code: CodeObject,
+) -> Result<(), CodegenError>
+    ensures { Emits result (pass_scopes (λ postponed. annotation_scopes postponed (arguments expr_tree params.now)) ▸ made (flag_if 0x08 defaults.positional + flag_if 0x04 defaults.keyword) (codes "<lambda>") (code_object code)) em.old em.new }
+{
+    pass_annotations(em, params)?;
+    let name = em.text("<lambda>")?;
+    em.make_function(function_flags(defaults, false), name, code)
+}
+
+/// Goes into the scope of a function of these parameters, under this name; the scope around waits.
+///
+/// # Errors
+/// OutOfMemory alone.
+pub fn enter_function(
+    em: &mut Emitter,
+    params: &Arguments,
+    name: Text,
+    naming: Naming,
+) -> Result<(), CodegenError>
+    ensures state { OnOk result (state em.new ≡ begun (entered SymbolTableType.Function naming (state em.old)) (state em.old).location (suc (state em.old).next)) }
+    ensures rest { OnOk result (rest em.new ≡ entered_rest em.old.scope (code_head (entered SymbolTableType.Function naming (state em.old)) (function_shape (arguments expr_tree params.now) name) (state em.old).location) (rest em.old)) }
+    ensures err { IfErr result (λ e. IsStarved e (rest em.old).path) }
+{
+    let head = function_head(em, params, name)?;
+    em.enter_scope(head, SymbolTableType::Function, naming)
+}
+
+/// Begins the scope of a function: its parameters are the first names of the code object's own, and None is its first
+/// constant.
+///
+/// # Errors
+/// SyntaxError where a parameter is named `__debug__`, or OutOfMemory.
+#[tactic(auto, using(py_bytecode::proofs::View::views))]
+pub fn begin_function(em: &mut Emitter, params: &Arguments) -> Result<(), CodegenError>
+    ensures { Emits result (enter_parameters (parameters (arguments expr_tree params.now)) ▸ add_constant object.none) em.old em.new }
+{
+    enter_names(em, params)?;
+    em.enter_constant(ConstantData::None)
+}
+
+/// Passes the scopes over that stand in the annotations of parameters, which a lambda cannot have and a compiled tree may.
+///
+/// # Errors
+/// OutOfMemory alone.
+#[tactic(auto, unfolding(py_emit::specs::States::rest))]
+pub fn pass_annotations(em: &mut Emitter, params: &Arguments) -> Result<(), CodegenError>
+    ensures { Emits result (pass_scopes (λ postponed. annotation_scopes postponed (arguments expr_tree params.now))) em.old em.new }
+{
+    let postponed = em.context().future_annotations;
+    let next = scopes_in_annotations(params, postponed, em.next_scope());
+    pass_counted(em, next)
+}
+
+/// Passes over the scopes that were counted from the next one on. None says that their number has no usize.
+///
+/// # Errors
+/// OutOfMemory alone.
+#[tactic(auto, unfolding(py_steps::specs::Emitting::by_context, py_steps::specs::Emitting::pass_over))]
+pub fn pass_counted(em: &mut Emitter, next: Option<usize>) -> Result<(), CodegenError>
+    ensures goes { (count : (postponed : Bool) → ℕ) → IsSum next ((state em.old).next + count (state em.old).around.context.postponed) → Goes result (state em.new) (pass_scopes count (state em.old)) }
+    ensures same { Same result (rest em.new) (rest em.old) }
+{
+    let Some(number) = next else {
+        refuse!(em, CodegenErrorType::OutOfMemory);
+    };
+    em.pass_scopes(number);
+    Ok(())
+}
+
+/// What `MakeFunction` takes beside code and name.
+pub fn function_flags(defaults: Defaults, annotated: bool) -> MakeFunctionFlags
+    ensures { result.0 ≡ flag_if 0x08 defaults.positional + flag_if 0x04 defaults.keyword + flag_if 0x02 annotated }
+{
+    let positional = if defaults.positional { 0x08 } else { 0 };
+    let keyword = if defaults.keyword { 0x04 } else { 0 };
+    let notes = if annotated { 0x02 } else { 0 };
+    MakeFunctionFlags::from_bits_retain(positional + keyword + notes)
+}
+
+/// Builds what so many values make, where there are any. Answers whether there are.
+///
+/// # Errors
+/// OutOfMemory alone.
+pub fn build_some(em: &mut Emitter, build: Instruction, count: usize) -> Result<bool, CodegenError>
+    ensures any { IfOk result (λ any. any ≡ is_some count) }
+    ensures emits { Emits result (closed_by build count) em.old em.new }
+{
+    if count == 0 {
+        return Ok(false);
+    }
+    em.emit_count(build, count)?;
+    Ok(true)
+}
+
+/// Emits the name of a default, where defaults are named.
+///
+/// # Errors
+/// OutOfMemory alone.
+pub fn load_default_name(em: &mut Emitter, name: &Text, named: bool) -> Result<(), CodegenError>
+    ensures { Emits result (default_name named name.now) em.old em.new }
+{
+    if named {
+        return load_name(em, name);
+    }
+    Ok(())
+}
+
+/// Emits a name as a constant.
+///
+/// # Errors
+/// OutOfMemory alone.
+#[tactic(auto, using(py_bytecode::proofs::View::views))]
+pub fn load_name(em: &mut Emitter, name: &Text) -> Result<(), CodegenError>
+    ensures { Emits result (emit_constant Instruction.LoadConst (str name.now)) em.old em.new }
+{
+    let value = em.text(name.as_str())?;
+    em.load_const(ConstantData::Str { value })
+}

@@ -1,0 +1,19 @@
+ghost use Rattle.std.specs.Prelude.{◌≡◌, ◌++◌, string_bytes, OnOk};
+
+use itoa::{Buffer, Integer};
+use std::alloc::AllocError;
+
+/// Appends the text as it is.
+pub fn push_text(out: &mut String, text: &str) -> Result<(), AllocError>
+    ensures { OnOk result (string_bytes out.new ≡ string_bytes out.old ++ text.now) }
+{
+    out.push_str(text)
+}
+
+/// Appends a number in decimal digits.
+pub fn push_number<I: Integer>(out: &mut String, number: I) -> Result<(), AllocError>
+    ensures { OnOk result (string_bytes out.new ≡ string_bytes out.old ++ I.text number) }
+{
+    let mut buffer = Buffer::new();
+    out.push_str(buffer.format(number))
+}

@@ -1,0 +1,78 @@
+-- What is not compiled yet: what is emitted of it, and its faults.
+use Rattle.std.proofs.Common.{◌≡◌, refl, ℕ, [], ◌∷◌, true, None, Some, codes, pos}
+use Rattle.py_base.specs.Literal as literal
+use Rattle.py_tree.specs.Tree as tree
+use Rattle.py_base.specs.declared.location.SourceLocation.{SourceLocation}
+use Rattle.py_base.specs.declared.shapes.Malformed.TheVariants.{WrongMode}
+use Rattle.py_tree.specs.declared.modules.Mode.TheVariants.{Exec, Eval, Single, BlockExpr}
+use Rattle.py_base.specs.declared.errors.CodegenErrorType.TheVariants as error
+use Rattle.py_steps.specs.Emitting.{Refused, by_level, by_loops, located, move, refuse}
+use Rattle.py_steps.specs.Context.{inside}
+use Rattle.py_emission.specs.EmissionMods.{emitted}
+use Rattle.py_meaning.specs.ExprFaults.{Fault, fault_at}
+use Rattle.py_meaning.specs.Faults.{faults, unbuilt_tree}
+use Rattle.py_meaning_samples.proofs.SampleTools.{unscoped}
+
+abbrev at : ℕ → SourceLocation
+at column = record { row = 1; column = column }
+
+abbrev no_arguments : tree.Arguments
+no_arguments = tree.arguments tree.no_args tree.no_args tree.no_arg tree.no_args tree.no_arg
+
+abbrev one : tree.Stmt → tree.Stmts
+one s = tree.more_stmts s tree.no_stmts
+
+-- `async def f(): break`
+abbrev def_f : SourceLocation → tree.Stmt
+def_f place = tree.AsyncFunctionDef place (codes "f") no_arguments (one (tree.Break (at 16))) tree.no_exprs tree.no_expr tree.no_type_params
+
+-- `[1 async for x in y]`
+abbrev ones : SourceLocation → tree.Expr
+ones place = tree.ListComp place (tree.Constant (at 2) (literal.Int (pos 1))) (tree.more_generators (tree.Name (at 14) (codes "x")) (tree.Name (at 19) (codes "y")) tree.no_exprs true tree.no_generators)
+
+abbrev not_yet : SourceLocation → Fault
+not_yet place = fault_at error.NotImplementedYet place
+
+-- an async def is at fault where it stands, and nothing within it is told
+def_alone : faults (tree.Module (one (def_f (at 1)))) Exec 0 ≡ not_yet (at 1) ∷ []
+def_alone = refl
+
+def_refused : emitted (tree.Module (one (def_f (at 1)))) Exec (unscoped 0) ≡ Refused error.NotImplementedYet (Some (at 1))
+unfolding move refuse located by_level by_loops inside
+def_refused = refl
+
+-- what is at fault before it comes first
+break_before : faults (tree.Module (tree.more_stmts (tree.Break (at 1)) (one (def_f (at 8))))) Exec 0 ≡ fault_at error.InvalidBreak (at 1) ∷ not_yet (at 8) ∷ []
+break_before = refl
+
+break_decides : emitted (tree.Module (tree.more_stmts (tree.Break (at 1)) (one (def_f (at 8))))) Exec (unscoped 0) ≡ Refused error.InvalidBreak (Some (at 1))
+unfolding move refuse located by_level by_loops inside
+break_decides = refl
+
+-- a comprehension with an async clause too
+ones_called : faults (tree.Module (one (tree.StmtExpr (at 1) (tree.Call (at 1) (ones (at 2)) tree.no_exprs tree.no_keywords)))) Exec 0 ≡ not_yet (at 2) ∷ []
+ones_called = refl
+
+-- as a target it is none
+ones_stored : faults (tree.Module (one (tree.Assign (at 1) (tree.more_exprs (ones (at 1)) tree.no_exprs) (tree.Name (at 24) (codes "x"))))) Exec 0 ≡ fault_at (error.Assign (codes "list comprehension")) (at 24) ∷ []
+ones_stored = refl
+
+-- what is entered at a prompt has no fault as a whole, but where its mode is no such one
+prompted : faults (tree.Interactive tree.no_stmts) Single 0 ≡ []
+prompted = refl
+
+blocked : faults (tree.Interactive tree.no_stmts) BlockExpr 0 ≡ []
+blocked = refl
+
+not_prompted : faults (tree.Interactive tree.no_stmts) Eval 0 ≡ record { error = error.MalformedTree WrongMode; location = None } ∷ []
+not_prompted = refl
+
+-- nor has the type of a function a mode, and it is at fault as a whole
+abbrev type : tree.Mod
+type = tree.FunctionType tree.no_exprs (tree.Name (at 1) (codes "x"))
+
+typed : faults type Single 0 ≡ record { error = error.MalformedTree WrongMode; location = None } ∷ unbuilt_tree ∷ []
+typed = refl
+
+type_refused : emitted type Single (unscoped 0) ≡ Refused error.NotImplementedYet None
+type_refused = refl

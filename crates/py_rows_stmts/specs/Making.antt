@@ -1,0 +1,29 @@
+-- The node that a row of a statement makes, or of what stands in one, among those of its sort.
+use Rattle.std.specs.Prelude.{ℕ}
+use Rattle.serde_json.specs.Data.{Items}
+use Rattle.py_rows_fields.specs.declared.kinds.StmtKind.{StmtKind}
+use Rattle.py_rows_fields.specs.declared.kinds.TypeParamKind.{TypeParamKind}
+use Rattle.py_rows_fields.specs.Gives.{◌>>=◌}
+use Rattle.py_rows_slots.specs.Nodes.{Nodes}
+use Rattle.py_rows_slots.specs.Slots.{Made, add_alias, add_case, add_handler, add_item, add_stmt, add_type_param}
+use Rattle.py_rows_stmts.specs.Pieces.{alias_node, case_node, handler_node, item_node}
+use Rattle.py_rows_stmts.specs.Stmts.{stmt_node}
+use Rattle.py_rows_stmts.specs.TypeParams.{type_param_node}
+
+abbrev pub make_stmt : ℕ → StmtKind → Items → Nodes → Made ℕ
+make_stmt n k fields nodes = stmt_node n k fields nodes >>= λ (node, nodes). add_stmt node nodes
+
+abbrev pub make_type_param : ℕ → TypeParamKind → Items → Nodes → Made ℕ
+make_type_param n k fields nodes = type_param_node n k fields nodes >>= λ (node, nodes). add_type_param node nodes
+
+abbrev pub make_alias : ℕ → Items → Nodes → Made ℕ
+make_alias n fields nodes = alias_node n fields >>= λ node. add_alias node nodes
+
+abbrev pub make_item : ℕ → Items → Nodes → Made ℕ
+make_item n fields nodes = item_node n fields nodes >>= λ (node, nodes). add_item node nodes
+
+abbrev pub make_handler : ℕ → Items → Nodes → Made ℕ
+make_handler n fields nodes = handler_node n fields nodes >>= λ (node, nodes). add_handler node nodes
+
+abbrev pub make_case : ℕ → Items → Nodes → Made ℕ
+make_case n fields nodes = case_node n fields nodes >>= λ (node, nodes). add_case node nodes

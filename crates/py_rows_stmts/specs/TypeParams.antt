@@ -1,0 +1,20 @@
+-- Type parameters, of the fields of their kinds.
+use Rattle.std.specs.Prelude.{ℕ, Ok}
+use Rattle.serde_json.specs.Data.{Items}
+use Rattle.py_base.specs.declared.location.SourceLocation.{SourceLocation}
+use Rattle.py_tree.specs.Tree as tree
+use Rattle.py_rows_fields.specs.declared.kinds.TypeParamKind.{TypeParamKind}
+use Rattle.py_rows_fields.specs.declared.kinds.TypeParamKind.TheVariants as kind
+use Rattle.py_rows_fields.specs.Fields.{behind_place, place_in}
+use Rattle.py_rows_fields.specs.Gives.{◌>>=◌}
+use Rattle.py_rows_slots.specs.Nodes.{Nodes}
+use Rattle.py_rows_slots.specs.Slots.{Made}
+use Rattle.py_rows_stmts.specs.Pieces.{param_spec_node, type_var_node, type_var_tuple_node}
+
+abbrev pub type_param_of_kind : ℕ → TypeParamKind → SourceLocation → Items → Nodes → Made tree.TypeParam
+type_param_of_kind n kind.TypeVar at fields nodes = type_var_node n at fields nodes
+type_param_of_kind n kind.ParamSpec at fields nodes = param_spec_node n at fields >>= λ x. Ok (x, nodes)
+type_param_of_kind n kind.TypeVarTuple at fields nodes = type_var_tuple_node n at fields >>= λ x. Ok (x, nodes)
+
+abbrev pub type_param_node : ℕ → TypeParamKind → Items → Nodes → Made tree.TypeParam
+type_param_node n k fields nodes = place_in n fields >>= λ at. behind_place n fields >>= λ own. type_param_of_kind n k at own nodes

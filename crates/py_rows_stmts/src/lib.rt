@@ -1,0 +1,13 @@
+//! What each row of a statement makes, and of what stands in one, of the nodes of the rows that it names, which it
+//! takes.
+#![tactic(auto)]
+
+mod compound;
+mod definitions;
+mod making;
+mod pieces;
+mod simple;
+mod stmts;
+mod type_params;
+
+pub use making::{make_alias, make_case, make_handler, make_item, make_stmt, make_type_param};

@@ -1,0 +1,34 @@
+-- Pieces that were written one after the other.
+use Rattle.std.proofs.Common.{◌≡◌, ℕ, ◌+◌, ◌≤◌, List, length, take, drop, Option, Some, None, ◌∙◌, arith, append_assoc, take-add, length-drop, ◌-◌, IfSome}
+use Rattle.std.proofs.lemmas.List.{take_all}
+use Rattle.std.specs.Io.KnownBytes.{Appends}
+use Rattle.py_devices.specs.Devices.{HasRoom}
+use Rattle.py_devices.specs.declared.sink.WriteAnswer.TheVariants.{Took}
+
+-- n bytes of a said room were used
+abbrev pub KeepsRoom : Option ℕ → Option ℕ → ℕ → Type 0
+KeepsRoom None new n = Unit {0}
+KeepsRoom (Some room) None n = ⊥
+KeepsRoom (Some room) (Some left) n = left + n ≡ room
+
+pub appends_on : (a b d : Option (List ℕ)) (text : List ℕ) (at n : ℕ) → Appends a b (take at text) → Appends b d (take n (drop at text)) → Appends a d (take (at + n) text)
+appends_on None b d text at n p q = tt
+appends_on (Some x) None d text at n p q = absurd p
+appends_on (Some x) (Some y) None text at n p q = absurd q
+appends_on (Some x) (Some y) (Some z) text at n p q = rw (q, p, take-add at n text) (append_assoc x (take at text) (take n (drop at text)))
+
+pub rest_is : (text : List ℕ) (at : ℕ) → take (length text - at) (drop at text) ≡ drop at text
+rest_is text at = take_all (length text - at) (drop at text) (simp length-drop (omega arith))
+
+pub room_on : (a b d : Option ℕ) (bytes : List ℕ) (before now at n : ℕ) → KeepsRoom a b at → HasRoom b d before now (Took n) bytes → KeepsRoom a d (at + n)
+room_on None b d bytes before now at n p q = tt
+room_on (Some x) None d bytes before now at n p q = absurd p
+room_on (Some x) (Some y) None bytes before now at n p q = absurd q
+room_on (Some x) (Some y) (Some z) bytes before now at n p q = omega (arith, p, q.0)
+
+-- a sink that had room for the whole text has room for the rest, and so counts no fault
+pub quiet_on : (a b d : Option ℕ) (text bytes : List ℕ) (before mid now at n : ℕ) → at + length bytes ≤ length text → KeepsRoom a b at → IfSome a (λ room. length text ≤ room → mid ≡ before) → HasRoom b d mid now (Took n) bytes → IfSome a (λ room. length text ≤ room → now ≡ before)
+quiet_on None b d text bytes before mid now at n l p q r = tt
+quiet_on (Some x) None d text bytes before mid now at n l p q r = absurd p
+quiet_on (Some x) (Some y) None text bytes before mid now at n l p q r = absurd r
+quiet_on (Some x) (Some y) (Some z) text bytes before mid now at n l p q r = λ h. (r.1 (omega (arith, p))).0 ∙ q h

@@ -1,0 +1,5 @@
+pub mod Prepared
+pub mod Reading
+pub mod Runs
+pub mod Statuses
+pub mod Words

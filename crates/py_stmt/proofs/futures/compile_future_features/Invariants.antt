@@ -1,7 +1,0 @@
-use Rattle.std.proofs.Common.{◌≡◌, drop}
-use Rattle.py_meaning.specs.EmissionFutures.{check_features}
-use Rattle.py_emit.specs.States.{rest, state}
-use Rattle.py_stmt.proofs.futures.compile_future_features.Given as goal
-
-abbrev pub invariant-loop-alias : goal.invariant-loop-alias
-invariant-loop-alias l = (rest l.em ≡ rest l.initial.em) × (check_features l.names (state l.initial.em) ≡ check_features (drop l.alias-index l.names) (state l.em))

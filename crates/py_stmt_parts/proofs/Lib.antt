@@ -1,0 +1,7 @@
+pub mod Steps
+pub mod Managing
+pub mod LastReturn
+pub mod Leading
+pub mod Handing
+pub mod Segments
+pub mod ClassParts

@@ -1,0 +1,25 @@
+-- What leaves the items of a `with`.
+use Rattle.std.specs.Prelude.{◌≢◌, ◌<◌, ℕ, List, [], ◌∷◌}
+use Rattle.py_base.specs.declared.location.SourceLocation.{SourceLocation}
+use Rattle.py_bytecode.specs.declared.instruction.Instruction.TheVariants as op
+use Rattle.py_walks.specs.declared.info.BlockIdx.{BlockIdx}
+use Rattle.py_steps.specs.Emitting.{Emission, State, ◌▸◌, begin, emit, keep, move}
+use Rattle.py_emit.specs.Steps.{IsOpen}
+
+-- the item that ends at a block is left
+abbrev pub left : SourceLocation → (end : ℕ) → Emission
+left at end = move at ▸ emit op.PopBlock 0 ▸ emit op.EnterFinally 0 ▸ begin end ▸ emit op.WithCleanupStart 0 ▸ emit op.WithCleanupFinish 0
+
+-- the last item is left first
+abbrev pub left_all : SourceLocation → List BlockIdx → Emission
+left_all at [] = keep
+left_all at (b ∷ bs) = left_all at bs ▸ left at b.0
+
+abbrev pub AreApart : ℕ → List BlockIdx → Type 0
+AreApart b [] = Unit {0}
+AreApart b (c ∷ cs) = (b ≢ c.0) × AreApart b cs
+
+-- the blocks are made, none has begun, and they are different ones
+abbrev pub AllOpen : List BlockIdx → State → Type 0
+AllOpen [] s = Unit {0}
+AllOpen (b ∷ bs) s = IsOpen b.0 s × (b.0 < 0xffffffff) × AreApart b.0 bs × AllOpen bs s

@@ -1,0 +1,310 @@
+//! Imports.
+ghost use Rattle.std.specs.Prelude.{◌≡◌, ◌<◌, Some, None, [], ◌∷◌, length, pos, IfOk, IfSome, MatchOption};
+ghost use Rattle.py_bytecode.specs.Objects.{consts_of, integer, none, str, tuple};
+ghost use Rattle.py_bytecode.specs.View.{constant};
+ghost use Rattle.py_steps.specs.Accesses.{emission_of_stored};
+ghost use Rattle.py_steps.specs.Emitting.{◌▸◌, emit as emitting, emit_constant};
+ghost use Rattle.py_emission.specs.EmissionImports.{emission_of_alias, emission_of_attributes, emission_of_from, emission_of_import, emission_of_imported, emission_of_module, emission_of_names, emission_of_star, emission_of_taken};
+ghost use Rattle.py_emission.specs.EmissionStmts.{emission_of_import_from};
+ghost use Rattle.py_emission.specs.Imports.{asked, asked_all, further_segments, is_star, package_name, taken_name, takes_all};
+ghost use Rattle.py_emit.specs.States.{Emits};
+
+use py_base::{CodegenError, CodegenErrorType};
+use py_bytecode::{ConstantData, Instruction};
+use py_emit::{Emitter, NameUsage, emit, refuse};
+use py_expr_parts::yields::is_function;
+use py_tree::{Alias, List, StmtImportFrom, Text};
+use py_uses::names::is_future;
+use std::alloc::{AllocError, Global};
+
+/// Emits the imports of modules one after the other.
+///
+/// # Errors
+/// SyntaxError where a name that is stored is `__debug__`, or OutOfMemory.
+pub fn compile_import(em: &mut Emitter, names: &[Alias]) -> Result<(), CodegenError>
+    ensures { Emits result (emission_of_import names.now) em.old em.new }
+{
+    for alias in names {
+        import_alias(em, alias)?;
+    }
+    Ok(())
+}
+
+/// Emits the import of a module, and what stores it: itself where it has a name of its own, else its outermost package.
+fn import_alias(em: &mut Emitter, alias: &Alias) -> Result<(), CodegenError>
+    ensures { Emits result (emission_of_alias alias.now) em.old em.new }
+{
+    match &alias.asname {
+        Some(name) => import_renamed(em, alias.name.as_str(), name.as_str()),
+        None => import_package(em, alias.name.as_str()),
+    }
+}
+
+/// Emits the import of a module, and what stores its outermost package.
+fn import_package(em: &mut Emitter, path: &str) -> Result<(), CodegenError>
+    ensures { Emits result (emission_of_module (Some path.now) 0 none ▸ emission_of_stored (package_name path.now)) em.old em.new }
+{
+    import_whole(em, path)?;
+    em.compile_name(NameUsage::Store, first_segment(path))
+}
+
+/// Emits the import of a module, and what stores it under a name of its own.
+fn import_renamed(em: &mut Emitter, path: &str, name: &str) -> Result<(), CodegenError>
+    ensures { Emits result (emission_of_imported path.now (Some name.now) ▸ emission_of_stored name.now) em.old em.new }
+{
+    import_itself(em, path)?;
+    em.compile_name(NameUsage::Store, name)
+}
+
+/// Emits the import of a module, and what comes from its outermost package to itself.
+fn import_itself(em: &mut Emitter, path: &str) -> Result<(), CodegenError>
+    ensures { Emits result (emission_of_module (Some path.now) 0 none ▸ emission_of_attributes (further_segments path.now)) em.old em.new }
+{
+    import_whole(em, path)?;
+    load_segments(em, path)
+}
+
+/// Emits the import of a module by its path, which is asked for no names.
+#[tactic(auto, using(py_bytecode::proofs::View::views))]
+fn import_whole(em: &mut Emitter, path: &str) -> Result<(), CodegenError>
+    ensures { Emits result (emission_of_module (Some path.now) 0 none) em.old em.new }
+{
+    import_path(em, path, 0, ConstantData::None)
+}
+
+/// Emits the load of each further segment of a path, as an attribute of what stands before it.
+fn load_segments(em: &mut Emitter, path: &str) -> Result<(), CodegenError>
+    ensures { Emits result (emission_of_attributes (further_segments path.now)) em.old em.new }
+{
+    let mut left = path;
+    while let Some(behind) = behind_dot(left) {
+        em.emit_mangled(Instruction::LoadAttr, first_segment(behind))?;
+        left = behind;
+    }
+    Ok(())
+}
+
+/// What stands behind the first dot of a path.
+#[tactic(auto, using(crate::proofs::Segments::behind_is, crate::proofs::Segments::none_further, crate::proofs::Segments::is_nearer))]
+fn behind_dot(path: &str) -> Option<&str>
+    ensures parts { MatchOption result (further_segments path.now ≡ []) (λ behind. further_segments path.now ≡ package_name behind.now ∷ further_segments behind.now) }
+    ensures nearer { IfSome result (λ behind. length behind.now < length path.now) }
+{
+    match path.split_once('.') {
+        Some((_, behind)) => Some(behind),
+        None => None,
+    }
+}
+
+/// What stands before the first dot of a path.
+fn first_segment(path: &str) -> &str
+    ensures { result.now ≡ package_name path.now }
+{
+    match path.split_once('.') {
+        Some((first, _)) => first,
+        None => path,
+    }
+}
+
+/// Emits the import of a module by its path, so many packages further out, which is asked for these names.
+fn import_path(
+    em: &mut Emitter,
+    path: &str,
+    level: u32,
+    names: ConstantData,
+) -> Result<(), CodegenError>
+    ensures { Emits result (emission_of_module (Some path.now) level (constant names)) em.old em.new }
+{
+    load_level(em, level)?;
+    em.load_const(names)?;
+    em.emit_mangled(Instruction::ImportName, path)
+}
+
+/// Emits the import of the package so many packages further out, which is asked for these names.
+fn import_nameless(em: &mut Emitter, level: u32, names: ConstantData) -> Result<(), CodegenError>
+    ensures { Emits result (emission_of_module None level (constant names)) em.old em.new }
+{
+    load_level(em, level)?;
+    em.load_const(names)?;
+    emit!(em, Instruction::ImportNameless);
+    Ok(())
+}
+
+/// Emits the import of a module by its path, where it has one.
+fn import_module(
+    em: &mut Emitter,
+    path: &Option<Text>,
+    level: u32,
+    names: ConstantData,
+) -> Result<(), CodegenError>
+    ensures { Emits result (emission_of_module path.now level (constant names)) em.old em.new }
+{
+    match path {
+        Some(path) => import_path(em, path.as_str(), level, names),
+        None => import_nameless(em, level, names),
+    }
+}
+
+/// Emits the load of a number.
+#[tactic(auto, using(py_bytecode::proofs::View::views))]
+fn load_level(em: &mut Emitter, level: u32) -> Result<(), CodegenError>
+    ensures { Emits result (emit_constant Instruction.LoadConst (integer (pos level))) em.old em.new }
+{
+    em.load_const(ConstantData::Integer {
+        value: i128::from(level),
+    })
+}
+
+/// Emits the import of names from a module, and refuses one from the future, which stands before all other statements.
+///
+/// # Errors
+/// InvalidFuturePlacement for one from the future, FunctionImportStar where a function takes all names, SyntaxError where a
+/// name that is stored is `__debug__`, or OutOfMemory.
+#[tactic(auto, using(crate::proofs::Steps::steps))]
+pub fn compile_import_from(em: &mut Emitter, s: &StmtImportFrom) -> Result<(), CodegenError>
+    ensures { Emits result (emission_of_import_from s.now.«module» s.now.names s.now.level) em.old em.new }
+{
+    if is_future(&s.module) {
+        refuse!(em, CodegenErrorType::InvalidFuturePlacement);
+    }
+    import_from(em, s)
+}
+
+/// Emits the import of all names of a module, or of some.
+pub(crate) fn import_from(em: &mut Emitter, s: &StmtImportFrom) -> Result<(), CodegenError>
+    ensures { Emits result (emission_of_from s.now.«module» s.now.names s.now.level) em.old em.new }
+{
+    if has_star(s.names.as_slice()) {
+        return import_star(em, s);
+    }
+    import_names(em, s)
+}
+
+/// Whether all names of a module are asked for.
+fn has_star(names: &[Alias]) -> bool
+    ensures { result ≡ takes_all names.now }
+{
+    for alias in names {
+        if is_star(alias) {
+            return true;
+        }
+    }
+    false
+}
+
+fn is_star(alias: &Alias) -> bool
+    ensures { result ≡ is_star alias.now }
+{
+    alias.name.as_str() == "*"
+}
+
+/// Emits the import of all names of a module, and refuses it in a function.
+#[tactic(auto, using(py_expr_parts::proofs::Steps::refuse_goes), unfolding(py_steps::specs::Emitting::by_context))]
+fn import_star(em: &mut Emitter, s: &StmtImportFrom) -> Result<(), CodegenError>
+    ensures { Emits result (emission_of_star s.now.«module» s.now.level) em.old em.new }
+{
+    if is_function(em.scope_type()) {
+        refuse!(em, CodegenErrorType::FunctionImportStar);
+    }
+    import_all(em, s)
+}
+
+/// Emits the import of all names of a module.
+fn import_all(em: &mut Emitter, s: &StmtImportFrom) -> Result<(), CodegenError>
+    ensures { Emits result (emission_of_module s.now.«module» s.now.level asked_all ▸ emitting Instruction.ImportStar 0) em.old em.new }
+{
+    ask_all(em, s)?;
+    emit!(em, Instruction::ImportStar);
+    Ok(())
+}
+
+/// Emits the import of a module that is asked for all names.
+fn ask_all(em: &mut Emitter, s: &StmtImportFrom) -> Result<(), CodegenError>
+    ensures { Emits result (emission_of_module s.now.«module» s.now.level asked_all) em.old em.new }
+{
+    let star = em.text("*")?;
+    match single_name(em.alloc(), star) {
+        Ok(names) => import_module(em, &s.module, s.level, names),
+        Err(_) => refuse!(em, CodegenErrorType::OutOfMemory),
+    }
+}
+
+/// The tuple of one name.
+#[tactic(auto, using(py_bytecode::proofs::View::views))]
+fn single_name(alloc: Global, value: Text) -> Result<ConstantData, AllocError>
+    ensures { IfOk result (λ c. constant c ≡ tuple (consts_of (str value ∷ []))) }
+{
+    let mut names = Vec::new(alloc);
+    names.push(ConstantData::Str { value })?;
+    let elements = List::from_vec(names);
+    Ok(ConstantData::Tuple { elements })
+}
+
+/// Emits the import of a module that is asked for some names, and takes each of them from it.
+fn import_names(em: &mut Emitter, s: &StmtImportFrom) -> Result<(), CodegenError>
+    ensures { Emits result (emission_of_module s.now.«module» s.now.level (asked s.now.names) ▸ emission_of_names s.now.names) em.old em.new }
+{
+    ask_names(em, s)?;
+    take_names(em, s.names.as_slice())
+}
+
+/// Emits the import of a module that is asked for some names.
+fn ask_names(em: &mut Emitter, s: &StmtImportFrom) -> Result<(), CodegenError>
+    ensures { Emits result (emission_of_module s.now.«module» s.now.level (asked s.now.names)) em.old em.new }
+{
+    match asked_names(em.alloc(), s.names.as_slice()) {
+        Ok(names) => import_module(em, &s.module, s.level, names),
+        Err(_) => refuse!(em, CodegenErrorType::OutOfMemory),
+    }
+}
+
+/// The tuple of the names that a module is asked for.
+#[tactic(auto, using(py_bytecode::proofs::View::views))]
+fn asked_names(alloc: Global, names: &[Alias]) -> Result<ConstantData, AllocError>
+    ensures { IfOk result (λ c. constant c ≡ asked names.now) }
+{
+    let mut texts = Vec::new(alloc);
+    for alias in names {
+        texts.push(name_data(alloc, alias)?)?;
+    }
+    let elements = List::from_vec(texts);
+    Ok(ConstantData::Tuple { elements })
+}
+
+/// A name as a constant.
+#[tactic(auto, using(py_bytecode::proofs::View::views))]
+fn name_data(alloc: Global, alias: &Alias) -> Result<ConstantData, AllocError>
+    ensures { IfOk result (λ c. constant c ≡ str alias.now.name) }
+{
+    let value = alias.name.try_clone(alloc)?;
+    Ok(ConstantData::Str { value })
+}
+
+/// Emits what takes names from the module that lies there, and drops it.
+fn take_names(em: &mut Emitter, names: &[Alias]) -> Result<(), CodegenError>
+    ensures { Emits result (emission_of_names names.now) em.old em.new }
+{
+    for alias in names {
+        take_name(em, alias)?;
+    }
+    emit!(em, Instruction::Pop);
+    Ok(())
+}
+
+/// Emits what takes a name from the module that lies there, and stores it.
+fn take_name(em: &mut Emitter, alias: &Alias) -> Result<(), CodegenError>
+    ensures { Emits result (emission_of_taken alias.now) em.old em.new }
+{
+    em.emit_mangled(Instruction::ImportFrom, alias.name.as_str())?;
+    em.compile_name(NameUsage::Store, name_taken(alias))
+}
+
+/// The name that one of a module is stored to.
+fn name_taken(alias: &Alias) -> &str
+    ensures { result.now ≡ taken_name alias.now }
+{
+    match &alias.asname {
+        Some(name) => name.as_str(),
+        None => alias.name.as_str(),
+    }
+}

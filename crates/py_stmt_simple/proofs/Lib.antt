@@ -1,0 +1,9 @@
+pub mod KeptControl
+pub mod Opening
+pub mod Assigning
+pub mod Grouping
+pub mod Managing
+pub mod Annotating
+pub mod KeptNotes
+pub mod Prompting
+pub mod Handing

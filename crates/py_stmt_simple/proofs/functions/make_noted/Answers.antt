@@ -1,0 +1,37 @@
+use Rattle.std.proofs.Common.{rules, ◌≡◌, ◌+◌, ◌∙◌, ap, sym}
+use Rattle.py_bytecode.specs.View.{object}
+use Rattle.py_bytecode.specs.declared.instruction.Instruction.TheVariants as op
+use Rattle.py_tree.specs.View.{arguments, expr_tree, opt_box}
+use Rattle.py_tree.specs.declared.expressions.ArgumentsOf.{ArgumentsOf}
+use Rattle.py_tree.specs.declared.expressions.Expr.{Expr}
+use Rattle.py_emission.specs.EmissionDefs.{notes}
+use Rattle.py_steps.specs.EmissionParts.{built}
+use Rattle.py_steps.specs.Children.{made, some_emitted}
+use Rattle.py_steps.specs.Within.{some_flag}
+use Rattle.py_steps.specs.Context.{qualified}
+use Rattle.py_steps.specs.Emitting.{Emission, by_context, go_on}
+use Rattle.py_emit.specs.States.{state}
+use Rattle.py_emit.proofs.Joined.{goes_as, went}
+use Rattle.py_stmt_simple.specs.Functions.{notes_of}
+use Rattle.py_stmt_parts.specs.Generics.{given_flags}
+use Rattle.py_stmt_simple.proofs.functions.make_noted.Goals as goal
+
+pub returns : goal.returns
+returns c = record {
+  goes =
+      let s = c.args.s.now in
+      let o = object c.args.code in
+      let given = given_flags c.args.defaults c.args.generic in
+      let returns = opt_box expr_tree s.returns in
+      let is = sym c.deref.ensures in
+      let g = ap (λ (p : ArgumentsOf Expr). some_flag 0x02 (notes (arguments expr_tree p) returns)) is ∙ c.in_ok-annotated.ensures.any in
+      let n : given + some_flag 0x02 (notes_of s) ≡ c.made_flags-flags.result.0 = ap (λ m. given + m) g ∙ sym c.made_flags-flags.ensures in
+      let k : Emission = by_context (λ x. made (given + some_flag 0x02 (notes_of s)) (qualified x s.name) o) in
+      goes_as _ _ _ _
+      (ap (λ (p : ArgumentsOf Expr). go_on (some_emitted (built op.BuildMap) (notes (arguments expr_tree p) returns) (state c.args.em.now)) k) is
+      ∙ went _ k _ c.in_ok-annotated.ensures.emits.goes
+      ∙ ap (λ m. by_context (λ x. made m (qualified x s.name) o) (state c.compile_notes.new.em)) n
+      ∙ ap (λ y. by_context (λ x. made c.made_flags-flags.result.0 (qualified x y) o) (state c.compile_notes.new.em)) (sym c.as_str.ensures))
+      c.make_named.ensures.goes;
+  same = search rules;
+}

@@ -1,4 +1,0 @@
-pub mod Dues
-pub mod Feeds
-pub mod Pieces
-pub mod Verdicts

@@ -1,0 +1,7 @@
+//! Tests of the program's parts: runs over devices in memory, and calls of std's readers and writers that fail.
+#![tactic(auto)]
+
+#[cfg(test)]
+mod endings;
+#[cfg(test)]
+mod interrupted;
