@@ -1,11 +1,52 @@
 #!/bin/sh
-# pyc.sh MODE LEVEL PATH: compiles the rows on standard input, and writes the listing of the code.
-# pyc.sh FILE.py: makes the rows of a Python file, and compiles them as exec 0 FILE.py. This wants python3, 3.8 or later.
-# The first call proves the program and builds it. Words, standard input and the exit status are the program's own;
-# 127 says that it could not be built, or that there is no python3, and 1 also that FILE.py has no rows.
+# pyc.sh compiles Python sources by the proved compiler and writes the listings of their code. It looks at its words
+# first: what can be answered is answered at once, and only then the program is proved and built, where it is not yet.
 
 say() {
     echo "pyc.sh: $*" >&2
+}
+
+usage() {
+    cat <<'END'
+usage: sh pyc.sh [-m MODE] [-O LEVEL] [-o FILE] [--rows] FILE.. | -
+       sh pyc.sh MODE LEVEL PATH <ROWS
+       sh pyc.sh --run FILE.py [ARG..]
+       sh pyc.sh --try FILE..
+       sh pyc.sh --help | --version
+END
+}
+
+help() {
+    usage
+    cat <<'END'
+
+Compiles Python files and writes the listings of their code; `-` is standard input. Options stand before the files.
+
+  -m MODE    exec (the default): a file that is run; eval: one expression; single: what is entered at a prompt;
+             block: a file whose last value is given
+  -O LEVEL   0 (the default), 1: without assertions, __debug__ is False; 2: without docstrings too
+  -o FILE    write the listings to FILE, once all files have compiled
+  --rows     the files hold trees as rows (docs/ROWS.md) and no Python; this and what follows want python3, 3.8 or later
+  --run      compile FILE.py and run it, on a machine in Python (docs/RUNNING.md); what follows FILE.py is its own
+  --try      compile by the program as it is, without proof; it is built for each file, which takes about a minute
+  --help     this text
+  --version  the commit of this checkout, and the kit
+
+MODE LEVEL PATH: compiles the rows on standard input; PATH is the path that the code names. This wants no python3.
+
+The first call that compiles proves the program and all below it, and builds it (README.md says how long that takes).
+
+Status: 0 compiled; 1 refused, with the place and the reason; 2 wrong words; 3 the input is not the rows of a tree;
+4 a read failed, or a file is not there; 5 a write failed; 6 no memory; 127 the program could not be built, or there is
+no python3. Of several files the highest.
+END
+}
+
+# Ends the call for words that are not as `usage` says.
+wrong() {
+    say "$*"
+    usage >&2
+    exit 2
 }
 
 # The folder of this file, also where it is called by a symbolic link.
@@ -19,6 +60,27 @@ while [ -L "$self" ]; do
 done
 root=$(CDPATH='' cd -- "$(dirname -- "$self")" && pwd -P) || exit 127
 pyc=$root/crates/pyc/out/pyc
+
+version() {
+    commit='no commit'
+    if [ -e "$root/.git" ]; then
+        commit=$(git -C "$root" rev-parse --short HEAD 2>/dev/null) || commit='no commit'
+    fi
+    kit=$(rt version 2>/dev/null) || kit='no kit'
+    echo "pyc $commit, $kit"
+}
+
+# Whether a word is MODE, and whether one is LEVEL.
+is_mode() {
+    case $1 in exec | eval | single | block) ;; *) return 1 ;; esac
+}
+is_level() {
+    case $1 in 0 | 1 | 2) ;; *) return 1 ;; esac
+}
+
+has_python() {
+    python3 -c 'import sys; sys.exit(sys.version_info < (3, 8))' 2>/dev/null
+}
 
 machine() {
     echo "$(uname -sm), $(getconf _NPROCESSORS_ONLN) processors, $(awk '/^MemTotal/ { printf "%d GB", $2 / 1000000 }' /proc/meminfo)"
@@ -34,39 +96,46 @@ crates() {
             for (i = 1; i <= count; i++) if (used[i] in uses) visit(used[i])
             print name
         }
-        !/^#/ && NF == 2 { uses[$1] = $2 }
+        !/^#/ && NF == 2 { split($1, words, " "); uses[words[1]] = $2 }
         END { visit("pyc") }
     ' "$root/crates.txt"
 }
 
-# Proves one crate, whose name is told with its place among the others. What was proved before is taken as it is, and what
-# is wrong is shown.
-prove() {
-    say "$2 of $3: $1"
-    said=$(cd "$root/crates/$1" && rt lib 2>&1) || {
-        echo "$said" >&2
-        return 1
-    }
+# Proves the crates below the program one after the other, where there is no python3 for tools/build.py. What was proved
+# before is taken as it is, and what is wrong is shown.
+prove_in_turn() {
+    at=0
+    for crate in $all; do
+        at=$((at + 1))
+        [ "$crate" = pyc ] && continue
+        say "$at of $count: $crate"
+        said=$(cd "$root/crates/$crate" && rt lib 2>&1) || {
+            echo "$said" >&2
+            return 1
+        }
+    done
 }
 
-# One crate after the other takes less memory than all at once, and what a call that was stopped has proved is there for the
-# next. The build ends with a run of the program, which gets a file of the repository and not the input of this call.
+# What a call that was stopped has proved is there for the next. The build ends with a run of the program, which gets a
+# file of the repository and not the input of this call.
 build() {
     if ! command -v rt >/dev/null; then
         say 'the program is not built yet, and rt, which proves and builds it, is not on the path: install the Rattle kit'
         return
     fi
-    say "the first call proves the program and builds it, in $root/crates"
-    say 'this takes long, and the end says how long; README.md has a quick run without proof'
-    start=$(date +%s)
     all=$(crates)
-    count=$(echo "$all" | wc -l)
-    at=0
-    for crate in $all; do
-        at=$((at + 1))
-        [ "$crate" = pyc ] || prove "$crate" $at $((count)) || return
-    done
-    say "$at of $((count)): pyc"
+    count=$(($(echo "$all" | wc -l)))
+    say "the program is not built yet: this call proves its $count crates and builds it, in $root/crates"
+    say 'from nothing that took 63 minutes on a machine with 4 processors, one crate after the other, and up to 11 GB of memory'
+    say 'it may be stopped: the next call goes on with what is proved'
+    say 'sh pyc.sh --try FILE.py compiles at once, without proof'
+    start=$(date +%s)
+    if has_python; then
+        python3 -B "$root/tools/build.py" pyc || return
+    else
+        prove_in_turn || return
+    fi
+    say "$count of $count: pyc"
     (cd "$root/crates/pyc" && rt run -- exec 0 m.py <"$root/examples/call.json" >/dev/null) >&2
     took=$(($(date +%s) - start))
     if [ -x "$pyc" ]; then
@@ -74,26 +143,109 @@ build() {
     fi
 }
 
-if [ ! -x "$pyc" ]; then
-    build
+# Sees that the program is there, and builds it where it is not.
+want_program() {
+    [ -x "$pyc" ] || build
+    if [ ! -x "$pyc" ]; then
+        say 'the program could not be built'
+        exit 127
+    fi
+}
+
+# The words.
+mode=exec level=0 rows='' to='' way=built
+if [ $# -eq 0 ]; then
+    usage >&2
+    exit 2
 fi
-if [ ! -x "$pyc" ]; then
-    say 'the program could not be built'
+if is_mode "$1" || [ "$1" = sample ]; then
+    if is_mode "$1" && { [ $# -ne 3 ] || ! is_level "$2"; }; then
+        wrong "'$1' is a mode, which a level (0, 1 or 2) and one path follow; a file of that name is written ./$1"
+    fi
+    want_program
+    exec "$pyc" "$@"
+fi
+while [ $# -gt 0 ]; do
+    case $1 in
+        -h | --help)
+            help
+            exit 0
+            ;;
+        --version)
+            version
+            exit 0
+            ;;
+        -m | -O | -o)
+            [ $# -gt 1 ] || wrong "$1 wants a word after it"
+            case $1 in
+                -m) mode=$2 ;;
+                -O) level=$2 ;;
+                -o) to=$2 ;;
+            esac
+            shift 2
+            ;;
+        -O?*)
+            level=${1#-O}
+            shift
+            ;;
+        --rows)
+            rows=--rows
+            shift
+            ;;
+        --try | --run)
+            way=${1#--}
+            shift
+            [ "$way" = run ] && break
+            ;;
+        --)
+            shift
+            break
+            ;;
+        -?*) wrong "there is no option $1" ;;
+        *) break ;;
+    esac
+done
+is_mode "$mode" || wrong "there is no mode '$mode': exec, eval, single or block"
+is_level "$level" || wrong "there is no level '$level': 0, 1 or 2"
+[ $# -gt 0 ] || wrong 'no file is named'
+if [ "$way" = run ] && { [ "$mode" != exec ] || [ -n "$rows$to" ]; }; then
+    wrong '--run takes no option but -O'
+fi
+
+# The files: what is not there is told before anything is built. Of --run the first word alone is a file.
+least=0
+if [ "$way" = run ]; then
+    [ -e "$1" ] || {
+        echo "$1: No such file or directory" >&2
+        exit 4
+    }
+else
+    for file in "$@"; do
+        shift
+        if [ "$file" = - ] || [ -e "$file" ]; then
+            set -- "$@" "$file"
+        else
+            echo "$file: No such file or directory" >&2
+            least=4
+        fi
+    done
+    [ $# -gt 0 ] || exit 4
+fi
+if ! has_python; then
+    say 'there is no python3 of 3.8 or later on the path, which reads the files'
     exit 127
 fi
 
-case $#:$1 in
-    1:*.py) ;;
-    *) exec "$pyc" "$@" ;;
-esac
-if ! python3 -c '' 2>/dev/null; then
-    say "there is no python3 on the path, which makes the rows of $1"
-    exit 127
+if [ "$way" = try ]; then
+    command -v rt >/dev/null || {
+        say 'rt, which builds the program, is not on the path: install the Rattle kit'
+        exit 127
+    }
+    say '--try: nothing is proved of this program, which is built anew for each file and checks itself while it runs'
+    exec python3 -B "$root/tools/compile_files.py" --unproved --least $least -m "$mode" -O "$level" ${to:+-o "$to"} $rows -- "$@"
 fi
-rows=$(python3 "$root/tools/rows.py" -- "$1")
-status=$?
-if [ "$status" -gt 1 ]; then
-    say "the rows of $1 were not made: python3 ended with status $status"
+want_program
+if [ "$way" = run ]; then
+    exec python3 -B "$root/tools/run.py" --program "$pyc" --level "$level" -- "$@"
 fi
-[ "$status" -eq 0 ] || exit 1
-printf '%s\n' "$rows" | "$pyc" exec 0 "$1"
+exec python3 -B "$root/tools/compile_files.py" --program "$pyc" --least $least -m "$mode" -O "$level" ${to:+-o "$to"} $rows -- "$@"

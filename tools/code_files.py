@@ -8,6 +8,7 @@ The text on standard output is the file. The grammar is read and written here on
 from its description in crates/py_codefile/README.md and not from the program. The edits are drawn by chance from a
 fixed seed, so that each run writes the same file.
 """
+import argparse
 import random
 import struct
 
@@ -261,6 +262,7 @@ def table_text(about, name, rows):
 
 
 def main():
+    argparse.ArgumentParser(prog="code_files.py", description="Writes crates/py_codefile_vectors/src/files.rt on standard output.").parse_args()
     rows = cases()
     refused = [row for row in rows if row[1] != "Ok"]
     taken = [row for row in rows if row[1] == "Ok"]
@@ -278,4 +280,5 @@ def main():
     print("\n".join(texts), end="")
 
 
-main()
+if __name__ == "__main__":
+    main()

@@ -1,13 +1,13 @@
 #!/usr/bin/env python3
 """Trees that are read and written again: the cases of crates/py_rows_vectors, and all that the library of Python has.
 
-usage: read_back.py MODEL_FOLDER
+usage: read_back.py
        read_back.py --library [--program FILE] [FOLDER]
 
 The first writes crates/py_rows_vectors/stdin and stdout. A line that begins with `#` tells what follows, and any other line
 is an input: rows, or what is none. In stdout the rows of the tree that it is stand in its place, in the order in which the
-tree is gone through, or what is wrong with it. MODEL_FOLDER holds a Python model of the reader (`rows.py`), of trees and
-their rows (`tree.py`), and a reader of Python sources (`py2rows.py`); what the model answers is what stdout says.
+tree is gone through, or what is wrong with it. What stdout says is what
+tools/model answers, which has a reader (`rows_reader.py`), trees and their rows (`tree.py`).
 
 The second makes rows of the library of the Python that runs it, or of FOLDER: of whole files, and where rows cannot say a
 file, of its statements. To these come sources of kinds of which there are few, and made trees, until each kind was seen a
@@ -27,6 +27,8 @@ import platform
 import random
 import subprocess
 import sys
+
+import hostile_cases
 
 CRATE = pathlib.Path(__file__).resolve().parent.parent / "crates" / "py_rows_vectors"
 
@@ -433,6 +435,15 @@ FAULTS = [
     ('[["Name",1,1,"f"],["Tuple",1,1,[0,0]],["Pass",1,1],["Expr",1,1,2]]', "row 1: named twice"),
 ]
 
+
+def further_faults():
+    """Those inputs of hostile.py that fit in a line and do not stand here yet."""
+    known = {it.encode("utf-8") if isinstance(it, str) else it for it, _ in FAULTS}
+    for data, text in hostile_cases.INPUTS:
+        if data not in known and b"\n" not in data and len(data) <= 1000:
+            yield data, text
+
+
 # What is rows in another form than they are written in, and the rows.
 OTHER_FORMS = [
     (' [ [ "Name" , 1 , 1 , "f" ] ,\t[ "Expression" , 0 ] ]\r', '[["Name",1,1,"f"],["Expression",0]]'),
@@ -517,13 +528,14 @@ def cases(rows_text):
         yield text_of(deep(1021)), "row %d: too deep" % row
     yield "# what is no rows", None
     yield from FAULTS
+    yield from further_faults()
 
 
-def write_cases(folder):
+def write_cases():
     """Writes the input of the crate's program, and what it is to write, which is what the model answers."""
-    sys.path.insert(0, folder)
+    sys.path.insert(0, str(pathlib.Path(__file__).resolve().parent / "model"))
     from py2rows import rows_text
-    from rows import RowsError, read_rows
+    from rows_reader import RowsError, read_rows
     from tree import rows_of
 
     def answer(data):
@@ -671,18 +683,18 @@ def run_library(program, folder):
 
 def main():
     parser = argparse.ArgumentParser(prog="read_back.py", description=__doc__.split("\n")[0])
-    parser.add_argument("--library", action="store_true")
-    parser.add_argument("--program", type=pathlib.Path, default=CRATE / "out" / "py_rows_vectors")
-    parser.add_argument("folder", metavar="FOLDER", nargs="?", type=pathlib.Path)
+    parser.add_argument("--library", action="store_true", help="run the program over a library, and write no cases")
+    parser.add_argument("--program", type=pathlib.Path, default=CRATE / "out" / "py_rows_vectors", help="the program that reads rows and writes them again (%(default)s)")
+    parser.add_argument("folder", metavar="FOLDER", nargs="?", type=pathlib.Path, help="the library (that of this Python)")
     words = parser.parse_args()
     if words.library:
         program = words.program.resolve()
         if not os.access(program, os.X_OK):
             sys.exit("read_back.py: there is no program %s: rt run in its crate builds it" % program)
         sys.exit(0 if run_library(program, words.folder or pathlib.Path(os.__file__).parent) else 1)
-    if words.folder is None:
-        parser.error("MODEL_FOLDER is wanted")
-    write_cases(str(words.folder))
+    if words.folder is not None:
+        parser.error("a FOLDER goes with --library")
+    write_cases()
 
 
 if __name__ == "__main__":

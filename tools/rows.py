@@ -1,11 +1,11 @@
 #!/usr/bin/env python3
 """Writes the rows of a Python source, which pyc reads, on standard output. docs/ROWS.md says what rows are.
 
-usage: rows.py [--mode exec|eval|single|func_type] [FILE]
+usage: rows.py [--mode exec|eval|single|block|func_type] [FILE]
 
 Without FILE, or for `-`, the source is standard input. The mode is what the parser of Python is asked for: a file that
-is run (a Module), one expression (an Expression), what is entered at a prompt (an Interactive), or the comment that
-gives a function its type (a FunctionType).
+is run (a Module), one expression (an Expression), what is entered at a prompt (an Interactive), a file whose last value
+is given (an Interactive of any length), or the comment that gives a function its type (a FunctionType).
 
 What is no Python, and what rows have no word for, is told on standard error as `FILE:ROW:COL: ..`; the status is then 1,
 and nothing is written. The status is 2 where the words are not as above.
@@ -22,87 +22,94 @@ import argparse
 import ast
 import bisect
 import collections
+import functools
+import gc
 import io
+import itertools
 import json
+import operator
 import re
 import tokenize
 import warnings
 
-# The fields of each kind of node that keeps its own names, in the order of its row.
+# The fields of each kind of node, in the order of its row. A field is a node or None; behind a name stands * for a list of
+# nodes, ! for a name, a number or None that rows take as it is, ? for what `truth_of` and the like make of it.
 FIELDS = {
-    "Module": "body",
-    "Interactive": "body",
+    "Module": "body*",
+    "Interactive": "body*",
     "Expression": "body",
-    "FunctionType": "argtypes returns",
-    "FunctionDef": "name args body decorator_list returns type_params",
-    "AsyncFunctionDef": "name args body decorator_list returns type_params",
-    "ClassDef": "name bases keywords body decorator_list type_params",
+    "FunctionType": "argtypes* returns",
+    "FunctionDef": "name! args body* decorator_list* returns type_params*",
+    "AsyncFunctionDef": "name! args body* decorator_list* returns type_params*",
+    "ClassDef": "name! bases* keywords* body* decorator_list* type_params*",
     "Return": "value",
-    "Delete": "targets",
-    "Assign": "targets value",
-    "TypeAlias": "name type_params value",
-    "AugAssign": "target op value",
-    "AnnAssign": "target annotation value simple",
-    "For": "target iter body orelse",
-    "AsyncFor": "target iter body orelse",
-    "While": "test body orelse",
-    "If": "test body orelse",
-    "With": "items body",
-    "AsyncWith": "items body",
-    "Match": "subject cases",
+    "Delete": "targets*",
+    "Assign": "targets* value",
+    "TypeAlias": "name type_params* value",
+    "AugAssign": "target op? value",
+    "AnnAssign": "target annotation value simple?",
+    "For": "target iter body* orelse*",
+    "AsyncFor": "target iter body* orelse*",
+    "While": "test body* orelse*",
+    "If": "test body* orelse*",
+    "With": "items* body*",
+    "AsyncWith": "items* body*",
+    "Match": "subject cases*",
     "Raise": "exc cause",
-    "Try": "body handlers orelse finalbody",
-    "TryStar": "body handlers orelse finalbody",
+    "Try": "body* handlers* orelse* finalbody*",
+    "TryStar": "body* handlers* orelse* finalbody*",
     "Assert": "test msg",
-    "Import": "names",
-    "ImportFrom": "module names level",
-    "Global": "names",
-    "Nonlocal": "names",
+    "Import": "names*",
+    "ImportFrom": "module! names* level?",
+    "Global": "names!",
+    "Nonlocal": "names!",
     "Expr": "value",
     "Pass": "",
     "Break": "",
     "Continue": "",
-    "BoolOp": "op values",
+    "BoolOp": "op? values*",
     "NamedExpr": "target value",
-    "BinOp": "left op right",
-    "UnaryOp": "op operand",
+    "BinOp": "left op? right",
+    "UnaryOp": "op? operand",
     "Lambda": "args body",
     "IfExp": "test body orelse",
-    "Dict": "keys values",
-    "Set": "elts",
-    "List": "elts",
-    "Tuple": "elts",
-    "ListComp": "elt generators",
-    "SetComp": "elt generators",
-    "GeneratorExp": "elt generators",
-    "DictComp": "key value generators",
+    "Dict": "keys* values*",
+    "Set": "elts*",
+    "List": "elts*",
+    "Tuple": "elts*",
+    "ListComp": "elt generators*",
+    "SetComp": "elt generators*",
+    "GeneratorExp": "elt generators*",
+    "DictComp": "key value generators*",
     "Await": "value",
     "YieldFrom": "value",
     "Starred": "value",
     "Yield": "value",
-    "Compare": "left ops comparators",
-    "Call": "func args keywords",
-    "FormattedValue": "value conversion format_spec",
-    "JoinedStr": "values",
-    "Constant": "value",
-    "Attribute": "value attr",
+    "Compare": "left ops? comparators*",
+    "Call": "func args* keywords*",
+    "FormattedValue": "value conversion? format_spec",
+    "JoinedStr": "values*",
+    "Constant": "value!",
+    "Attribute": "value attr!",
     "Subscript": "value slice",
-    "Name": "id",
+    "Name": "id!",
     "Slice": "lower upper step",
-    "arg": "arg annotation",
-    "keyword": "arg value",
-    "alias": "name asname",
+    "arguments": "posonlyargs* args* vararg kwonlyargs* kwarg",
+    "arg": "arg! annotation",
+    "keyword": "arg! value",
+    "alias": "name! asname!",
     "withitem": "context_expr optional_vars",
-    "ExceptHandler": "type name body",
-    "comprehension": "target iter ifs is_async",
-    "match_case": "body",
-    "TypeVar": "name bound",
-    "ParamSpec": "name",
-    "TypeVarTuple": "name",
+    "ExceptHandler": "type name! body*",
+    "comprehension": "target iter ifs* is_async?",
+    "match_case": "body*",
+    "TypeVar": "name! bound",
+    "ParamSpec": "name!",
+    "TypeVarTuple": "name!",
 }
 
 # The words of those kinds whose rows have another word than Python's class.
 WORDS = {
+    "arguments": "Arguments",
     "arg": "Arg",
     "keyword": "Keyword",
     "alias": "Alias",
@@ -116,8 +123,6 @@ WITHOUT_PLACE = {"keyword", "alias", "ExceptHandler"}
 
 CONVERSIONS = {-1: "None", ord("s"): "Str", ord("a"): "Ascii", ord("r"): "Repr"}
 
-OPERATORS = (ast.boolop, ast.operator, ast.unaryop, ast.cmpop)
-
 # Blanks, comments and line ends, as they may stand between the tokens in brackets.
 BLANK = re.compile(rb"(?:[ \t\f\n]|\\\n|#[^\n]*)*")
 
@@ -125,12 +130,6 @@ SURROGATE = re.compile(r"[\ud800-\udfff]")
 
 # A parameter with its default, or None.
 Parameter = collections.namedtuple("Parameter", "arg default")
-
-# A value that stands in a Constant.
-Literal = collections.namedtuple("Literal", "value")
-
-# What has a row of its own.
-NODES = (ast.AST, Parameter, Literal)
 
 
 class Fault(Exception):
@@ -150,11 +149,22 @@ class Source:
     """The text of a source, in which places are looked up."""
 
     def __init__(self, text):
-        self.bytes = text.replace("\r\n", "\n").replace("\r", "\n").encode("utf-8")
-        self.starts = [0]
-        for line in self.bytes.split(b"\n"):
-            self.starts.append(self.starts[-1] + len(line) + 1)
+        self.text = text.replace("\r\n", "\n").replace("\r", "\n")
+        lines = self.text.split("\n")
+        # The length of each line in which a column of bytes is one of characters, and -1 of the others.
+        lengths = map(len, lines) if text.isascii() else (len(it) if it.isascii() else -1 for it in lines)
+        self.narrow = dict(enumerate(lengths, 1))
         self.wide = {}
+
+    @functools.cached_property
+    def bytes(self):
+        """The text in UTF-8, of which columns of Python count the bytes."""
+        return self.text.encode("utf-8")
+
+    @functools.cached_property
+    def starts(self):
+        """The offset at which each line begins, and the one behind the last."""
+        return [0, *itertools.accumulate(len(it) + 1 for it in self.bytes.split(b"\n"))]
 
     def offset(self, line, column):
         """The offset of a line, counted from 1, and a column of bytes, counted from 0; at most the end of that line."""
@@ -239,121 +249,168 @@ def refuse(node, source, text):
 
 def literal_row(value, node, source):
     """The row of the value of a Constant, which is the node."""
-    if value is None or value is Ellipsis or isinstance(value, bool):
-        return [{None: "none", Ellipsis: "ellipsis", True: "true", False: "false"}[value]]
-    if isinstance(value, int):
+    kind = value.__class__
+    if kind is str:
+        if not value.isascii() and SURROGATE.search(value):
+            refuse(node, source, "a surrogate")
+        return ["str", value]
+    if kind is int:
         if not -(2**127) <= value < 2**127:
             refuse(node, source, "an integer past 128 bits")
         return ["int", str(value)]
-    if isinstance(value, str):
-        if SURROGATE.search(value):
-            refuse(node, source, "a surrogate")
-        return ["str", value]
-    if isinstance(value, bytes):
+    if value is None or value is Ellipsis or kind is bool:
+        return [{None: "none", Ellipsis: "ellipsis", True: "true", False: "false"}[value]]
+    if kind is bytes:
         return ["bytes", value.hex()]
     names = {float: "a float", complex: "a complex number"}
-    return refuse(node, source, names.get(type(value), "a constant of the class " + type(value).__name__))
+    return refuse(node, source, names.get(kind, "a constant of the class " + kind.__name__))
 
 
 def parameters(args):
-    """The fields of Arguments."""
+    """The values of the fields of Arguments."""
     positional = args.posonlyargs + args.args
     defaults = [None] * (len(positional) - len(args.defaults)) + args.defaults
-    both = [Parameter(*it) for it in zip(positional, defaults)]
+    both = list(map(Parameter, positional, defaults))
     only = len(args.posonlyargs)
-    keyword_only = [Parameter(*it) for it in zip(args.kwonlyargs, args.kw_defaults)]
-    return [both[:only], both[only:], args.vararg, keyword_only, args.kwarg]
+    return both[:only], both[only:], args.vararg, list(map(Parameter, args.kwonlyargs, args.kw_defaults)), args.kwarg
 
 
-def check_said(node, kind, source):
-    """Stops at a part that the row of the node leaves out, and that means something."""
-    if kind == "match_case":
-        pattern = node.pattern
-        if type(pattern).__name__ != "MatchAs" or pattern.name is not None or pattern.pattern is not None:
-            refuse(pattern, source, "a pattern of match but _")
-        if node.guard is not None:
-            refuse(node.guard, source, "a guard of match")
+def check_case(node, source):
+    """Stops at a part of a case that its row leaves out, and that means something."""
+    pattern = node.pattern
+    if type(pattern).__name__ != "MatchAs" or pattern.name is not None or pattern.pattern is not None:
+        refuse(pattern, source, "a pattern of match but _")
+    if node.guard is not None:
+        refuse(node.guard, source, "a guard of match")
+
+
+def check_default(node, source):
+    """Stops at the default of a type parameter, which rows leave out."""
     if getattr(node, "default_value", None) is not None:
         refuse(node.default_value, source, "the default of a type parameter")
 
 
-def values_of(node, kind):
-    """The values of the fields of a node, in the order of its row, as rows say them."""
-    values = [getattr(node, it, None) for it in FIELDS[kind].split()]
-    if kind in ("AnnAssign", "comprehension"):
-        values[3] = bool(values[3])
-    elif kind == "ImportFrom":
-        values[2] = values[2] or 0
-    elif kind in ("FunctionDef", "AsyncFunctionDef", "ClassDef"):
-        values[5] = values[5] or []
-    elif kind == "FormattedValue":
-        values[1] = CONVERSIONS[values[1]]
-    elif kind == "Constant":
-        values[0] = Literal(values[0])
-    elif kind == "JoinedStr":
+CHECKS = {"match_case": check_case, "TypeVar": check_default, "ParamSpec": check_default, "TypeVarTuple": check_default}
+
+
+def name_of(operator):
+    """The word of an operator."""
+    return type(operator).__name__
+
+
+# What rows say of a field whose value they do not take as it is.
+SAID = {
+    "op": name_of,
+    "ops": lambda operators: list(map(name_of, operators)),
+    "simple": bool,
+    "is_async": bool,
+    "level": lambda level: level or 0,
+    "conversion": CONVERSIONS.__getitem__,
+}
+
+
+# How the row of a kind is made of a node: its word, the function that gives the values of its fields, with the line and
+# the column first where it has a place, whether it has one, the check of what is left out, what is said otherwise than
+# Python says it (where it stands in the row, and how), and where nodes stand (whether there is a list of them).
+Plan = collections.namedtuple("Plan", "word values has_place check said nodes")
+
+
+def plan_of(kind):
+    """The plan of a kind of node."""
+    marked = FIELDS[kind].split()
+    names = [it.rstrip("*!?") for it in marked]
+    made = getattr(ast, kind)
+    # The Slice of Python 3.8 has a place once place_slices has given it one.
+    has_place = ("lineno" in made._attributes or kind == "Slice") and kind not in WITHOUT_PLACE
+    values = values_of(made, (["lineno", "col_offset"] if has_place else []) + names)
+    first = 3 if has_place else 1
+    said = [(at, SAID[name]) for at, (name, it) in enumerate(zip(names, marked), first) if it.endswith("?")]
+    nodes = [(at, it.endswith("*")) for at, it in enumerate(marked, first) if not it.endswith(("!", "?"))]
+    return Plan(WORDS.get(kind, kind), values, has_place, CHECKS.get(kind), said, nodes)
+
+
+def is_empty(node):
+    """Whether a node is the empty text."""
+    return isinstance(node, ast.Constant) and node.value == ""
+
+
+def values_of(made, names):
+    """The function that gives the values of these names of a node of this class."""
+    if made is ast.arguments:
+        return parameters
+    if made is ast.JoinedStr:
         # Python 3.12 has an empty text after the braces of a format, which no other has.
-        values[0] = [it for it in values[0] if not (isinstance(it, ast.Constant) and it.value == "")]
-    return values
+        return lambda node: (node.lineno, node.col_offset, [it for it in node.values if not is_empty(it)])
+    there = [it for it in names if it in ("lineno", "col_offset") or it in made._fields]
+    if len(there) > 1:
+        get = operator.attrgetter(*there)
+    else:
+        get = lambda node: [getattr(node, it) for it in there]
+    # Before 3.12 there are no type parameters, which stand last where they stand in an older kind.
+    return get if there == names else lambda node: (*get(node), [])
 
 
-def row_of(node, holder, source):
-    """The row of a node, with nodes in it where the numbers of their rows will stand. A constant stands in its holder."""
-    if isinstance(node, Literal):
-        return literal_row(node.value, holder, source)
-    if isinstance(node, Parameter):
-        return ["ArgWithDefault", *node]
-    kind = type(node).__name__
-    if kind == "arguments":
-        return ["Arguments", *parameters(node)]
-    if kind not in FIELDS:
-        refuse(node, source, "the kind " + kind)
-    check_said(node, kind, source)
-    row = [WORDS.get(kind, kind)]
-    if hasattr(node, "lineno") and kind not in WITHOUT_PLACE:
-        row += source.place(node.lineno, node.col_offset)
-    return row + values_of(node, kind)
-
-
-def holes_of(row):
-    """Where nodes stand in a row: in which list and where there, the last first. Operators become their names."""
-    holes = []
-    for at, value in enumerate(row):
-        # A field is a list of parts, or a part of the row itself.
-        parts, first = (value, 0) if type(value) is list else (row[at : at + 1], at)
-        within = value if type(value) is list else row
-        for place, part in enumerate(parts, first):
-            if isinstance(part, OPERATORS):
-                within[place] = type(part).__name__
-            elif isinstance(part, NODES):
-                holes.append((within, place))
-    return holes[::-1]
+# The plans of the classes of nodes that this Python has.
+PLANS = {getattr(ast, kind): plan_of(kind) for kind in FIELDS if hasattr(ast, kind)}
+PLANS[Parameter] = Plan("ArgWithDefault", tuple, False, None, (), ((1, False), (2, False)))
 
 
 def rows_of(tree, source):
-    """The rows of a tree, each after those that it names, which come in the order of its fields.
+    """The rows of a tree, each after those that it names, which come in the order of its fields."""
+    try:
+        return walked(tree, source, False)
+    except Fault:
+        # That is a fault, and this one is the first in the order of the source.
+        return walked(tree, source, True)
 
-    A tree of any depth is gone through: the rows that are not whole yet are a list, and no call within a call.
+
+def walked(tree, source, is_forward):
+    """The rows of a tree, which is gone through from the root on, each node before its parts, the last of them first.
+
+    That is the order of rows from the last to the first. Of parts that are gone through from the first on no rows are
+    made, and a Fault is the first. A tree of any depth is gone through: what is to come is a list, and no call in a call.
     """
-    rows = []
-    top = [tree]
-    # A row that is not whole: the list and the place where its number goes, its node, itself, and its holes.
-    unfinished = [(top, 0, tree, *opened(tree, tree, source))]
-    while unfinished:
-        within, at, node, row, holes = unfinished[-1]
-        if holes:
-            inner, place = holes.pop()
-            unfinished.append((inner, place, inner[place], *opened(inner[place], node, source)))
-        else:
-            unfinished.pop()
-            within[at] = len(rows)
-            rows.append(row)
+    rows, holes = [], []
+    # Where nodes stand for which rows are still to be made: the list, and the place in it.
+    waiting = [([tree], 0)]
+    plans, narrow, constant = PLANS, source.narrow, ast.Constant
+    while waiting:
+        hole = waiting.pop()
+        node = hole[0][hole[1]]
+        if node is None:
+            continue
+        holes.append(hole)
+        if node.__class__ not in plans:
+            refuse(node, source, "the kind " + type(node).__name__)
+        word, values, has_place, check, said, nodes = plans[node.__class__]
+        row = [word, *values(node)]
+        rows.append(row)
+        if has_place:
+            if 0 <= row[2] <= narrow.get(row[1], -1):
+                row[2] += 1
+            else:
+                row[1:3] = source.place(row[1], row[2])
+        if node.__class__ is constant:
+            rows.append(literal_row(row[3], node, source))
+            holes.append((row, 3))
+            continue
+        if check:
+            check(node, source)
+        for at, say in said:
+            row[at] = say(row[at])
+        begin = len(waiting)
+        for at, is_list in nodes:
+            if not is_list:
+                waiting.append((row, at))
+            elif row[at]:
+                part = row[at] = row[at][:]
+                waiting += zip(itertools.repeat(part), range(len(part)))
+        if is_forward:
+            waiting[begin:] = waiting[begin:][::-1]
+    for number, (within, at) in enumerate(reversed(holes)):
+        within[at] = number
+    rows.reverse()
     return rows
-
-
-def opened(node, holder, source):
-    """The row of a node and its holes. The lists of the row are its own."""
-    row = [list(it) if type(it) is list else it for it in row_of(node, holder, source)]
-    return row, holes_of(row)
 
 
 def text_of(data):
@@ -378,6 +435,8 @@ def tree_of(text, mode):
     try:
         with warnings.catch_warnings():
             warnings.simplefilter("ignore")
+            if mode == "block":
+                return ast.Interactive(ast.parse(text).body)
             return ast.parse(text, mode=mode)
     except SyntaxError as error:
         place = (max(error.lineno or 1, 1), max(error.offset or 1, 1))
@@ -390,19 +449,32 @@ def tree_of(text, mode):
 
 def rows_text(data, mode="exec"):
     """The rows of the bytes of a source, as JSON in one line. It raises a Fault where there are none."""
+    # Trees and rows hold no circles, so there is nothing for the collector to find in them.
+    is_collecting = gc.isenabled()
+    gc.disable()
+    try:
+        return text_of_rows(data, mode)
+    finally:
+        if is_collecting:
+            gc.enable()
+
+
+def text_of_rows(data, mode):
+    """The rows of the bytes of a source, as JSON in one line."""
     text = text_of(data)
     tree = tree_of(text, mode)
     source = Source(text)
     if sys.version_info < (3, 9):
         place_slices(tree, source)
     rows = rows_of(tree, source)
-    return json.dumps(rows, separators=(",", ":"), ensure_ascii=False)
+    return json.dumps(rows, separators=(",", ":"), ensure_ascii=False, check_circular=False)
 
 
 def main():
     parser = argparse.ArgumentParser(prog="rows.py", description="Writes the rows of a Python source.")
-    parser.add_argument("--mode", choices=("exec", "eval", "single", "func_type"), default="exec")
-    parser.add_argument("file", metavar="FILE", nargs="?", default="-")
+    modes = ("exec", "eval", "single", "block", "func_type")
+    parser.add_argument("--mode", choices=modes, default="exec", help="what the source is (exec: a file that is run)")
+    parser.add_argument("file", metavar="FILE", nargs="?", default="-", help="the source; standard input without it")
     words = parser.parse_args()
     name = "<stdin>" if words.file == "-" else words.file
     try:

@@ -1,13 +1,14 @@
 """Writes crates/scan_vectors/stdin and stdout: sources, with the tables of their scopes or why they are refused.
 
-usage: scan_tables.py MODEL_FOLDER
+usage: scan_tables.py
 
-MODEL_FOLDER holds a Python model of the scan (`scopes.py`) and a reader of Python sources (`py2rows.py`).
+What is wanted comes from tools/model, whose `scopes.py` scans trees.
 Each case is a line with its mode and its source, and a line with its rows; in stdout what the model says of the rows
 stands in their place. The last cases are of the library of the Python that runs this: small files, and of larger ones the
 definition that makes the most scopes. It wants Python 3.12 or later, which reads type parameters. The stored cases are
 of 3.12.1.
 """
+import argparse
 import ast
 import itertools
 import json
@@ -16,7 +17,7 @@ import pathlib
 import sys
 
 from source_tables import constant, escaped, rows_of, with_part, write
-from rows import read_rows  # that of the model
+from rows_reader import read_rows
 import scopes
 import shapes
 from py2rows import Converter, NotCarried, rows_text
@@ -765,4 +766,7 @@ def cases():
 
 
 if __name__ == "__main__":
+    argparse.ArgumentParser(prog="scan_tables.py", description=__doc__.split("\n")[0]).parse_args()
+    if sys.version_info < (3, 12):
+        sys.exit("scan_tables.py: Python 3.12 or later is wanted, which reads type parameters")
     write("scan_vectors", cases())

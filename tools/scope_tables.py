@@ -1,15 +1,18 @@
 """Writes crates/scope_vectors/src/programs.rt: small programs, with the tables of their scopes.
 
-usage: scope_tables.py MODEL_FOLDER
+usage: scope_tables.py
 
 The text on standard output is the file, before `rt fmt`.
-MODEL_FOLDER holds a Python model of the scan (`scopes.py`) and a reader of Python sources (`py2rows.py`).
+What is wanted comes from tools/model, whose `scopes.py` scans trees.
 Each source below gives one entry: the calls of its scan, and the tables of the model, or its refusal.
 A call is `+` with a letter for the kind, and the name, of a scope that is entered, `-` for one that is left,
 or a letter for a role and the name that is used.
 """
+import argparse
+import pathlib
 import sys
-sys.path.insert(0, sys.argv[1])
+
+sys.path.insert(0, str(pathlib.Path(__file__).resolve().parent / "model"))
 import scopes
 from py2rows import tree_of
 
@@ -165,13 +168,22 @@ def entry(source, calls, want):
     print(want)
 
 
-print("""//! Small programs with the tables of their scopes. The file is made by tools/scope_tables.py.
+HEAD = """//! Small programs with the tables of their scopes. The file is made by tools/scope_tables.py.
 
 /// Of each program: a line with its source, one with the calls of the scan over it, and one with its tables or why it is
 /// refused.
-pub const PROGRAMS: &'static str = r\"""", end="")
-for source in SOURCES:
-    entry(source, *scanned(source))
-for source, calls in TYPED:
-    entry(source, calls, replayed(calls))
-print('";')
+pub const PROGRAMS: &'static str = r\""""
+
+
+def main():
+    argparse.ArgumentParser(prog="scope_tables.py", description=__doc__.split("\n")[0]).parse_args()
+    print(HEAD, end="")
+    for source in SOURCES:
+        entry(source, *scanned(source))
+    for source, calls in TYPED:
+        entry(source, calls, replayed(calls))
+    print('";')
+
+
+if __name__ == "__main__":
+    main()

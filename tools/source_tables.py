@@ -1,8 +1,8 @@
 """Writes crates/codegen_vectors/stdin and stdout: sources, with the listing of their code or why they are refused.
 
-usage: source_tables.py MODEL_FOLDER PYTHON
+usage: source_tables.py [--python PYTHON]
 
-MODEL_FOLDER holds a Python model of the compiler (`pyc.py`) and a reader of Python sources (`py2rows.py`).
+The listings and the reasons are those of tools/model.
 Each source below gives one case: a line with its mode, its level and its source, and a line with its rows; in stdout
 what the model writes over the rows stands in their place. Kinds that the model compiles and this compiler does not yet
 are refused where they stand, as this compiler refuses them.
@@ -11,20 +11,23 @@ A source that Python's parser does not read as the tree that is wanted is a pair
 The places of what stands in an f-string are those of Python before 3.12, so this runs under an older one; PYTHON is one of
 3.12 or later, which reads the sources that have type parameters.
 """
+import argparse
 import itertools
 import json
 import pathlib
 import subprocess
 import sys
-if len(sys.argv) != 3:
-    sys.exit("usage: %s MODEL_FOLDER PYTHON" % pathlib.Path(sys.argv[0]).name)
-sys.path.insert(0, sys.argv[1])
+
+TOOLS = pathlib.Path(__file__).resolve().parent
+MODEL = str(TOOLS / "model")
+sys.path.insert(0, MODEL)
+import hostile_cases
 import pyc
 from py2rows import rows_text, tree_of
 from tree import Node
 from tree import rows_of as rows_of_tree
 
-CRATES = pathlib.Path(__file__).resolve().parent.parent / "crates"
+CRATES = TOOLS.parent / "crates"
 
 
 class At:
@@ -40,10 +43,20 @@ def at_each(source):
     return [At(level, source) for level in "012"]
 
 
-def generic(source):
-    """A source with type parameters."""
-    read = "import sys; sys.path.insert(0, sys.argv[1]); from py2rows import rows_text; print(rows_text(sys.argv[2], 'exec'))"
-    return source, subprocess.run([sys.argv[2], "-c", read, sys.argv[1], source], capture_output=True, check=True, text=True).stdout.strip()
+class Generic:
+    """A source with type parameters, which a Python of 3.12 or later reads."""
+
+    def __init__(self, source):
+        self.source = source
+
+    def rows(self):
+        """Its rows, by the Python of --python."""
+        read = "import sys; sys.path.insert(0, sys.argv[1]); from py2rows import rows_text; print(rows_text(sys.argv[2], 'exec'))"
+        words = [ARGUMENTS.python, "-c", read, MODEL, self.source]
+        return subprocess.run(words, capture_output=True, check=True, text=True).stdout.strip()
+
+
+generic = Generic
 
 
 def constant(name, rows):
@@ -609,7 +622,9 @@ LARGE = {
             At("0", branch(126)),
             At("0", branch(127)),
             At("0", named("255 targets before a star", ", ".join(["a"] * 255) + ", *b = c")),
+            At("0", named("256 targets before a star", ", ".join(["a"] * 256) + ", *b = c")),
         ],
+        "ITEMS": [named("a with of 1020 items", "with " + ", ".join(["a"] * 1020) + ": pass")],
     },
 }
 
@@ -2671,7 +2686,33 @@ SHAPES = {
 }
 
 
-GROUPS = [CHOICES, DISPLAYS, TARGETS, CONTROL, ORDER, SCOPES, LARGE, FUNCTIONS, COMPREHENSIONS, LEAVING, IMPORTS, CLASSES, INTERACTIVE, FUTURES, TYPE_PARAMETERS, SHAPES]
+# Chains of functions in which a name is used that a scope further out binds.
+CAPTURES = {
+    "exec": {
+        "CAPTURES": [
+            "def f(x): return lambda: x",
+            "def f(y):\n  class A:\n    y = 1\n    def g(self):\n      super()\n      return y",
+            "def f(): return [y := v for v in z]",
+            "def f(p):\n  class A:\n    class B(A):\n      def m(self):\n        super().m()\n        return p",
+            "def f(x, y):\n  def g(): return lambda: (x, y)\n  return lambda: (y, x)",
+        ],
+    },
+}
+
+
+def refused_trees():
+    """Trees that are refused, of each shape and each fault, under what is told of them, which is the same at each level."""
+    for number, (tree, line) in enumerate(hostile_cases.refused_trees()):
+        rows = hostile_cases.text_of(hostile_cases.rows_of(tree)).decode("utf-8")
+        status, _, told, _ = pyc.run(["exec", "012"[number % 3], "m.py"], rows.encode("utf-8"), True)
+        assert (status, told) == (1, line + "\n"), (line, told)
+        yield f"a tree that is refused: {line}", rows
+
+
+# Trees of each wrong shape, with each field that holds a name, and of each fault of a tree.
+REFUSED = {"exec": {"REFUSED": list(refused_trees())}}
+
+GROUPS = [CHOICES, DISPLAYS, TARGETS, CONTROL, ORDER, SCOPES, LARGE, FUNCTIONS, COMPREHENSIONS, LEAVING, IMPORTS, CLASSES, INTERACTIVE, FUTURES, TYPE_PARAMETERS, SHAPES, CAPTURES, REFUSED]
 
 
 def escaped(source):
@@ -2683,7 +2724,9 @@ def case(source, mode, level):
     """The head of a case, its rows, and the model's answer."""
     if isinstance(source, At):
         source, level = source.source, source.level
-    if isinstance(source, tuple):
+    if isinstance(source, Generic):
+        source, rows = source.source, source.rows()
+    elif isinstance(source, tuple):
         source, rows = source
     else:
         rows = rows_text(source, "eval" if mode == "eval" else "exec")
@@ -2718,5 +2761,13 @@ def write(crate, answered):
     print(f"{crate}: {len(answered)} cases")
 
 
+def arguments():
+    """The words of the call."""
+    parser = argparse.ArgumentParser(prog="source_tables.py", description=__doc__.split("\n")[0])
+    parser.add_argument("--python", metavar="PYTHON", default="python3.12", help="a Python of 3.12 or later, for type parameters (%(default)s)")
+    return parser.parse_args()
+
+
 if __name__ == "__main__":
+    ARGUMENTS = arguments()
     write("codegen_vectors", [*cases(GROUPS), *call_cases(CALLS)])

@@ -1,19 +1,28 @@
 #!/usr/bin/env python3
 """Times pyc from rows to listing beside what CPython does with the same trees: json.loads, compile and dis.
 
-usage: speed.py [--program FILE] [--runs N] [--most N] [--library FOLDER]
+usage: speed.py [--program PATH] [--runs N] [--series plain|scopes] [--most N] [--library FOLDER | --without-library]
+       speed.py [--program PATH] [--runs N] --growth [NAME..] [--sizes N] [--limit SECONDS] [--memory MB]
+       speed.py [--program PATH] [--runs N] --source FILE..
 
-The program is crates/pyc/out/pyc, which pyc.sh builds. The trees are generated ones of 10^3 to 10^5 statements, and
+The program is crates/pyc/out/pyc, which pyc.sh builds. The trees are made ones of 10^3 to 10^5 statements, and
 one of --most at most, and those files of the library of this Python, or of FOLDER, that pyc compiles and that import
 nothing from the future, as one file. CPython gets the same rows, as text, to read, and the tree of the same source, which is
 parsed before, to compile and to show. "JSON" is the program on an object that holds the rows: it reads all of it, and
-then refuses it, since it is no array.
+then refuses it, since it is no array. The series `plain` is of statements of one scope with 25 names; `scopes` is of
+functions, closures, classes, methods with super, comprehensions, decorators, default values, try and with.
+
+--growth times made inputs whose cost may grow faster than their size, each at several sizes n, and tells how the rows, the
+time and the listing grow: as which power of n, by the line through the logarithms that has the least squares. A run
+that takes more seconds than --limit or more memory than --memory is ended, and the input with it. --source times files
+from the source on: tools/rows.py and the program apart, and `python -m dis` beside them.
 
 Times are seconds of processor time, the least of N runs (3). Peaks are of resident memory, and no less than what the
-Python has that starts the run, some 16 MB. Standard output is a table, as README.md shows it.
+Python has that starts the run, some 16 MB. Standard output is a table, as docs/PERFORMANCE.md and docs/GROWTH.md show them.
 """
 import argparse
 import ast
+import collections
 import datetime
 import dis
 import io
@@ -22,11 +31,14 @@ import math
 import os
 import pathlib
 import platform
+import resource
 import shutil
 import subprocess
 import sys
 import tempfile
 import time
+
+import made_inputs
 
 TOOLS = pathlib.Path(__file__).resolve().parent
 PROGRAM = TOOLS.parent / "crates" / "pyc" / "out" / "pyc"
@@ -49,32 +61,45 @@ HEADS = (
     "Peak of CPython, MB",
 )
 
-# Ten statements, of which each kind compiles today.
-PARAGRAPH = '''\
-while f(a, x=1) < b and not c:
-    a.b = {1: c, **d}[2:e]
-    if a is None: break
-    elif g: continue
-(x, *y), z.w = h(*i, **j), f"{a!r}: {b:>3}"
-del q, r.s[t]
-n: k = (u if a in b else -v) ** 2 @ w
-o += p[m := l]
-print(x, y, z.w)
-'''
+GROWTH_HEADS = (
+    "Input",
+    "n",
+    "Rows, kB",
+    "Seconds",
+    "Peak, MB",
+    "Listing, kB",
+    "Rows grow as n to the",
+    "Time",
+    "Listing",
+)
+SOURCE_HEADS = ("File", "Source, kB", "Rows, kB", "rows.py", "pyc", "Both", "pyc / both", "python -m dis")
+
+# What is started and ended takes about a thousandth of a second, whatever it does: times below this tell little.
+SHORTEST = 0.004
+
+# How a run ended, its seconds of processor time, its peak of memory and what it wrote, in bytes.
+Run = collections.namedtuple("Run", "status seconds peak written")
 
 
-def generated(statements):
-    """A source of so many statements, a multiple of ten."""
-    return PARAGRAPH * (statements // 10)
+def bounded(limit, memory):
+    """What a process does before it becomes the program: it gets a limit of seconds and one of memory, in MB."""
+    resource.setrlimit(resource.RLIMIT_CORE, (0, 0))
+    resource.setrlimit(resource.RLIMIT_CPU, (limit, limit + 1))
+    resource.setrlimit(resource.RLIMIT_AS, (memory * 1000000, memory * 1000000))
 
 
-def timed(words, source, out=subprocess.DEVNULL):
-    """The status of a run over a file, its seconds of processor time, and its peak of memory in bytes."""
+def timed(words, source, out=subprocess.DEVNULL, bounds=None):
+    """A run over a file. What it writes is counted where `out` is a pipe."""
+    begin = bounds and (lambda: bounded(*bounds))
+    written = 0
     with open(source, "rb") as it:
-        run = subprocess.Popen(list(map(str, words)), stdin=it, stdout=out, stderr=subprocess.DEVNULL)
+        run = subprocess.Popen(list(map(str, words)), stdin=it, stdout=out, stderr=subprocess.DEVNULL, preexec_fn=begin)
+    if out == subprocess.PIPE:
+        with run.stdout as it:
+            written = sum(map(len, iter(lambda: it.read(1 << 16), b"")))
     _, status, usage = os.wait4(run.pid, 0)
     run.returncode = status >> 8 if status & 0xFF == 0 else 128 + (status & 0x7F)
-    return run.returncode, usage.ru_utime + usage.ru_stime, usage.ru_maxrss * 1024
+    return Run(run.returncode, usage.ru_utime + usage.ru_stime, usage.ru_maxrss * 1024, written)
 
 
 def show_cpython(rows, source):
@@ -105,13 +130,13 @@ class Bench:
         """The file of the rows of a source, or None where it has none."""
         file = self.folder / "rows"
         with open(file, "wb") as out:
-            status, _, _ = timed([sys.executable, TOOLS / "rows.py"], source, out)
-        return file if status == 0 else None
+            run = timed([sys.executable, TOOLS / "rows.py"], source, out)
+        return file if run.status == 0 else None
 
     def pyc(self, rows, wanted=0):
         """The least seconds of the program over rows and its peak, or None where it ends with another status."""
         runs = [timed([self.program, "exec", "0", "m.py"], rows) for _ in range(self.runs)]
-        return None if any(it[0] != wanted for it in runs) else (min(it[1] for it in runs), max(it[2] for it in runs))
+        return None if any(it.status != wanted for it in runs) else (min(it.seconds for it in runs), max(it.peak for it in runs))
 
     def reading(self, rows):
         """The least seconds in which the program reads the JSON of rows, and no more than that."""
@@ -128,9 +153,9 @@ class Bench:
         steps, peak = [], 0
         for _ in range(self.runs):
             with open(self.folder / "cpython", "wb") as out:
-                _, _, memory = timed([sys.executable, __file__, "--cpython", rows, source], os.devnull, out)
+                run = timed([sys.executable, __file__, "--cpython", rows, source], os.devnull, out)
             steps.append(json.loads((self.folder / "cpython").read_text()))
-            peak = max(peak, memory)
+            peak = max(peak, run.peak)
         return [min(it) for it in zip(*steps)], peak
 
     def line(self, name, rows, source):
@@ -145,18 +170,88 @@ class Bench:
         cells += ["%.0f" % (peak / 1e6), "%.0f" % (peak / size), "%.0f" % (their_peak / 1e6)]
         return table_line(cells), seconds
 
+    def grown(self, name, size, bounds):
+        """The bytes of the rows of a made input, and a run over them with the least seconds and the greatest peak of all.
+
+        Of a run that does not compile it is that one.
+        """
+        file = self.folder / "made"
+        with open(file, "wb") as out:
+            subprocess.run([sys.executable, TOOLS / "made_inputs.py", name, str(size)], stdout=out, check=True)
+        words = [self.program, "exec", "0", "m.py"]
+        runs = []
+        for _ in range(self.runs):
+            runs.append(timed(words, file, subprocess.PIPE, bounds))
+            if runs[-1].status != 0:
+                return file.stat().st_size, runs[-1]
+        least, peak = min(it.seconds for it in runs), max(it.peak for it in runs)
+        return file.stat().st_size, runs[0]._replace(seconds=least, peak=peak)
+
+    def from_source(self, source):
+        """The seconds of rows.py, of the program and of dis over a file, and the bytes of its rows; None without them."""
+        file = self.folder / "rows"
+        reading = []
+        for _ in range(self.runs):
+            with open(file, "wb") as out:
+                reading.append(timed([sys.executable, TOOLS / "rows.py"], source, out))
+        ours = self.pyc(file) if all(it.status == 0 for it in reading) else None
+        if ours is None:
+            return None
+        shown = [timed([sys.executable, "-m", "dis", source], os.devnull) for _ in range(self.runs)]
+        return min(it.seconds for it in reading), ours[0], min(it.seconds for it in shown), file.stat().st_size
+
 
 def table_line(cells):
     """A line of the table."""
     return "| %s |" % " | ".join(cells)
 
 
+def table_head(heads):
+    """The first two lines of a table."""
+    return table_line(heads) + "\n|" + "---|" * len(heads)
+
+
 def growth(points):
-    """The slope of the line through the logarithms of sizes and seconds, by least squares."""
-    logs = [(math.log(size), math.log(seconds)) for size, seconds in points]
+    """The slope of the line through the logarithms of sizes and values, by least squares; None of fewer than two points."""
+    logs = [(math.log(size), math.log(value)) for size, value in points]
+    if len({size for size, _ in logs}) < 2:
+        return None
     middle = [sum(it) / len(logs) for it in zip(*logs)]
     above = sum((x - middle[0]) * (y - middle[1]) for x, y in logs)
     return above / sum((x - middle[0]) ** 2 for x, _ in logs)
+
+
+def power(points):
+    """The slope in two digits, or a stroke where there is none."""
+    slope = growth(points)
+    return "-" if slope is None else "%.2f" % slope
+
+
+def growth_line(text, points, end=None):
+    """A line of the table of growth: of the size, the bytes of rows and the run of each point; and how the next one ended."""
+    columns = [
+        [str(size) for size, _, _ in points],
+        ["%.0f" % (rows / 1000) for _, rows, _ in points],
+        ["%.3f" % run.seconds for _, _, run in points],
+        ["%.0f" % (run.peak / 1e6) for _, _, run in points],
+        ["%.0f" % (run.written / 1000) for _, _, run in points],
+    ]
+    if end is not None:
+        columns[0].append(str(end[0]))
+        columns[2].append(end[1])
+    powers = [
+        power([(size, rows) for size, rows, _ in points]),
+        power([(size, run.seconds) for size, _, run in points if run.seconds >= SHORTEST]),
+        power([(size, run.written) for size, _, run in points]),
+    ]
+    return table_line([text, *map(", ".join, columns), *powers])
+
+
+def how_ended(status, limit):
+    """How a run ended that has no time, in words."""
+    if status in (128 + 9, 128 + 24):
+        return "over %d" % limit
+    return "no memory" if status == 6 else "status %d" % status
 
 
 def gather(program, library, together):
@@ -190,27 +285,57 @@ def machine():
     return "%s, %d processors (load %.1f), %s" % (name, os.cpu_count(), os.getloadavg()[0], platform.system())
 
 
-def main():
-    parser = argparse.ArgumentParser(prog="speed.py", description=__doc__.split("\n")[0])
-    parser.add_argument("--program", type=pathlib.Path, default=PROGRAM)
-    parser.add_argument("--runs", type=int, default=3)
-    parser.add_argument("--most", type=int, default=SIZES[-1])
-    parser.add_argument("--library", type=pathlib.Path, default=pathlib.Path(os.__file__).parent)
-    words = parser.parse_args()
-    if not os.access(words.program, os.X_OK):
-        sys.exit("speed.py: there is no program %s: sh pyc.sh builds it" % words.program)
-    print("%s; %s; CPython %s\n" % (datetime.date.today(), machine(), platform.python_version()))
-    print(table_line(HEADS))
-    print("|" + "---|" * len(HEADS), flush=True)
+def show_growth(bench, names, sizes, bounds):
+    """Prints the table of the made inputs of these names."""
+    print(table_head(GROWTH_HEADS), flush=True)
+    for name in names:
+        made, points, end = made_inputs.GROWING[name], [], None
+        for size in made.sizes[:sizes]:
+            rows, run = bench.grown(name, size, bounds)
+            if run.status != 0:
+                end = size, how_ended(run.status, bounds[0])
+                break
+            points.append((size, rows, run))
+        print(growth_line(made.text, points, end), flush=True)
+
+
+def show_sources(bench, files):
+    """Prints the table of files, from the source on, and a line of all of them together."""
+    print(table_head(SOURCE_HEADS), flush=True)
+    whole = [0] * 5
+    for file in files:
+        found = bench.from_source(file)
+        if found is None:
+            print("| %s does not compile |" % file, flush=True)
+            continue
+        numbers = [file.stat().st_size, found[3], *found[:3]]
+        whole = [sum(it) for it in zip(whole, numbers)]
+        print(source_line(str(file), *numbers), flush=True)
+    if len(files) > 1 and whole[0]:
+        print(source_line("together", *whole))
+
+
+def source_line(name, size, rows, reading, compiling, showing):
+    """A line of the table of sources: bytes of the source and of the rows, and seconds."""
+    both = reading + compiling
+    cells = ["%.0f" % (size / 1000), "%.0f" % (rows / 1000), *("%.3f" % it for it in (reading, compiling, both))]
+    return table_line([name, *cells, "%.2f" % (compiling / both), "%.3f" % showing])
+
+
+def show_series(bench, words):
+    """Prints the table of a series, and of the library."""
+    print(table_head(HEADS), flush=True)
     points = []
-    with tempfile.TemporaryDirectory() as folder:
-        bench = Bench(words.program.resolve(), words.runs, folder)
-        source = bench.folder / "source.py"
-        for size in sorted({min(it, words.most) for it in SIZES}):
-            source.write_text(generated(size))
-            line, seconds = bench.line(str(size), bench.rows(source), source)
-            points.append((size, seconds))
-            print(line, flush=True)
+    source = bench.folder / "source.py"
+    for size in sorted({min(it, words.most) for it in SIZES}):
+        source.write_text(made_inputs.source_of(words.series, size))
+        found = bench.line(str(size), bench.rows(source), source)
+        if found is None:
+            print("| %d statements do not compile |" % size, flush=True)
+            continue
+        points.append((size, found[1]))
+        print(found[0], flush=True)
+    if not words.without_library:
         together = bench.folder / "library.py"
         gathering = [sys.executable, __file__, "--gather", str(bench.program), str(words.library), str(together)]
         count = int(subprocess.check_output(gathering))
@@ -218,10 +343,46 @@ def main():
         line = rows and bench.line("%d files of the library" % count, rows, together)
         print(line[0] if line else "| The files of the library do not compile together |")
     if len(points) > 1:
-        print("\nGrowth: pyc takes as long as the number of statements to the power %.2f." % growth(points))
+        print("\nGrowth: pyc takes as long as the number of statements to the power %s." % power(points))
+
+
+def words_of():
+    """The words of the call."""
+    parser = argparse.ArgumentParser(prog="speed.py", description=__doc__.split("\n")[0])
+    parser.add_argument("--program", metavar="PATH", type=pathlib.Path, default=PROGRAM, help="the program that is timed (%(default)s)")
+    parser.add_argument("--runs", metavar="N", type=int, default=3, help="how often each is run; the least time counts (%(default)s)")
+    parser.add_argument("--series", choices=sorted(made_inputs.SERIES), default="plain", help="the made trees: statements in one scope (plain, the default), or functions, classes and comprehensions")
+    parser.add_argument("--most", metavar="N", type=int, default=SIZES[-1], help="the most statements of a made tree (%(default)s)")
+    parser.add_argument("--library", metavar="FOLDER", type=pathlib.Path, default=pathlib.Path(os.__file__).parent, help="the library whose files are timed (that of this Python)")
+    parser.add_argument("--without-library", action="store_true", help="time the made trees alone")
+    parser.add_argument("--growth", metavar="NAME", nargs="*", choices=list(made_inputs.GROWING), help="time made inputs whose cost may grow faster than their size: all, or these of %s (made_inputs.py --help says what they are)" % ", ".join(made_inputs.GROWING))
+    parser.add_argument("--sizes", metavar="N", type=int, default=4, help="with --growth: how many sizes of each input, the smallest first (%(default)s)")
+    parser.add_argument("--limit", metavar="SECONDS", type=int, default=20, help="with --growth: the most seconds of a run (%(default)s)")
+    parser.add_argument("--memory", metavar="MB", type=int, default=4000, help="with --growth: the most memory of a run (%(default)s)")
+    parser.add_argument("--source", metavar="FILE", nargs="+", type=pathlib.Path, help="time these files from the source on: rows.py and the program apart")
+    return parser.parse_args()
+
+
+def main():
+    words = words_of()
+    if not os.access(words.program, os.X_OK):
+        sys.exit("speed.py: there is no program %s: sh pyc.sh builds it" % words.program)
+    missing = [str(it) for it in words.source or () if not it.is_file()]
+    if missing:
+        sys.exit("speed.py: there is no file %s" % ", ".join(missing))
+    print("%s; %s; CPython %s\n" % (datetime.date.today(), machine(), platform.python_version()))
+    with tempfile.TemporaryDirectory() as folder:
+        bench = Bench(words.program.resolve(), words.runs, folder)
+        if words.growth is not None:
+            show_growth(bench, words.growth or made_inputs.GROWING, words.sizes, (words.limit, words.memory))
+        elif words.source:
+            show_sources(bench, words.source)
+        else:
+            show_series(bench, words)
 
 
 if __name__ == "__main__":
+    # Steps that take a process of their own, so that their memory is not counted as that of the program.
     if sys.argv[1:2] == ["--cpython"]:
         show_cpython(*sys.argv[2:])
     elif sys.argv[1:2] == ["--gather"]:

@@ -67,10 +67,10 @@ class Found:
 
 def main():
     parser = argparse.ArgumentParser(prog="stdlib.py", description=__doc__.split("\n")[0])
-    parser.add_argument("--program", type=pathlib.Path, default=PROGRAM)
-    parser.add_argument("--files", action="store_true")
-    parser.add_argument("--kinds", action="store_true")
-    parser.add_argument("folder", metavar="FOLDER", nargs="?", type=pathlib.Path, default=pathlib.Path(os.__file__).parent)
+    parser.add_argument("--program", type=pathlib.Path, default=PROGRAM, help="the program that compiles (%(default)s)")
+    parser.add_argument("--files", action="store_true", help="tell of each file how it ends")
+    parser.add_argument("--kinds", action="store_true", help="count the rows of each kind")
+    parser.add_argument("folder", metavar="FOLDER", nargs="?", type=pathlib.Path, default=pathlib.Path(os.__file__).parent, help="the library (that of this Python)")
     words = parser.parse_args()
     if not os.access(words.program, os.X_OK):
         sys.exit("stdlib.py: there is no program %s: sh pyc.sh builds it" % words.program)

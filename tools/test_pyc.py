@@ -1,5 +1,5 @@
 #!/usr/bin/env python3
-"""Tests of pyc.sh, speed.py and stdlib.py, with a small program in the place of pyc and of rt."""
+"""Tests of pyc.sh, build.py, compile_files.py, speed.py and stdlib.py, with a small program in the place of pyc and of rt."""
 import os
 import pathlib
 import shutil
@@ -77,52 +77,154 @@ class Fresh(unittest.TestCase):
         write_program(self.bin / "rt", BUILDER % {"root": self.root, "program": self.folder / "program"})
         (self.bin / "python3").symlink_to(sys.executable)
 
+    def pyc(self, *words, **more):
+        """A call of pyc.sh."""
+        return self.call(["sh", self.root / "pyc.sh", *words], **more)
+
+    def write(self, name, text):
+        """Writes a file that is compiled."""
+        (self.folder / name).write_text(text, encoding="utf-8")
+
+    def built(self):
+        """Builds the program."""
+        self.with_builder()
+        self.assertEqual(self.pyc("exec", "0", "x")[0], 0)
+
     def test_the_first_call_says_what_it_does(self):
         self.with_builder()
-        status, out, told = self.call(["sh", self.root / "pyc.sh", "exec", "0", "m.py"], data=b"[]")
+        status, out, told = self.pyc("exec", "0", "m.py", data=b"[]")
         self.assertEqual((status, out), (0, "exec;0;m.py;2\n"))
-        self.assertIn("the first call proves the program and builds it, in %s/crates\n" % self.root, told)
+        self.assertIn("this call proves its 3 crates and builds it, in %s/crates\n" % self.root, told)
+        self.assertIn("sh pyc.sh --try FILE.py compiles at once, without proof\n", told)
         self.assertIn("pyc.sh: 1 of 3: low\npyc.sh: 2 of 3: high\npyc.sh: 3 of 3: pyc\n", told)
         self.assertEqual((self.root / "proved").read_text(), "low\nhigh\n")
         self.assertRegex(told, r"pyc\.sh: proved and built in \d+ minutes \d+ seconds \(.+ processors, .+\)\n$")
-        self.assertEqual(self.call(["sh", self.root / "pyc.sh", "a b", "", "*"], data=b"[]"), (0, "a b;;*;2\n", ""))
+        self.assertEqual(self.pyc("block", "2", "* a", data=b"[]"), (0, "block;2;* a;2\n", ""))
+
+    def test_what_needs_no_program(self):
+        write_program(self.bin / "rt", "#!/bin/sh\n[ $1 = version ] && echo kit-1 || touch '%s/proved'\n" % self.root)
+        (self.bin / "python3").symlink_to(sys.executable)
+        status, out, told = self.pyc("--help")
+        self.assertEqual((status, told), (0, ""))
+        self.assertTrue(out.startswith("usage: sh pyc.sh "), out)
+        self.assertEqual(self.pyc("-m", "eval", "-h"), (0, out, ""))
+        self.assertEqual(self.pyc("--version"), (0, "pyc no commit, kit-1\n", ""))
+        self.assertEqual(self.pyc("no.py", "nor this.py"), (4, "", "no.py: No such file or directory\nnor this.py: No such file or directory\n"))
+        self.assertEqual(self.pyc("--run", "no.py", "-x"), (4, "", "no.py: No such file or directory\n"))
+        usage = out[: out.index("\n\n") + 1]
+        self.assertEqual(self.pyc(), (2, "", usage))
+        for words in (["exec"], ["exec", "0"], ["exec", "3", "m.py"], ["eval", "0", "m.py", "n.py"], ["-O", "3", "m.py"], ["-m", "x", "m.py"]):
+            self.check_wrong(words, usage)
+        for words in (["-m"], ["-O2"], ["--rows"], ["--frob", "m.py"], ["--run"], ["-o", "x", "--run", "m.py"]):
+            self.check_wrong(words, usage)
+        self.assertFalse((self.root / "proved").exists())
+
+    def check_wrong(self, words, usage):
+        """Words that are told, with the usage, and build nothing."""
+        status, out, told = self.pyc(*words)
+        self.assertEqual((status, out), (2, ""), words)
+        self.assertRegex(told, r"^pyc\.sh: .+\n")
+        self.assertTrue(told.endswith(usage), told)
 
     def test_links_and_folders(self):
-        self.with_builder()
-        self.call(["sh", self.root / "pyc.sh", "exec", "0", "m.py"])
+        self.built()
         links = self.folder / "links"
         links.mkdir()
         (links / "one").symlink_to(self.root / "pyc.sh")
         (links / "two").symlink_to("one")
         (links / "folder").symlink_to(self.root)
         for cwd, name in ((links, "one"), ("/", links / "two"), (self.root / "crates", "../pyc.sh"), (links / "folder", "pyc.sh")):
-            self.assertEqual(self.call(["sh", name, "x"], cwd=cwd), (0, "x;0\n", ""))
-        self.assertEqual(self.call([links / "two", "x"]), (0, "x;0\n", ""))
+            self.assertEqual(self.call(["sh", name, "exec", "0", "x"], cwd=cwd), (0, "exec;0;x;0\n", ""))
+        self.assertEqual(self.call([links / "two", "exec", "0", "x"]), (0, "exec;0;x;0\n", ""))
 
     def test_files(self):
-        self.with_builder()
-        self.call(["sh", self.root / "pyc.sh", "x"])
+        self.built()
         rows = '[["Name",1,1,"a"],["Expr",1,1,0],["Module",[1]]]'
-        for name in ("m.py", "a b.py", "-m.py", "\u00e9.py"):
-            (self.folder / name).write_text("a\n")
-            self.assertEqual(self.call(["sh", self.root / "pyc.sh", name]), (0, "exec;0;%s;%d\n" % (name, len(rows)), ""))
-        (self.folder / "m.py").write_text("a = 1.5\n")
-        self.assertEqual(self.call(["sh", self.root / "pyc.sh", "m.py"]), (1, "", "m.py:1:5: rows have no word for a float\n"))
-        status, out, told = self.call(["sh", self.root / "pyc.sh", "no.py"])
+        for name in ("m.py", "a b.py", "\u00e9.py", "noend"):
+            self.write(name, "a\n")
+            self.assertEqual(self.pyc(name), (0, "exec;0;%s;%d\n" % (name, len(rows)), ""))
+        self.write("-m.py", "a\n")
+        self.assertEqual(self.pyc("--", "-m.py", "m.py")[:2], (0, "exec;0;-m.py;48\nexec;0;m.py;48\n"))
+        self.assertEqual(self.pyc("-", data=b"a\n"), (0, "exec;0;<stdin>;48\n", ""))
+        self.assertEqual(self.pyc("-m", "eval", "-O", "2", "m.py"), (0, "eval;2;m.py;35\n", ""))
+        self.assertEqual(self.pyc("-m", "block", "-O1", "m.py"), (0, "block;1;m.py;%d\n" % len(rows.replace("Module", "Interactive")), ""))
+        self.assertEqual(self.pyc("m.py", "no.py"), (4, "exec;0;m.py;48\n", "no.py: No such file or directory\n"))
+        self.assertEqual(self.pyc("."), (4, "", ".: Is a directory\n"))
+
+    def test_rows(self):
+        self.built()
+        self.write("m.json", "[]")
+        self.write("odd.json", '{"":0}')
+        self.write("class.json", '[["ClassDef"]]')
+        self.assertEqual(self.pyc("--rows", "m.json"), (0, "exec;0;m.json;2\n", ""))
+        self.assertEqual(self.pyc("--rows", "-", data=b"[ ]"), (0, "exec;0;<stdin>;3\n", ""))
+        told = "class.json:1:1: RustPython does not implement this feature yet\nodd.json: input: not rows\n"
+        self.assertEqual(self.pyc("--rows", "class.json", "odd.json", "m.json"), (3, "exec;0;m.json;2\n", told))
+
+    def test_output(self):
+        self.built()
+        self.write("m.py", "a\n")
+        self.write("c.py", "class C: pass\n")
+        self.assertEqual(self.pyc("-o", "one", "m.py", "m.py"), (0, "", ""))
+        self.assertEqual((self.folder / "one").read_text(), 2 * "exec;0;m.py;48\n")
+        self.assertEqual(self.pyc("-o", "two", "m.py", "c.py")[0], 1)
+        self.assertFalse((self.folder / "two").exists())
+        self.assertEqual(self.pyc("-o", "no/two", "m.py"), (5, "", "no/two: No such file or directory\n"))
+
+    def test_faults(self):
+        self.built()
+        self.write("f.py", "a = 1.5\n")
+        self.assertEqual(self.pyc("f.py"), (1, "", "f.py:1:5: rows have no word for a float\na = 1.5\n    ^\n"))
+        self.write("s.py", "if a:\n\t'\u00e9\u65e5' + 1.5\n")
+        self.assertEqual(self.pyc("s.py"), (1, "", "s.py:2:9: rows have no word for a float\n\t'\u00e9\u65e5' + 1.5\n\t        ^\n"))
+        self.write("c.py", "class C:\n    pass\n")
+        status, out, told = self.pyc("c.py", "f.py")
         self.assertEqual((status, out), (1, ""))
-        self.assertRegex(told, r"^no\.py: .+\n$")
+        text = "c.py:1:1: RustPython does not implement this feature yet\nclass C:\n^\n"
+        self.assertEqual(told, text + "f.py:1:5: rows have no word for a float\na = 1.5\n    ^\n")
+        (self.folder / "latin.py").write_bytes(b"a\n'\xe9'\n")
+        self.assertEqual(self.pyc("latin.py"), (1, "", "latin.py:2:2: the source is not utf-8\n"))
+
+    def test_without_proof(self):
+        write_program(self.bin / "rt", "#!/bin/sh\n[ \"$1 $2\" = 'try --' ] && shift 2 && echo \"${PWD##*/} $*\" && cat && echo proved=no >&2\n")
+        (self.bin / "python3").symlink_to(sys.executable)
+        self.write("m.py", "a\n")
+        status, out, told = self.pyc("--try", "-m", "eval", "m.py")
+        self.assertEqual((status, out), (0, 'pyc eval 0 m.py\n[["Name",1,1,"a"],["Expression",0]]'))
+        self.assertRegex(told, r"^pyc\.sh: --try: nothing is proved of this program, .+\n$")
+
+    def test_lanes(self):
+        sys.path.insert(0, str(ROOT / "tools"))
+        import build
+
+        crates = build.read_crates("# a comment\na status=1: b c std # x\nb: d\nc: d\nd:\ne: a\n")
+        self.assertEqual(crates, {"a": ["b", "c"], "b": ["d"], "c": ["d"], "d": [], "e": ["a"]})
+        self.assertEqual(build.below("a", crates), ["d", "b", "c", "a"])
+        weights = {"a": 1, "b": 2, "c": 5, "d": 3}
+        self.assertEqual(build.chains(["d", "b", "c", "a"], crates, weights), {"a": 1, "b": 3, "c": 6, "d": 9})
+        self.assertGreaterEqual(build.lanes_here(), 1)
+
+    def test_a_crate_that_is_not_proved(self):
+        self.with_builder()
+        write_program(self.bin / "rt", "#!/bin/sh\necho open goal; exit 1\n")
+        status, out, told = self.pyc("exec", "0", "m.py")
+        self.assertEqual((status, out), (127, ""))
+        self.assertTrue(told.endswith("pyc.sh: 1 of 3: low\nopen goal\npyc.sh: low is not proved\npyc.sh: the program could not be built\n"), told)
 
     def test_without_rt(self):
-        for name in ("sh", "cat", "dirname", "readlink"):
+        for name in ("sh", "cat", "dirname", "readlink", "awk", "wc"):
             (self.bin / name).symlink_to(shutil.which(name))
-        status, out, told = self.call([self.bin / "sh", self.root / "pyc.sh", "x"], path="")
+        status, out, told = self.call([self.bin / "sh", self.root / "pyc.sh", "exec", "0", "x"], path="")
         self.assertEqual((status, out), (127, ""))
         self.assertIn("install the Rattle kit", told)
         write_program(self.bin / "rt", "#!/bin/sh\necho no >&2; exit 1\n")
         (self.bin / "date").symlink_to(shutil.which("date"))
-        status, out, told = self.call([self.bin / "sh", self.root / "pyc.sh", "x"], path="")
+        status, out, told = self.call([self.bin / "sh", self.root / "pyc.sh", "exec", "0", "x"], path="")
         self.assertEqual((status, out), (127, ""))
-        self.assertTrue(told.endswith("no\npyc.sh: the program could not be built\n"), told)
+        self.assertTrue(told.endswith("pyc.sh: 1 of 3: low\nno\npyc.sh: the program could not be built\n"), told)
+        self.write("m.py", "a\n")
+        status, out, told = self.call([self.bin / "sh", self.root / "pyc.sh", "m.py"], path="")
+        self.assertEqual((status, out, told), (127, "", "pyc.sh: there is no python3 of 3.8 or later on the path, which reads the files\n"))
 
     def library(self):
         """A folder of sources."""

@@ -739,7 +739,7 @@ class Program(unittest.TestCase):
         status, out, told = self.run_with(["no-such-file.py"])
         self.assertEqual((status, out), (1, b""))
         self.assertRegex(told, r"^no-such-file\.py: .+\n$")
-        self.assertEqual(self.run_with(["--mode", "block"])[:2], (2, b""))
+        self.assertEqual(self.run_with(["--mode", "blocks"])[:2], (2, b""))
 
 
 if __name__ == "__main__":

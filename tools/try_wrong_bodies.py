@@ -12,6 +12,7 @@ over the contracts of those that it calls and not over their bodies, so what is 
 edit. Edits that stand in a function that another one changes, or whose function was not looked at since one that it
 calls is refused, wait for a further check. Run `rt ci` before, so that the crates below are kept.
 """
+import argparse
 import pathlib
 import re
 import shutil
@@ -119,12 +120,11 @@ def tried_together(crate):
 
 
 def main():
-    names = sys.argv[1:]
-    together = names[:1] == ["--together"]
-    names = names[1:] if together else names
-    if not names or any(name.startswith("-") for name in names):
-        print("usage: try_wrong_bodies.py [--together] NAME..", file=sys.stderr)
-        sys.exit(2)
+    parser = argparse.ArgumentParser(prog="try_wrong_bodies.py", description=__doc__.split("\n")[0])
+    parser.add_argument("--together", action="store_true", help="make the edits of different functions at once, in a copy of the repository")
+    parser.add_argument("names", metavar="NAME", nargs="+", help="a crate")
+    words = parser.parse_args()
+    names, together = words.names, words.together
     for name in names:
         if not (TOP / "crates" / name / "must-fail").is_dir():
             stop("no wrong bodies of a crate %s" % name)

@@ -1,18 +1,20 @@
 """Writes the table of codes and verdicts crates/py_verify_vectors/src/table.rt.
 
-usage: verdict_table.py MODEL_FOLDER
+usage: verdict_table.py
 
 The text on standard output is the file, before `rt fmt`.
-MODEL_FOLDER holds a Python model of the program (`pyc.py`) with its walks over units (`sound.py`), and a reader of Python
-sources (`py2rows.py`). Each source below is compiled by the model, and each code of it stands in the table, and then
+Each source below is compiled by tools/model, which also finds the flaws (`sound.py`). Each code of it stands in the table, and then
 codes that differ from one of these in a unit, an operand, the depth or a table.
 A line has the depth, how many constants, names, varnames, cellvars and freevars there are, the units, each as the number of
 its instruction and its byte, and `Yes` or each flaw that the model finds.
 """
+import argparse
+import pathlib
 import random
 import sys
 from dataclasses import replace
-sys.path.insert(0, sys.argv[1])
+
+sys.path.insert(0, str(pathlib.Path(__file__).resolve().parent / "model"))
 import instr
 import pyc
 import sound
@@ -106,6 +108,7 @@ def lines():
 
 
 def main():
+    argparse.ArgumentParser(prog="verdict_table.py", description=__doc__.split("\n")[0]).parse_args()
     found = lines()
     print("//! Codes and what is wrong with them. The file is made by tools/verdict_table.py.\n")
     print("use py_bytecode::Instruction;\n")

@@ -7,6 +7,7 @@ usage: wrong_bodies.py [--check]
 The list stands between two marker lines, and has a row for each file that edits change: its crate, with a star where they
 are tried on demand, the file, and the names of the edits in words. With --check nothing is written, and the status is 1 where the document has another list.
 """
+import argparse
 import collections
 import pathlib
 import sys
@@ -49,12 +50,12 @@ def with_list(text, lines):
 
 
 def main():
-    if sys.argv[1:] not in ([], ["--check"]):
-        print("usage: wrong_bodies.py [--check]", file=sys.stderr)
-        sys.exit(2)
+    parser = argparse.ArgumentParser(prog="wrong_bodies.py", description=__doc__.split("\n")[0])
+    parser.add_argument("--check", action="store_true", help="write nothing, and fail where the list is not that of the files")
+    words = parser.parse_args()
     old = DOCUMENT.read_text(encoding="utf-8")
     new = with_list(old, listed(TOP))
-    if sys.argv[1:] == ["--check"]:
+    if words.check:
         if old != new:
             stop("the wrong bodies of docs/PROOF.md are not those of the files: run tools/wrong_bodies.py")
     elif old != new:
