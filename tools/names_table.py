@@ -24,6 +24,7 @@ import scopes
 import shapes
 from py2rows import rows_text, tree_of
 from rows_reader import RowsError, read_rows
+from stdlib import library_files
 from tree import Node, rows_of
 
 CRATE = TOOLS.parent / "crates" / "names_vectors"
@@ -335,11 +336,9 @@ def write():
 def library_cases(count):
     """So many cases of files of the library that have rows."""
     folder = pathlib.Path(os.__file__).parent
-    for file in sorted(folder.glob("**/*.py")):
+    for file in library_files(folder):
         if count == 0:
             return
-        if "site-packages" in file.parts:
-            continue
         try:
             text = rows_text(file.read_text(encoding="utf-8"))
         except Exception:  # what rows have no word for, or no Python

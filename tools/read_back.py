@@ -284,22 +284,6 @@ TREES = [
 ]  # fmt: skip
 
 
-def rows_from(tree):
-    """The rows of a tree of tuples."""
-    rows = []
-
-    def number(part):
-        if isinstance(part, list):
-            return [number(it) for it in part]
-        if isinstance(part, tuple):
-            rows.append([number(it) for it in part])
-            return len(rows) - 1
-        return part
-
-    number(tree)
-    return rows
-
-
 def numbers_in(row):
     """The places of the fields of a row that hold numbers of rows: in which list, and where there."""
     first = 3 if row[0] in PLACED else 1
@@ -512,7 +496,7 @@ def cases(rows_text):
         yield rows_text(source, mode), None
     yield "# trees by hand", None
     for tree in TREES:
-        yield text_of(rows_from(tree)), None
+        yield text_of(hostile_cases.rows_of(tree)), None
     yield "# a made tree for each kind", None
     maker = Maker(1)
     for kind in SORTS:

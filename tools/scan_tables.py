@@ -18,6 +18,7 @@ import sys
 
 from source_tables import constant, escaped, rows_of, with_part, write
 from rows_reader import read_rows
+from stdlib import library_files
 import scopes
 import shapes
 from py2rows import Converter, NotCarried, rows_text
@@ -743,9 +744,7 @@ def piece_of(file):
 
 def library_pieces(folder):
     """What the files of a library give, in order, without installed packages."""
-    for file in sorted(folder.glob("**/*.py")):
-        if "site-packages" in file.parts:
-            continue
+    for file in library_files(folder):
         try:
             piece = piece_of(file)
         except (SyntaxError, ValueError):
