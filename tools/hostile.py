@@ -1,15 +1,17 @@
 #!/usr/bin/env python3
 """Runs pyc where things go wrong: memory that is refused, wrong rows and words, devices that fail, and little stack.
 
-usage: hostile.py {allocations,rows,devices,stack,words} [--program FILE] ..
+usage: hostile.py {allocations,calls,rows,files,devices,stack,words} [--program FILE] ..
 
   allocations  refuses each allocation of a run in turn: the run ends as with memory, or with 6 and nothing written
+  calls        the same of each call of the library alone, by the program of crates/single_calls
   rows         inputs that are no rows, and trees that are refused: the status, and each byte that is written
+  files        code files with bytes cut off, changed, doubled, taken out, and counts made large, through `unpack`
   devices      ends that are closed, full, left early, slow or late: the statuses 4 and 5, and what was written
   stack        the deepest tree of each kind at the usual limit, and the least `ulimit -s` that it takes
   words        words that are not a mode, a level and a path
 
-The program is crates/pyc/out/pyc, which pyc.sh builds. What differs is told with the input, what is wanted and what came;
+The program is crates/pyc/out/pyc, which pyc.sh builds, or crates/single_calls/out/single_calls, which `rt ci` leaves. What differs is told with the input, what is wanted and what came;
 the last line has the counts. The status is 0 where nothing differs, 1 where something does, and 2 where the words are not as
 above. What is wanted comes from docs/ROWS.md and README.md, and none of it from the program. Python 3.8 or later, on Linux.
 """
@@ -21,6 +23,7 @@ import json
 import os
 import pathlib
 import pty
+import random
 import resource
 import select
 import shutil
@@ -33,11 +36,13 @@ import threading
 import time
 import tty
 
+import code_files
 import hostile_cases as cases
 import rows as rows_of_python
 
 TOOLS = pathlib.Path(__file__).resolve().parent
 CRATE = TOOLS.parent / "crates" / "pyc"
+SINGLE_CALLS = TOOLS.parent / "crates" / "single_calls"
 
 # How long a run may take.
 SECONDS = 120
@@ -239,6 +244,66 @@ PATHS = [
     ("", "''"), (" ", "' '"), ("-h", "'-h'"), ("a'b\\c", "'a\\'b\\\\c'"), ("a\nb\t\x7f", "'a\\x0ab\\x09\\x7f'"), ("\u00e9\U0001f600\ufeff", "'\u00e9\U0001f600\ufeff'"),
     ("a" * 100000, "'" + "a" * 100000 + "'"),
 ]  # fmt: skip
+
+
+# Code files
+
+# The address space that a run over a small code file may take, in bytes.
+SPACE = 128 << 20
+
+UNSOUND = b"input: code does not verify\n"
+
+
+def counts_of(data):
+    """The offsets of the counts and lengths of a code file."""
+    reader = code_files.Reader(data)
+    reader.file()
+    return reader.counts
+
+
+def mutant(data, counts, draw):
+    """A file that is made of another by chance."""
+    at, kind = draw.randrange(len(data)), draw.randrange(5)
+    if kind == 0:
+        return data[:at]
+    if kind == 1:
+        return data[:at] + bytes([draw.randrange(256)]) + data[at + 1:]
+    if kind == 2:
+        end = at + draw.randrange(1, 64)
+        return data[:end] + data[at:end] + data[end:]
+    if kind == 3:
+        return data[:at] + data[at + draw.randrange(1, 9):]
+    at = draw.choice(counts)
+    large = draw.choice([2**32 - 1, 2**31, 2**24, draw.randrange(2**32)])
+    return data[:at] + code_files.number(large) + data[at + 4:]
+
+
+def unpacking_ends(data, got):
+    """What is wanted of a run over these bytes. One that reads a code lists it, or says that it does not verify."""
+    said = code_files.answer(data)
+    if said != "Ok":
+        return misread("bad code file at %s" % said.split()[1])
+    return Ended(INPUT, b"", UNSOUND) if got.err == UNSOUND else Ended(DONE, None, b"")
+
+
+def within_space():
+    """Limits the address space of the process that calls it."""
+    resource.setrlimit(resource.RLIMIT_AS, (SPACE, SPACE))
+
+
+def check_files(arguments):
+    """The subcommand `files`."""
+    tally, draw, read = Tally("files"), random.Random(arguments.seed), 0
+    rows = rows_of_python.rows_text(source_of(arguments)).encode("utf-8")
+    files = [ended(arguments.program, rows, ["pack", *WORDS]).out, *code_files.FILES.values()]
+    counts = [counts_of(it) for it in files]
+    for number in range(arguments.count):
+        at = number % len(files)
+        data = mutant(files[at], counts[at], draw)
+        got = ended(arguments.program, data, ["unpack"], before=within_space)
+        tally.check("mutant %d" % number, unpacking_ends(data, got), got, data)
+        read += got.status == DONE
+    return tally.end("; %d were read and listed" % read)
 
 
 def words_cases():
@@ -540,41 +605,61 @@ def check_devices(arguments):
 # Stack
 
 
-def within_stack(program, data, kilobytes):
+def within_stack(program, words, data, kilobytes):
     """How a run ends that has so much stack."""
 
     def before():
         resource.setrlimit(resource.RLIMIT_STACK, (kilobytes * 1024, resource.getrlimit(resource.RLIMIT_STACK)[1]))
 
-    return ended(program, data, before=before)
+    return ended(program, data, words, before=before)
 
 
-def least_stack(program, data, wanted, most, step):
+def least_stack(program, words, data, wanted, most, step):
     """The least stack that a run takes, to `step` kilobytes. It is enough to have the most."""
     least = 64
     while most - least > step:
         middle = (least + most) // 2
-        if within_stack(program, data, middle).status == wanted:
+        if within_stack(program, words, data, middle).status == wanted:
             most = middle
         else:
             least = middle
     return most
 
 
+def around_constant():
+    """What stands before and behind the only constant of a small code, in the spelling of code files."""
+    return code_files.code({**code_files.ONE, "constants": ["hole"]}).split(code_files.constant("hole"))
+
+
+def deep_file(depth, begins, ends):
+    """A code file in which something nests so deep, the outermost code counting one, that begins and ends with these bytes."""
+    before, behind = around_constant()
+    return code_files.MAGIC + before + begins * (depth - 1) + code_files.constant(None) + ends * (depth - 1) + behind
+
+
+def deep_inputs(depth):
+    """What nests deep: a title, the words, the input, and how the run ends."""
+    for deep in cases.deep_trees():
+        wanted = Ended(DONE, None, b"") if deep.line is None else refused(deep.line)
+        yield deep.title, WORDS, cases.text_of(deep.rows(depth)), wanted
+    before, behind = around_constant()
+    done = Ended(DONE, None, b"")
+    yield "tuples of a code file", ["unpack"], deep_file(code_files.DEEPEST - 1, b"\x06" + code_files.number(1), b""), done
+    yield "codes of a code file", ["unpack"], deep_file(code_files.DEEPEST - 1, b"\x08" + before, behind), done
+
+
 def check_stack(arguments):
     """The subcommand `stack`."""
     tally, greatest = Tally("stack"), (0, "none")
-    for deep in cases.deep_trees():
-        if arguments.kind not in (None, deep.title):
+    for title, words, data, wanted in deep_inputs(arguments.depth):
+        if arguments.kind not in (None, title):
             continue
-        data = cases.text_of(deep.rows(arguments.depth))
-        wanted = Ended(DONE, None, b"") if deep.line is None else refused(deep.line)
-        got = within_stack(arguments.program, data, arguments.limit)
-        if not tally.check(deep.title, wanted, got, data) or arguments.quick:
+        got = within_stack(arguments.program, words, data, arguments.limit)
+        if not tally.check(title, wanted, got, data) or arguments.quick:
             continue
-        least = least_stack(arguments.program, data, wanted.status, arguments.limit, arguments.step)
-        greatest = max(greatest, (least, deep.title))
-        print("%6d KB  %s" % (least, deep.title), flush=True)
+        least = least_stack(arguments.program, words, data, wanted.status, arguments.limit, arguments.step)
+        greatest = max(greatest, (least, title))
+        print("%6d KB  %s" % (least, title), flush=True)
     return tally.end("" if arguments.quick else "; the most is %d KB, for %s" % greatest)
 
 
@@ -653,13 +738,13 @@ def twice(data):
 
 
 def runs_to_refuse(source):
-    """Runs that end in each way: what they are, their words, their input, and the status."""
+    """Runs that end in each way."""
     data = rows_of_python.rows_text(source).encode("utf-8")
     late = rows_of_python.rows_text(source + b"break\n").encode("utf-8")
-    yield "listing", WORDS, data, DONE
-    yield "refused tree", WORDS, late, REFUSED
-    yield "wrong rows", WORDS, twice(data), INPUT
-    yield "wrong words", ["exec", "3", "m.py"], b"", USAGE
+    yield "listing", WORDS, data, Ended(DONE, None, None)
+    yield "refused tree", WORDS, late, Ended(REFUSED, None, None)
+    yield "wrong rows", WORDS, twice(data), Ended(INPUT, None, None)
+    yield "wrong words", ["exec", "3", "m.py"], b"", Ended(USAGE, None, None)
 
 
 class Refuser:
@@ -699,21 +784,49 @@ def refuse_in_turn(refuser, name, words, data, plain, arguments, tally):
     return count, without
 
 
-def check_allocations(arguments):
-    """The subcommand `allocations`."""
-    if arguments.unproved:
-        return check_unproved(arguments)
-    source = arguments.source.read_bytes() if arguments.source else MODULE.encode("utf-8")
-    tally, refusals, without = Tally("allocations"), 0, 0
+def refuse_each(arguments, title, runs):
+    """Refuses each allocation of runs in turn: what they are, their words, their input, and how they end with memory."""
+    tally, refusals, without = Tally(title), 0, 0
     with tempfile.TemporaryDirectory() as folder:
         refuser = Refuser(arguments.program, folder)
-        for name, words, data, status in runs_to_refuse(source):
+        for name, words, data, wanted in runs:
             plain = ended(arguments.program, data, words)
-            tally.check(name, Ended(status, None, None), plain, data)
+            tally.check(name, wanted, plain, data)
             counts = refuse_in_turn(refuser, name, words, data, plain, arguments, tally)
             print("%s: %d refused, %d runs ended with 6" % (name, *counts), flush=True)
             refusals, without = refusals + counts[0], without + counts[1]
     return tally.end("; %d allocations refused, %d runs ended with 6" % (refusals, without))
+
+
+def source_of(arguments):
+    """The module that is compiled."""
+    return arguments.source.read_bytes() if arguments.source else MODULE.encode("utf-8")
+
+
+def check_allocations(arguments):
+    """The subcommand `allocations`."""
+    if arguments.unproved:
+        return check_unproved(arguments)
+    return refuse_each(arguments, "allocations", runs_to_refuse(source_of(arguments)))
+
+
+# The calls that are given the rows of a module.
+CALLS_OF_ROWS = ["read_rows", "scan_program", "compile_top", "listing", "verify", "write_code", "report", "report_lines"]
+
+
+def calls_to_refuse(program, source):
+    """Calls of the library that do not refuse what they are given."""
+    data = rows_of_python.rows_text(source).encode("utf-8")
+    wanted = Ended(DONE, None, b"")
+    for name in CALLS_OF_ROWS:
+        yield name, [name], data, wanted
+    yield "finalize_code", ["finalize_code"], b"", wanted
+    yield "read_code", ["read_code"], ended(program, data, ["write_code"]).out, wanted
+
+
+def check_calls(arguments):
+    """The subcommand `calls`."""
+    return refuse_each(arguments, "calls", calls_to_refuse(arguments.program, source_of(arguments)))
 
 
 # The lines that `rt try` writes of itself.
@@ -749,21 +862,29 @@ def parser_of_words():
     """The parser of the words of a call."""
     parser = argparse.ArgumentParser(prog="hostile.py", description=__doc__.split("\n")[0])
     kinds = parser.add_subparsers(dest="subcommand", metavar="SUBCOMMAND", required=True)
-    common = argparse.ArgumentParser(add_help=False)
-    common.add_argument("--program", type=pathlib.Path, default=CRATE / "out" / "pyc", help="the program (%(default)s)")
 
-    def add(name, function, about):
-        it = kinds.add_parser(name, parents=[common], help=about, description=about)
+    def add(name, function, about, program=CRATE / "out" / "pyc"):
+        it = kinds.add_parser(name, help=about, description=about)
+        it.add_argument("--program", type=pathlib.Path, default=program, help="the program (%(default)s)")
         it.set_defaults(function=function)
         return it
 
-    memory = add("allocations", check_allocations, "refuse each allocation of a run in turn")
-    memory.add_argument("--first", type=positive, default=1, metavar="N", help="the first allocation that is refused, counted from 1 (1)")
-    memory.add_argument("--last", type=positive, metavar="N", help="the last one (all that there are)")
-    memory.add_argument("--after", action="store_true", help="with each, refuse all that come after it, too")
-    memory.add_argument("--source", type=pathlib.Path, metavar="FILE.py", help="the module that is compiled (one of 16 lines)")
+    def add_refusing(*given):
+        it = add(*given)
+        it.add_argument("--first", type=positive, default=1, metavar="N", help="the first allocation that is refused, counted from 1 (1)")
+        it.add_argument("--last", type=positive, metavar="N", help="the last one (all that there are)")
+        it.add_argument("--after", action="store_true", help="with each, refuse all that come after it, too")
+        it.add_argument("--source", type=pathlib.Path, metavar="FILE.py", help="the module that is compiled (one of 16 lines)")
+        return it
+
+    memory = add_refusing("allocations", check_allocations, "refuse each allocation of a run in turn")
     memory.add_argument("--unproved", action="store_true", help="run the stored input by `rt try`, which builds with checks for each, from --first to --last")
+    add_refusing("calls", check_calls, "refuse each allocation of each call of the library alone, in turn", SINGLE_CALLS / "out" / "single_calls")
     add("rows", check_rows, "inputs that are no rows, and trees that are refused")
+    files = add("files", check_files, "code files that are made of others by chance, through `unpack`")
+    files.add_argument("--count", type=positive, default=2000, metavar="N", help="how many (%(default)s)")
+    files.add_argument("--seed", type=int, default=1, metavar="N", help="what they are drawn from (%(default)s)")
+    files.add_argument("--source", type=pathlib.Path, metavar="FILE.py", help="the module whose code file is one of those that are changed (one of 16 lines)")
     add("devices", check_devices, "sources and sinks that fail, or are slow")
     stack = add("stack", check_stack, "the deepest trees, and the least stack that each takes")
     stack.add_argument("--depth", type=positive, default=cases.DEEPEST, metavar="N", help="how deep they nest (%(default)s)")
@@ -778,11 +899,11 @@ def parser_of_words():
 def main():
     arguments = parser_of_words().parse_args()
     sys.stdout.reconfigure(encoding="utf-8", errors="backslashreplace")
-    if arguments.subcommand == "allocations" and arguments.unproved:
+    if getattr(arguments, "unproved", False):
         if shutil.which("rt") is None:
             sys.exit("hostile.py: there is no rt on the path")
     elif not os.access(str(arguments.program), os.X_OK):
-        sys.exit("hostile.py: there is no program %s: sh pyc.sh builds it" % arguments.program)
+        sys.exit("hostile.py: there is no program %s: sh pyc.sh builds pyc, and rt ci both" % arguments.program)
     arguments.program = arguments.program.resolve()
     return arguments.function(arguments)
 

@@ -187,7 +187,7 @@ class Hostile(unittest.TestCase):
 
     @unittest.skipUnless(shutil.which("cc"), "there is no C compiler")
     def test_allocations(self):
-        runs = lambda source: [("listing", hostile.WORDS, b"", 0)]
+        runs = lambda source: [("listing", hostile.WORDS, b"", hostile.Ended(0, None, None))]
         with mock.patch.object(hostile, "runs_to_refuse", runs):
             for early, ending, differ, without in (0, 6, 0, 3), (1, 6, 3, 3), (0, 1, 3, 0):
                 status, out = self.called("allocations", "--program", self.compiled(early, ending))
@@ -195,6 +195,13 @@ class Hostile(unittest.TestCase):
                 self.assertEqual((status, out.splitlines()[-1]), (int(differ > 0), last))
             status, out = self.called("allocations", "--program", self.compiled(0, 6), "--first", 2, "--last", 2, "--after")
             self.assertEqual((status, out.splitlines()[-1]), (0, "allocations: 2 runs, 0 differ; 1 allocations refused, 1 runs ended with 6"))
+
+    @unittest.skipUnless(shutil.which("cc"), "there is no C compiler")
+    def test_allocations_of_single_calls(self):
+        calls = lambda program, source: [("one", ["one"], b"", hostile.Ended(0, None, b""))]
+        with mock.patch.object(hostile, "calls_to_refuse", calls):
+            status, out = self.called("calls", "--program", self.compiled(0, 6))
+        self.assertEqual((status, out.splitlines()[-1]), (0, "calls: 5 runs, 0 differ; 3 allocations refused, 3 runs ended with 6"))
 
     def test_allocations_of_a_program_without_proof(self):
         said = "echo allocations: 9; if [ $3 = 2 ]; then echo early; fi; echo checked: ended status=6 x; echo run=1\n"
@@ -209,8 +216,8 @@ class Hostile(unittest.TestCase):
         tool = [sys.executable, "-B", str(TOOLS / "hostile.py")]
         it = subprocess.run([*tool, "rows", "--program", str(self.folder / "none")], stdout=subprocess.PIPE, stderr=subprocess.PIPE)
         self.assertEqual((it.returncode, it.stdout), (1, b""))
-        self.assertIn(b"sh pyc.sh builds it", it.stderr)
-        for words in [], ["row"], ["allocations", "--first", "0"], ["stack", "--limit", "x"]:
+        self.assertIn(b"sh pyc.sh builds pyc, and rt ci both", it.stderr)
+        for words in [], ["row"], ["allocations", "--first", "0"], ["calls", "--unproved"], ["stack", "--limit", "x"]:
             it = subprocess.run([*tool, *words], stdout=subprocess.PIPE, stderr=subprocess.PIPE)
             self.assertEqual((it.returncode, it.stdout), (2, b""), words)
         parser = hostile.parser_of_words()

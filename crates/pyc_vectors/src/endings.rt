@@ -1,9 +1,8 @@
 //! Runs over devices in memory.
 
-use py_base::{List, Text};
-use py_devices::{CleanSink, CleanSource, MemSink, MemSource};
+use crate::fixtures::{bytes, only, room, words};
+use py_devices::{CleanSink, MemSink, MemSource};
 use py_run::{Status, run};
-use std::alloc::{AllocError, Global};
 use std::test::Fail;
 
 /// The rows of `f(a + 1)`.
@@ -75,32 +74,13 @@ const ENDINGS: [Ending; 6] = [
     },
 ];
 
-fn words(alloc: Global, level: &str) -> Result<List<Text>, AllocError> {
-    let mut words = Vec::new(alloc);
-    for word in ["exec", level, "m.py"] {
-        words.push(Text::from_string(String::from_str(alloc, word)?))?;
-    }
-    Ok(List::from_vec(words))
-}
-
-/// Only this number.
-fn only(alloc: Global, number: u32) -> Result<List<u32>, AllocError> {
-    Ok(List::from_vec(vec![in alloc; number]?))
-}
-
-/// A list of so many zeros.
-fn room(alloc: Global, size: usize) -> Result<List<u8>, AllocError> {
-    Ok(List::from_vec(vec![in alloc; 0u8; size]?))
-}
-
 /// Rows go in by pieces of 64 bytes, and the listing out by pieces of 16.
 #[test]
 fn every_way_to_end(rt: HostRuntime) -> Result<(), Fail> {
     let alloc = rt.alloc();
     for end in &ENDINGS {
         let (read, write) = end.failing;
-        let input = List::from_vec(Vec::from_slice(alloc, end.input.as_bytes())?);
-        let mut source = MemSource::new(input, 64, only(alloc, read)?);
+        let mut source = MemSource::new(bytes(alloc, end.input)?, 64, only(alloc, read)?);
         let mut out = MemSink::new(room(alloc, 1024)?, 16, only(alloc, write)?);
         let mut err = CleanSink::new(room(alloc, 1024)?);
         let words = words(alloc, end.level)?;
@@ -109,18 +89,5 @@ fn every_way_to_end(rt: HostRuntime) -> Result<(), Fail> {
         assert_eq!(rt; out.bytes(), end.out.as_bytes(), "{}", end.input);
         assert_eq!(rt; err.bytes(), end.err.as_bytes(), "{}", end.input);
     }
-    Ok(())
-}
-
-#[test]
-fn refuses_an_input_of_the_limit(rt: HostRuntime) -> Result<(), Fail> {
-    let alloc = rt.alloc();
-    let spaces = List::from_vec(vec![in alloc; b' '; 1 << 26]?);
-    let mut source = CleanSource::new(spaces);
-    let mut out = CleanSink::new(room(alloc, 64)?);
-    let mut err = CleanSink::new(room(alloc, 64)?);
-    let status = run(alloc, &words(alloc, "0")?, &mut source, &mut out, &mut err).status;
-    assert_eq!(rt; status, Status::Input);
-    assert_eq!(rt; err.bytes(), b"input: too long\n".as_slice());
     Ok(())
 }

@@ -4,4 +4,12 @@
 #[cfg(test)]
 mod endings;
 #[cfg(test)]
+mod failing;
+#[cfg(test)]
+mod fixtures;
+#[cfg(test)]
 mod interrupted;
+#[cfg(test)]
+mod shapes;
+#[cfg(test)]
+mod wrong_rows;

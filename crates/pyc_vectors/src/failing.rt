@@ -1,0 +1,95 @@
+//! The reads and writes of one run, failing one by one.
+
+use crate::fixtures::{bytes, only, room, words};
+use crate::shapes::{LISTING, ROWS};
+use py_devices::{CleanSink, CleanSource, MemSink, MemSource, Sink, Source};
+use py_run::{Status, run};
+use std::alloc::Global;
+use std::test::Fail;
+
+/// The status of a run over these ends, with whose words all is right.
+fn status_over<S: Source, O: Sink, E: Sink>(
+    alloc: Global,
+    source: &mut S,
+    out: &mut O,
+    err: &mut E,
+) -> Result<Status, Fail> {
+    Ok(run(alloc, &words(alloc, "0")?, source, out, err).status)
+}
+
+/// Pieces of 16 bytes are read, and one of the first four reads fails.
+#[test]
+fn each_read_that_fails_ends_the_run(rt: HostRuntime) -> Result<(), Fail> {
+    let alloc = rt.alloc();
+    for read in [1, 2, 3, 4] {
+        let mut source = MemSource::new(bytes(alloc, ROWS)?, 16, only(alloc, read)?);
+        let mut out = CleanSink::new(room(alloc, 8192)?);
+        let mut err = CleanSink::new(room(alloc, 64)?);
+        let status = status_over(alloc, &mut source, &mut out, &mut err)?;
+        assert_eq!(rt; status, Status::ReadFault, "read {read}");
+        assert!(rt; out.bytes().is_empty());
+        assert!(rt; err.bytes().is_empty());
+    }
+    Ok(())
+}
+
+/// Pieces of 16 bytes are written, and one of the first four writes fails: what the writes before it took stands.
+#[test]
+fn each_write_that_fails_ends_the_run(rt: HostRuntime) -> Result<(), Fail> {
+    let alloc = rt.alloc();
+    for (write, front) in [
+        (1, ""),
+        (2, "code '<module>' "),
+        (3, "code '<module>' from 'm.py' line"),
+        (4, "code '<module>' from 'm.py' line 1 flags 1 args "),
+    ] {
+        let mut source = MemSource::new(bytes(alloc, ROWS)?, 16, only(alloc, 0)?);
+        let mut out = MemSink::new(room(alloc, 8192)?, 16, only(alloc, write)?);
+        let mut err = CleanSink::new(room(alloc, 64)?);
+        let status = status_over(alloc, &mut source, &mut out, &mut err)?;
+        assert_eq!(rt; status, Status::WriteFault, "write {write}");
+        assert_eq!(rt; out.bytes(), front.as_bytes(), "write {write}");
+        assert!(rt; err.bytes().is_empty());
+    }
+    Ok(())
+}
+
+/// Devices that never fail, and a room that the listing fills.
+#[test]
+fn clean_devices_end_with_done(rt: HostRuntime) -> Result<(), Fail> {
+    let alloc = rt.alloc();
+    let mut source = CleanSource::new(bytes(alloc, ROWS)?);
+    let mut out = CleanSink::new(room(alloc, LISTING.len())?);
+    let mut err = CleanSink::new(room(alloc, 0)?);
+    let status = status_over(alloc, &mut source, &mut out, &mut err)?;
+    assert_eq!(rt; status, Status::Done);
+    assert_eq!(rt; out.bytes(), LISTING.as_bytes());
+    Ok(())
+}
+
+/// A room that is a byte too small takes nothing of a listing that is handed to it whole.
+#[test]
+fn a_room_too_small_takes_nothing(rt: HostRuntime) -> Result<(), Fail> {
+    let alloc = rt.alloc();
+    let mut source = CleanSource::new(bytes(alloc, ROWS)?);
+    let mut out = CleanSink::new(room(alloc, LISTING.len().saturating_sub(1))?);
+    let mut err = CleanSink::new(room(alloc, 64)?);
+    let status = status_over(alloc, &mut source, &mut out, &mut err)?;
+    assert_eq!(rt; status, Status::WriteFault);
+    assert!(rt; out.bytes().is_empty());
+    Ok(())
+}
+
+/// One byte is moved by each call. The read behind the one that finds the end would fail, and is not made.
+#[test]
+fn single_bytes_and_a_failure_behind_the_end(rt: HostRuntime) -> Result<(), Fail> {
+    let alloc = rt.alloc();
+    let behind = u32::try_from(ROWS.len())?.saturating_add(2);
+    let mut source = MemSource::new(bytes(alloc, ROWS)?, 1, only(alloc, behind)?);
+    let mut out = MemSink::new(room(alloc, 8192)?, 1, only(alloc, 0)?);
+    let mut err = CleanSink::new(room(alloc, 64)?);
+    let status = status_over(alloc, &mut source, &mut out, &mut err)?;
+    assert_eq!(rt; status, Status::Done);
+    assert_eq!(rt; out.bytes(), LISTING.as_bytes());
+    Ok(())
+}

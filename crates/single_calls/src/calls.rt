@@ -1,0 +1,101 @@
+//! The calls by their names.
+
+use crate::blocks::loop_of_blocks;
+use crate::failure::Failure;
+use codegen::CompileOpts;
+use codegen::compile::compile_top;
+use py_base::Text;
+use py_bytecode::CodeObject;
+use py_codefile::{read_code, write_code};
+use py_listing::listing;
+use py_names::{report, report_lines};
+use py_rows::read_rows;
+use py_tree::{Mod, Mode};
+use py_verify::{Verdict, verify};
+use std::alloc::{AllocError, Global};
+use symboltable::scan_program;
+
+/// What the call of this name answers, as text or as the bytes of a code file.
+///
+/// # Errors
+/// The call's own refusal, a name that no call has, an input of 2^26 bytes or more, or want of memory.
+pub fn answer(alloc: Global, call: &str, input: &[u8]) -> Result<Vec<u8>, Failure> {
+    match call {
+        "finalize_code" => {
+            let code = loop_of_blocks(alloc)?.finalize_code(alloc, 0)?;
+            listed(alloc, &code)
+        }
+        "read_code" => listed(alloc, &read_code(alloc, input)?),
+        _ => answer_of_tree(alloc, call, input),
+    }
+}
+
+/// What a call answers that is given rows.
+fn answer_of_tree(alloc: Global, call: &str, input: &[u8]) -> Result<Vec<u8>, Failure> {
+    if input.len() >= 1 << 26 {
+        return Err(Failure::Input);
+    }
+    let tree = read_rows(alloc, input)?;
+    let answer = match call {
+        "read_rows" => told(alloc, "rows of a tree\n"),
+        "scan_program" => scanned(alloc, &tree),
+        "report" => counted(alloc, &tree),
+        "report_lines" => reported(alloc, &tree),
+        _ => answer_of_code(alloc, call, &tree),
+    };
+    tree.discard();
+    answer
+}
+
+/// What a call answers that compiles, or is given what was compiled.
+fn answer_of_code(alloc: Global, call: &str, tree: &Mod) -> Result<Vec<u8>, Failure> {
+    let path = Text::from_string(String::from_str(alloc, "m.py")?);
+    let code = compile_top(alloc, tree, path, Mode::Exec, CompileOpts { optimize: 0 })?;
+    match call {
+        "compile_top" => told(alloc, "compiled\n"),
+        "listing" => listed(alloc, &code),
+        "verify" => verified(alloc, &code),
+        "write_code" => Ok(write_code(alloc, &code)?.into_vec()),
+        _ => Err(Failure::Unknown),
+    }
+}
+
+fn told(alloc: Global, text: &str) -> Result<Vec<u8>, Failure> {
+    Ok(Vec::from_slice(alloc, text.as_bytes())?)
+}
+
+fn listed(alloc: Global, code: &CodeObject) -> Result<Vec<u8>, Failure> {
+    told(alloc, listing(alloc, code)?.as_str())
+}
+
+fn verified(alloc: Global, code: &CodeObject) -> Result<Vec<u8>, Failure> {
+    match verify(alloc, code)? {
+        Verdict::Yes => told(alloc, "sound\n"),
+        Verdict::No(_) => Err(Failure::Refused),
+    }
+}
+
+fn scanned(alloc: Global, tree: &Mod) -> Result<Vec<u8>, Failure> {
+    match tree {
+        Mod::Module(module) => {
+            let table = scan_program(alloc, &module.body)?;
+            told(alloc, format!(in alloc; "{table:?}\n")?.as_str())
+        }
+        _ => Err(Failure::Refused),
+    }
+}
+
+/// How many findings the report has.
+fn counted(alloc: Global, tree: &Mod) -> Result<Vec<u8>, Failure> {
+    let found = report(alloc, tree)?.len();
+    told(alloc, format!(in alloc; "{found} findings\n")?.as_str())
+}
+
+fn reported(alloc: Global, tree: &Mod) -> Result<Vec<u8>, Failure> {
+    let mut text = String::new(alloc);
+    for line in report_lines(alloc, tree)?.as_slice() {
+        text.push_str(line.as_str())?;
+        text.push_str("\n")?;
+    }
+    told(alloc, text.as_str())
+}
