@@ -10,6 +10,9 @@ usage() {
     cat <<'END'
 usage: sh pyc.sh [-m MODE] [-O LEVEL] [-o FILE] [--rows] FILE.. | -
        sh pyc.sh MODE LEVEL PATH <ROWS
+       sh pyc.sh pack MODE LEVEL PATH <ROWS >CODE
+       sh pyc.sh unpack <CODE
+       sh pyc.sh names PATH <ROWS
        sh pyc.sh --run FILE.py [ARG..]
        sh pyc.sh --try FILE..
        sh pyc.sh --help | --version
@@ -32,7 +35,9 @@ Compiles Python files and writes the listings of their code; `-` is standard inp
   --help     this text
   --version  the commit of this checkout, and the kit
 
-MODE LEVEL PATH: compiles the rows on standard input; PATH is the path that the code names. This wants no python3.
+MODE LEVEL PATH: compiles the rows on standard input; PATH is the path that the code names. `pack` writes the code to a
+file in place of its listing, `unpack` verifies such a file and writes its listing, and `names` reports on the names of
+the tree that the rows are (docs/COMMANDS.md). These want no python3. A file of such a name is written ./names.
 
 The first call that compiles proves the program and all below it, and builds it (README.md says how long that takes).
 
@@ -76,6 +81,15 @@ is_mode() {
 }
 is_level() {
     case $1 in 0 | 1 | 2) ;; *) return 1 ;; esac
+}
+
+# Whether the words are those of a command, which the program itself reads; $1 is one.
+is_command() {
+    case $1 in
+        pack) [ $# -eq 4 ] && is_mode "$2" && is_level "$3" ;;
+        unpack) [ $# -eq 1 ] ;;
+        names) [ $# -eq 2 ] ;;
+    esac
 }
 
 has_python() {
@@ -165,6 +179,13 @@ if is_mode "$1" || [ "$1" = sample ]; then
     want_program
     exec "$pyc" "$@"
 fi
+case $1 in
+    pack | unpack | names)
+        is_command "$@" || wrong "'$1' is a command with other words after it; a file of that name is written ./$1"
+        want_program
+        exec "$pyc" "$@"
+        ;;
+esac
 while [ $# -gt 0 ]; do
     case $1 in
         -h | --help)

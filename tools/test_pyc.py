@@ -100,6 +100,8 @@ class Fresh(unittest.TestCase):
         self.assertEqual((self.root / "proved").read_text(), "low\nhigh\n")
         self.assertRegex(told, r"pyc\.sh: proved and built in \d+ minutes \d+ seconds \(.+ processors, .+\)\n$")
         self.assertEqual(self.pyc("block", "2", "* a", data=b"[]"), (0, "block;2;* a;2\n", ""))
+        for words in (["pack", "exec", "0", "* a"], ["unpack"], ["names", "* a"]):
+            self.assertEqual(self.pyc(*words, data=b"[]"), (0, ";".join(words) + ";2\n", ""))
 
     def test_what_needs_no_program(self):
         write_program(self.bin / "rt", "#!/bin/sh\n[ $1 = version ] && echo kit-1 || touch '%s/proved'\n" % self.root)
@@ -113,7 +115,7 @@ class Fresh(unittest.TestCase):
         self.assertEqual(self.pyc("--run", "no.py", "-x"), (4, "", "no.py: No such file or directory\n"))
         usage = out[: out.index("\n\n") + 1]
         self.assertEqual(self.pyc(), (2, "", usage))
-        for words in (["exec"], ["exec", "0"], ["exec", "3", "m.py"], ["eval", "0", "m.py", "n.py"], ["-O", "3", "m.py"], ["-m", "x", "m.py"]):
+        for words in (["exec"], ["exec", "0"], ["exec", "3", "m.py"], ["eval", "0", "m.py", "n.py"], ["pack", "exec", "0"], ["pack", "exec", "3", "m.py"], ["unpack", "m.py"], ["names"], ["-O", "3", "m.py"], ["-m", "x", "m.py"]):
             self.check_wrong(words, usage)
         for words in (["-m"], ["-O2"], ["--rows"], ["--frob", "m.py"], ["--run"], ["-o", "x", "--run", "m.py"]):
             self.check_wrong(words, usage)

@@ -1,96 +1,133 @@
--- What is due, and the line for it.
-use Rattle.std.proofs.Common.{◌≡◌, ◌≤◌, ◌≢◌, ℕ, List, length, Option, Some, None, IsSome, IsNone, IfSome, IsOk, Result, Err, refl, subst, String, Global}
+-- What is due where a line, or a text, was made.
+use Rattle.std.proofs.Common.{◌≡◌, ◌≤◌, ◌≢◌, ◌⊎◌, ℕ, List, length, take, Option, Some, None, IsSome, IsNone, IfSome, refl, sym, subst, inl, inr, option_map, String, Global, string_bytes}
+use Rattle.std.specs.Io.KnownBytes.{Appends}
+use Rattle.py_bytecode.specs.View.{object}
+use Rattle.py_bytecode.specs.declared.code.CodeObject.{CodeObject}
 use Rattle.py_run.specs.declared.report.Status.{Status}
 use Rattle.py_run.specs.declared.report.Status.TheVariants as status
-use Rattle.py_run.specs.declared.writing.WriteFailed.{WriteFailed}
-use Rattle.py_run.specs.Runs.{IsDue, line_or_usage, line_of, status_of}
-use Rattle.py_run.specs.Statuses.{Verdict, Misread, Refused, Sound, IsMisread, IsRefused, usage_line, verdict_of}
-use Rattle.py_run.specs.Words.{Command, words_form}
-use Rattle.py_run.specs.Prepared.{Prepares}
+use Rattle.py_run.specs.Prepared.{Faults, HasForm, IsTextOf, Prepares, Refuses}
 use Rattle.py_run.specs.declared.preparing.Prepared.TheVariants as made
-use Rattle.py_bytecode.specs.declared.code.CodeObject.{CodeObject}
+use Rattle.py_run.specs.Runs.{AppendsFront, IsDue, IsMisread, IsRefused, IsSound, IsTextless, IsLineless, Written, Text, Line, Nothing, Either, line_for, side, told_side, told_text, text_by}
+use Rattle.py_run.specs.Statuses.{Due, Misuse, Misread, Refused, Compiled, Spelled, Told, IsCodeOf, code_text, due_by}
+use Rattle.py_run.specs.Words.{Command, Compile, Pack, Unpack, Names}
 
-pub refused_due : (o : Option Verdict) (line : List ℕ) → IfSome o (λ v. IsRefused v line) → IfSome o (IsDue status.Refused)
+-- ---- lines
+
+-- this line is due, and no text
+pub record LineDue (line : List ℕ) (d : Due) : Type 0 where
+  pub is : line_for d ≡ line
+  pub textless : told_side (Some d) ≡ Line
+  pub unsound : IsSound d → ⊥
+
+refused_line : (d : Due) (line : List ℕ) → Refuses d line → LineDue line d
+refused_line Misuse line h = absurd h
+refused_line (Misread text) line h = absurd h
+refused_line (Refused f) line h = record { is = sym h; textless = refl; unsound = λ s. s }
+refused_line (Compiled c t) line h = absurd h
+refused_line (Spelled bytes o) line h = absurd h
+refused_line (Told text) line h = absurd h
+
+misread_line : (d : Due) (line : List ℕ) → Faults d line → LineDue line d
+misread_line Misuse line h = absurd h
+misread_line (Misread text) line h = record { is = sym h; textless = refl; unsound = λ s. s }
+misread_line (Refused f) line h = absurd h
+misread_line (Compiled c t) line h = absurd h
+misread_line (Spelled bytes o) line h = record { is = sym h.1; textless = refl; unsound = h.0 }
+misread_line (Told text) line h = absurd h
+
+misuse_line : (d : Due) → d ≡ Misuse → LineDue (line_for Misuse) d
+misuse_line d h = subst (LineDue (line_for Misuse)) (sym h) (record { is = refl; textless = refl; unsound = λ s. s })
+
+pub refused_lines : (o : Option Due) (line : List ℕ) → IfSome o (λ d. Refuses d line) → IfSome o (LineDue line)
+refused_lines None line h = tt
+refused_lines (Some d) line h = refused_line d line h
+
+pub misread_lines : (o : Option Due) (line : List ℕ) → IfSome o (λ d. Faults d line) → IfSome o (LineDue line)
+misread_lines None line h = tt
+misread_lines (Some d) line h = misread_line d line h
+
+pub misuse_lines : (o : Option Due) → IfSome o (λ d. d ≡ Misuse) → IfSome o (LineDue (line_for Misuse))
+misuse_lines None h = tt
+misuse_lines (Some d) h = misuse_line d h
+
+-- the status that is due
+is_refused : (d : Due) (line : List ℕ) → Refuses d line → IsRefused d
+is_refused Misuse line h = absurd h
+is_refused (Misread text) line h = absurd h
+is_refused (Refused f) line h = tt
+is_refused (Compiled c t) line h = absurd h
+is_refused (Spelled bytes o) line h = absurd h
+is_refused (Told text) line h = absurd h
+
+is_misread : (d : Due) (line : List ℕ) → Faults d line → IsMisread d
+is_misread Misuse line h = absurd h
+is_misread (Misread text) line h = tt
+is_misread (Refused f) line h = absurd h
+is_misread (Compiled c t) line h = absurd h
+is_misread (Spelled bytes o) line h = h.0
+is_misread (Told text) line h = absurd h
+
+pub refused_due : (o : Option Due) (line : List ℕ) → IfSome o (λ d. Refuses d line) → IfSome o (IsDue status.Refused)
 refused_due None line h = tt
-refused_due (Some (Misread text)) line h = absurd h
-refused_due (Some (Refused f)) line h = refl
-refused_due (Some (Sound c t)) line h = absurd h
+refused_due (Some d) line h = is_refused d line h
 
-pub misread_due : (o : Option Verdict) (line : List ℕ) → IfSome o (λ v. IsMisread v line) → IfSome o (IsDue status.Input)
+pub misread_due : (o : Option Due) (line : List ℕ) → IfSome o (λ d. Faults d line) → IfSome o (IsDue status.Input)
 misread_due None line h = tt
-misread_due (Some (Misread text)) line h = refl
-misread_due (Some (Refused f)) line h = absurd h
-misread_due (Some (Sound c t)) line h = absurd h
-
-pub sound_due : (o : Option Verdict) (code : CodeObject) (text : String Global) → IfSome o (Prepares (made.Listing code text)) → IfSome o (IsDue status.Done)
-sound_due None code text h = tt
-sound_due (Some (Misread t)) code text h = absurd h.0
-sound_due (Some (Refused f)) code text h = absurd h.0
-sound_due (Some (Sound c t)) code text h = refl
-
-refused_in : (form : Option Command) (o : Option Verdict) (line : List ℕ) (P : List ℕ → Type 0) → IsSome form → IfSome o (λ v. IsRefused v line) → P line → IfSome (line_or_usage form o) P
-refused_in None o line P f h p = cc
-refused_in (Some c) None line P f h p = tt
-refused_in (Some c) (Some (Misread text)) line P f h p = absurd h
-refused_in (Some c) (Some (Refused e)) line P f h p = subst P h p
-refused_in (Some c) (Some (Sound d t)) line P f h p = absurd h
-
-misread_in : (form : Option Command) (o : Option Verdict) (line : List ℕ) (P : List ℕ → Type 0) → IsSome form → IfSome o (λ v. IsMisread v line) → P line → IfSome (line_or_usage form o) P
-misread_in None o line P f h p = cc
-misread_in (Some c) None line P f h p = tt
-misread_in (Some c) (Some (Misread text)) line P f h p = subst P h p
-misread_in (Some c) (Some (Refused e)) line P f h p = absurd h
-misread_in (Some c) (Some (Sound d t)) line P f h p = absurd h
+misread_due (Some d) line h = is_misread d line h
 
 -- what holds of the line that was written holds of the line that is due
-pub refused_line : (words : List (List ℕ)) (left : Option (List ℕ)) (line : List ℕ) (P : List ℕ → Type 0) → IsSome (words_form words) → IfSome (verdict_of words left) (λ v. IsRefused v line) → P line → IfSome (line_of words left) P
-refused_line words left line P f h p = refused_in (words_form words) (verdict_of words left) line P f h p
+pub line_is : (o : Option Due) (line : List ℕ) (P : List ℕ → Type 0) → IfSome o (LineDue line) → P line → IfSome (option_map line_for o) P
+line_is None line P h p = tt
+line_is (Some d) line P h p = subst P (sym h.is) p
 
-pub misread_line : (words : List (List ℕ)) (left : Option (List ℕ)) (line : List ℕ) (P : List ℕ → Type 0) → IsSome (words_form words) → IfSome (verdict_of words left) (λ v. IsMisread v line) → P line → IfSome (line_of words left) P
-misread_line words left line P f h p = misread_in (words_form words) (verdict_of words left) line P f h p
+-- where a line is due it stands on the sink of errors; or the bytes are not told
+pub line_side : (form : Option Command) (o : Option Due) (line : List ℕ) (P : Written → Type 0) → IfSome o (LineDue line) → P Line → P Either → P (side form None o)
+line_side None o line P h p q = p
+line_side (Some (Compile c)) o line P h p q = p
+line_side (Some (Pack c)) o line P h p q = p
+line_side (Some Unpack) o line P h p q = p
+line_side (Some Names) None line P h p q = q
+line_side (Some Names) (Some d) line P h p q = subst P (sym h.textless) p
 
-usage_in : (form : Option Command) (o : Option Verdict) (P : List ℕ → Type 0) → form ≡ None → P usage_line → IfSome (line_or_usage form o) P
-usage_in None o P f p = p
-usage_in (Some c) o P f p = cc
+-- nothing is done where a line is due
+pub line_incomplete : (o : Option Due) (line : List ℕ) (A B C D : Type 0) → IfSome o (LineDue line) → IfSome o (λ d. IsSound d → A → B → C → D)
+line_incomplete None line A B C D h = tt
+line_incomplete (Some d) line A B C D h = λ s. absurd (h.unsound s)
 
-pub usage_due : (words : List (List ℕ)) (left : Option (List ℕ)) (P : List ℕ → Type 0) → words_form words ≡ None → P usage_line → IfSome (line_of words left) P
-usage_due words left P f p = usage_in (words_form words) (verdict_of words left) P f p
+-- ---- codes and their texts
 
-not_ok : (e : WriteFailed) → IsOk {T = Unit {0}} {E = WriteFailed} (Err e) → ⊥
-not_ok e h = cc
+is_sound : (d : Due) (code : CodeObject) → IsCodeOf d code → IsSound d
+is_sound Misuse code h = absurd h
+is_sound (Misread text) code h = absurd h
+is_sound (Refused f) code h = absurd h
+is_sound (Compiled c t) code h = tt
+is_sound (Spelled bytes o) code h = h.2
+is_sound (Told text) code h = absurd h
 
--- a sink that has room for the line takes it
-pub room_for : (room : Option ℕ) (line : List ℕ) (s : Status) (none : Type 0) (before now : ℕ) (r : Result (Unit {0}) WriteFailed) → (s ≡ status.WriteFault → ⊥) → IfSome room (λ n. length line ≤ n → IsOk r × (now ≡ before))
-    → IfSome room (λ n. length line ≤ n → none → (s ≢ status.WriteFault) × (now ≡ before))
-room_for None line s none before now r d h = tt
-room_for (Some n) line s none before now r d h = λ l k. (d, (h l).1)
+pub code_due : (o : Option Due) (code : CodeObject) → IfSome o (λ d. IsCodeOf d code) → IfSome o (IsDue status.Done)
+code_due None code h = tt
+code_due (Some d) code h = is_sound d code h
 
-pub room_not_for : (room : Option ℕ) (line : List ℕ) (s : Status) (none : Type 0) (before now : ℕ) (e : WriteFailed) → IfSome room (λ n. length line ≤ n → IsOk {T = Unit {0}} {E = WriteFailed} (Err e) × (now ≡ before))
-    → IfSome room (λ n. length line ≤ n → none → (s ≢ status.WriteFault) × (now ≡ before))
-room_not_for None line s none before now e h = tt
-room_not_for (Some n) line s none before now e h = λ l k. absurd (not_ok e (h l).0)
+-- what holds of the text that was written holds of the text that is due
+pub code_text_is : (form : Option Command) (o : Option Due) (code : CodeObject) (text : List ℕ) (P : List ℕ → Type 0) → IfSome form (λ c. IsTextOf c code text) → P text → IfSome (text_by form (Some code) o) P
+code_text_is None o code text P h p = tt
+code_text_is (Some c) o code text P h p = subst P h.0 p
 
-some_is_not_none : {A : Type 0} (x : A) → IsNone (Some x) → ⊥
-some_is_not_none x h = cc
+-- ---- texts without a code
 
-no_room_due : (line : List ℕ) (room : Option ℕ) (code : CodeObject) (P : Type 0) → IfSome room (λ n. length line ≤ n → IsNone (Some code) → P)
-no_room_due line None code P = tt
-no_room_due line (Some n) code P = λ l k. absurd (some_is_not_none code k)
+pub told_due : (o : Option Due) (text : List ℕ) → IfSome o (λ d. d ≡ Told text) → IfSome o (IsDue status.Done)
+told_due None text h = tt
+told_due (Some d) text h = subst IsSound (sym h) tt
 
--- where a code is reported, no line has to find room
-pub no_line_due : (line : Option (List ℕ)) (room : Option ℕ) (code : CodeObject) (P : Type 0) → IfSome line (λ l. IfSome room (λ n. length l ≤ n → IsNone (Some code) → P))
-no_line_due None room code P = tt
-no_line_due (Some l) room code P = no_room_due l room code P
+pub told_text_is : (form : Option Command) (o : Option Due) (text : List ℕ) (P : List ℕ → Type 0) → IfSome o (λ d. d ≡ Told text) → P text → IfSome (text_by form None o) P
+told_text_is None o text P h p = tt
+told_text_is (Some c) None text P h p = tt
+told_text_is (Some c) (Some d) text P h p = let Q : Due → Type 0 = λ e. P (told_text e) in subst Q (sym h) p
 
--- a tree that is refused, and an input that is at fault, are not done
-pub refused_not_done : (o : Option Verdict) (line : List ℕ) (A B C D : Type 0) → IfSome o (λ v. IsRefused v line) → IfSome o (λ v. status_of v ≡ status.Done → A → B → C → D)
-refused_not_done None line A B C D h = tt
-refused_not_done (Some (Misread text)) line A B C D h = absurd h
-refused_not_done (Some (Refused f)) line A B C D h = λ e. cc
-refused_not_done (Some (Sound c t)) line A B C D h = absurd h
-
-pub misread_not_done : (o : Option Verdict) (line : List ℕ) (A B C D : Type 0) → IfSome o (λ v. IsMisread v line) → IfSome o (λ v. status_of v ≡ status.Done → A → B → C → D)
-misread_not_done None line A B C D h = tt
-misread_not_done (Some (Misread text)) line A B C D h = λ e. cc
-misread_not_done (Some (Refused f)) line A B C D h = absurd h
-misread_not_done (Some (Sound c t)) line A B C D h = absurd h
+-- the text of a report on names stands on the sink of texts; or the bytes are not told
+pub told_side_is : (form : Option Command) (o : Option Due) (text : List ℕ) (P : Written → Type 0) → form ≡ Some Names → IfSome o (λ d. d ≡ Told text) → P Text → P Either → P (side form None o)
+told_side_is form o text P e h p q = let Q : Option Command → Type 0 = λ f. P (side f None o) in subst Q (sym e) (told_in o text P h p q)
+  where
+    told_in : (o : Option Due) (text : List ℕ) (P : Written → Type 0) → IfSome o (λ d. d ≡ Told text) → P Text → P Either → P (told_side o)
+    told_in None text P h p q = q
+    told_in (Some d) text P h p q = let Q : Due → Type 0 = λ e. P (told_side (Some e)) in subst Q (sym h) p

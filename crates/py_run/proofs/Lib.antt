@@ -1,3 +1,8 @@
+pub mod Again
 pub mod Dues
+pub mod Formed
+pub mod Made
 pub mod Pieces
+pub mod Rooms
+pub mod Unpacking
 pub mod Verdicts

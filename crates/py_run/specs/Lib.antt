@@ -1,3 +1,4 @@
+pub mod Laws
 pub mod Prepared
 pub mod Reading
 pub mod Runs

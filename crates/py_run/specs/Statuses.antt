@@ -1,16 +1,29 @@
--- What the program owes: its statuses, and what it writes.
-use Rattle.std.specs.Prelude.{◌≡◌, ℕ, ◌^◌, nat_lt, List, [], ◌∷◌, ◌++◌, length, Option, Some, None, option_map, option_and_then, Result, Ok, Err, codes, decimal, if◌then◌else◌}
+-- What the program owes: the lines that say why not, what is due for some words and some bytes, and what is written.
+use Rattle.std.specs.Prelude.{◌≡◌, ℕ, ◌^◌, nat_lt, List, [], ◌∷◌, ◌++◌, length, Option, Some, None, map, option_map, Result, Ok, Err, codes, decimal, if◌then◌else◌}
+use Rattle.std.specs.List.{flat_map}
 use Rattle.py_tree.specs.Tree as tree
 use Rattle.py_base.specs.declared.location.SourceLocation.{SourceLocation}
+use Rattle.py_bytecode.specs.Objects.{Object}
+use Rattle.py_bytecode.specs.View.{object}
 use Rattle.py_bytecode.specs.declared.code.CodeObject.{CodeObject}
 use Rattle.py_base.specs.Messages.{message}
+use Rattle.py_listing.specs.Listing.{listing}
 use Rattle.py_rows_fields.specs.declared.error.RowsError.{RowsError}
 use Rattle.py_rows_fields.specs.declared.error.RowsError.TheVariants.{NotJson, NotRows, WrongRow, WideInteger, LaterRow, WrongKind, NamedTwice, TooDeep, NoMod, NotNamed, OutOfMemory}
 use Rattle.py_rows.specs.Rows.{rows_tree}
+use Rattle.py_codefile.specs.declared.error.ReadCodeError.{ReadCodeError}
+use Rattle.py_codefile.specs.declared.error.ReadCodeError.TheVariants as bad
+use Rattle.py_codefile.specs.Grammar.{Spells}
+use Rattle.py_codefile.specs.Reading.{file_at}
+use Rattle.py_codefile.specs.Spelling.{spelling}
+use Rattle.py_verify.specs.Nested.{Flawless}
+use Rattle.py_names.specs.Lines.{report_lines}
+use Rattle.py_names.specs.Trees.{report_faults}
 use Rattle.py_meaning.specs.ExprFaults.{Fault}
 use Rattle.py_meaning.specs.Faults.{faults}
+use Rattle.py_meaning.specs.Scanned.{fault_as}
 use Rattle.codegen.specs.Calls.{IsCompiled}
-use Rattle.py_run.specs.Words.{Command, words_form}
+use Rattle.py_run.specs.Words.{Compilation, Command, Compile, Pack, Unpack, Names, words_form}
 
 -- ---- the lines of refusals
 
@@ -44,45 +57,102 @@ place_text (Some at) = decimal at.row ++ codes ":" ++ decimal at.column
 abbrev pub refusal_line : Fault → List ℕ
 refusal_line f = place_text f.location ++ codes " " ++ message f.error ++ codes "\n"
 
+-- what is wrong with a file that is read: where its first bad field begins
+abbrev pub bad_at : ReadCodeError → ℕ
+bad_at (bad.Magic at) = at
+bad_at (bad.Truncated at) = at
+bad_at (bad.BadOpcode at) = at
+bad_at (bad.BadTag at) = at
+bad_at (bad.BadText at) = at
+bad_at (bad.ZeroLocation at) = at
+bad_at (bad.TooDeep at) = at
+bad_at (bad.Trailing at) = at
+bad_at bad.OutOfMemory = 0
+
+abbrev pub file_text : ReadCodeError → List ℕ
+file_text e = codes "bad code file at " ++ decimal (bad_at e)
+
+abbrev pub flaw_text : List ℕ
+flaw_text = codes "code does not verify"
+
 -- ---- what is due for some words and some bytes
 
-pub data Verdict : Type 0 where
+pub data Due : Type 0 where
+  -- the words have not their form
+  Misuse : Due
   -- the input is at fault, as the text says
-  Misread : List ℕ → Verdict
+  Misread : List ℕ → Due
   -- the tree is refused, and this is its first fault
-  Refused : Fault → Verdict
-  -- the tree has no fault
-  Sound : Command → tree.Mod → Verdict
+  Refused : Fault → Due
+  -- the code that the compiler owes for this tree, which has no fault
+  Compiled : Compilation → tree.Mod → Due
+  -- the code that these bytes spell, unless it has a flaw: then the input is at fault
+  Spelled : List ℕ → Object → Due
+  -- this text, and no code
+  Told : List ℕ → Due
 
-abbrev pub by_faults : Command → tree.Mod → List Fault → Verdict
-by_faults c t [] = Sound c t
-by_faults c t (f ∷ fs) = Refused f
+abbrev pub unless_refused : Due → List Fault → Due
+unless_refused d [] = d
+unless_refused d (f ∷ fs) = Refused f
 
-abbrev pub by_rows : Command → Result tree.Mod RowsError → Verdict
-by_rows c (Ok t) = by_faults c t (faults t c.mode c.level)
-by_rows c (Err e) = Misread (rows_text e)
+abbrev pub compiled : Compilation → tree.Mod → Due
+compiled c t = unless_refused (Compiled c t) (faults t c.mode c.level)
 
-abbrev pub verdict : Command → List ℕ → Verdict
-verdict c bytes = if nat_lt (length bytes) (2 ^ 26) then by_rows c (rows_tree bytes) else Misread (codes "too long")
+-- each line with its end
+abbrev pub lines_text : List (List ℕ) → List ℕ
+lines_text lines = flat_map (λ line. line ++ codes "\n") lines
 
--- the verdict, where the words have their form and the bytes are told
-abbrev pub verdict_of : List (List ℕ) → Option (List ℕ) → Option Verdict
-verdict_of words left = option_and_then (λ c. option_map (verdict c) left) (words_form words)
+abbrev pub reported : tree.Mod → Due
+reported t = unless_refused (Told (lines_text (report_lines t))) (map fault_as (report_faults t))
 
--- the code is what the compiler owes for the tree, with this path, in this mode, at this level
-abbrev pub IsCodeOf : Verdict → CodeObject → Type 0
+-- what is due for the tree that rows are
+abbrev pub by_rows : (tree.Mod → Due) → Result tree.Mod RowsError → Due
+by_rows f (Ok t) = f t
+by_rows f (Err e) = Misread (rows_text e)
+
+abbrev pub by_file : List ℕ → Result Object ReadCodeError → Due
+by_file bytes (Ok o) = Spelled bytes o
+by_file bytes (Err e) = Misread (file_text e)
+
+-- what a command makes of the bytes
+abbrev pub answered : Command → List ℕ → Due
+answered (Compile c) bytes = by_rows (compiled c) (rows_tree bytes)
+answered (Pack c) bytes = by_rows (compiled c) (rows_tree bytes)
+answered Unpack bytes = by_file bytes (file_at bytes)
+answered Names bytes = by_rows reported (rows_tree bytes)
+
+abbrev pub due : Command → List ℕ → Due
+due c bytes = if nat_lt (length bytes) (2 ^ 26) then answered c bytes else Misread (codes "too long")
+
+abbrev pub due_by : Option Command → Option (List ℕ) → Option Due
+due_by None left = Some Misuse
+due_by (Some c) left = option_map (due c) left
+
+-- the same, where the words need no bytes or the bytes are told
+abbrev pub due_of : List (List ℕ) → Option (List ℕ) → Option Due
+due_of words left = due_by (words_form words) left
+
+-- ---- the code and the text that are due
+
+-- the code is the one that is due: all that the compiler owes for the tree, with this path, in this mode, at this level; or the one in the file
+abbrev pub IsCodeOf : Due → CodeObject → Type 0
+IsCodeOf Misuse code = ⊥
 IsCodeOf (Misread text) code = ⊥
 IsCodeOf (Refused f) code = ⊥
-IsCodeOf (Sound c t) code = IsCompiled (Ok code) t c.path c.mode c.level
+IsCodeOf (Compiled c t) code = IsCompiled (Ok code) t c.path c.mode c.level
+IsCodeOf (Spelled bytes o) code = (object code ≡ o) × Spells bytes o × Flawless o
+IsCodeOf (Told text) code = ⊥
 
--- the line says what is wrong with the input
-abbrev pub IsMisread : Verdict → List ℕ → Type 0
-IsMisread (Misread text) line = line ≡ input_line text
-IsMisread (Refused f) line = ⊥
-IsMisread (Sound c t) line = ⊥
+-- what a command writes of the code that it reports
+abbrev pub code_text : Command → Object → List ℕ
+code_text (Compile c) o = listing o
+code_text (Pack c) o = spelling o
+code_text Unpack o = listing o
+code_text Names o = []
 
--- the line names the first fault
-abbrev pub IsRefused : Verdict → List ℕ → Type 0
-IsRefused (Misread text) line = ⊥
-IsRefused (Refused f) line = line ≡ refusal_line f
-IsRefused (Sound c t) line = ⊥
+-- what is so of that code whatever the source tells; the report on names reports no code
+abbrev pub IsReported : Command → Object → Type 0
+IsReported (Compile c) o = Unit {0}
+IsReported (Pack c) o = Spells (spelling o) o
+IsReported Unpack o = Flawless o
+IsReported Names o = ⊥

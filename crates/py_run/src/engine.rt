@@ -1,9 +1,8 @@
-ghost use Rattle.std.specs.Prelude.{◌≡◌, ◌≢◌, ◌⊎◌, ◌≤◌, None, length, IfSome, IsNone, IsSome};
+ghost use Rattle.std.specs.Prelude.{◌≡◌, ◌≢◌, ◌⊎◌, ◌≤◌, None, length, IfSome, option_map};
 ghost use Rattle.py_bytecode.specs.View.{object};
-ghost use Rattle.py_listing.specs.Listing.{listing};
 ghost use Rattle.py_devices.specs.Devices.{Rose};
-ghost use Rattle.py_run.specs.Runs.{ErrGets, FitsForm, IsDue, NoReadFailed, NoWriteFailed, OutGets, ReadCause, WriteCause, line_of, status_of};
-ghost use Rattle.py_run.specs.Statuses.{IsCodeOf, verdict_of};
+ghost use Rattle.py_run.specs.Runs.{ErrGets, FitsForm, IsDue, IsLineless, IsOfForm, IsSound, IsTextless, NoReadFailed, NoWriteFailed, OutGets, ReadCause, Reports, Text, Line, WriteCause, line_of, text_of, written};
+ghost use Rattle.py_run.specs.Statuses.{IsCodeOf, due_of};
 ghost use Rattle.py_run.specs.Words.{words_form};
 
 use crate::lines::USAGE;
@@ -14,9 +13,11 @@ use crate::writing::write_all;
 use py_devices::{Sink, Source};
 use std::alloc::Global;
 
-/// Reads the rows of a tree from `source`, compiles it as the words say, and writes the listing of its code on `out`,
-/// or a line on `err` that says why not. The whole text is made before the first write, and no memory is taken
-/// afterwards.
+/// Does what the words ask for with what `source` has, and writes the text that is due on `out`, or a line on `err` that
+/// says why not. The whole text is made before the first write, and no memory is taken afterwards.
+///
+/// A command and the bytes of the source make something due (`due_of`): a line and its status, or a text, with the code
+/// that is reported or with none. The clauses are the same for all commands.
 pub fn run<S: Source, O: Sink, E: Sink>(
     alloc: Global,
     words: &Words,
@@ -24,43 +25,47 @@ pub fn run<S: Source, O: Sink, E: Sink>(
     out: &mut O,
     err: &mut E,
 ) -> Report
-    // The status has its cause: the words, what the bytes make due, a failed call, or want of memory.
+    // The status has its cause: the words, what is due, a failed call, or want of memory.
     ensures form { FitsForm result.status (words_form words.now) }
-    ensures due { IfSome (verdict_of words.now (S.left source.old)) (IsDue result.status) }
+    ensures due { IfSome (due_of words.now (S.left source.old)) (IsDue result.status) }
     ensures read { ReadCause result.status (S.faults source.old) (S.faults source.new) }
-    ensures write { WriteCause result.status result.code (O.faults out.old) (O.faults out.new) (E.faults err.old) (E.faults err.new) }
+    ensures write { WriteCause result.status (written words.now (S.left source.old) result) (O.faults out.old) (O.faults out.new) (E.faults err.old) (E.faults err.new) }
 
-    // What is written, and what code is reported.
+    // Which code is reported: the one that is due, and one that is as the command asks.
+    ensures reported { Reports result.status (words_form words.now) result.code }
     ensures code { IfSome result.code
-        (λ code. IfSome (verdict_of words.now (S.left source.old)) (λ v. IsCodeOf v code)) }
-    ensures out { OutGets result.status result.code (O.held out.old) (O.held out.new) }
-    ensures err { ErrGets result.status result.code (line_of words.now (S.left source.old)) (E.held err.old) (E.held err.new) }
+        (λ code. IfSome (due_of words.now (S.left source.old)) (λ d. IsCodeOf d code)) }
+    ensures kind { IfSome result.code (λ code. IsOfForm (words_form words.now) (object code)) }
+
+    // What is written: the text that is due, or the line.
+    ensures out { OutGets (written words.now (S.left source.old) result) result.status (text_of words.now (S.left source.old) result.code) (O.held out.old) (O.held out.new) }
+    ensures err { ErrGets (written words.now (S.left source.old) result) result.status (line_of words.now (S.left source.old)) (E.held err.old) (E.held err.new) }
 
     // Nothing else is touched.
     ensures unread { words_form words.now ≡ None → source.new ≡ source.old }
-    ensures no_listing { IsNone result.code → out.new ≡ out.old }
-    ensures no_line { IsSome result.code → err.new ≡ err.old }
+    ensures no_text { IsTextless (written words.now (S.left source.old) result) → out.new ≡ out.old }
+    ensures no_line { IsLineless (written words.now (S.left source.old) result) → err.new ≡ err.old }
 
     // Always where a call failed.
     ensures reads { NoReadFailed result.status S.counts_failures (S.faults source.old) (S.faults source.new) }
     ensures writes { NoWriteFailed result.status O.counts_failures (O.faults out.old) (O.faults out.new) }
     ensures lines { NoWriteFailed result.status E.counts_failures (E.faults err.old) (E.faults err.new) }
 
-    // A sink whose said room holds the text takes it whole, and counts no fault.
-    ensures room { IfSome result.code
-        (λ code. IfSome (O.room out.old)
-        (λ room. length (listing (object code)) ≤ room → (result.status ≡ Status.Done) × (O.faults out.new ≡ O.faults out.old))) }
-    ensures line_room { IfSome (line_of words.now (S.left source.old))
+    // A sink whose said room holds what is written on it takes it whole, and counts no fault.
+    ensures room { written words.now (S.left source.old) result ≡ Text → IfSome (text_of words.now (S.left source.old) result.code)
+        (λ text. IfSome (O.room out.old)
+        (λ room. length text ≤ room → (result.status ≡ Status.Done) × (O.faults out.new ≡ O.faults out.old))) }
+    ensures line_room { written words.now (S.left source.old) result ≡ Line → IfSome (line_of words.now (S.left source.old))
         (λ line. IfSome (E.room err.old)
-        (λ room. length line ≤ room → IsNone result.code → (result.status ≢ Status.WriteFault) × (E.faults err.new ≡ E.faults err.old))) }
+        (λ room. length line ≤ room → (result.status ≢ Status.WriteFault) × (E.faults err.new ≡ E.faults err.old))) }
 
-    // With no fault of the tree and no count that rose, the run is done, or memory ran out.
-    ensures complete { IfSome (verdict_of words.now (S.left source.old))
-        (λ v. status_of v ≡ Status.Done → ¬ (Rose (S.faults source.old) (S.faults source.new)) → ¬ (Rose (O.faults out.old) (O.faults out.new)) → ¬ (Rose (E.faults err.old) (E.faults err.new))
+    // Where a text is due and no count rose, the run is done, or memory ran out.
+    ensures complete { IfSome (due_of words.now (S.left source.old))
+        (λ d. IsSound d → ¬ (Rose (S.faults source.old) (S.faults source.new)) → ¬ (Rose (O.faults out.old) (O.faults out.new)) → ¬ (Rose (E.faults err.old) (E.faults err.new))
         → (result.status ≡ Status.Done) ⊎ (result.status ≡ Status.Memory)) }
 {
     match prepare(alloc, words, source) {
-        Prepared::Listing(code, text) => match write_all(out, text.as_str().as_bytes()) {
+        Prepared::Code(code, text) => match write_all(out, text.as_slice()) {
             Ok(()) => Report {
                 status: Status::Done,
                 code: Some(code),
@@ -68,6 +73,16 @@ pub fn run<S: Source, O: Sink, E: Sink>(
             Err(_) => Report {
                 status: Status::WriteFault,
                 code: Some(code),
+            },
+        },
+        Prepared::Report(text) => match write_all(out, text.as_str().as_bytes()) {
+            Ok(()) => Report {
+                status: Status::Done,
+                code: None,
+            },
+            Err(_) => Report {
+                status: Status::WriteFault,
+                code: None,
             },
         },
         Prepared::Refusal(line) => match write_all(err, line.as_str().as_bytes()) {

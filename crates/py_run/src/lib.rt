@@ -1,11 +1,15 @@
-//! A run of the program: words and the rows of a tree in, the listing of its code out.
+//! A run of the program: words and an input in, a text or a line that says why not out.
 #![tactic(auto)]
 
+mod compiling;
 mod engine;
+pub mod laws;
 mod lines;
+mod naming;
 mod preparing;
 mod reading;
 mod report;
+mod unpacking;
 mod words;
 mod writing;
 

@@ -1,7 +1,8 @@
 ghost use Rattle.std.specs.Prelude.{◌≡◌, ◌++◌, IfOk, OnOk, string_bytes, codes};
-ghost use Rattle.py_run.specs.Statuses.{input_line, place_text, refusal_line, rows_text};
+ghost use Rattle.py_run.specs.Statuses.{bad_at, file_text, flaw_text, input_line, lines_text, place_text, refusal_line, rows_text};
 
-use py_base::CodegenErrorType;
+use py_base::{CodegenErrorType, Text};
+use py_codefile::ReadCodeError;
 use py_rows::RowsError;
 use py_tree::SourceLocation;
 use std::alloc::{AllocError, Global};
@@ -66,4 +67,47 @@ fn push_place(out: &mut String, location: Option<SourceLocation>) -> Result<(), 
         None => out.push_str("-:-"),
         Some(at) => write!(out, "{}:{}", at.row.get(), at.column.get()),
     }
+}
+
+/// The line that says where the first bad field of a file begins.
+pub fn file_line(alloc: Global, error: &ReadCodeError) -> Result<String, AllocError>
+    ensures { IfOk result (λ s. string_bytes s ≡ input_line (file_text error.now)) }
+{
+    let at = bad_at(error);
+    format!(in alloc; "input: bad code file at {at}\n")
+}
+
+fn bad_at(error: &ReadCodeError) -> u64
+    ensures { result ≡ bad_at error.now }
+{
+    match error {
+        ReadCodeError::Magic { at }
+        | ReadCodeError::Truncated { at }
+        | ReadCodeError::BadOpcode { at }
+        | ReadCodeError::BadTag { at }
+        | ReadCodeError::BadText { at }
+        | ReadCodeError::ZeroLocation { at }
+        | ReadCodeError::TooDeep { at }
+        | ReadCodeError::Trailing { at } => *at,
+        ReadCodeError::OutOfMemory => 0,
+    }
+}
+
+/// The line that says that the code in a file has a flaw.
+pub fn flaw_line(alloc: Global) -> Result<String, AllocError>
+    ensures { IfOk result (λ s. string_bytes s ≡ input_line flaw_text) }
+{
+    String::from_str(alloc, "input: code does not verify\n")
+}
+
+/// Each line with its end.
+pub fn lines_text(alloc: Global, lines: &[Text]) -> Result<String, AllocError>
+    ensures { IfOk result (λ s. string_bytes s ≡ lines_text lines.now) }
+{
+    let mut out = String::new(alloc);
+    for line in lines {
+        out.push_str(line.as_str())?;
+        out.push_str("\n")?;
+    }
+    Ok(out)
 }

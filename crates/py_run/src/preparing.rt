@@ -1,15 +1,15 @@
-ghost use Rattle.std.specs.Prelude.{◌≡◌, ◌≤◌, ◌<◌, ◌^◌, None, Some, length, IfSome, codes};
-ghost use Rattle.py_tree.specs.View.{mod_tree};
-ghost use Rattle.py_run.specs.Prepared.{HasForm, IsListed, IsListing, Prepares, Readies, ReadsOf};
-ghost use Rattle.py_run.specs.Statuses.{Refused, Misread, by_faults, by_rows, refusal_line, rows_text, verdict, verdict_of};
-ghost use Rattle.py_meaning.specs.Faults.{faults};
+ghost use Rattle.std.specs.Prelude.{◌≡◌, ◌<◌, ◌^◌, None, length, IfSome, codes};
+ghost use Rattle.py_rows.specs.Rows.{rows_tree};
+ghost use Rattle.py_run.specs.Prepared.{HasForm, IsListed, Prepares, Readies, ReadsOf, ReadsTree, RefusesTree, TellsFault};
+ghost use Rattle.py_run.specs.Statuses.{answered, due_of, rows_text};
 ghost use Rattle.py_run.specs.Words.{command_view, words_form};
 
+use crate::compiling::{compiled, packed};
 use crate::lines::{input_line, refusal_line, too_long_line};
+use crate::naming::reported;
 use crate::reading::{ReadError, read_all};
+use crate::unpacking::unpacked;
 use crate::words::{Command, Words, parse};
-use codegen::CompileOpts;
-use codegen::compile::compile_top;
 use py_base::CodegenErrorType;
 use py_bytecode::CodeObject;
 use py_devices::Source;
@@ -21,8 +21,10 @@ use std::alloc::Global;
 /// What is to be written, all of it made before the first write.
 #[derive(Drop)]
 pub enum Prepared {
-    /// The listing of a code.
-    Listing(CodeObject, String),
+    /// A code, and the text that is written of it.
+    Code(CodeObject, Vec<u8>),
+    /// A text without a code.
+    Report(String),
     /// The line of the first fault of the tree.
     Refusal(String),
     /// The line that says what is wrong with the input.
@@ -35,11 +37,10 @@ pub enum Prepared {
     Memory,
 }
 
-/// Reads and compiles what the words ask for.
+/// Makes what the words ask for of what the source has.
 pub fn prepare<S: Source>(alloc: Global, words: &Words, source: &mut S) -> Prepared
     ensures form { HasForm result (words_form words.now) }
-    ensures text { IsListing result }
-    ensures due { IfSome (verdict_of words.now (S.left source.old)) (Prepares result) }
+    ensures due { IfSome (due_of words.now (S.left source.old)) (Prepares result) }
     ensures reads { ReadsOf result S.counts_failures (S.faults source.old) (S.faults source.new) }
     ensures unread { words_form words.now ≡ None → source.new ≡ source.old }
 {
@@ -47,15 +48,27 @@ pub fn prepare<S: Source>(alloc: Global, words: &Words, source: &mut S) -> Prepa
         return Prepared::Misuse;
     };
     match read_all(alloc, source) {
-        Ok(bytes) => compiled(alloc, &command, bytes.as_slice()),
+        Ok(bytes) => answered(alloc, &command, bytes.as_slice()),
         Err(ReadError::TooLong) => too_long(alloc),
         Err(ReadError::Failed) => Prepared::ReadFault,
         Err(ReadError::OutOfMemory) => Prepared::Memory,
     }
 }
 
+fn answered(alloc: Global, command: &Command<'_>, bytes: &[u8]) -> Prepared
+    requires { length bytes.now < 2 ^ 26 }
+    ensures { Readies (command_view command.now) result (answered (command_view command.now) bytes.now) }
+{
+    match command {
+        Command::Compile(compilation) => compiled(alloc, compilation, bytes),
+        Command::Pack(compilation) => packed(alloc, compilation, bytes),
+        Command::Unpack => unpacked(alloc, bytes),
+        Command::Names => reported(alloc, bytes),
+    }
+}
+
 fn too_long(alloc: Global) -> Prepared
-    ensures { Readies result (Misread (codes "too long")) }
+    ensures { TellsFault result (codes "too long") }
 {
     match too_long_line(alloc) {
         Ok(line) => Prepared::Misread(line),
@@ -63,50 +76,38 @@ fn too_long(alloc: Global) -> Prepared
     }
 }
 
-fn compiled(alloc: Global, command: &Command<'_>, bytes: &[u8]) -> Prepared
+/// The tree that the rows are.
+///
+/// # Errors
+/// What is to be written in place of all that is made of a tree.
+pub(crate) fn tree_of(alloc: Global, bytes: &[u8]) -> Result<Mod, Prepared>
     requires { length bytes.now < 2 ^ 26 }
-    ensures { Readies result (verdict (command_view command.now) bytes.now) }
+    ensures { ReadsTree result (rows_tree bytes.now) }
 {
     match read_rows(alloc, bytes) {
-        Ok(tree) => {
-            let prepared = compiled_tree(alloc, command, &tree);
-            tree.discard();
-            prepared
-        }
-        Err(RowsError::OutOfMemory) => Prepared::Memory,
-        Err(error) => misread(alloc, &error),
+        Ok(tree) => Ok(tree),
+        Err(RowsError::OutOfMemory) => Err(Prepared::Memory),
+        Err(error) => Err(misread(alloc, &error)),
     }
 }
 
-fn compiled_tree(alloc: Global, command: &Command<'_>, tree: &Mod) -> Prepared
-    ensures { Readies result (by_faults (command_view command.now) (mod_tree tree.now) (faults (mod_tree tree.now) command.now.mode command.now.level)) }
-{
-    let Ok(path) = command.path.try_clone(alloc) else {
-        return Prepared::Memory;
-    };
-    let opts = CompileOpts {
-        optimize: command.level,
-    };
-    match compile_top(alloc, tree, path, command.mode, opts) {
-        Ok(code) => listed(alloc, code),
-        Err(e) => match e.error {
-            CodegenErrorType::OutOfMemory => Prepared::Memory,
-            error => refused(alloc, &error, e.location),
-        },
-    }
-}
-
-fn listed(alloc: Global, code: CodeObject) -> Prepared
+/// A code with its listing.
+pub(crate) fn listed(alloc: Global, code: CodeObject) -> Prepared
     ensures { IsListed result code }
 {
     match listing(alloc, &code) {
-        Ok(text) => Prepared::Listing(code, text),
+        Ok(text) => Prepared::Code(code, text.into_bytes()),
         Err(_) => Prepared::Memory,
     }
 }
 
-fn refused(alloc: Global, error: &CodegenErrorType, location: Option<SourceLocation>) -> Prepared
-    ensures { Readies result (Refused (record { error = error.now; location = location })) }
+/// The line of a refusal.
+pub(crate) fn refused(
+    alloc: Global,
+    error: &CodegenErrorType,
+    location: Option<SourceLocation>,
+) -> Prepared
+    ensures { RefusesTree result (record { error = error.now; location = location }) }
 {
     match refusal_line(alloc, error, location) {
         Ok(line) => Prepared::Refusal(line),
@@ -115,7 +116,7 @@ fn refused(alloc: Global, error: &CodegenErrorType, location: Option<SourceLocat
 }
 
 fn misread(alloc: Global, error: &RowsError) -> Prepared
-    ensures { Readies result (Misread (rows_text error.now)) }
+    ensures { TellsFault result (rows_text error.now) }
 {
     match input_line(alloc, error) {
         Ok(line) => Prepared::Misread(line),

@@ -1,7 +1,10 @@
 ghost use Rattle.std.specs.Prelude.{◌≡◌, option_map};
-ghost use Rattle.py_run.specs.Words.{command_view, mode_of, level_of, words_form};
+ghost use Rattle.py_run.specs.Words.{command_view, compilation_of, compilation_view, compile_of, level_of, mode_of, names_of, pack_of, unpack_of, words_form};
 
 use py_tree::{List, Mode, Text};
+
+/// A file holds no path of so many bytes.
+const PATH_LIMIT: usize = 1 << 32;
 
 /// The words after the program's name.
 pub type Words = List<Text>;
@@ -29,24 +32,87 @@ fn level_of(word: &str) -> Option<u8>
     }
 }
 
-/// A compilation that the words ask for.
+/// A compilation of rows that the words ask for.
 #[derive(Drop)]
-pub struct Command<'a> {
+pub struct Compilation<'a> {
     pub mode: Mode,
     pub level: u8,
     pub path: &'a Text,
 }
 
-/// What the words ask for. None exactly where they are not a mode, a level and a path.
-pub fn parse(words: &Words) -> Option<Command<'_>>
-    ensures { option_map command_view result ≡ words_form words.now }
+/// What the words ask for.
+#[derive(Drop)]
+pub enum Command<'a> {
+    /// The listing of the code that the rows compile to.
+    Compile(Compilation<'a>),
+    /// The file of that code.
+    Pack(Compilation<'a>),
+    /// The listing of the code that a file holds.
+    Unpack,
+    /// The report on the names of the tree that the rows are.
+    Names,
+}
+
+/// A mode, a level and any path.
+fn compilation_of<'a>(mode: &Text, level: &Text, path: &'a Text) -> Option<Compilation<'a>>
+    ensures { option_map compilation_view result ≡ compilation_of mode.now level.now path.now }
 {
-    let [mode, level, path] = words.as_slice() else {
-        return None;
-    };
-    Some(Command {
+    Some(Compilation {
         mode: mode_of(mode.as_str())?,
         level: level_of(level.as_str())?,
         path,
     })
+}
+
+/// `unpack`.
+fn unpack_of<'a>(word: &Text) -> Option<Command<'a>>
+    ensures { option_map command_view result ≡ unpack_of word.now }
+{
+    if word.as_str() == "unpack" {
+        Some(Command::Unpack)
+    } else {
+        None
+    }
+}
+
+/// `names PATH`.
+fn names_of<'a>(word: &Text) -> Option<Command<'a>>
+    ensures { option_map command_view result ≡ names_of word.now }
+{
+    if word.as_str() == "names" {
+        Some(Command::Names)
+    } else {
+        None
+    }
+}
+
+/// `MODE LEVEL PATH`.
+fn compile_of<'a>(mode: &Text, level: &Text, path: &'a Text) -> Option<Command<'a>>
+    ensures { option_map command_view result ≡ compile_of mode.now level.now path.now }
+{
+    Some(Command::Compile(compilation_of(mode, level, path)?))
+}
+
+/// `pack MODE LEVEL PATH`, where a file can hold the path.
+fn pack_of<'a>(word: &Text, mode: &Text, level: &Text, path: &'a Text) -> Option<Command<'a>>
+    ensures { option_map command_view result ≡ pack_of word.now mode.now level.now path.now }
+{
+    if word.as_str() == "pack" && path.as_str().len() < PATH_LIMIT {
+        Some(Command::Pack(compilation_of(mode, level, path)?))
+    } else {
+        None
+    }
+}
+
+/// What the words ask for. None exactly where they have no form that a command has.
+pub fn parse(words: &Words) -> Option<Command<'_>>
+    ensures { option_map command_view result ≡ words_form words.now }
+{
+    match words.as_slice() {
+        [word] => unpack_of(word),
+        [word, _path] => names_of(word),
+        [mode, level, path] => compile_of(mode, level, path),
+        [word, mode, level, path] => pack_of(word, mode, level, path),
+        _ => None,
+    }
 }

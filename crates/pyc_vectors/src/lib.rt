@@ -1,6 +1,8 @@
-//! Tests of the program's parts: runs over devices in memory, and calls of std's readers and writers that fail.
+//! Tests of the program's parts: runs of each command over devices in memory, and calls of std's readers and writers that fail.
 #![tactic(auto)]
 
+#[cfg(test)]
+mod commands;
 #[cfg(test)]
 mod endings;
 #[cfg(test)]

@@ -1,0 +1,48 @@
+//! Reports on the names of trees.
+ghost use Rattle.std.specs.Prelude.{◌<◌, ◌^◌, length};
+ghost use Rattle.py_tree.specs.View.{mod_tree};
+ghost use Rattle.py_rows.specs.Rows.{rows_tree};
+ghost use Rattle.py_run.specs.Prepared.{Readies};
+ghost use Rattle.py_run.specs.Statuses.{by_rows, reported};
+ghost use Rattle.py_run.specs.Words.{Names};
+
+use crate::lines::lines_text;
+use crate::preparing::{Prepared, refused, tree_of};
+use py_base::{CodegenErrorType, Text};
+use py_names::report_lines;
+use py_tree::Mod;
+use std::alloc::Global;
+use symboltable::into_codegen_error;
+
+/// The report on the tree of the rows, or why there is none.
+pub fn reported(alloc: Global, bytes: &[u8]) -> Prepared
+    requires { length bytes.now < 2 ^ 26 }
+    ensures { Readies Names result (by_rows reported (rows_tree bytes.now)) }
+{
+    match tree_of(alloc, bytes) {
+        Ok(tree) => {
+            let prepared = report_on(alloc, &tree);
+            tree.discard();
+            prepared
+        }
+        Err(prepared) => prepared,
+    }
+}
+
+fn report_on(alloc: Global, tree: &Mod) -> Prepared
+    ensures { Readies Names result (reported (mod_tree tree.now)) }
+{
+    match report_lines(alloc, tree) {
+        Ok(lines) => match lines_text(alloc, lines.as_slice()) {
+            Ok(text) => Prepared::Report(text),
+            Err(_) => Prepared::Memory,
+        },
+        Err(error) => {
+            let e = into_codegen_error(error, Text::from_string(String::new(alloc)));
+            match e.error {
+                CodegenErrorType::OutOfMemory => Prepared::Memory,
+                error => refused(alloc, &error, e.location),
+            }
+        }
+    }
+}
