@@ -1,5 +1,8 @@
 #!/usr/bin/env python3
-"""A report on the names of a tree: which are unused, unbound, shadowed or captured. Reads rows on standard input."""
+"""A report on the names of a tree: which are unused, unbound, shadowed or captured.
+
+usage: names.py      the rows on standard input, a line for each finding on standard output
+"""
 import sys
 from rows_reader import RowsError, read_rows
 from scopes import Resolver, build, scan
@@ -45,6 +48,9 @@ def report(mod, python_order=True):
 
 
 if __name__ == "__main__":
+    if sys.argv[1:] in (["-h"], ["--help"]):
+        print(__doc__.strip())
+        sys.exit(0)
     t = read_rows(sys.stdin.buffer.read())
     if isinstance(t, RowsError):
         print("input: " + t.text(), file=sys.stderr)

@@ -212,6 +212,9 @@ def rows_text(source: str, mode: str = "exec") -> str:
 
 if __name__ == "__main__":
     args = sys.argv[1:]
+    if args in (["-h"], ["--help"]):
+        print(__doc__.strip())
+        sys.exit(0)
     mode = "exec"
     if args[:1] == ["--mode"]:
         mode = args[1]
