@@ -7,5 +7,5 @@ mod UsedStmts
 mod Whole
 mod Needed
 mod Sharing
-mod Distinct
-mod Loading
+pub mod Distinct
+pub mod Loading

@@ -1,5 +1,5 @@
 -- The codes of a tree without faults load few cells: the scopes that stand directly in one share the uses of the tree.
-use Rattle.std.proofs.Common.{◌≡◌, ℕ, zero, suc, ◌*◌, ◌≤◌, List, [], ◌∷◌, length, arith}
+use Rattle.std.proofs.Common.{◌≡◌, ℕ, zero, suc, ◌*◌, ◌^◌, ◌<◌, ◌≤◌, List, [], ◌∷◌, length, arith}
 use Rattle.py_tree.specs.Tree as tree
 use Rattle.py_tree.specs.declared.modules.Mode.{Mode}
 use Rattle.py_limits.specs.Size.{size_of}
@@ -21,6 +21,7 @@ use Rattle.py_owners.proofs.OwnStanding.{Standing, own_standing}
 use Rattle.py_owners.proofs.OwnerTables.{scan_done}
 use Rattle.py_owners.proofs.Wanted.{wanted_needed}
 use Rattle.py_adds.specs.Loads.{AreNumbered, LoadsUpTo, loads}
+use Rattle.py_adds.proofs.Codes.{LoadsFew}
 use Rattle.py_adds.proofs.WellMade.{all_so}
 use Rattle.py_loads.specs.Uses.{CodesLoadFew, used}
 use Rattle.py_loads.proofs.Distinct.{those_distinct}
@@ -71,3 +72,12 @@ pub codes_load_few : CodesLoadFew
 codes_load_few t m level n h =
     let d = scan_done t m level h in
     down t m level h d.0 d.1 n 0 (body (scopes_of t) t m level) (each_is_its_own (scopes_of t) t m level n)
+
+-- more may be loaded
+loads_more : (entries : List ScopeEntry) (a b n : ℕ) → a ≤ b → (s : Scope) → LoadsUpTo entries a n s → LoadsUpTo entries b n s
+loads_more entries a b zero le s h = tt
+loads_more entries a b (suc n) le s h = ((λ apart. let x = h.0 apart in omega (arith, x, le)), all_so (LoadsUpTo entries a n) (LoadsUpTo entries b n) (λ y k. loads_more entries a b n le y k) (kids (form_of s)) h.1)
+
+-- in a tree of such a size
+pub tree_loads_few : (t : tree.Mod) (m : Mode) (level : ℕ) → faults t m level ≡ [] → size_of t < 2 ^ 22 → LoadsFew (scopes_of t) (body (scopes_of t) t m level)
+tree_loads_few t m level h small = record { down = λ n. loads_more (scopes_of t) (3 * size_of t) (3 * 2 ^ 22) n (omega (arith, small)) (body (scopes_of t) t m level) (codes_load_few t m level n h) }
