@@ -14,7 +14,7 @@ use Rattle.py_ir.specs.Final.{tables_of}
 use Rattle.py_scope.specs.declared.flat.ScopeEntry.{ScopeEntry}
 use Rattle.py_forms.specs.Form.{Scope}
 use Rattle.py_meaning.specs.Meaning.{body}
-use Rattle.py_steps.specs.Context.{Context, inside, outermost, room}
+use Rattle.py_steps.specs.Context.{Context, inside, outermost}
 use Rattle.py_steps.specs.Emitting.{Around, State, Outcome, Done, TooWide, Refused}
 use Rattle.py_steps.specs.Sealed.{sealed}
 use Rattle.py_emission.specs.EmissionMods.{emitted}
@@ -22,14 +22,14 @@ use Rattle.py_emit.specs.Emitted.{IsMade, IsEmitted}
 use Rattle.py_emit.specs.States.{module_head}
 use Rattle.py_emit.proofs.Sealed.{AllAimed, sealed_is}
 use Rattle.py_adds.proofs.Adding.{Begins, ground_of}
-use Rattle.py_adds.proofs.Codes.{MadeFrom}
+use Rattle.py_adds.proofs.Codes.{LoadsFew, MadeFrom}
 use Rattle.py_adds.proofs.Readings.{Read, only_sizes}
 use Rattle.py_adds.proofs.Within.{Emitted, child_at, reading, sealed_made}
 use Rattle.py_agree.proofs.NeverRefused.{IsCelled, begins_all}
 use Rattle.py_agree.proofs.Programs.{first_place, tree_adds}
 use Rattle.codegen.specs.Compiled.{IsSealed}
 
-module _ (code : CodeObject) (path : List ℕ) (m : Mode) (l : ℕ) (scopes : List ScopeEntry) (t : tree.Mod) (s : State) (small : size_of t < 2 ^ 22) (roomy : (n : ℕ) → room scopes n < 2 ^ 26) (done : emitted t m (outermost l path scopes) ≡ Done s) (made : IsMade code (outermost l path scopes) s) where
+module _ (code : CodeObject) (path : List ℕ) (m : Mode) (l : ℕ) (scopes : List ScopeEntry) (t : tree.Mod) (s : State) (small : size_of t < 2 ^ 22) (few : LoadsFew scopes (body scopes t m l)) (done : emitted t m (outermost l path scopes) ≡ Done s) (made : IsMade code (outermost l path scopes) s) where
   abbrev around : Context
   around = outermost l path scopes
 
@@ -37,7 +37,7 @@ module _ (code : CodeObject) (path : List ℕ) (m : Mode) (l : ℕ) (scopes : Li
   scope = body scopes t m l
 
   whole : Emitted around first_place 1 scope s
-  whole = tree_adds t m l path scopes s small roomy done
+  whole = tree_adds t m l path scopes s small few done
 
   abbrev child : Scope → Object
   child = child_at around first_place 1 scope s whole
@@ -73,19 +73,19 @@ unfolding inside
 same_ground l path scopes = refl
 
 -- a code object that is what is emitted for a tree is made from the scope of the tree
-pub made_from_scope : (code : CodeObject) (path : List ℕ) (m : Mode) (l : ℕ) (scopes : List ScopeEntry) (t : tree.Mod) → size_of t < 2 ^ 22 → ((n : ℕ) → room scopes n < 2 ^ 26) → IsEmitted code (outermost l path scopes) (emitted t m (outermost l path scopes)) → MadeFrom (path, scopes) (object code, body scopes t m l)
-made_from_scope code path m l scopes t small roomy is = subst (λ ground. MadeFrom ground (object code, body scopes t m l)) (same_ground l path scopes) (go (emitted t m (outermost l path scopes)) refl is)
+pub made_from_scope : (code : CodeObject) (path : List ℕ) (m : Mode) (l : ℕ) (scopes : List ScopeEntry) (t : tree.Mod) → size_of t < 2 ^ 22 → LoadsFew scopes (body scopes t m l) → IsEmitted code (outermost l path scopes) (emitted t m (outermost l path scopes)) → MadeFrom (path, scopes) (object code, body scopes t m l)
+made_from_scope code path m l scopes t small few is = subst (λ ground. MadeFrom ground (object code, body scopes t m l)) (same_ground l path scopes) (go (emitted t m (outermost l path scopes)) refl is)
   where
     go : (r : Outcome) → emitted t m (outermost l path scopes) ≡ r → IsEmitted code (outermost l path scopes) r → MadeFrom (ground_of (outermost l path scopes)) (object code, body scopes t m l)
-    go (Done s) e h = from_scope code path m l scopes t s small roomy e h
+    go (Done s) e h = from_scope code path m l scopes t s small few e h
     go TooWide e h = absurd h
     go (Refused r at) e h = absurd h
 
 -- and it is the one that what is emitted determines
-pub code_is_sealed : (code : CodeObject) (path : List ℕ) (m : Mode) (l : ℕ) (scopes : List ScopeEntry) (t : tree.Mod) → size_of t < 2 ^ 22 → ((n : ℕ) → room scopes n < 2 ^ 26) → IsEmitted code (outermost l path scopes) (emitted t m (outermost l path scopes)) → IsSealed (object code) (outermost l path scopes) (emitted t m (outermost l path scopes))
-code_is_sealed code path m l scopes t small roomy is = go (emitted t m (outermost l path scopes)) refl is
+pub code_is_sealed : (code : CodeObject) (path : List ℕ) (m : Mode) (l : ℕ) (scopes : List ScopeEntry) (t : tree.Mod) → size_of t < 2 ^ 22 → LoadsFew scopes (body scopes t m l) → IsEmitted code (outermost l path scopes) (emitted t m (outermost l path scopes)) → IsSealed (object code) (outermost l path scopes) (emitted t m (outermost l path scopes))
+code_is_sealed code path m l scopes t small few is = go (emitted t m (outermost l path scopes)) refl is
   where
     go : (r : Outcome) → emitted t m (outermost l path scopes) ≡ r → IsEmitted code (outermost l path scopes) r → IsSealed (object code) (outermost l path scopes) r
-    go (Done s) e h = is_sealed code path m l scopes t s small roomy e h
+    go (Done s) e h = is_sealed code path m l scopes t s small few e h
     go TooWide e h = absurd h
     go (Refused r at) e h = absurd h

@@ -24,12 +24,12 @@ use Rattle.py_adds.proofs.WellMade.{WellMade, everywhere_so}
 use Rattle.py_adds.specs.Distinct.{HasDistinctNames}
 use Rattle.py_capture.specs.Captures.{CapturesCells}
 use Rattle.py_capture.proofs.Capturing.{captures_cells}
+use Rattle.py_loads.proofs.Loading.{tree_loads_few}
 use Rattle.codegen.specs.Calls.{IsChecked, IsCompiled, IsWhole}
-use Rattle.codegen.specs.Compiled.{HasFewSymbols, IsFirst, IsScanned, IsSealed, ScopesFollow, around_tree}
+use Rattle.codegen.specs.Compiled.{IsFirst, IsScanned, IsSealed, ScopesFollow, around_tree}
 use Rattle.codegen.proofs.Agreeing.{code_is_sealed, made_from_scope}
 use Rattle.codegen.proofs.DistinctTables.{distinct_names}
 use Rattle.codegen.proofs.Heights.{no_higher}
-use Rattle.codegen.proofs.Made.{few_everywhere}
 use Rattle.codegen.proofs.Nested.{nested_below}
 use Rattle.codegen.proofs.Resolved.{scopes_follow}
 use Rattle.codegen.proofs.Firsts.{checked_first, refused_first, emitted_clean}
@@ -86,7 +86,7 @@ agree_full : (ground : Ground) (o : Object) (s : Scope) → MadeFrom ground (o, 
 agree_full ground o s h n = (objects_agree n o s (h.from n)).0
 
 -- a whole tree whose scopes were met, and which was emitted or refused
-module _ (r : Result CodeObject (LocatedError CodegenErrorType)) (t : tree.Mod) (path : List ℕ) (m : Mode) (l : ℕ) (w : IsWhole t m) (e : IfOk r (λ code. IsEmitted code (around_tree t path l) (emitted t m (around_tree t path l)))) (few : OnOk r (HasFewSymbols (scopes_of t))) where
+module _ (r : Result CodeObject (LocatedError CodegenErrorType)) (t : tree.Mod) (path : List ℕ) (m : Mode) (l : ℕ) (w : IsWhole t m) (e : IfOk r (λ code. IsEmitted code (around_tree t path l) (emitted t m (around_tree t path l)))) (clean : OnOk r (scan_faults t ≡ [])) where
   abbrev scope : Scope
   scope = body (scopes_of t) t m l
 
@@ -96,26 +96,29 @@ module _ (r : Result CodeObject (LocatedError CodegenErrorType)) (t : tree.Mod) 
   abbrev around : Context
   around = around_tree t path l
 
+  faultless : OnOk r (faults t m l ≡ [])
+  faultless = ok_both r (λ code. IsEmitted code (around_tree t path l) (emitted t m (around_tree t path l))) (scan_faults t ≡ []) (faults t m l ≡ []) (λ code e z. emitted_clean code path t m l w z e) e clean
+
   -- what holds of a code object that is made from the scope of a tree
   made_so : (Q : Object → Type 0) → ((o : Object) → MadeFrom ground (o, scope) → Q o) → IfOk r (λ code. Q (object code))
-  made_so Q f = go r e few
+  made_so Q f = go r e faultless
     where
-      go : (x : Result CodeObject (LocatedError CodegenErrorType)) → IfOk x (λ code. IsEmitted code (around_tree t path l) (emitted t m (around_tree t path l))) → OnOk x (HasFewSymbols (scopes_of t)) → IfOk x (λ code. Q (object code))
-      go (Ok code) p q = f (object code) (made_from_scope code path m l (scopes_of t) t w.1 (few_everywhere (scopes_of t) q) p)
+      go : (x : Result CodeObject (LocatedError CodegenErrorType)) → IfOk x (λ code. IsEmitted code (around_tree t path l) (emitted t m (around_tree t path l))) → OnOk x (faults t m l ≡ []) → IfOk x (λ code. Q (object code))
+      go (Ok code) p q = f (object code) (made_from_scope code path m l (scopes_of t) t w.1 (tree_loads_few t m l q w.1) p)
       go (Err e) p q = p
 
   -- and what holds of it and of each code object within it
   well_so : (Q : Object → Type 0) → ((o : Object) → WellMade path (scopes_of t) o → Q o) → IfOk r (λ code. Everywhere Q (object code))
   well_so Q f = made_so (Everywhere Q) (λ o h. everywhere_so (WellMade path (scopes_of t)) Q f o h.well)
 
-  pub answered : OnOk r (scan_faults t ≡ []) → IfErr r (λ e. IsScanned e t m (around_tree t path l)) → IfErr r (λ e. e.source_path ≡ path) → IsCompiled r t path m l
-  answered clean first named = record {
+  pub answered : IfErr r (λ e. IsScanned e t m (around_tree t path l)) → IfErr r (λ e. e.source_path ≡ path) → IsCompiled r t path m l
+  answered first named = record {
     agrees = made_so (λ o. Agree o scope) (λ o h. agree ground o scope h);
     agrees_full = made_so (λ o. AgreeFull o scope) (λ o h. agree_full ground o scope h);
     resolved = ok_so r (faults t m l ≡ []) (ScopesFollow t) (scopes_follow t m l) faultless;
     captures = captured;
     emission = e;
-    sealed = ok_with r (λ code. IsEmitted code around (emitted t m around)) (HasFewSymbols (scopes_of t)) (λ code. IsSealed (object code) around (emitted t m around)) (λ code h q. code_is_sealed code path m l (scopes_of t) t w.1 (few_everywhere (scopes_of t) q) h) e few;
+    sealed = ok_with r (λ code. IsEmitted code around (emitted t m around)) (faults t m l ≡ []) (λ code. IsSealed (object code) around (emitted t m around)) (λ code h q. code_is_sealed code path m l (scopes_of t) t w.1 (tree_loads_few t m l q w.1) h) e faultless;
     ends = well_so _ (λ o w. w.ends);
     sound = well_so _ (λ o w. w.sound);
     depth = well_so _ (λ o w. no_higher o w.sound);
@@ -131,9 +134,6 @@ module _ (r : Result CodeObject (LocatedError CodegenErrorType)) (t : tree.Mod) 
     path = named;
   }
     where
-      faultless : OnOk r (faults t m l ≡ [])
-      faultless = ok_both r (λ code. IsEmitted code (around_tree t path l) (emitted t m (around_tree t path l))) (scan_faults t ≡ []) (faults t m l ≡ []) (λ code e z. emitted_clean code path t m l w z e) e clean
-
       captured : IfOk r (λ code. CapturesCells t m l (object code))
       captured = ok_with r (λ code. (n : ℕ) → IsMadeSo (Named (scopes_of t)) n (object code) scope) (faults t m l ≡ []) (λ code. CapturesCells t m l (object code)) (λ code h z. captures_cells t m l z (object code) h) (made_so (λ o. (n : ℕ) → IsMadeSo (Named (scopes_of t)) n o scope) (λ o h. h.named)) faultless
 

@@ -17,7 +17,7 @@ use Rattle.py_scope.specs.Flat.{symbols_at}
 use Rattle.py_scope.specs.Laws.{CellsAreApart, SymbolsFollow}
 use Rattle.py_scope.specs.Symbols as symbols
 use Rattle.py_uses.specs.Steps.{State}
-use Rattle.py_steps.specs.Context.{cells_among, cells_here, frees_among, frees_here, is_cell, names_of_those, symbols_in}
+use Rattle.py_steps.specs.Context.{cells_among, cells_here, frees_among, frees_here, is_cell, symbols_in}
 use Rattle.py_adds.specs.Distinct.{AreApart, AreDistinct, HasDistinctNames}
 use Rattle.py_adds.proofs.DistinctNames.{either_false, first_false, rest_false, turned}
 use Rattle.py_adds.proofs.WellMade.{IsCelled, WellMade}
@@ -25,26 +25,10 @@ use Rattle.py_meaning.specs.Faults.{faults}
 use Rattle.py_meaning.specs.Scanned.{scopes_of}
 use Rattle.py_owners.specs.Entered.{ScansTo, kind_in_table, kind_of_owner, told, told_row}
 use Rattle.py_owners.specs.StmtOwners.{owners_of}
+use Rattle.py_loads.proofs.Distinct.{any_of_those, those_distinct}
 use Rattle.py_owners.proofs.Facts.{Facts, facts}
 use Rattle.py_owners.proofs.EnteringPrograms.{scan_enters_owners}
 use Rattle.py_owners.proofs.OwnerTables.{scan_done, table_has_owners}
-
--- the names of some symbols are among those of all
-any_of_those : (p : Symbol → Bool) (n : List ℕ) (ts : List Symbol) → list_any (λ t. text_eq n t.name) ts ≡ false → list_any (text_eq n) (names_of_those p ts) ≡ false
-any_of_those p n [] h = refl
-any_of_those p n (t ∷ ts) h = by (p t) (any_of_those p n ts (rest_false (text_eq n t.name) _ h))
-  where
-    by : (b : Bool) → list_any (text_eq n) (names_of_those p ts) ≡ false → list_any (text_eq n) (if b then t.name ∷ names_of_those p ts else names_of_those p ts) ≡ false
-    by true rest = either_false (text_eq n t.name) _ (first_false (text_eq n t.name) _ h) rest
-    by false rest = rest
-
-those_distinct : (p : Symbol → Bool) (ts : List Symbol) → symbols.AreApart ts → AreDistinct (names_of_those p ts)
-those_distinct p [] h = tt
-those_distinct p (t ∷ ts) h = by (p t) (those_distinct p ts h.1)
-  where
-    by : (b : Bool) → AreDistinct (names_of_those p ts) → AreDistinct (if b then t.name ∷ names_of_those p ts else names_of_those p ts)
-    by true rest = (any_of_those p t.name ts h.0, rest)
-    by false rest = rest
 
 -- a name that is not in the first may head the second
 with_head : (xs : List (List ℕ)) (y : List ℕ) (ys : List (List ℕ)) → list_any (text_eq y) xs ≡ false → AreApart xs ys → AreApart xs (y ∷ ys)

@@ -5,7 +5,7 @@ use Rattle.py_shapes.specs.Valid.{shapes}
 use Rattle.py_base.specs.declared.location.LocatedError.{LocatedError}
 use Rattle.py_tree.specs.declared.modules.Mode.{Mode}
 use Rattle.py_bytecode.specs.declared.code.CodeObject.{CodeObject}
-use Rattle.py_steps.specs.Emitting.{Outcome, Done, TooWide, Refused}
+use Rattle.py_steps.specs.Emitting.{Outcome, State, Done, TooWide, Refused}
 use Rattle.py_emission.specs.EmissionMods.{emitted}
 use Rattle.py_meaning.specs.ExprFaults.{Fault}
 use Rattle.py_meaning.specs.Faults.{faults, compile_faults}
@@ -44,6 +44,10 @@ emitted_faultless : (code : CodeObject) (path : List ℕ) (t : tree.Mod) (m : Mo
 emitted_faultless code path t m l (Done r) e h is = done_faultless t m l path (scopes_of t) r h e
 emitted_faultless code path t m l TooWide e h is = absurd is
 emitted_faultless code path t m l (Refused r at) e h is = absurd is
+
+-- where the scan refuses nothing and the emission is done, nothing is wrong with the tree
+pub done_clean : (path : List ℕ) (t : tree.Mod) (m : Mode) (l : ℕ) (s : State) → IsWhole t m → scan_faults t ≡ [] → emitted t m (around_tree t path l) ≡ Done s → faults t m l ≡ []
+done_clean path t m l s w clean is = compiled t m l w ∙ (λ i. clean i ++ done_faultless t m l path (scopes_of t) s w.2 is i)
 
 pub emitted_clean : (code : CodeObject) (path : List ℕ) (t : tree.Mod) (m : Mode) (l : ℕ) → IsWhole t m → scan_faults t ≡ [] → IsEmitted code (around_tree t path l) (emitted t m (around_tree t path l)) → faults t m l ≡ []
 emitted_clean code path t m l w clean is =

@@ -1,5 +1,5 @@
 -- The code object of an emitter that emitted a tree.
-use Rattle.std.proofs.Common.{◌≡◌, ◌<◌, ◌^◌, ℕ, List, Result, refl, sym, ap, ◌∙◌, subst, arith}
+use Rattle.std.proofs.Common.{◌≡◌, ◌<◌, ◌^◌, ℕ, List, Result, refl, sym, ap, ◌∙◌, subst}
 use Rattle.py_tree.specs.Tree as tree
 use Rattle.py_limits.specs.Size.{size_of}
 use Rattle.py_tree.specs.declared.modules.Mode.{Mode}
@@ -7,7 +7,7 @@ use Rattle.py_base.specs.declared.location.LocatedError.{LocatedError}
 use Rattle.py_bytecode.specs.declared.code.CodeObject.{CodeObject}
 use Rattle.py_ir.specs.Final.{IsFinal}
 use Rattle.py_scope.specs.declared.flat.ScopeEntry.{ScopeEntry}
-use Rattle.py_steps.specs.Context.{Context, outermost, room}
+use Rattle.py_steps.specs.Context.{Context, outermost}
 use Rattle.py_steps.specs.Emitting.{Done, State, nothing}
 use Rattle.py_emission.specs.EmissionMods.{emission_of_mod, emitted}
 use Rattle.py_base.specs.declared.errors.CodegenErrorType.{CodegenErrorType}
@@ -16,14 +16,10 @@ use Rattle.py_emit.specs.States.{Goes, IsUnrefused, Rest, first_rest, info, rest
 use Rattle.py_emit.specs.declared.context.CompileOpts.{CompileOpts}
 use Rattle.py_emit.specs.declared.emitter.Emitter.{Emitter}
 use Rattle.py_emit.proofs.States.{info_holds}
-use Rattle.py_adds.proofs.Codes.{room_all}
-use Rattle.codegen.specs.Compiled.{HasFewSymbols}
+use Rattle.py_adds.proofs.Codes.{LoadsFew}
+use Rattle.py_meaning.specs.Meaning.{body}
 use Rattle.py_refusing.proofs.Ending.{level_is}
 use Rattle.py_agree.proofs.NeverRefused.{IsCelled, never_refused}
-
--- the scopes before any one have no more symbols than all have
-pub few_everywhere : (scopes : List ScopeEntry) → HasFewSymbols scopes → (n : ℕ) → room scopes n < 2 ^ 26
-few_everywhere scopes few n = let all = room_all scopes n in omega (arith, all, few)
 
 -- an emitter before anything is emitted, and one that emitted a tree
 module _ (t : tree.Mod) (m : Mode) (opts : CompileOpts) (path : List ℕ) (scopes : List ScopeEntry) (first : Emitter) (s : state first ≡ nothing (outermost opts.optimize path scopes)) (r : rest first ≡ first_rest opts path scopes) where
@@ -41,8 +37,8 @@ module _ (t : tree.Mod) (m : Mode) (opts : CompileOpts) (path : List ℕ) (scope
     unfolding rest
     celled = record { cellvars = refl; freevars = refl }
 
-    pub unrefused_mod : size_of t < 2 ^ 22 → ((n : ℕ) → room scopes n < 2 ^ 26) → IsUnrefused (rest last).opts.optimize (info last)
-    unrefused_mod small roomy = subst (λ l. IsUnrefused l (info last)) (sym level_same) (never_refused t m opts.optimize path scopes (state last) (info last) (rest last).head small roomy is celled (info_holds last))
+    pub unrefused_mod : size_of t < 2 ^ 22 → LoadsFew scopes (body scopes t m opts.optimize) → IsUnrefused (rest last).opts.optimize (info last)
+    unrefused_mod small few = subst (λ l. IsUnrefused l (info last)) (sym level_same) (never_refused t m opts.optimize path scopes (state last) (info last) (rest last).head small few is celled (info_holds last))
 
     pub made_mod : (code : CodeObject) → IsFinal (rest last).opts.optimize (info last) code → IsEmitted code around (emitted t m around)
     made_mod code f = subst (IsEmitted code around) (sym is) (record {

@@ -11,8 +11,7 @@ use Rattle.py_scope.specs.declared.error.ScanFault.TheVariants as fault
 use Rattle.py_scope.specs.declared.error.SymbolTableError.{SymbolTableError}
 use Rattle.py_scope.specs.declared.table.SymbolTable.{SymbolTable}
 use Rattle.symboltable.specs.Errors.{codegen_error}
-use Rattle.py_scope.specs.declared.flat.ScopeEntry.{ScopeEntry}
-use Rattle.py_steps.specs.Context.{Context, outermost, room}
+use Rattle.py_steps.specs.Context.{Context, outermost}
 use Rattle.py_emission.specs.EmissionMods.{emitted}
 use Rattle.py_meaning.specs.Scanned.{scan_faults, scopes_of}
 use Rattle.py_bytecode.specs.Objects.{Object, head}
@@ -67,10 +66,6 @@ HasFewUnits o = length (head o).instructions < 2 ^ 32
 -- the units and locations are those of some instructions in the least widths, where each jump goes to where one of them begins
 abbrev pub InLeastWidths : Object → Type 0
 InLeastWidths o = (starts : List ℕ) × (items : List InstructionInfo) × IsAssembled starts items (head o).instructions (head o).locations
-
--- the scopes have few symbols together
-abbrev pub HasFewSymbols : List ScopeEntry → Type 0
-HasFewSymbols scopes = room scopes (length scopes) < 2 ^ 26
 
 -- the error is the first fault, with its location, or says that there was no memory
 abbrev pub IsFirst : LocatedError CodegenErrorType → List Fault → Type 0

@@ -1,19 +1,17 @@
 //! The compile calls.
 
-ghost use Rattle.std.specs.Prelude.{◌≡◌, [], ◌<◌, ◌^◌, None, IfOk, IfErr, OnOk};
-ghost use Rattle.py_limits.specs.Size.{size_of};
+ghost use Rattle.std.specs.Prelude.{◌≡◌, [], None, IfOk, IfErr, OnOk};
 ghost use Rattle.py_tree.specs.Tree as tree;
 ghost use Rattle.py_tree.specs.View.{expr_tree, mod_tree, stmts, stmt_tree};
 ghost use Rattle.py_steps.specs.Context.{outermost};
 ghost use Rattle.py_emission.specs.EmissionMods.{emission_of_mod, emitted};
 ghost use Rattle.py_meaning.specs.Scanned.{scan_faults, scopes_of};
 ghost use Rattle.codegen.specs.Calls.{IsCompiled, IsWhole, tree_of};
-ghost use Rattle.codegen.specs.Compiled.{HasFewSymbols, IsRefused, IsScan, IsScanned, around_tree};
+ghost use Rattle.codegen.specs.Compiled.{IsRefused, IsScan, IsScanned, around_tree};
 ghost use Rattle.py_emit.specs.Emitted.{IsEmitted};
 ghost use Rattle.py_emit.specs.States.{AreMade, Emits, rest};
 
 use crate::program::{Program, emit_interactive, emit_program};
-use crate::scopes::has_few_symbols;
 use crate::whole::{body_fault, expr_fault, tree_fault};
 use py_base::{CodegenError, CodegenErrorType};
 use py_bytecode::CodeObject;
@@ -192,10 +190,9 @@ fn compile_scanned(
     opts: CompileOpts,
     table: Result<SymbolTable, SymbolTableError>,
 ) -> Result<CodeObject, CodegenError>
-    requires size { size_of (tree_of program.now) < 2 ^ 22 }
+    requires whole { IsWhole (tree_of program.now) mode }
     requires scanned { IsScan (tree_of program.now) table }
     ensures emission { IfOk result (λ code. IsEmitted code (around_tree (tree_of program.now) source_path opts.optimize) (emitted (tree_of program.now) mode (around_tree (tree_of program.now) source_path opts.optimize))) }
-    ensures few { OnOk result (HasFewSymbols (scopes_of (tree_of program.now))) }
     ensures clean { OnOk result (scan_faults (tree_of program.now) ≡ []) }
     ensures first { IfErr result (λ e. IsScanned e (tree_of program.now) mode (around_tree (tree_of program.now) source_path opts.optimize)) }
     ensures path { IfErr result (λ e. e.source_path ≡ source_path) }
@@ -210,7 +207,7 @@ fn compile_scanned(
     }
 }
 
-/// The code of a program with these scopes. Scopes with 2^26 symbols or more count as want of memory.
+/// The code of a program with these scopes, which are those of its scan.
 fn compile_mod(
     alloc: Global,
     program: &Program<'_>,
@@ -219,15 +216,13 @@ fn compile_mod(
     opts: CompileOpts,
     scopes: FlatScopes,
 ) -> Result<CodeObject, CodegenError>
-    requires { size_of (tree_of program.now) < 2 ^ 22 }
+    requires whole { IsWhole (tree_of program.now) mode }
+    requires clean { scan_faults (tree_of program.now) ≡ [] }
+    requires scanned { scopes ≡ scopes_of (tree_of program.now) }
     ensures emission { IfOk result (λ code. IsEmitted code (outermost opts.optimize source_path scopes) (emitted (tree_of program.now) mode (outermost opts.optimize source_path scopes))) }
-    ensures few { OnOk result (HasFewSymbols scopes) }
     ensures refused { IfErr result (λ e. IsRefused e (emitted (tree_of program.now) mode (outermost opts.optimize source_path scopes))) }
     ensures path { IfErr result (λ e. e.source_path ≡ source_path) }
 {
-    if !has_few_symbols(&scopes) {
-        return Err(refused(CodegenErrorType::OutOfMemory, source_path));
-    }
     let mut em = Emitter::new(alloc, opts, source_path, scopes)?;
     emit_mod(&mut em, program, mode)?;
     em.finish()

@@ -6,7 +6,6 @@ pub mod error;
 pub mod ir;
 mod laws;
 mod program;
-mod scopes;
 mod whole;
 
 pub use compile::CompileOpts;

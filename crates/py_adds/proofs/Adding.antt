@@ -13,10 +13,11 @@ use Rattle.py_forms.specs.CodeRuns.{children}
 use Rattle.py_forms.specs.Places.{items_over}
 use Rattle.py_simulation.proofs.CodeOver.{over-append}
 use Rattle.py_steps.specs.Emitting.{Step, Put, Begin, Around, State, with_step}
-use Rattle.py_steps.specs.Context.{Context, room}
+use Rattle.py_steps.specs.Context.{Context}
 use Rattle.py_adds.specs.Distinct.{AreDistinct}
+use Rattle.py_adds.specs.Loads.{loads}
 use Rattle.py_adds.proofs.Burden.{cells_in, cells-append}
-use Rattle.py_adds.proofs.Codes.{Codes, Counted, Ground, Numbered, by_number, codes_then, counted_join, counted_none, no_codes, none_between, numbered_back, numbered_front, room_more}
+use Rattle.py_adds.proofs.Codes.{Codes, Counted, Ground, Numbered, by_number, codes_then, counted_join, counted_none, no_codes, none_between, numbered_back, numbered_front, loads_join, scopes}
 
 -- cells come first, and then free names
 abbrev pub cells_of : Around → List (List ℕ)
@@ -117,13 +118,13 @@ pub record Added (s s1 : State) (is : List (Item Scope)) (m : ℕ) (made : List 
   pub distinct : AreDistinct s.names → AreDistinct s1.names
   pub own_distinct : AreDistinct s.varnames → AreDistinct s1.varnames
 
--- the children have the numbers of l scopes, and no more cells are loaded than those scopes have symbols
+-- the children have the numbers of l scopes, and no more cells are loaded than those of the children have names from outside
 pub record Adds (s s1 : State) (is : List (Item Scope)) (m l : ℕ) : Type 0 where
   pub made : List (Object × Scope)
   pub added : Added s s1 is m made
   pub next_is : s1.next ≡ s.next + l
   pub counted : Counted s.next s1.next made
-  pub cells : cells_in is + room (scopes_in s) s.next ≤ room (scopes_in s) s1.next
+  pub cells : cells_in is ≤ loads (scopes_in s) (scopes made)
 
 -- a whole scope may load one cell more than the scopes within it pay for
 pub record Completes (s s1 : State) (is : List (Item Scope)) (m l : ℕ) : Type 0 where
@@ -131,7 +132,7 @@ pub record Completes (s s1 : State) (is : List (Item Scope)) (m l : ℕ) : Type 
   pub added : Added s s1 is m made
   pub next_is : s1.next ≡ s.next + l
   pub counted : Counted s.next s1.next made
-  pub cells : cells_in is + room (scopes_in s) s.next ≤ suc (room (scopes_in s) s1.next)
+  pub cells : cells_in is ≤ suc (loads (scopes_in s) (scopes made))
 
 pub completed : (s s1 : State) (is : List (Item Scope)) (m l : ℕ) → Adds s s1 is m l → Completes s s1 is m l
 completed s s1 is m l a = record { made = a.made; added = a.added; next_is = a.next_is; counted = a.counted; cells = let c = a.cells in omega (arith, c) }
@@ -177,9 +178,10 @@ adds_join s s1 s2 is js m n l k a b = record {
   counted = counted_join s.next s1.next s2.next a.made b.made a.counted b.counted;
   cells =
       let p = a.cells in
-      let q = subst (λ (x : Around). cells_in js + room x.context.scopes s1.next ≤ room x.context.scopes s2.next) a.added.around_are b.cells in
+      let q = subst (λ (x : Around). cells_in js ≤ loads x.context.scopes (scopes b.made)) a.added.around_are b.cells in
       let e = cells-append is js in
-      omega (arith, p, q, e);
+      let f = loads_join (scopes_in s) a.made b.made in
+      omega (arith, p, q, e, f);
 }
 
 pub added_nothing : (s : State) → Added s s [] 0 []
@@ -208,7 +210,7 @@ adds_plain s r is m l none e a = record {
   added = a;
   next_is = e;
   counted = counted_none s.next r.next (omega (arith, e));
-  cells = let h = subst (λ x. room (scopes_in s) s.next ≤ room (scopes_in s) x) (sym e) (room_more (scopes_in s) s.next l) in omega (arith, none, h);
+  cells = omega (arith, none);
 }
 
 pub adds_nothing : (s : State) → Adds s s [] 0 0

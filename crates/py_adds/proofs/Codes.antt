@@ -1,19 +1,17 @@
 -- The code objects that an emission enters are those of the scopes within it, which have different numbers.
-use Rattle.std.proofs.Common.{inl, inr, ◌≡◌, ◌≢◌, ℕ, zero, suc, ◌+◌, ◌-◌, ◌<◌, ◌≤◌, ◌⊎◌, List, [], ◌∷◌, ◌++◌, true, false, refl, sym, ap, ◌∙◌, subst, arith, append_assoc}
-use Rattle.std.specs.Prelude.{Option, Some, None, length, nat_eq, option_map, slice_get, if◌then◌else◌}
-use Rattle.std.proofs.lemmas.Bool.{cases_lt}
+use Rattle.std.proofs.Common.{inl, inr, ◌≡◌, ◌≢◌, ℕ, ◌+◌, ◌*◌, ◌^◌, ◌<◌, ◌≤◌, List, [], ◌∷◌, ◌++◌, true, false, refl, sym, ap, ◌∙◌, subst, arith, append_assoc}
+use Rattle.std.specs.Prelude.{None, nat_eq, if◌then◌else◌}
 use Rattle.std.proofs.lemmas.Bool.Decides.{nat_tests}
 use Rattle.py_bytecode.specs.Objects as const
 use Rattle.py_bytecode.specs.Objects.{Const, Object, codes_in, no_consts, object_of}
 use Rattle.py_scope.specs.declared.flat.ScopeEntry.{ScopeEntry}
-use Rattle.py_scope.specs.declared.symbols.Symbol.{Symbol}
 use Rattle.py_forms.specs.Form.{Scope}
 use Rattle.py_forms.specs.Code.{Item, Do, Label}
 use Rattle.py_forms.specs.Agree.{AllOf, OneOf, head_of}
 use Rattle.py_forms.specs.CodeRuns.{children, loaded}
 use Rattle.py_simulation.specs.Made.{IsMade, objects}
 use Rattle.py_steps.specs.Everywhere.{Everywhere}
-use Rattle.py_steps.specs.Context.{room, symbols_in}
+use Rattle.py_adds.specs.Loads.{AreNumbered, LoadsUpTo, loads}
 use Rattle.py_adds.proofs.Naming.{IsMadeSo, Named}
 use Rattle.py_adds.proofs.WellMade.{WellMade, all_so}
 
@@ -67,12 +65,20 @@ pub record MadeFrom (ground : Ground) (p : Object × Scope) : Type 0 where
   pub named : (n : ℕ) → IsMadeSo (Named ground.1) n p.0 p.1
   pub well : Everywhere (WellMade ground.0 ground.1) p.0
 
+-- no code of a scope, and none within it, loads more cells than a tree of a size below 2^22 has uses of names
+pub record LoadsFew (entries : List ScopeEntry) (s : Scope) : Type 0 where
+  pub down : (n : ℕ) → LoadsUpTo entries (3 * 2 ^ 22) n s
+
+-- made from its scope, where that is so of it
+abbrev pub MadeWhereFew : Ground → Object × Scope → Type 0
+MadeWhereFew ground p = LoadsFew ground.1 p.1 → MadeFrom ground p
+
 -- Items load these objects of scopes. Of the constants that are entered the codes are among them, and they are among all constants.
 pub record Codes (ground : Ground) (made : List (Object × Scope)) (more all : List Const) (is : List (Item Scope)) : Type 0 where
   pub loads : children is ≡ scopes made
   pub known : AllKnown (codes_in more) (objects made)
   pub kept : AllKnown (objects made) (codes_in all)
-  pub from_scopes : AllOf (MadeFrom ground) made
+  pub from_scopes : AllOf (MadeWhereFew ground) made
 
 pub codes_join : (xs ys : List Const) → codes_in (xs ++ ys) ≡ codes_in xs ++ codes_in ys
 codes_join [] ys = refl
@@ -180,7 +186,7 @@ codes_then ground ps qs xs ys one all is js e p q = record {
   kept =
       subst (λ l. AllKnown l (codes_in all)) (sym (objects_join ps qs))
       (all_join (Known (codes_in all)) (objects ps) (objects qs) (subst (λ l. AllKnown (objects ps) (codes_in l)) (sym e) (known_more one ys (objects ps) p.kept)) q.kept);
-  from_scopes = all_join (MadeFrom ground) ps qs p.from_scopes q.from_scopes;
+  from_scopes = all_join (MadeWhereFew ground) ps qs p.from_scopes q.from_scopes;
 }
 
 -- what stands at each number, in two parts
@@ -198,6 +204,25 @@ codes_after ps xs ys all is e q = record {
   kept = q.kept;
   from_scopes = q.from_scopes;
 }
+
+-- pairs whose scopes load few cells are made from them
+pub each_made : (ground : Ground) (ps : List (Object × Scope)) → AllOf (MadeWhereFew ground) ps → ((n : ℕ) → AllOf (LoadsUpTo ground.1 (3 * 2 ^ 22) n) (scopes ps)) → AllOf (MadeFrom ground) ps
+each_made ground [] h few = tt
+each_made ground (p ∷ ps) h few = (h.0 (record { down = λ n. (few n).0 }), each_made ground ps h.1 (λ n. (few n).1))
+
+-- pairs with different numbers have scopes with numbers of their own
+others_numbered : (n : ℕ) (ps : List (Object × Scope)) → Free n ps → AllOf (λ t. number_of t ≢ n) (scopes ps)
+others_numbered n [] h = tt
+others_numbered n (p ∷ ps) h = (h.0, others_numbered n ps h.1)
+
+pub own_numbers : (ps : List (Object × Scope)) → AllApart ps → AreNumbered (scopes ps)
+own_numbers [] h = tt
+own_numbers (p ∷ ps) h = (others_numbered (number_of p.1) ps h.0, own_numbers ps h.1)
+
+-- names from outside add up
+pub loads_join : (entries : List ScopeEntry) (ps qs : List (Object × Scope)) → loads entries (scopes (ps ++ qs)) ≡ loads entries (scopes ps) + loads entries (scopes qs)
+loads_join entries [] qs = omega arith
+loads_join entries (p ∷ ps) qs = let e = loads_join entries ps qs in omega (arith, e)
 
 -- no object in particular
 abbrev pub nowhere : Object
@@ -221,31 +246,3 @@ stands_later p all (q ∷ qs) h g = (ap (λ b. if b then p.0 else stand_at all (
 pub all_stand : (ps : List (Object × Scope)) → AllApart ps → Numbered (stand_at ps) ps
 all_stand [] h = tt
 all_stand (p ∷ ps) h = (ap (λ b. if b then p.0 else stand_at ps (number_of p.1)) (same_number (number_of p.1)), stands_later p ps ps h.0 (all_stand ps h.1))
-
--- more scopes have no fewer
-pub room_more : (entries : List ScopeEntry) (a m : ℕ) → room entries a ≤ room entries (a + m)
-room_more entries a zero = subst (λ n. room entries a ≤ room entries n) (let e : a ≡ a + 0 = omega arith in e) (omega arith)
-room_more entries a (suc m) = subst (λ n. room entries a ≤ room entries n) (let e : suc (a + m) ≡ a + suc m = omega arith in e) (let h = room_more entries a m in omega (arith, h))
-
-beyond : {A : Type 0} (xs : List A) (m : ℕ) → slice_get xs (length xs + m) ≡ None
-beyond [] m = refl
-beyond (x ∷ xs) m = ap (slice_get (x ∷ xs)) (let e : length (x ∷ xs) + m ≡ suc (length xs + m) = omega arith in e) ∙ beyond xs m
-
-none_beyond : (entries : List ScopeEntry) (m : ℕ) → length (symbols_in entries (length entries + m)) ≡ 0
-none_beyond entries m = ap (λ (e : Option ScopeEntry). length {A = Symbol} (elim (option_map (λ x. x.symbols) e) [ None ↦ [] | Some symbols ↦ symbols ])) (beyond entries m)
-
-room_beyond : (entries : List ScopeEntry) (m : ℕ) → room entries (length entries + m) ≡ room entries (length entries)
-room_beyond entries zero = ap (room entries) (let e : length entries + 0 ≡ length entries = omega arith in e)
-room_beyond entries (suc m) =
-    let a = room_beyond entries m in
-    let b = none_beyond entries m in
-    let c : room entries (length entries + m) + length (symbols_in entries (length entries + m)) ≡ room entries (length entries) = omega (arith, a, b) in
-    ap (room entries) (let e : length entries + suc m ≡ suc (length entries + m) = omega arith in e) ∙ c
-
--- no number has more before it than all scopes have
-pub room_all : (entries : List ScopeEntry) (n : ℕ) → room entries n ≤ room entries (length entries)
-room_all entries n = go (cases_lt (length entries) n)
-  where
-    go : (length entries < n) ⊎ (n ≤ length entries) → room entries n ≤ room entries (length entries)
-    go (inl h) = let m = n - length entries in let e : length entries + m ≡ n = omega (arith, h) in let f = room_beyond entries m in let g = ap (room entries) e in omega (arith, f, g)
-    go (inr h) = let m = length entries - n in let e : n + m ≡ length entries = omega (arith, h) in let f = room_more entries n m in let g = ap (room entries) e in omega (arith, f, g)

@@ -1,11 +1,11 @@
 -- What emissions add, one after another: each adds items and so many blocks where it is done, and then a fact holds.
-use Rattle.std.proofs.Common.{◌≡◌, ℕ, ◌+◌, ◌<◌, ◌^◌, List, [], ◌++◌, true, Option, Some, refl, sym, ap, ◌∙◌, subst, arith, append-nil}
+use Rattle.std.proofs.Common.{◌≡◌, ℕ, ◌+◌, List, [], ◌++◌, true, Option, Some, refl, sym, ap, ◌∙◌, subst, arith, append-nil}
 use Rattle.py_base.specs.declared.location.SourceLocation.{SourceLocation}
 use Rattle.py_forms.specs.Form.{Scope}
 use Rattle.py_forms.specs.Code.{Item}
 use Rattle.py_base.specs.declared.errors.CodegenErrorType.{CodegenErrorType}
 use Rattle.py_steps.specs.Emitting.{Around, State, Outcome, Done, TooWide, Refused, LoopBlocks, Emission, ◌▸◌, go_on, keep, with_block, with_loops, with_postponed, located, by_context, by_level, by_loops, in_loop, new_block, move, nothing, pass_over, postponing, refuse}
-use Rattle.py_steps.specs.Context.{Context, room}
+use Rattle.py_steps.specs.Context.{Context}
 use Rattle.py_adds.proofs.Settled.{Settled}
 use Rattle.py_adds.specs.Distinct.{AreDistinct}
 use Rattle.py_adds.proofs.Adding.{Added, Adds, adds_as, adds_join, adds_nothing, adds_plain}
@@ -23,11 +23,10 @@ both a b s r e = went_on (a s) b r e
 pub done_is : (s r : State) → ◌≡◌ {A = Outcome} (Done s) (Done r) → s ≡ r
 done_is s r e = cc
 
--- this is what stands around, its cells and free names are those of its scope, and all scopes together have few symbols
+-- this is what stands around, and its cells and free names are those of its scope
 pub record Stands (c : Around) (s : State) : Type 0 where
   pub around : c ≡ s.around
   pub settled : Settled c.context
-  pub roomy : (n : ℕ) → room c.context.scopes n < 2 ^ 26
 
 -- where it is done from n blocks, with this around it and k as the number of the next scope, it has added these items, m blocks and l scopes,
 -- and this holds
@@ -65,7 +64,7 @@ next_as e a = record { run = λ s r b g z h. a.run s r b (e ∙ g) z h }
 
 -- what adds something leaves it so
 pub still : {c : Around} {s r : State} → Stands c s → r.around ≡ s.around → Stands c r
-still z e = record { around = z.around ∙ sym e; settled = z.settled; roomy = z.roomy }
+still z e = record { around = z.around ∙ sym e; settled = z.settled }
 
 -- one emission after another
 pub then_gives : {c : Around} {n k : ℕ} {v w : Emission} {p q : List (Item Scope)} {m j l h : ℕ} {P Q : Type 0} → Gives c n k v p m l P → Gives c (n + m) (k + l) w q j h Q → Gives c n k (v ▸ w) (p ++ q) (m + j) (l + h) (P × Q)
@@ -173,7 +172,7 @@ pub block_gives : {c : Around} {n k : ℕ} {p : List (Item Scope)} {m l : ℕ} {
 unfolding new_block with_block
 block_gives {c = c} {n = n} {p = p} {m = m} {P = P} a h = record {
   run = λ s r b g z e.
-      let d = h.run (with_block s) r (omega (arith, b)) g (record { around = z.around; settled = z.settled; roomy = z.roomy }) (subst (λ x. a x (with_block s) ≡ Done r) (sym b) e) in
+      let d = h.run (with_block s) r (omega (arith, b)) g (record { around = z.around; settled = z.settled }) (subst (λ x. a x (with_block s) ≡ Done r) (sym b) e) in
       let x = d.0.added in (
         record {
           made = d.0.made;
@@ -222,7 +221,7 @@ loop_gives {c = c} {v = v} {p = p} {m = m} {l = l} x h = record {
   run = λ s r b f z e.
       let inner : State = with_loops (Some x) s in
       let g = went_on (v inner) (λ t. Done (with_loops s.around.loops t)) r e in
-      let d = h.run inner g.0 b f (record { around = ap (looping x) z.around; settled = z.settled; roomy = z.roomy }) g.1 in
+      let d = h.run inner g.0 b f (record { around = ap (looping x) z.around; settled = z.settled }) g.1 in
       let y = d.0.added in
       let back : with_loops s.around.loops g.0 ≡ r = done_is (with_loops s.around.loops g.0) r g.2 in (
         subst (λ t. Adds s t p m l) back (record {
@@ -247,7 +246,7 @@ postponed_gives {c = c} {v = v} {p = p} {m = m} {l = l} h = record {
       let inner : State = with_postponed true s in
       let before = s.around.context.postponed in
       let g = went_on (v inner) (λ t. Done (with_postponed before t)) r e in
-      let d = h.run inner g.0 b f (record { around = ap postponed_around z.around; settled = record { cells = z.settled.cells; frees = z.settled.frees }; roomy = z.roomy }) g.1 in
+      let d = h.run inner g.0 b f (record { around = ap postponed_around z.around; settled = record { cells = z.settled.cells; frees = z.settled.frees } }) g.1 in
       let y = d.0.added in
       let back : with_postponed before g.0 ≡ r = done_is (with_postponed before g.0) r g.2 in (
         subst (λ t. Adds s t p m l) back (record {

@@ -11,20 +11,20 @@ use Rattle.py_bytecode.specs.Values.{Child, Constant, It}
 use Rattle.py_bytecode.specs.Machine.{MakeFunction, Push}
 use Rattle.py_bytecode.specs.Decode.{Tables, for_some, instr_of, value_of}
 use Rattle.py_bytecode.proofs.Entered.{constant_stands}
-use Rattle.py_scope.specs.declared.symbols.Symbol.{Symbol}
 use Rattle.py_forms.specs.Form.{Interp, Scope, VForms, VMake, VNone}
 use Rattle.py_forms.specs.Code.{Item, Do, closure_code, code_vs, has_cells, labels_vs, make_code}
 use Rattle.py_forms.specs.Agree.{AllOf, cells_of}
-use Rattle.py_steps.specs.Context.{Context, cell_place, frees_among, frees_here, mangled, room, symbols_in}
+use Rattle.py_steps.specs.Context.{Context, cell_place, frees_among, mangled, symbols_in}
 use Rattle.py_steps.specs.Emitting.{Around, Emission, Outcome, Put, State, Done, TooWide, Refused, ◌▸◌, add_constant, add_varname, begun, emit, emit_constant, keep, place_in, with_constant, with_step, with_varname}
 use Rattle.py_steps.specs.Children.{behind_child, child, closure, code_head, enter_parameters, free_names, function_scope, made, on_sealed}
 use Rattle.py_steps.specs.Within.{Shape, some_flag}
 use Rattle.py_steps.specs.Refused.{no_assignment}
 use Rattle.py_steps.specs.Sealed.{sealed}
+use Rattle.py_adds.specs.Loads.{loads}
 use Rattle.py_adds.proofs.Adding.{Added, Adds, added_join, adds_nothing, ground_in, ground_of, scopes_in, settled_adds}
 use Rattle.py_adds.proofs.Burden.{cells_in, cells-append}
 use Rattle.py_adds.proofs.Cells.{closure_adds, closure_count}
-use Rattle.py_adds.proofs.Codes.{Counted, Known, MadeFrom, codes_join, counted_first, known_back, number_of}
+use Rattle.py_adds.proofs.Codes.{Counted, Known, MadeWhereFew, codes_join, counted_first, known_back, loads_join, number_of, scopes}
 use Rattle.py_adds.proofs.Emitting.{Gives, Stands, Yields, after_these, both, done_is, elsewhere, gives_as, keep_yields, still, yields}
 use Rattle.py_adds.proofs.FormAdds.{PartsAdd, ValueAdds, unless_debug_gives}
 use Rattle.py_adds.proofs.Instructions.{constant_adds}
@@ -41,7 +41,7 @@ entered_codes true xs o = tt
 entered_codes false xs o = (inl refl, tt)
 
 -- the code object of a scope is loaded
-code_adds : (o : Object) (x : Scope) (s r : State) → MadeFrom (ground_in s) (o, x) → emit_constant op.LoadConst (const.code o) s ≡ Done r → Added s r (Do (Push (It (Child x))) ∷ []) 0 ((o, x) ∷ []) × (r.next ≡ s.next)
+code_adds : (o : Object) (x : Scope) (s r : State) → MadeWhereFew (ground_in s) (o, x) → emit_constant op.LoadConst (const.code o) s ≡ Done r → Added s r (Do (Push (It (Child x))) ∷ []) 0 ((o, x) ∷ []) × (r.next ≡ s.next)
 unfolding emit_constant with_constant emit with_step
 code_adds o x s r made e =
     let c : Const = const.code o in
@@ -87,15 +87,6 @@ flag_is : (place : List ℕ → ℕ) (xs : List (List ℕ)) → some_flag 0x01 x
 flag_is place [] = refl
 flag_is place (x ∷ xs) = refl
 
--- no more names come from outside than there are symbols
-frees_few : (ss : List Symbol) → length (frees_among ss) ≤ length ss
-frees_few [] = omega arith
-frees_few (s ∷ ss) = go (frees_here s) (frees_few ss)
-  where
-    go : (b : Bool) → length (frees_among ss) ≤ length ss → length (if b then s.name ∷ frees_among ss else frees_among ss) ≤ length (s ∷ ss)
-    go true h = omega (arith, h)
-    go false h = omega (arith, h)
-
 -- what follows a child
 sealed_on : (level : ℕ) (h : Rattle.py_steps.specs.Sealed.Head) (s r : State) (o : Outcome) (next : Object → Emission) → on_sealed level h s o next ≡ Done r → (t : State) × (o ≡ Done t) × (next (sealed level h t) (behind_child s t) ≡ Done r)
 sealed_on level h s r (Done t) next e = (t, refl, e)
@@ -109,15 +100,15 @@ sealed_frees level h t = refl
 added_as : (s r : State) (is : List (Item Scope)) (m n : ℕ) (ps : List (Object × Scope)) → m ≡ n → Added s r is m ps → Added s r is n ps
 added_as s r is m n ps e a = subst (λ z. Added s r is z ps) e a
 
--- the scope within: its code object is made from it, and it passes so many scopes besides its own
+-- the scope within: its code object is made from it, where the codes within load few cells, and it passes so many scopes besides its own
 pub record Makes (c : Context) (inner : Context) (h : Shape) (body : Emission) (k l : ℕ) (x : Scope) : Type 0 where
   pub number : number_of x ≡ k
   pub frees : inner.frees ≡ frees_among (symbols_in c.scopes k)
-  pub run : (at : SourceLocation) (t : State) → body (begun inner at (suc k)) ≡ Done t → MadeFrom (ground_of c) (sealed inner.level (code_head inner h at) t, x) × (t.next ≡ suc k + l) × (room c.scopes (suc k) ≤ room c.scopes t.next)
+  pub run : (at : SourceLocation) (t : State) → body (begun inner at (suc k)) ≡ Done t → MadeWhereFew (ground_of c) (sealed inner.level (code_head inner h at) t, x) × (t.next ≡ suc k + l)
 
 module _ (i : Interp Scope) (c : Around) where
   -- the function of a code object, where its cells have their places
-  made_adds : (flags others : ℕ) (name : List ℕ) (o : Object) (x : Scope) (xs : List (List ℕ)) (s r : State) → Stands c s → Flagged flags others → free_names o ≡ xs → MadeFrom (ground_of c.context) (o, x) → made flags name o s ≡ Done r → Added s r (make_code flags (cells_of (cell_place c.context) xs) others (Child x) name) 0 ((o, x) ∷ []) × (r.next ≡ s.next)
+  made_adds : (flags others : ℕ) (name : List ℕ) (o : Object) (x : Scope) (xs : List (List ℕ)) (s r : State) → Stands c s → Flagged flags others → free_names o ≡ xs → MadeWhereFew (ground_of c.context) (o, x) → made flags name o s ≡ Done r → Added s r (make_code flags (cells_of (cell_place c.context) xs) others (Child x) name) 0 ((o, x) ∷ []) × (r.next ≡ s.next)
   made_adds flags others name o x xs s r z flagged free from e =
       let cells = cells_of (cell_place c.context) xs in
       let make : Emission = emit op.MakeFunction (flags + some_flag 0x01 (free_names o)) in
@@ -128,7 +119,7 @@ module _ (i : Interp Scope) (c : Around) where
       let h3 = both text make h2.0 r h2.2 in
       let a1 = closure_adds c xs s h1.0 z (subst (λ ys. closure ys s ≡ Done h1.0) free h1.1) in
       let z1 : Stands c h1.0 = still z a1.added.around_are in
-      let a2 = code_adds o x h1.0 h2.0 (subst (λ (y : Around). MadeFrom (ground_of y.context) (o, x)) z1.around from) h2.1 in
+      let a2 = code_adds o x h1.0 h2.0 (subst (λ (y : Around). MadeWhereFew (ground_of y.context) (o, x)) z1.around from) h2.1 in
       let z2 : Stands c h2.0 = still z1 a2.0.around_are in
       let a3 = ((constant_adds (const.str name) refl c h2.0.blocks h2.0.next).run h2.0 h3.0 refl refl z2 h3.1).0 in
       let z3 : Stands c h3.0 = still z2 a3.added.around_are in
@@ -168,7 +159,7 @@ module _ (i : Interp Scope) (c : Around) where
       let t : State = w.0 in
       let o : Object = sealed inner.level hd t in
       let b0 : State = behind_child s t in
-      let z0 : Stands c b0 = record { around = z.around; settled = z.settled; roomy = z.roomy } in
+      let z0 : Stands c b0 = record { around = z.around; settled = z.settled } in
       let done = makes.run s.location t w.1 in
       let later : k + suc l ≡ b0.next = let y = done.1 in omega (arith, y) in
       let q = both mid (made flags text o) b0 r (goes o b0 r z0 w.2) in
@@ -190,16 +181,11 @@ module _ (i : Interp Scope) (c : Around) where
         cells =
             let cc1 = cells-append (code_vs i b n) make in
             let cc2 = make_count flags others text x inner.frees in
-            let cc3 = frees_few (symbols_in c.context.scopes k) in
-            let cc4 : length inner.frees ≡ length (frees_among (symbols_in c.context.scopes k)) = ap length makes.frees in
-            let cc5 = done.2 in
-            let cc6 = a1.cells in
             let same : scopes_in s ≡ c.context.scopes = ap (λ (y : Around). y.context.scopes) (sym z.around) in
-            subst (λ es. cells_in items + room es s.next ≤ room es r.next) (sym same)
-            (subst (λ j. cells_in items + room c.context.scopes j ≤ room c.context.scopes r.next) (sym here)
-            (subst (λ j. cells_in items + room c.context.scopes k ≤ room c.context.scopes j) (sym n2)
-            (let cc7 : cells_in (code_vs i b n) + room c.context.scopes b0.next ≤ room c.context.scopes q.0.next = subst (λ es. cells_in (code_vs i b n) + room es b0.next ≤ room es q.0.next) same cc6 in
-            omega (arith, cc1, cc2, cc3, cc4, cc5, cc7))));
+            let cc3 : length (frees_among (symbols_in c.context.scopes (number_of x))) ≡ length inner.frees = ap (λ j. length (frees_among (symbols_in c.context.scopes j))) makes.number ∙ ap length (sym makes.frees) in
+            let cc4 : cells_in (code_vs i b n) ≤ loads c.context.scopes (scopes a1.made) = subst (λ es. cells_in (code_vs i b n) ≤ loads es (scopes a1.made)) same a1.cells in
+            let cc5 = loads_join c.context.scopes a1.made ((o, x) ∷ []) in
+            subst (λ es. cells_in items ≤ loads es (scopes (a1.made ++ (o, x) ∷ []))) (sym same) (omega (arith, cc1, cc2, cc3, cc4, cc5));
       })
 
 -- a name of the code object's own, and a constant, which no instruction names yet

@@ -18,19 +18,21 @@ use Rattle.py_forms.specs.Form.{Scope}
 use Rattle.py_forms.specs.Code.{Item, labels, body_code, size}
 use Rattle.py_simulation.specs.Live.{live}
 use Rattle.py_forms.specs.Looped.{Looped}
-use Rattle.py_forms.specs.Agree.{AllOf, exactly, form_of}
+use Rattle.py_forms.specs.Agree.{AllOf, exactly, form_of, kids}
 use Rattle.py_forms.specs.CodeRuns.{children, runs_code}
 use Rattle.py_simulation.specs.Made.{IsMade, SameMembers, objects}
 use Rattle.py_steps.specs.Everywhere.{Everywhere, UpTo}
 use Rattle.py_simulation.specs.Laws.{IsEnd}
 use Rattle.py_simulation.proofs.Agreement.{each_to}
+use Rattle.py_simulation.proofs.CodeObjects.{each_itself}
 use Rattle.py_simulation.proofs.CodeOver.{code_over}
+use Rattle.py_simulation.proofs.Kids.{children_are}
 use Rattle.py_simulation.proofs.LabelCount.{labels_counted}
 use Rattle.py_simulation.proofs.Labels.{never_placed, once}
 use Rattle.py_simulation.proofs.LaidOut.{laid_runs}
 use Rattle.py_simulation.proofs.Laws.{scope_ends}
 use Rattle.py_simulation.proofs.OtherChildren.{children_over}
-use Rattle.py_steps.specs.Context.{Context, cells_among, frees_among, room, symbols_in}
+use Rattle.py_steps.specs.Context.{Context, cells_among, frees_among, symbols_in}
 use Rattle.py_steps.specs.Children.{code_head}
 use Rattle.py_steps.specs.Within.{Shape}
 use Rattle.py_steps.specs.Emitting.{Emission, State, Done, begun}
@@ -43,9 +45,10 @@ use Rattle.py_emit.proofs.Placed.{chain_in, long, steps_back}
 use Rattle.py_emit.proofs.Sealed.{items_are}
 use Rattle.py_emit.proofs.SealedLaid.{sealed_runs}
 use Rattle.py_adds.specs.Distinct.{AreDistinct}
+use Rattle.py_adds.specs.Loads.{AreNumbered, LoadsUpTo, loads}
 use Rattle.py_adds.proofs.Adding.{AllInside, AllRead, Begins, Completes, cells_of, completed, ground_of, read_as}
 use Rattle.py_adds.proofs.Burden.{burden, burden_is, cells_in, cells_over, labels_few}
-use Rattle.py_adds.proofs.Codes.{AllKnown, MadeFrom, Numbered, all_known, all_stand, by_number, number_of, room_more, scopes, stand_at}
+use Rattle.py_adds.proofs.Codes.{AllKnown, LoadsFew, MadeFrom, MadeWhereFew, Numbered, all_known, all_stand, by_number, each_made, number_of, own_numbers, scopes, stand_at}
 use Rattle.py_adds.proofs.Emitting.{Gives, Stands, outside}
 use Rattle.py_adds.proofs.Functions.{Makes}
 use Rattle.py_adds.proofs.Settled.{Settled}
@@ -80,7 +83,7 @@ pub record Emitted (c : Context) (at : SourceLocation) (k : ℕ) (s : Scope) (t 
   pub adds : Completes (begun c at k) t (body_code (exactly (λ x. x) s) (form_of s)) (labels (form_of s)) count
   pub looped : Looped false (form_of s)
   pub small : (d : Scope → Object) → burden (body_code (exactly d s) (form_of s)) < 2 ^ 27
-  pub roomy : (n : ℕ) → room c.scopes n < 2 ^ 26
+  pub loading : LoadsFew c.scopes s
   pub says : Says c s
 
 module _ (c : Context) (at : SourceLocation) (k : ℕ) (s : Scope) (t : State) (e : Emitted c at k s t) where
@@ -108,12 +111,19 @@ module _ (c : Context) (at : SourceLocation) (k : ℕ) (s : Scope) (t : State) (
   pub steps_inside : AllInside t.blocks t.steps
   steps_inside = subst (AllInside t.blocks) (sym e.adds.added.steps_are) e.adds.added.inside
 
-  cells_few : cells_in object_items ≤ 2 ^ 26
+  kids_are : kids (form_of s) ≡ scopes e.adds.made
+  kids_are = sym (children_are (exactly (λ x. x) s) (form_of s) ∙ each_itself (kids (form_of s))) ∙ e.adds.added.codes.loads
+
+  -- each child is made from its scope, since its codes load few cells
+  made : AllOf (MadeFrom (ground_of c)) e.adds.made
+  made = each_made (ground_of c) e.adds.made e.adds.added.codes.from_scopes (λ n. subst (AllOf (LoadsUpTo c.scopes (3 * 2 ^ 22) n)) kids_are (e.loading.down (suc n)).1)
+
+  cells_few : cells_in object_items ≤ 2 ^ 24
   cells_few =
       let a : cells_in (read_as objects_at items) ≡ cells_in items = cells_over child_at items in
       let b : cells_in object_items ≡ cells_in items = ap cells_in (sym over) ∙ a in
       let h = e.adds.cells in
-      let r = e.roomy t.next in
+      let r : loads c.scopes (scopes e.adds.made) ≤ 3 * 2 ^ 22 = subst (λ xs. loads c.scopes xs ≤ 3 * 2 ^ 22) kids_are ((e.loading.down 1).0 (subst AreNumbered (sym kids_are) (own_numbers e.adds.made e.adds.counted.apart))) in
       omega (arith, b, h, r)
 
   pub reading : (tables : Tables) (bs : List Blk) → Begins t tables → steps_in bs ≡ t.steps → length bs ≡ t.blocks → Read child_at tables bs s
@@ -146,7 +156,7 @@ module _ (c : Context) (at : SourceLocation) (k : ℕ) (s : Scope) (t : State) (
     λ answers. runs answers ∙ ap (λ is. runs_code is answers) (sym (code_over (λ p. p.0) (exactly (λ x. (child_at x, x)) s) (form_of s))),
     code_over (λ p. p.1) (exactly (λ x. (child_at x, x)) s) (form_of s),
     subst (λ ks. SameMembers ks (objects (children pairs))) (sym codes) (subst (λ ps. SameMembers (codes_in t.constants) (objects ps)) (sym pairs_are) (known, e.adds.added.codes.kept)),
-    subst (AllOf (λ p. IsMade n p.0 p.1)) (sym pairs_are) (all_so (MadeFrom (ground_of c)) (λ p. IsMade n p.0 p.1) (λ p h. h.from n) e.adds.made e.adds.added.codes.from_scopes),
+    subst (AllOf (λ p. IsMade n p.0 p.1)) (sym pairs_are) (all_so (MadeFrom (ground_of c)) (λ p. IsMade n p.0 p.1) (λ p h. h.from n) e.adds.made made),
   )
 
   -- and its cells and free names are those of the scope
@@ -158,7 +168,7 @@ module _ (c : Context) (at : SourceLocation) (k : ℕ) (s : Scope) (t : State) (
     pairs,
     λ answers. runs answers ∙ ap (λ is. runs_code is answers) (sym (code_over (λ p. p.0) (exactly (λ x. (child_at x, x)) s) (form_of s))),
     code_over (λ p. p.1) (exactly (λ x. (child_at x, x)) s) (form_of s),
-    subst (AllOf (λ p. IsMadeSo (Named c.scopes) n p.0 p.1)) (sym pairs_are) (all_so (MadeFrom (ground_of c)) (λ p. IsMadeSo (Named c.scopes) n p.0 p.1) (λ p h. h.named n) e.adds.made e.adds.added.codes.from_scopes),
+    subst (AllOf (λ p. IsMadeSo (Named c.scopes) n p.0 p.1)) (sym pairs_are) (all_so (MadeFrom (ground_of c)) (λ p. IsMadeSo (Named c.scopes) n p.0 p.1) (λ p h. h.named n) e.adds.made made),
   )
 
   -- what is well made has well made code objects among its constants
@@ -167,7 +177,7 @@ module _ (c : Context) (at : SourceLocation) (k : ℕ) (s : Scope) (t : State) (
   well_of o well codes (suc n) = (
     well,
     subst (AllOf (UpTo (WellMade c.source c.scopes) n)) (sym codes)
-        (all_known (UpTo (WellMade c.source c.scopes) n) e.adds.made (all_so (MadeFrom (ground_of c)) (λ p. UpTo (WellMade c.source c.scopes) n p.0) (λ p h. h.well n) e.adds.made e.adds.added.codes.from_scopes) (codes_in t.constants) known),
+        (all_known (UpTo (WellMade c.source c.scopes) n) e.adds.made (all_so (MadeFrom (ground_of c)) (λ p. UpTo (WellMade c.source c.scopes) n p.0) (λ p h. h.well n) e.adds.made made) (codes_in t.constants) known),
   )
 
   module _ (level : ℕ) (h : Head) (named : h.source_path ≡ c.source) (cellvars : h.cellvars ≡ c.cells) (freevars : h.freevars ≡ c.frees) where
@@ -306,22 +316,19 @@ whole_completes inner body next count x w = record {
   run = λ at t z e. let a = w.run (begun inner at next) t refl refl z e in (completed (begun inner at next) t (body_code (exactly (λ y. y) x) (form_of x)) (labels (form_of x)) count a.0, a.1);
 }
 
--- so the code object of the scope is made from it
-pub completed_makes : (c inner : Context) (h : Shape) (body : Emission) (k l : ℕ) (x : Scope) → number_of x ≡ k → inner.cells ≡ cells_among (symbols_in c.scopes k) → inner.frees ≡ frees_among (symbols_in c.scopes k) → inner.scopes ≡ c.scopes → inner.source ≡ c.source → Settled inner → ((n : ℕ) → room c.scopes n < 2 ^ 26) → ((d : Scope → Object) → burden (body_code (exactly d x) (form_of x)) < 2 ^ 27) → Completing inner body (suc k) l x → Makes c inner h body k l x
-completed_makes c inner h body k l x number cells frees same source settled roomy small completing = record {
+-- so the code object of the scope is made from it, where it and those within it load few cells
+pub completed_makes : (c inner : Context) (h : Shape) (body : Emission) (k l : ℕ) (x : Scope) → number_of x ≡ k → inner.cells ≡ cells_among (symbols_in c.scopes k) → inner.frees ≡ frees_among (symbols_in c.scopes k) → inner.scopes ≡ c.scopes → inner.source ≡ c.source → Settled inner → ((d : Scope → Object) → burden (body_code (exactly d x) (form_of x)) < 2 ^ 27) → Completing inner body (suc k) l x → Makes c inner h body k l x
+completed_makes c inner h body k l x number cells frees same source settled small completing = record {
   number = number;
   frees = frees;
   run = λ at t e.
       let says : Says inner x = record { cells = cells ∙ (λ j. cells_among (symbols_in (sym same j) (sym number j))); frees = frees ∙ (λ j. frees_among (symbols_in (sym same j) (sym number j))) } in
-      let own : (n : ℕ) → room inner.scopes n < 2 ^ 26 = λ n. subst (λ es. room es n < 2 ^ 26) (sym same) (roomy n) in
-      let a = completing.run at t (record { around = refl; settled = settled; roomy = own }) e in
-      let m : Emitted inner at (suc k) x t = record { count = l; adds = a.0; looped = a.1; small = small; roomy = own; says = says } in (
-        subst (λ ground. MadeFrom ground (sealed inner.level (code_head inner h at) t, x)) (λ j. (source j, same j)) (sealed_made inner at (suc k) x t m inner.level (code_head inner h at) refl refl refl),
-        a.0.next_is,
-        subst (λ n. room c.scopes (suc k) ≤ room c.scopes n) (sym a.0.next_is) (room_more c.scopes (suc k) l),
-      );
+      let a = completing.run at t (record { around = refl; settled = settled }) e in
+      let emitted : LoadsFew inner.scopes x → Emitted inner at (suc k) x t = λ few. record { count = l; adds = a.0; looped = a.1; small = small; loading = few; says = says } in
+      let made : MadeWhereFew (ground_of inner) (sealed inner.level (code_head inner h at) t, x) = λ few. sealed_made inner at (suc k) x t (emitted few) inner.level (code_head inner h at) refl refl refl in
+      (subst (λ ground. MadeWhereFew ground (sealed inner.level (code_head inner h at) t, x)) (λ j. (source j, same j)) made, a.0.next_is);
 }
 
-pub scope_makes : (c inner : Context) (h : Shape) (body : Emission) (k l : ℕ) (x : Scope) → number_of x ≡ k → inner.cells ≡ cells_among (symbols_in c.scopes k) → inner.frees ≡ frees_among (symbols_in c.scopes k) → inner.scopes ≡ c.scopes → inner.source ≡ c.source → Settled inner → ((n : ℕ) → room c.scopes n < 2 ^ 26) → ((d : Scope → Object) → burden (body_code (exactly d x) (form_of x)) < 2 ^ 27) → Whole inner body (suc k) l x → Makes c inner h body k l x
-scope_makes c inner h body k l x number cells frees same source settled roomy small whole =
-    completed_makes c inner h body k l x number cells frees same source settled roomy small (whole_completes inner body (suc k) l x whole)
+pub scope_makes : (c inner : Context) (h : Shape) (body : Emission) (k l : ℕ) (x : Scope) → number_of x ≡ k → inner.cells ≡ cells_among (symbols_in c.scopes k) → inner.frees ≡ frees_among (symbols_in c.scopes k) → inner.scopes ≡ c.scopes → inner.source ≡ c.source → Settled inner → ((d : Scope → Object) → burden (body_code (exactly d x) (form_of x)) < 2 ^ 27) → Whole inner body (suc k) l x → Makes c inner h body k l x
+scope_makes c inner h body k l x number cells frees same source settled small whole =
+    completed_makes c inner h body k l x number cells frees same source settled small (whole_completes inner body (suc k) l x whole)

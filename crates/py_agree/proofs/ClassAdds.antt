@@ -20,7 +20,7 @@ use Rattle.py_forms.specs.Agree.{cells_of, form_of}
 use Rattle.py_scope.specs.declared.table_type.SymbolTableType.TheVariants as kind
 use Rattle.py_steps.specs.Classes.{class_end, class_names, class_shape}
 use Rattle.py_steps.specs.Within.{behind_name, class_path, class_within}
-use Rattle.py_steps.specs.Context.{Context, cell_place, class_cells, head_of, inside, room, with_path, within_class}
+use Rattle.py_steps.specs.Context.{Context, cell_place, class_cells, head_of, inside, with_path, within_class}
 use Rattle.py_steps.specs.Elements.{Function}
 use Rattle.py_steps.specs.Emitting.{Around, Emission, State, ◌▸◌, begun, by_level, emit, emit_constant}
 use Rattle.py_steps.specs.TableParts.{call_form}
@@ -35,11 +35,12 @@ use Rattle.py_emission.specs.Predicates.{annotated}
 use Rattle.py_meaning.specs.Table.{all_forms, keyword_forms}
 use Rattle.py_meaning.specs.TableScopes.{build_class, class_form, setup_form}
 use Rattle.py_meaning.specs.TableStmts.{rest_form}
+use Rattle.py_adds.specs.Loads.{loads}
 use Rattle.py_adds.proofs.Adding.{Added, added_join, scopes_in}
 use Rattle.py_adds.proofs.Burden.{cells_in, cells-append}
 use Rattle.py_adds.proofs.CallAdds.{NamedAdds, call_form_adds}
 use Rattle.py_adds.proofs.ClassAdds.{behind_adds, end_adds, names_code, names_yield}
-use Rattle.py_adds.proofs.Codes.{Counted}
+use Rattle.py_adds.proofs.Codes.{Counted, loads_join, scopes}
 use Rattle.py_adds.proofs.Emitting.{Gives, Yields, after_these, both, context_gives, grouped, keep_yields, level_gives, next_as, outside, scopes_as, still, then_yields}
 use Rattle.py_adds.proofs.FormAdds.{PartsAdd, ValueAdds, all_elements_add}
 use Rattle.py_adds.proofs.Functions.{Flagged, Makes, made_alone_adds}
@@ -52,7 +53,7 @@ use Rattle.py_adds.proofs.Within.{Completing, completed_makes}
 use Rattle.py_sizes.proofs.ProgramSizes.{class_body_small}
 use Rattle.py_agree.proofs.ExprAdds.{exprs_add, keywords_add}
 use Rattle.py_agree.proofs.FunctionAdds.{on_each}
-use Rattle.py_agree.proofs.Told.{outer, pathless, roomily, told}
+use Rattle.py_agree.proofs.Told.{outer, pathless, told}
 
 -- what stands in no loop
 abbrev pub unlooped_labels : Loops
@@ -153,32 +154,31 @@ module _ (c : Around) (k : ℕ) (path name : List ℕ) (body : tree.Stmts) where
               added = added_so s t (begin_items ++ end_items) (body_code (outer (outside inner)) (form_of class_of)) (labels setup + labels form + 0) (labels (form_of class_of)) made items_are (omega arith) all;
               next_is = omega (arith, n, y);
               counted = subst (Counted s.next t.next) (sym (append-nil p.0.made)) (subst (λ j. Counted s.next j p.0.made) (sym y) p.0.counted);
-              cells = subst (λ is. cells_in is + room (scopes_in s) s.next ≤ suc (room (scopes_in s) t.next)) items_are
-                  (subst (λ j. cells_in (begin_items ++ end_items) + room (scopes_in s) s.next ≤ suc (room (scopes_in s) j)) (sym y)
-                  (let a = cells-append begin_items end_items in let b = end_cells inner in let d = p.0.cells in omega (arith, a, b, d)));
+              cells = subst (λ is. cells_in is ≤ suc (loads (scopes_in s) (scopes made))) items_are
+                  (let a = cells-append begin_items end_items in let b = end_cells inner in let d = p.0.cells in let f = loads_join (scopes_in s) p.0.made [] in omega (arith, a, b, d, f));
             },
             looped p.1,
           );
     }
 
     -- the code object of the class is made from it
-    makes : ((n : ℕ) → room c.context.scopes n < 2 ^ 26) → stmts_size body < 2 ^ 22 → Makes c.context inner (class_shape name) (class_scope body v) k count class_of
+    makes : stmts_size body < 2 ^ 22 → Makes c.context inner (class_shape name) (class_scope body v) k count class_of
     unfolding inside with_path within_class
-    makes roomy few =
-        completed_makes c.context inner (class_shape name) (class_scope body v) k count class_of refl refl refl refl refl (inside_settled kind.Class k (with_path path (within_class name c.context))) roomy
+    makes few =
+        completed_makes c.context inner (class_shape name) (class_scope body v) k count class_of refl refl refl refl refl (inside_settled kind.Class k (with_path path (within_class name c.context)))
         (λ d. class_body_small d (pathless inner) inner.path doc (annotated (after_doc body)) (suc k) body few) completing
 
     -- and the function is made of it
     pub function_add : stmts_size body < 2 ^ 22 → ValueAdds (outer c) c k (suc count) (class_function path 0 name body v) (VMake 0 VNone class_of name VNone)
     unfolding inside with_path within_class
-    function_add few n = roomily (λ roomy. made_alone_adds (outer c) c (class_within path name) (class_shape name) (class_scope body v) name class_of k count (makes roomy few) refl refl n)
+    function_add few n = made_alone_adds (outer c) c (class_within path name) (class_shape name) (class_scope body v) name class_of k count (makes few) refl refl n
 
     -- also behind the parts that it is made of
     pub function_after : stmts_size body < 2 ^ 22 → (j a flags : ℕ) (p : Emission) (fs : VForms) → j + a ≡ k → PartsAdd (outer c) c j a p fs → Flagged flags (count_parts fs) → ValueAdds (outer c) c j (a + suc count) (p ▸ class_function path flags name body v) (VMake flags fs class_of name VNone)
     unfolding inside with_path within_class
     function_after few j a flags p fs here h flagged n =
-        roomily (λ roomy. made_behind_adds (outer c) c j a count flags p fs (class_within path name) (class_shape name) (class_scope body v) name class_of h
-        (subst (λ m. Makes c.context (class_within path name c.context m) (class_shape name) (class_scope body v) m count class_of) (sym here) (makes roomy few)) refl (ap (λ m. cells_of (cell_place c.context) (class_within path name c.context m).frees) (sym here)) flagged n)
+        made_behind_adds (outer c) c j a count flags p fs (class_within path name) (class_shape name) (class_scope body v) name class_of h
+        (subst (λ m. Makes c.context (class_within path name c.context m) (class_shape name) (class_scope body v) m count class_of) (sym here) (makes few)) refl (ap (λ m. cells_of (cell_place c.context) (class_within path name c.context m).frees) (sym here)) flagged n
 
 -- what builds a class is called with a function, behind whose scopes this number is the next, the name, the bases and the keywords
 module _ (c : Around) (k l j : ℕ) (behind : k + l ≡ j) (name : List ℕ) (function : Emission) (form : VForm) (bases : tree.Exprs) (keywords : tree.Keywords) where

@@ -13,7 +13,7 @@ use Rattle.py_forms.specs.Code.{body_code, count}
 use Rattle.py_forms.specs.Agree.{exactly}
 use Rattle.py_steps.specs.Comprehensions.{as_element, comprehension, comprehension_shape, gathered, generated}
 use Rattle.py_steps.specs.Within.{comprehension_inside}
-use Rattle.py_steps.specs.Context.{Context, head_of, inside, room}
+use Rattle.py_steps.specs.Context.{Context, head_of, inside}
 use Rattle.py_steps.specs.EmissionParts as emitting
 use Rattle.py_steps.specs.Emitting.{Around, Emission, ◌▸◌, move}
 use Rattle.py_steps.specs.TableParts as table
@@ -29,7 +29,7 @@ use Rattle.py_adds.proofs.Instructions.{Appends, MakesEmpty, empty_map, map_appe
 use Rattle.py_adds.proofs.Settled.{inside_settled}
 use Rattle.py_adds.proofs.Within.{Whole, scope_makes}
 use Rattle.py_sizes.proofs.ProgramSizes.{dict_comp_small, element_comp_small, generator_small}
-use Rattle.py_agree.proofs.Told.{outer, roomily, told, value_adds}
+use Rattle.py_agree.proofs.Told.{outer, told, value_adds}
 
 -- how many scopes stand in the clauses but in the first iterable, and how many in that
 abbrev pub but_iterable : (postponed : Bool) → tree.Generators → ℕ
@@ -77,9 +77,9 @@ module _ (c : Around) (k : ℕ) where
   abbrev IsSmall : SForm → Type 0
   IsSmall g = (d : Scope → Object) → burden (body_code (exactly d (own g)) g) < 2 ^ 27
 
-  makes : (name : List ℕ) (scope : Emission) (l : ℕ) (g : SForm) → ((n : ℕ) → room c.context.scopes n < 2 ^ 26) → IsSmall g → Whole inner scope (suc k) l (own g) → Makes c.context inner (comprehension_shape name) scope k l (own g)
+  makes : (name : List ℕ) (scope : Emission) (l : ℕ) (g : SForm) → IsSmall g → Whole inner scope (suc k) l (own g) → Makes c.context inner (comprehension_shape name) scope k l (own g)
   unfolding inside
-  makes name scope l g roomy small whole = scope_makes c.context inner (comprehension_shape name) scope k l (own g) refl refl refl refl refl (inside_settled kind.Comprehension k c.context) roomy small whole
+  makes name scope l g small whole = scope_makes c.context inner (comprehension_shape name) scope k l (own g) refl refl refl refl refl (inside_settled kind.Comprehension k c.context) small whole
 
   -- it is called with the iterator of the first iterable, which begins at this number
   called : (l j total : ℕ) (awaited : Bool) (name : List ℕ) (gs : tree.Generators) (scope : Emission) (g : SForm) → IsSmall g → Whole inner scope (suc k) l (own g) → j ≡ k + suc l → suc l + in_iterable c.context.postponed gs ≡ total → IterableAdds c j gs → ValueAdds (outer c) c k total (comprehension awaited name (clause_emissions gs) scope) (forms.called_at_once name (own g) (first_iterable (told c) j gs))
@@ -89,9 +89,9 @@ module _ (c : Around) (k : ℕ) where
       let f = (expr_forms (told c) j iter).value in
       let x = scopes_in c.context.postponed iter in
       let own_emission : Emission = (emissions iter).value in
-      roomily (λ roomy. scopes_as many
+      scopes_as many
       (comprehension_adds (outer c) c k (suc l + x) awaited name (record { iterable = own_emission; target = (stores target).alone; conditions = all_emissions ifs }) (clause_emissions gs) scope (forms.called_at_once name (own g) f)
-      (called_adds (outer c) c k l x name scope own_emission (own g) f (makes name scope l g roomy small whole) refl refl (λ q. next_as there (first q))) n))
+      (called_adds (outer c) c k l x name scope own_emission (own g) f (makes name scope l g small whole) refl refl (λ q. next_as there (first q))) n)
 
   -- a comprehension whose scope adds its whole code
   comprehended : (l j total : ℕ) (at : SourceLocation) (awaited : Bool) (name : List ℕ) (gs : tree.Generators) (scope : Emission) (g : SForm) → IsSmall g → Whole inner scope (suc k) l (own g) → j ≡ k + suc l → suc l + in_iterable c.context.postponed gs ≡ total → IterableAdds c j gs → AddsForms (outer c) c k total (emitting.tested (move at ▸ comprehension awaited name (clause_emissions gs) scope)) (table.tested (VAt at (forms.called_at_once name (own g) (first_iterable (told c) j gs))))

@@ -13,7 +13,7 @@ use Rattle.py_bytecode.specs.Machine.{Duplicate, Operate, Push, Rotate2}
 use Rattle.py_forms.specs.Form.{Interp, Scope, MkScope, VForm, VForms, VConst, VMake, VMore, VNone}
 use Rattle.py_forms.specs.Code.{Item, Do, code_v, code_vs, count, labels_v, labels_vs, make_code}
 use Rattle.py_forms.specs.Agree.{cells_of}
-use Rattle.py_steps.specs.Context.{Context, cell_place, head_of, inside, mangled, qualified, room, with_path}
+use Rattle.py_steps.specs.Context.{Context, cell_place, head_of, inside, mangled, qualified, with_path}
 use Rattle.py_steps.specs.Emitting.{Around, Emission, Outcome, State, Done, TooWide, Refused, ◌▸◌, by_context, by_level, emit_constant, emit_count, go_on}
 use Rattle.py_steps.specs.EmissionParts.{built, in_turn}
 use Rattle.py_steps.specs.Children.{child, decorated, decorations, documented, emission_of_defaults, flags_of_defaults, function_made, function_scope, made, noted, some_emitted}
@@ -44,7 +44,7 @@ use Rattle.py_adds.proofs.Within.{Whole, scope_makes}
 use Rattle.py_sizes.proofs.ProgramSizes.{function_small}
 use Rattle.py_agree.proofs.ExprAdds.{defaults_add}
 use Rattle.py_agree.proofs.NoteAdds.{note_value_adds}
-use Rattle.py_agree.proofs.Told.{outer, pathless, roomily, told}
+use Rattle.py_agree.proofs.Told.{outer, pathless, told}
 
 -- what runs alike adds the same
 alike_gives : {c : Around} {n k : ℕ} {v w : Emission} {p : List (Item Scope)} {m l : ℕ} {P : Type 0} → ((s : State) → v s ≡ w s) → Gives c n k w p m l P → Gives c n k v p m l P
@@ -236,10 +236,10 @@ module _ (c : Around) (k : ℕ) (name : List ℕ) where
   function_of body = MkScope (head_of (pathless inner)) (function_body (pathless inner) (suc k) body)
 
   -- is made from what they add
-  function_makes : (h : Shape) (params : List (List ℕ)) (v : Emission) (body : tree.Stmts) → ((j : ℕ) → room c.context.scopes j < 2 ^ 26) → stmts_size body < 2 ^ 22 → Whole inner v (suc k) (scopes_in_stmts inner.postponed body) (function_of body) → Makes c.context inner h (function_scope params v) k (scopes_in_stmts c.context.postponed body) (function_of body)
+  function_makes : (h : Shape) (params : List (List ℕ)) (v : Emission) (body : tree.Stmts) → stmts_size body < 2 ^ 22 → Whole inner v (suc k) (scopes_in_stmts inner.postponed body) (function_of body) → Makes c.context inner h (function_scope params v) k (scopes_in_stmts c.context.postponed body) (function_of body)
   unfolding inside with_path
-  function_makes h params v body roomy few whole =
-      scope_makes c.context inner h (function_scope params v) k (scopes_in_stmts c.context.postponed body) (function_of body) refl refl refl refl refl (record { cells = refl; frees = refl }) roomy (λ d. function_small d (pathless inner) (suc k) body few) (scope_gives params v whole)
+  function_makes h params v body few whole =
+      scope_makes c.context inner h (function_scope params v) k (scopes_in_stmts c.context.postponed body) (function_of body) refl refl refl refl refl (record { cells = refl; frees = refl }) (λ d. function_small d (pathless inner) (suc k) body few) (scope_gives params v whole)
 
 module _ (c : Around) (k : ℕ) (name : List ℕ) (params : tree.Arguments) (body : tree.Stmts) (returns : tree.OptExpr) where
   -- the scope of the function, which has this number
@@ -302,9 +302,9 @@ module _ (c : Around) (k : ℕ) (name : List ℕ) (params : tree.Arguments) (bod
 
         own_adds : (n : ℕ) → Yields c n k own (code_vs (outer c) others n ++ make_code all_flags (cells_of (cell_place c.context) (inner c k name).frees) (count parts + count others) (Child own_scope) text) (labels_vs others) (suc own_count + note_count)
         own_adds n =
-            roomily (λ roomy. function_adds (outer c) c (function_inside name) (function_shape params name) (function_scope (parameters params) v) note_map all_flags (count parts + count others) made_after text others own_scope k own_count note_count
-            (function_makes c k name (function_shape params name) (parameters params) v body roomy less whole)
-            (notes_add (outer c) c (k + suc own_count) note_count (notes params returns) note_values threaded) flagged goes n)
+            function_adds (outer c) c (function_inside name) (function_shape params name) (function_scope (parameters params) v) note_map all_flags (count parts + count others) made_after text others own_scope k own_count note_count
+            (function_makes c k name (function_shape params name) (parameters params) v body less whole)
+            (notes_add (outer c) c (k + suc own_count) note_count (notes params returns) note_values threaded) flagged goes n
 
         -- the function behind its parts, and its docstring
         pub function_value_adds : (j a : ℕ) (p : Emission) → j + a ≡ k → PartsAdd (outer c) c j a p parts → ValueAdds (outer c) c j (a + suc (own_count + note_count)) (p ▸ emitting.function_value early name params body returns v) (function_value (told c) k flags parts name params body returns (function_body (function_inside name (told c) k) (suc k) body))

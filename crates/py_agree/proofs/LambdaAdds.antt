@@ -12,7 +12,7 @@ use Rattle.py_forms.specs.Form.{Scope, MkScope, VForm, VMake, VNone, SReturn}
 use Rattle.py_forms.specs.Code.{count, labels_vs, make_code}
 use Rattle.py_steps.specs.Children.{child, emission_of_defaults, flags_of_defaults, function_scope, made, some_emitted}
 use Rattle.py_steps.specs.Within.{lambda_inside}
-use Rattle.py_steps.specs.Context.{Context, head_of, inside, room}
+use Rattle.py_steps.specs.Context.{Context, head_of, inside}
 use Rattle.py_steps.specs.EmissionParts as emitting
 use Rattle.py_steps.specs.EmissionParts.{pass_scopes}
 use Rattle.py_steps.specs.Emitting.{Around, Emission, ◌▸◌, pass_over}
@@ -31,27 +31,27 @@ use Rattle.py_adds.proofs.Settled.{inside_settled}
 use Rattle.py_adds.proofs.Threaded.{Threaded}
 use Rattle.py_adds.proofs.Within.{Whole, scope_makes}
 use Rattle.py_sizes.proofs.ProgramSizes.{lambda_small}
-use Rattle.py_agree.proofs.Told.{outer, roomily, told, value_adds}
+use Rattle.py_agree.proofs.Told.{outer, told, value_adds}
 
 -- a lambda's scope is made from its body
-lambda_makes : (c : Around) (k l : ℕ) (params : tree.Arguments) (body : tree.Expr) → ((n : ℕ) → room c.context.scopes n < 2 ^ 26) → expr_size body < 2 ^ 22 → AddsForms (outer (outside (lambda_inside c.context k))) (outside (lambda_inside c.context k)) (suc k) l (emissions body) (expr_forms (told (outside (lambda_inside c.context k))) (suc k) body) → Makes c.context (lambda_inside c.context k) (function_shape params (codes "<lambda>")) (function_scope (parameters params) (emissions body).returned) k l (MkScope (head_of (lambda_inside (told c) k)) (SReturn (expr_forms (lambda_inside (told c) k) (suc k) body).value))
+lambda_makes : (c : Around) (k l : ℕ) (params : tree.Arguments) (body : tree.Expr) → expr_size body < 2 ^ 22 → AddsForms (outer (outside (lambda_inside c.context k))) (outside (lambda_inside c.context k)) (suc k) l (emissions body) (expr_forms (told (outside (lambda_inside c.context k))) (suc k) body) → Makes c.context (lambda_inside c.context k) (function_shape params (codes "<lambda>")) (function_scope (parameters params) (emissions body).returned) k l (MkScope (head_of (lambda_inside (told c) k)) (SReturn (expr_forms (lambda_inside (told c) k) (suc k) body).value))
 unfolding inside
-lambda_makes c k l params body roomy small h =
+lambda_makes c k l params body small h =
     let inner : Context = lambda_inside c.context k in
     let f : VForm = (expr_forms (lambda_inside (told c) k) (suc k) body).value in
     let x : Scope = MkScope (head_of (lambda_inside (told c) k)) (SReturn f) in
     let whole : Whole inner (function_scope (parameters params) (emissions body).returned) (suc k) l x = scope_gives (parameters params) (emissions body).returned (so (λ z. tt) (gives_as (sym (append-nil _)) refl refl (h.returned 1))) in
-    scope_makes c.context inner (function_shape params (codes "<lambda>")) (function_scope (parameters params) (emissions body).returned) k l x refl refl refl refl refl (inside_settled kind.Function k c.context) roomy (λ d. lambda_small d (lambda_inside (told c) k) (suc k) body small) whole
+    scope_makes c.context inner (function_shape params (codes "<lambda>")) (function_scope (parameters params) (emissions body).returned) k l x refl refl refl refl refl (inside_settled kind.Function k c.context) (λ d. lambda_small d (lambda_inside (told c) k) (suc k) body small) whole
 
 -- a lambda is a function of its scope, whose annotations are left out
-lambda_adds : (c : Around) (k l : ℕ) (params : tree.Arguments) (body : tree.Expr) (flags others : ℕ) → ((n : ℕ) → room c.context.scopes n < 2 ^ 26) → expr_size body < 2 ^ 22 → AddsForms (outer (outside (lambda_inside c.context k))) (outside (lambda_inside c.context k)) (suc k) l (emissions body) (expr_forms (told (outside (lambda_inside c.context k))) (suc k) body) → Flagged flags others → (n : ℕ) → Yields c n k (child lambda_inside (function_shape params (codes "<lambda>")) (function_scope (parameters params) (emissions body).returned) (λ o. pass_scopes (λ postponed. scopes_in_annotations postponed params) ▸ made flags (codes "<lambda>") o)) (make_code flags ((outer c).closure (MkScope (head_of (lambda_inside (told c) k)) (SReturn (expr_forms (lambda_inside (told c) k) (suc k) body).value))) others (Child (MkScope (head_of (lambda_inside (told c) k)) (SReturn (expr_forms (lambda_inside (told c) k) (suc k) body).value))) (codes "<lambda>")) 0 (suc l + scopes_in_annotations c.context.postponed params)
+lambda_adds : (c : Around) (k l : ℕ) (params : tree.Arguments) (body : tree.Expr) (flags others : ℕ) → expr_size body < 2 ^ 22 → AddsForms (outer (outside (lambda_inside c.context k))) (outside (lambda_inside c.context k)) (suc k) l (emissions body) (expr_forms (told (outside (lambda_inside c.context k))) (suc k) body) → Flagged flags others → (n : ℕ) → Yields c n k (child lambda_inside (function_shape params (codes "<lambda>")) (function_scope (parameters params) (emissions body).returned) (λ o. pass_scopes (λ postponed. scopes_in_annotations postponed params) ▸ made flags (codes "<lambda>") o)) (make_code flags ((outer c).closure (MkScope (head_of (lambda_inside (told c) k)) (SReturn (expr_forms (lambda_inside (told c) k) (suc k) body).value))) others (Child (MkScope (head_of (lambda_inside (told c) k)) (SReturn (expr_forms (lambda_inside (told c) k) (suc k) body).value))) (codes "<lambda>")) 0 (suc l + scopes_in_annotations c.context.postponed params)
 unfolding inside
-lambda_adds c k l params body flags others roomy small h flagged n =
+lambda_adds c k l params body flags others small h flagged n =
     let x : Scope = MkScope (head_of (lambda_inside (told c) k)) (SReturn (expr_forms (lambda_inside (told c) k) (suc k) body).value) in
     let mid : Emission = pass_scopes (λ postponed. scopes_in_annotations postponed params) in
     let pass : PartsAdd (outer c) c (k + suc l) (scopes_in_annotations c.context.postponed params) mid VNone = λ m. context_gives (λ z. pass_over (λ j. j + scopes_in_annotations z.postponed params)) (pass_yields (scopes_in_annotations c.context.postponed params)) in
     function_adds (outer c) c lambda_inside (function_shape params (codes "<lambda>")) (function_scope (parameters params) (emissions body).returned) mid flags others (λ v o. v ▸ made flags (codes "<lambda>") o) (codes "<lambda>") VNone x k l (scopes_in_annotations c.context.postponed params)
-    (lambda_makes c k l params body roomy small h) pass flagged (λ o s r z e. e) n
+    (lambda_makes c k l params body small h) pass flagged (λ o s r z e. e) n
 
 -- the defaults of parameters, emission by emission and form by form
 pub record Defaulted (c : Around) (k : ℕ) (params : tree.Arguments) : Type 0 where
@@ -92,7 +92,7 @@ lambda_forms_add c k at params body d z first =
     (let f = same_flag (ValueAdds (outer c) c) 0x08 k d.first es.positional fs.positional d.positional in let g = same_flag (NamedAdds (outer c) c) 0x04 (k + d.first) d.second es.keyword fs.keyword d.keyword in λ j. f j + g j) in
     let said : Flagged (flags_of_defaults es) (count parts + 0) = subst (λ f. Flagged f (count parts + 0)) (sym same) (subst (λ j. Flagged (default_flags fs) j) (let e = parts_count (table.built op.BuildTuple) table.map_of fs.positional fs.keyword in omega (arith, e)) (flags_say_two fs.positional fs.keyword)) in
     let value : ValueAdds (outer c) c k (scopes_in_defaults p params + suc (l + scopes_in_annotations p params)) (emission_of_defaults es ▸ rest) form =
-    λ n. roomily (λ roomy. scopes_as (omega arith) (then_yields (defaulted_adds c k params d n)
+    λ n. scopes_as (omega arith) (then_yields (defaulted_adds c k params d n)
     (subst (λ f. Yields c (n + labels_vs parts) m rest (make_code f ((outer c).closure x1) (count parts + 0) (Child x1) (codes "<lambda>")) 0 (suc l + scopes_in_annotations p params)) same
-    (lambda_adds c m l params body (flags_of_defaults es) (count parts + 0) roomy z h said (n + labels_vs parts))))) in
+    (lambda_adds c m l params body (flags_of_defaults es) (count parts + 0) z h said (n + labels_vs parts)))) in
     value_adds c k (scopes_in_defaults p params + suc (l + scopes_in_annotations p params)) at (emission_of_defaults es ▸ rest) form (λ n. refl) value

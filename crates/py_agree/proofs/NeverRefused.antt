@@ -8,7 +8,7 @@ use Rattle.py_ir.specs.declared.info.CodeInfo.{CodeInfo}
 use Rattle.py_ir.specs.Chain.{plain}
 use Rattle.py_ir.specs.Final.{tables_of}
 use Rattle.py_scope.specs.declared.flat.ScopeEntry.{ScopeEntry}
-use Rattle.py_steps.specs.Context.{outermost, room}
+use Rattle.py_steps.specs.Context.{outermost}
 use Rattle.py_meaning.specs.Meaning.{body}
 use Rattle.py_steps.specs.Emitting.{State, Done}
 use Rattle.py_emission.specs.EmissionMods.{emitted}
@@ -16,6 +16,7 @@ use Rattle.py_emit.specs.Emitted.{Holds}
 use Rattle.py_steps.specs.Sealed.{Head}
 use Rattle.py_emit.specs.States.{IsUnrefused}
 use Rattle.py_adds.proofs.Adding.{Begins}
+use Rattle.py_adds.proofs.Codes.{LoadsFew}
 use Rattle.py_adds.proofs.Readings.{only_memory}
 use Rattle.py_adds.proofs.Within.{child_at, reading}
 use Rattle.py_agree.proofs.Programs.{first_place, tree_adds}
@@ -38,9 +39,9 @@ begins_all info head o k h = record {
 }
 
 -- what holds an emission is refused for want of memory alone
-pub never_refused : (t : tree.Mod) (m : Mode) (l : ℕ) (path : List ℕ) (scopes : List ScopeEntry) (o : State) (info : CodeInfo) (head : Head) → size_of t < 2 ^ 22 → ((n : ℕ) → room scopes n < 2 ^ 26) → emitted t m (outermost l path scopes) ≡ Done o → IsCelled head o → Holds info head o → IsUnrefused l info
-never_refused t m l path scopes o info head small roomy is k h cs chain short e refused =
+pub never_refused : (t : tree.Mod) (m : Mode) (l : ℕ) (path : List ℕ) (scopes : List ScopeEntry) (o : State) (info : CodeInfo) (head : Head) → size_of t < 2 ^ 22 → LoadsFew scopes (body scopes t m l) → emitted t m (outermost l path scopes) ≡ Done o → IsCelled head o → Holds info head o → IsUnrefused l info
+never_refused t m l path scopes o info head small few is k h cs chain short e refused =
     let s = body scopes t m l in
     let x = outermost l path scopes in
-    let a = tree_adds t m l path scopes o small roomy is in
+    let a = tree_adds t m l path scopes o small few is in
     only_memory (child_at x first_place 1 s o a) (tables_of info) l (map plain info.blocks) s (reading x first_place 1 s o a (tables_of info) (map plain info.blocks) (begins_all info head o k h) h.steps (length-map info.blocks plain ∙ h.blocks)) cs chain e short refused.0

@@ -13,7 +13,7 @@ use Rattle.py_forms.specs.Code.{Item, body_code, closes, code, labels, labels_v,
 use Rattle.py_forms.specs.Looped.{Looped}
 use Rattle.py_forms.specs.Agree.{exactly, form_of}
 use Rattle.py_emission.specs.Texts.{after_doc, doc_of, first_text, unless_text}
-use Rattle.py_steps.specs.Context.{Context, head_of, inside, outermost, room}
+use Rattle.py_steps.specs.Context.{Context, head_of, inside, outermost}
 use Rattle.py_steps.specs.Emitting.{Around, State, Done, nothing}
 use Rattle.py_emission.specs.EmissionMods.{emission_of_doc, emission_of_interactive, emission_of_program, emitted}
 use Rattle.py_meaning.specs.Interactive.{interactive_form}
@@ -26,6 +26,7 @@ use Rattle.py_emission.specs.EmissionStmts.{emission_of_stmts}
 use Rattle.py_meaning.specs.TableStmts.{doc_form, program_form, stmts_form}
 use Rattle.py_adds.proofs.Adding.{adds_as, completed}
 use Rattle.py_adds.proofs.Burden.{burden}
+use Rattle.py_adds.proofs.Codes.{LoadsFew}
 use Rattle.py_adds.proofs.Emitting.{Gives, Yields, after_these, and_yields, gives_as, keep_yields, level_gives, outside, so, then_yields}
 use Rattle.py_adds.proofs.Instructions.{constant_adds, return_adds, store_adds}
 use Rattle.py_adds.proofs.Settled.{Settled, outermost_settled}
@@ -87,23 +88,23 @@ scope_in c t m = MkScope (head_of (pathless c)) (mod_form (pathless c) t m)
 abbrev pub first_place : SourceLocation
 first_place = record { row = 1; column = 1 }
 
-module _ (x : Context) (settled : Settled x) (roomy : (n : ℕ) → room x.scopes n < 2 ^ 26) where
-  mod_adds : (t : tree.Mod) (m : Mode) → size_of t < 2 ^ 22 → ((d : Scope → Object) → burden (body_code (exactly d (scope_in x t m)) (form_of (scope_in x t m))) < 2 ^ 27) → (o : State) → emitted t m x ≡ Done o → Emitted x first_place 1 (scope_in x t m) o
-  mod_adds (tree.Module stmts) m z small o e =
+module _ (x : Context) (settled : Settled x) where
+  mod_adds : (t : tree.Mod) (m : Mode) → size_of t < 2 ^ 22 → ((d : Scope → Object) → burden (body_code (exactly d (scope_in x t m)) (form_of (scope_in x t m))) < 2 ^ 27) → LoadsFew x.scopes (scope_in x t m) → (o : State) → emitted t m x ≡ Done o → Emitted x first_place 1 (scope_in x t m) o
+  mod_adds (tree.Module stmts) m z small few o e =
       let g = program_gives x stmts (omega (arith, z)) in
-      let a = g.1.run (nothing x) o refl refl (record { around = refl; settled = settled; roomy = roomy }) e in
-      record { count = g.0; adds = completed (nothing x) o _ _ _ a.0; looped = a.1; small = small; roomy = roomy; says = record { cells = settled.cells; frees = settled.frees } }
-  mod_adds (tree.Interactive stmts) m z small o e =
+      let a = g.1.run (nothing x) o refl refl (record { around = refl; settled = settled }) e in
+      record { count = g.0; adds = completed (nothing x) o _ _ _ a.0; looped = a.1; small = small; loading = few; says = record { cells = settled.cells; frees = settled.frees } }
+  mod_adds (tree.Interactive stmts) m z small few o e =
       let g = interactive_whole x m stmts (omega (arith, z)) in
-      let a = g.1.run (nothing x) o refl refl (record { around = refl; settled = settled; roomy = roomy }) e in
-      record { count = g.0; adds = completed (nothing x) o _ _ _ a.0; looped = a.1; small = small; roomy = roomy; says = record { cells = settled.cells; frees = settled.frees } }
-  mod_adds (tree.Expression e) m z small o h =
+      let a = g.1.run (nothing x) o refl refl (record { around = refl; settled = settled }) e in
+      record { count = g.0; adds = completed (nothing x) o _ _ _ a.0; looped = a.1; small = small; loading = few; says = record { cells = settled.cells; frees = settled.frees } }
+  mod_adds (tree.Expression e) m z small few o h =
       let c = outside x in
       let f = expr_form (pathless x) 1 e in
-      let a = ((expr_adds c 1 e (omega (arith, z))).returned 1).run (nothing x) o refl refl (record { around = refl; settled = settled; roomy = roomy }) h in
+      let a = ((expr_adds c 1 e (omega (arith, z))).returned 1).run (nothing x) o refl refl (record { around = refl; settled = settled }) h in
       let items : List (Item Scope) = return_code (outer c) f 1 in
-      record { count = scopes_in x.postponed e; adds = completed (nothing x) o _ _ _ (adds_as (nothing x) o items (items ++ []) (labels_v f) (labels_v f) (scopes_in x.postponed e) (scopes_in x.postponed e) (sym (append-nil items)) refl refl a.0); looped = tt; small = small; roomy = roomy; says = record { cells = settled.cells; frees = settled.frees } }
-  mod_adds other m z small o h = absurd cc
+      record { count = scopes_in x.postponed e; adds = completed (nothing x) o _ _ _ (adds_as (nothing x) o items (items ++ []) (labels_v f) (labels_v f) (scopes_in x.postponed e) (scopes_in x.postponed e) (sym (append-nil items)) refl refl a.0); looped = tt; small = small; loading = few; says = record { cells = settled.cells; frees = settled.frees } }
+  mod_adds other m z small few o h = absurd cc
 
 pathless_is : (l : ℕ) (path : List ℕ) (scopes : List ScopeEntry) → pathless (outermost l path scopes) ≡ outermost l [] scopes
 unfolding inside
@@ -113,12 +114,12 @@ same_scopes : (l : ℕ) (path : List ℕ) (scopes : List ScopeEntry) → (outerm
 unfolding inside
 same_scopes l path scopes = refl
 
--- what is emitted for a tree of such a size, whose scopes have few symbols
-pub tree_adds : (t : tree.Mod) (m : Mode) (l : ℕ) (path : List ℕ) (scopes : List ScopeEntry) (o : State) → size_of t < 2 ^ 22 → ((n : ℕ) → room scopes n < 2 ^ 26) → emitted t m (outermost l path scopes) ≡ Done o → Emitted (outermost l path scopes) first_place 1 (body scopes t m l) o
-tree_adds t m l path scopes o z roomy e =
+-- what is emitted for a tree of such a size, of which no code loads many cells
+pub tree_adds : (t : tree.Mod) (m : Mode) (l : ℕ) (path : List ℕ) (scopes : List ScopeEntry) (o : State) → size_of t < 2 ^ 22 → LoadsFew scopes (body scopes t m l) → emitted t m (outermost l path scopes) ≡ Done o → Emitted (outermost l path scopes) first_place 1 (body scopes t m l) o
+tree_adds t m l path scopes o z few e =
     let x = outermost l path scopes in
-    let own : (n : ℕ) → room x.scopes n < 2 ^ 26 = λ n. subst (λ es. room es n < 2 ^ 26) (sym (same_scopes l path scopes)) (roomy n) in
     let small : (d : Scope → Object) → burden (body_code (exactly d (body scopes t m l)) (form_of (body scopes t m l))) < 2 ^ 27 = λ d. let b = body_small (exactly d (body scopes t m l)) scopes t m l in omega (arith, b, z) in
     let there : scope_in x t m ≡ body scopes t m l = ap (λ (c : Context). MkScope (head_of c) (mod_form c t m)) (pathless_is l path scopes) in
+    let loads_there : LoadsFew x.scopes (scope_in x t m) = subst (λ s. LoadsFew x.scopes s) (sym there) (subst (λ es. LoadsFew es (body scopes t m l)) (sym (same_scopes l path scopes)) few) in
     subst (λ s. Emitted x first_place 1 s o) there
-    (mod_adds x (outermost_settled l path scopes) own t m z (λ d. subst (λ s. burden (body_code (exactly d s) (form_of s)) < 2 ^ 27) (sym there) (small d)) o e)
+    (mod_adds x (outermost_settled l path scopes) t m z (λ d. subst (λ s. burden (body_code (exactly d s) (form_of s)) < 2 ^ 27) (sym there) (small d)) loads_there o e)

@@ -1,14 +1,12 @@
 -- What the table is told by what stands around, and the present scope as its code sees it.
-use Rattle.std.proofs.Common.{ℕ, ◌<◌, ◌^◌, List, []}
+use Rattle.std.proofs.Common.{ℕ, []}
 use Rattle.py_base.specs.declared.location.SourceLocation.{SourceLocation}
 use Rattle.py_forms.specs.Form.{Interp, Scope, MkScope, VForm, VAt, SSkip}
-use Rattle.py_forms.specs.Code.{Item}
 use Rattle.py_forms.specs.Agree.{exactly}
-use Rattle.py_steps.specs.Context.{Context, head_of, room}
+use Rattle.py_steps.specs.Context.{Context, head_of}
 use Rattle.py_steps.specs.EmissionParts as emitting
 use Rattle.py_steps.specs.Emitting.{Around, Emission, ◌▸◌, move}
 use Rattle.py_steps.specs.TableParts as table
-use Rattle.py_adds.proofs.Emitting.{Gives}
 use Rattle.py_adds.proofs.FormAdds.{AddsForms, IsPushed, ValueAdds, moved_adds, tested_adds}
 
 -- a context, but for the path of the source
@@ -22,10 +20,6 @@ told c = pathless c.context
 -- the present scope as its code sees it, over the scopes within it
 abbrev pub outer : Around → Interp Scope
 outer c = exactly (λ x. x) (MkScope (head_of (told c)) SSkip)
-
--- what holds where this stands around, as it says that the scopes have few symbols
-pub roomily : {c : Around} {n k : ℕ} {v : Emission} {p : List (Item Scope)} {m l : ℕ} {P : Type 0} → (((j : ℕ) → room c.context.scopes j < 2 ^ 26) → Gives c n k v p m l P) → Gives c n k v p m l P
-roomily f = record { run = λ s r b g z e. (f z.roomy).run s r b g z e }
 
 -- a value, from where it stands
 pub value_adds : (c : Around) (k l : ℕ) (at : SourceLocation) (v : Emission) (g : VForm) → IsPushed (outer c) c g → ValueAdds (outer c) c k l v g → AddsForms (outer c) c k l (emitting.tested (move at ▸ v)) (table.tested (VAt at g))

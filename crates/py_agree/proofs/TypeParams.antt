@@ -15,7 +15,7 @@ use Rattle.py_forms.specs.Agree.{exactly}
 use Rattle.py_base.specs.declared.errors.CodegenErrorType.TheVariants as error
 use Rattle.py_steps.specs.Accesses.{emission_of_stored}
 use Rattle.py_steps.specs.Children.{DefaultEmissions, emission_of_defaults}
-use Rattle.py_steps.specs.Context.{head_of, inside, mangled, room}
+use Rattle.py_steps.specs.Context.{head_of, inside, mangled}
 use Rattle.py_steps.specs.Emitting.{Around, Emission, ◌▸◌, emit, emit_varname}
 use Rattle.py_steps.specs.Refused.{no_assignment}
 use Rattle.py_steps.specs.TableParts as table
@@ -43,7 +43,7 @@ use Rattle.py_adds.proofs.Threaded.{Relation, Threaded}
 use Rattle.py_adds.proofs.TypeParameterAdds.{bounded_kept, handed_count, hidden_adds, plain_kept}
 use Rattle.py_adds.proofs.Within.{Whole, scope_makes}
 use Rattle.py_agree.proofs.ExprAdds.{defaults_match, expr_adds}
-use Rattle.py_agree.proofs.Told.{outer, roomily, told}
+use Rattle.py_agree.proofs.Told.{outer, told}
 
 -- a name that is stored
 pub name_stored : (c : Around) (name : List ℕ) (k : ℕ) → TargetAdds (outer c) c k 0 (emission_of_stored name) (GStore Resolved (mangled (told c) name))
@@ -102,11 +102,11 @@ module _ (c : Around) (k : ℕ) where
   HiddenSmall f = (d : Scope → Object) → burden (body_code (exactly d (hidden_of f)) (SReturn f)) < 2 ^ 27
 
   -- it is made from what the value adds
-  hidden_makes : (l count : ℕ) (name : List ℕ) (v : Emission) (f : VForm) → ((n : ℕ) → room c.context.scopes n < 2 ^ 26) → HiddenSmall f → IsPushed (outer within) within f → ValueAdds (outer within) within (suc k) l v f → Makes c.context (hidden_inside c.context k) (hidden_shape count name) (v ▸ emit op.ReturnValue 0) k l (hidden_of f)
+  hidden_makes : (l count : ℕ) (name : List ℕ) (v : Emission) (f : VForm) → HiddenSmall f → IsPushed (outer within) within f → ValueAdds (outer within) within (suc k) l v f → Makes c.context (hidden_inside c.context k) (hidden_shape count name) (v ▸ emit op.ReturnValue 0) k l (hidden_of f)
   unfolding inside
-  hidden_makes l count name v f roomy small pushed h =
+  hidden_makes l count name v f small pushed h =
       let whole : Whole (hidden_inside c.context k) (v ▸ emit op.ReturnValue 0) (suc k) l (hidden_of f) = so (λ z. tt) (gives_as (sym (append-nil _)) refl refl (pushed_adds (outer within) within (suc k) l v f pushed h 1)) in
-      scope_makes c.context (hidden_inside c.context k) (hidden_shape count name) (v ▸ emit op.ReturnValue 0) k l (hidden_of f) refl refl refl refl refl (inside_settled kind.TypeParams k c.context) roomy small whole
+      scope_makes c.context (hidden_inside c.context k) (hidden_shape count name) (v ▸ emit op.ReturnValue 0) k l (hidden_of f) refl refl refl refl refl (inside_settled kind.TypeParams k c.context) small whole
 
   -- and called with the defaults
   pub hidden_value_adds : (l m : ℕ) (name : List ℕ) (d : DefaultEmissions) (e : Defaults) (v : Emission) (f : VForm) → HiddenSmall f → IsPushed (outer within) within f → ValueAdds (outer within) within (suc k) l v f → PartsAdd (outer c) c (k + suc l) m (emission_of_defaults d) (default_parts e VNone) → handed d.positional d.keyword ≡ handed e.positional e.keyword → ValueAdds (outer c) c k (suc l + m) (hidden name d v) (hidden_call (MkScope (head_of (hidden_inside (told c) k)) (SReturn f)) name e)
@@ -114,5 +114,5 @@ module _ (c : Around) (k : ℕ) where
   hidden_value_adds l m name d e v f small pushed h parts same n =
       let many = parts_count (table.built op.BuildTuple) map_of e.positional e.keyword ∙ handed_count e.positional e.keyword ∙ ap length (sym same) in
       let form : List (List ℕ) → VForm = λ names. VOp (counted op.CallFunctionPositional (length names)) (VMore (VMake 0 VNone (hidden_of f) (hidden_name name) VNone) (default_parts e VNone)) in
-      roomily (λ roomy. subst (λ names. Yields c n k (hidden name d v) (code_v (outer c) (form names) n) (labels_v (form names)) (suc l + m)) same
-      (hidden_adds (outer c) c k l m name d v (hidden_of f) (default_parts e VNone) (hidden_makes l (length (handed d.positional d.keyword)) name v f roomy small pushed h) refl refl parts many n))
+      subst (λ names. Yields c n k (hidden name d v) (code_v (outer c) (form names) n) (labels_v (form names)) (suc l + m)) same
+      (hidden_adds (outer c) c k l m name d v (hidden_of f) (default_parts e VNone) (hidden_makes l (length (handed d.positional d.keyword)) name v f small pushed h) refl refl parts many n)

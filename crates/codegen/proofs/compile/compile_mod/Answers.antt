@@ -1,15 +1,20 @@
-use Rattle.std.proofs.Common.{◌≡◌, Result, Ok, Err, IfOk, IfErr, OnOk, IsErrAnd, sym, ap, ◌∙◌, subst}
+use Rattle.std.proofs.Common.{◌≡◌, Result, Ok, Err, IfOk, IfErr, IsErrAnd, sym, ap, ◌∙◌, subst}
 use Rattle.std.proofs.lemmas.Result.{err_from_is_err_and}
 use Rattle.codegen.specs.Calls.{tree_of}
 use Rattle.py_base.specs.declared.location.LocatedError.{LocatedError}
 use Rattle.py_ir.specs.Final.{IsFinal}
 use Rattle.py_steps.specs.Context.{outermost}
+use Rattle.py_steps.specs.Emitting.{Done}
 use Rattle.py_emission.specs.EmissionMods.{emitted}
+use Rattle.py_meaning.specs.Meaning.{body}
+use Rattle.py_adds.proofs.Codes.{LoadsFew}
+use Rattle.py_loads.proofs.Loading.{tree_loads_few}
 use Rattle.py_base.specs.declared.errors.CodegenErrorType.{CodegenErrorType}
 use Rattle.py_emit.specs.Emitted.{IsEmitted}
 use Rattle.py_emit.specs.States.{Rest, info, rest, state}
-use Rattle.codegen.specs.Compiled.{HasFewSymbols, IsRefused}
-use Rattle.codegen.proofs.Made.{few_everywhere, goes_first, made_mod, unrefused_mod}
+use Rattle.codegen.specs.Compiled.{IsRefused}
+use Rattle.codegen.proofs.Firsts.{done_clean}
+use Rattle.codegen.proofs.Made.{goes_first, made_mod, unrefused_mod}
 use Rattle.codegen.proofs.compile.compile_mod.Goals as goal
 
 errs : {T E : Type 0} (r : Result T E) (e : E) → IsErrAnd r (λ y. y ≡ e) → r ≡ Err e
@@ -18,13 +23,6 @@ errs r e is = let p = err_from_is_err_and r is in p.1 ∙ ap (λ y. Err y) p.2
 on_ok : {T E : Type 0} (r : Result T E) (P Q : T → Type 0) → ((x : T) → P x → Q x) → IfOk r P → IfOk r Q
 on_ok (Ok x) P Q f p = f x p
 on_ok (Err e) P Q f p = p
-
-ok_all : {T E : Type 0} (r : Result T E) (Q : Type 0) → Q → OnOk r Q
-ok_all (Ok x) Q q = q
-ok_all (Err e) Q q = tt
-
-pub returns-clause-few : goal.returns-clause-few
-returns-clause-few c = ok_all c.finish.result (HasFewSymbols c.args.scopes) (c.has_few_symbols.ensures c.if-not-has_few_symbols.false)
 
 pub returns-in_err-emit_mod-clause-refused : goal.returns-in_err-emit_mod-clause-refused
 returns-in_err-emit_mod-clause-refused c =
@@ -41,7 +39,11 @@ returns-in_err-emit_mod-clause-path c =
 pub finish-requires : goal.finish-requires
 finish-requires c =
     let is = goes_first (tree_of c.args.program.now) c.args.mode c.args.opts c.args.source_path c.args.scopes c.in_ok-em.em c.in_ok-em.ensures.state c.in_ok-em.ensures.rest (Ok (tt {0})) (state c.emit_mod.new.em) c.in_ok-emit_mod.ensures.goes in
-    unrefused_mod (tree_of c.args.program.now) c.args.mode c.args.opts c.args.source_path c.args.scopes c.in_ok-em.em c.in_ok-em.ensures.state c.in_ok-em.ensures.rest c.emit_mod.new.em c.in_ok-emit_mod.ensures.same is c.requires (few_everywhere c.args.scopes (c.has_few_symbols.ensures c.if-not-has_few_symbols.false))
+    let t = tree_of c.args.program.now in
+    let l = c.args.opts.optimize in
+    let clean = done_clean c.args.source_path t c.args.mode l (state c.emit_mod.new.em) c.requires.whole c.requires.clean (subst (λ scopes. emitted t c.args.mode (outermost l c.args.source_path scopes) ≡ Done (state c.emit_mod.new.em)) c.requires.scanned is) in
+    let few : LoadsFew c.args.scopes (body c.args.scopes t c.args.mode l) = subst (λ scopes. LoadsFew scopes (body scopes t c.args.mode l)) (sym c.requires.scanned) (tree_loads_few t c.args.mode l clean c.requires.whole.1) in
+    unrefused_mod (tree_of c.args.program.now) c.args.mode c.args.opts c.args.source_path c.args.scopes c.in_ok-em.em c.in_ok-em.ensures.state c.in_ok-em.ensures.rest c.emit_mod.new.em c.in_ok-emit_mod.ensures.same is c.requires.whole.1 few
 
 pub returns-clause-emission : goal.returns-clause-emission
 returns-clause-emission c =
