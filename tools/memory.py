@@ -27,6 +27,9 @@ END = "<!-- want of memory end -->"
 LIBRARY = {"collect", "extend_from_slice", "format", "from_str", "insert_full", "push", "push_str", "reserve", "to_vec", "try_clone", "vec", "with_capacity"}
 OWNERS = {"Box", "List", "String", "Text", "Vec"}
 
+# How the names of crates of tests end.
+TESTS = ("_vectors", "single_calls")
+
 # Errors that say nothing but want of memory. A push gives back what was handed in, where there is no memory for it.
 ALONE = {"AllocError"}
 GIVEN_BACK = {"push", "insert_full"}
@@ -255,7 +258,7 @@ def places(top):
     sources = {}
     for path in sorted(top.glob("crates/*/src/**/*.rt")):
         file = path.relative_to(top / "crates").as_posix()
-        if not crate_of(file).endswith("_vectors"):
+        if not crate_of(file).endswith(TESTS):
             sources[file] = bodies_alone(blanked(path.read_text(encoding="utf-8")))
     functions = answers(sources)
     found = collections.Counter()
