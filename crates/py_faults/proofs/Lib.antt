@@ -1,0 +1,7 @@
+pub mod Nodes
+pub mod Calls
+pub mod Givens
+pub mod GivenExprs
+pub mod GivenParts
+pub mod GivenStmts
+pub mod Samples

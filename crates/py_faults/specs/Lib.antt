@@ -1,0 +1,3 @@
+pub mod Nodes
+pub mod Calls
+pub mod Given

@@ -1,0 +1,19 @@
+//! Laws of the faults of nodes and of trees. Their bodies do nothing.
+ghost use Rattle.py_faults.specs.Nodes.{BodiesEnd, DeletesEnd, ExprsEnd, StatementsEnd, TargetsEnd, TestsEnd};
+ghost use Rattle.py_faults.specs.Given.{NeverGiven};
+
+/// Where the emission of a node of the right shapes is refused, it is for the first of the node's faults, with its location;
+/// where it is done there are none.
+pub fn nodes_refused_first()
+    ensures expressions { ExprsEnd }
+    ensures tests { TestsEnd }
+    ensures targets { TargetsEnd }
+    ensures deletions { DeletesEnd }
+    ensures statements { StatementsEnd }
+    ensures bodies { BodiesEnd }
+{}
+
+/// No fault of any tree has an error of async functions.
+pub fn errors_that_never_come()
+    ensures { NeverGiven }
+{}
