@@ -1,0 +1,6 @@
+//! Piles of values, of which the last one put there is on top.
+#![tactic(auto)]
+
+mod pile;
+
+pub use pile::Pile;
