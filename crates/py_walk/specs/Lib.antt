@@ -1,0 +1,7 @@
+pub mod Doing
+pub mod Walks
+pub mod Shortened
+pub mod Laws
+pub mod Acting
+pub mod Statements
+pub mod TreeLaws
