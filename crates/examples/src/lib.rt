@@ -1,0 +1,16 @@
+//! How the public calls are used: a proved caller of each.
+#![tactic(auto)]
+
+mod blocks;
+mod compile;
+mod files;
+mod runs;
+mod scopes;
+#[cfg(test)]
+mod tests;
+
+pub use blocks::laid_out;
+pub use compile::code_of_file;
+pub use files::{may_run, safe_code};
+pub use runs::{Ended, run_in_memory};
+pub use scopes::has_right_scopes;
