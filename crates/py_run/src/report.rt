@@ -3,13 +3,13 @@ use py_bytecode::CodeObject;
 /// How a run ended. The number of each is the program's exit status.
 #[derive(Clone, Copy, Debug, PartialEq, Eq)]
 pub enum Status {
-    /// The tree was compiled, and its listing written.
+    /// What the words ask for was written: a listing, a file of code, or a report.
     Done,
     /// The tree is refused, and the first fault written.
     Refused,
-    /// The words are not a mode, a level and a path.
+    /// The words are those of no command.
     Usage,
-    /// The input is not the rows of a tree.
+    /// The input is not the rows of a tree, or not a file of sound code.
     Input,
     /// A read failed.
     ReadFault,
@@ -19,7 +19,7 @@ pub enum Status {
     Memory,
 }
 
-/// How a run ended, and the code whose listing was written, where such writing was begun.
+/// How a run ended, and the code whose text was written, where such writing was begun.
 #[derive(Drop)]
 pub struct Report {
     pub status: Status,

@@ -5,6 +5,7 @@ use py_base::{List, Text};
 use py_devices::{CleanSink, CleanSource};
 use py_run::{Status, run};
 use std::alloc::{AllocError, Global};
+use std::process::Abort;
 use std::test::Fail;
 
 /// The rows of the expression `1`.
@@ -55,100 +56,63 @@ const BREAK: &str = r#"[["Break",3,5],["Module",[0]]]"#;
 /// The line of words that have no form.
 const USAGE: &str = "usage: pyc MODE LEVEL PATH\n";
 
-/// The words, with one space between two of them; the input; and how the run ends.
-struct Ending {
-    words: &'static str,
-    input: &'static str,
-    status: Status,
-    out: &'static str,
-    err: &'static str,
-}
-
-/// Ends as `Done`, with this text.
-const fn done(words: &'static str, input: &'static str, out: &'static str) -> Ending {
-    Ending {
-        words,
-        input,
-        status: Status::Done,
-        out,
-        err: "",
-    }
-}
-
-/// Ends with another status, and this line.
-const fn ended(
-    words: &'static str,
-    input: &'static str,
-    status: Status,
-    err: &'static str,
-) -> Ending {
-    Ending {
-        words,
-        input,
-        status,
-        out: "",
-        err,
-    }
-}
-
-/// What is due is the same whether a command has one word or four.
-const ENDINGS: [Ending; 22] = [
-    done("eval 0 m.py", ONE, LISTING),
-    done(
+/// Words with one space between two of them, an input, and the text that is written.
+const TEXTS: [(&str, &str, &str); 5] = [
+    ("eval 0 m.py", ONE, LISTING),
+    (
         "names m.py",
         CLOSURE,
         "captured top/f/lambda x from top/f\n",
     ),
-    done("names m.py", UNBOUND, "unbound top/g z\nunused top/g y\n"),
-    done("names m.py", SHADOWED, "shadowed top/h x over top\n"),
-    done("names m.py", ONE, ""),
-    ended(
+    ("names m.py", UNBOUND, "unbound top/g z\nunused top/g y\n"),
+    ("names m.py", SHADOWED, "shadowed top/h x over top\n"),
+    ("names m.py", ONE, ""),
+];
+
+/// Words, an input, the status, and the line that says why not.
+const LINES: [(&str, &str, Status, &str); 17] = [
+    (
         "names m.py",
         PARAMETER,
         Status::Refused,
         "1:11 name 'x' is parameter and global\n",
     ),
-    ended(
+    (
         "names m.py",
         FUNCTION_TYPE,
         Status::Refused,
         "-:- malformed tree: WrongMode\n",
     ),
-    ended(
+    (
         "pack exec 0 m.py",
         BREAK,
         Status::Refused,
         "3:5 'break' outside loop\n",
     ),
-    ended(
+    (
         "pack exec 0 m.py",
         "[[\"Interactive\",[]]]",
         Status::Refused,
         "-:- malformed tree: WrongMode\n",
     ),
-    ended("pack exec 0 m.py", "[]", Status::Input, "input: not rows\n"),
-    ended("names m.py", "[", Status::Input, "input: not JSON\n"),
-    ended(
+    ("pack exec 0 m.py", "[]", Status::Input, "input: not rows\n"),
+    ("names m.py", "[", Status::Input, "input: not JSON\n"),
+    (
         "unpack",
         "PYC",
         Status::Input,
         "input: bad code file at 0\n",
     ),
-    ended(
-        "unpack",
-        "[[\"Pass\",1,1]]",
-        Status::Input,
-        "input: bad code file at 0\n",
-    ),
-    ended("", ONE, Status::Usage, USAGE),
-    ended("-h", ONE, Status::Usage, USAGE),
-    ended("names", ONE, Status::Usage, USAGE),
-    ended("names m.py n.py", ONE, Status::Usage, USAGE),
-    ended("unpack m.py", ONE, Status::Usage, USAGE),
-    ended("pack exec 0", ONE, Status::Usage, USAGE),
-    ended("pack exec 3 m.py", ONE, Status::Usage, USAGE),
-    ended("pack exec 0 m.py n.py", ONE, Status::Usage, USAGE),
-    ended("Pack exec 0 m.py", ONE, Status::Usage, USAGE),
+    ("unpack", ONE, Status::Input, "input: bad code file at 0\n"),
+    ("", ONE, Status::Usage, USAGE),
+    ("-h", ONE, Status::Usage, USAGE),
+    ("names", ONE, Status::Usage, USAGE),
+    ("names m.py n.py", ONE, Status::Usage, USAGE),
+    ("unpack m.py", ONE, Status::Usage, USAGE),
+    ("pack exec 0", ONE, Status::Usage, USAGE),
+    ("pack exec 3 m.py", ONE, Status::Usage, USAGE),
+    ("pack exec 0 m.py n.py", ONE, Status::Usage, USAGE),
+    ("Pack exec 0 m.py", ONE, Status::Usage, USAGE),
 ];
 
 fn split_words(alloc: Global, line: &str) -> Result<List<Text>, AllocError> {
@@ -168,7 +132,7 @@ struct Ran {
 }
 
 /// Runs these words over this input and two sinks with room for 1,024 bytes each.
-fn ran(alloc: Global, line: &str, input: &[u8]) -> Result<Ran, AllocError> {
+fn run_words(alloc: Global, line: &str, input: &[u8]) -> Result<Ran, AllocError> {
     let mut source = CleanSource::new(List::from_vec(Vec::from_slice(alloc, input)?));
     let mut out = CleanSink::new(room(alloc, 1024)?);
     let mut err = CleanSink::new(room(alloc, 1024)?);
@@ -178,31 +142,30 @@ fn ran(alloc: Global, line: &str, input: &[u8]) -> Result<Ran, AllocError> {
 }
 
 #[test]
-fn commands_end_as_they_should(rt: HostRuntime) -> Result<(), Fail> {
-    for end in &ENDINGS {
-        let ran = ran(rt.alloc(), end.words, end.input.as_bytes())?;
-        assert_eq!(rt; ran.status, end.status, "{} {}", end.words, end.input);
-        assert_eq!(rt;
-            ran.out.bytes(),
-            end.out.as_bytes(),
-            "{} {}",
-            end.words,
-            end.input
-        );
-        assert_eq!(rt;
-            ran.err.bytes(),
-            end.err.as_bytes(),
-            "{} {}",
-            end.words,
-            end.input
-        );
+fn texts_are_written(rt: HostRuntime) -> Result<(), Fail> {
+    for (words, input, text) in &TEXTS {
+        let ran = run_words(rt.alloc(), words, input.as_bytes())?;
+        assert_eq!(rt; ran.status, Status::Done, "{words} {input}");
+        assert_eq!(rt; ran.out.bytes(), text.as_bytes(), "{words} {input}");
+        assert_eq!(rt; ran.err.bytes(), b"".as_slice(), "{words} {input}");
+    }
+    Ok(())
+}
+
+#[test]
+fn lines_say_why_not(rt: HostRuntime) -> Result<(), Fail> {
+    for (words, input, status, line) in &LINES {
+        let ran = run_words(rt.alloc(), words, input.as_bytes())?;
+        assert_eq!(rt; ran.status, *status, "{words} {input}");
+        assert_eq!(rt; ran.out.bytes(), b"".as_slice(), "{words} {input}");
+        assert_eq!(rt; ran.err.bytes(), line.as_bytes(), "{words} {input}");
     }
     Ok(())
 }
 
 #[test]
 fn packs_into_the_one_file(rt: HostRuntime) -> Result<(), Fail> {
-    let ran = ran(rt.alloc(), "pack eval 0 m.py", ONE.as_bytes())?;
+    let ran = run_words(rt.alloc(), "pack eval 0 m.py", ONE.as_bytes())?;
     assert_eq!(rt; ran.status, Status::Done);
     assert_eq!(rt; ran.out.bytes(), FILE.as_slice());
     Ok(())
@@ -210,15 +173,15 @@ fn packs_into_the_one_file(rt: HostRuntime) -> Result<(), Fail> {
 
 #[test]
 fn unpacks_to_the_listing(rt: HostRuntime) -> Result<(), Fail> {
-    let ran = ran(rt.alloc(), "unpack", FILE.as_slice())?;
+    let ran = run_words(rt.alloc(), "unpack", FILE.as_slice())?;
     assert_eq!(rt; ran.status, Status::Done);
     assert_eq!(rt; ran.out.bytes(), LISTING.as_bytes());
     Ok(())
 }
 
 /// What is refused of a file is told with this line.
-fn refuses(rt: &HostRuntime, file: &[u8], line: &str) -> Result<(), Fail> {
-    let ran = ran(rt.alloc(), "unpack", file)?;
+fn refuses(rt: &(impl Abort + AllocGlobal), file: &[u8], line: &str) -> Result<(), Fail> {
+    let ran = run_words(rt.alloc(), "unpack", file)?;
     assert_eq!(rt; ran.status, Status::Input, "{line}");
     assert_eq!(rt; ran.out.bytes(), b"".as_slice(), "{line}");
     assert_eq!(rt; ran.err.bytes(), line.as_bytes());
