@@ -1,5 +1,5 @@
 -- The first fault of a tree.
-use Rattle.std.proofs.Common.{◌≡◌, ℕ, List, [], ◌∷◌, ◌++◌, Some, None, inl, inr, refl, sym, ap, ◌∙◌}
+use Rattle.std.proofs.Common.{◌≡◌, ℕ, List, [], ◌∷◌, ◌++◌, Some, None, Err, inl, inr, refl, sym, ap, ◌∙◌}
 use Rattle.py_tree.specs.Tree as tree
 use Rattle.py_shapes.specs.Valid.{shapes}
 use Rattle.py_base.specs.declared.location.LocatedError.{LocatedError}
@@ -12,7 +12,10 @@ use Rattle.py_meaning.specs.Faults.{faults, compile_faults}
 use Rattle.py_base.specs.declared.errors.CodegenErrorType.{CodegenErrorType}
 use Rattle.py_meaning.specs.Scanned.{scan_faults, scopes_of}
 use Rattle.codegen.specs.Calls.{IsChecked, IsWhole}
-use Rattle.codegen.specs.Compiled.{IsFirst, IsScanned, around_tree}
+use Rattle.codegen.specs.Compiled.{IsFirst, IsScan, IsScanned, around_tree}
+use Rattle.py_steps.specs.Context.{Context}
+use Rattle.py_scope.specs.declared.error.SymbolTableError.{SymbolTableError}
+use Rattle.symboltable.specs.Errors.{codegen_error}
 use Rattle.py_emit.specs.Emitted.{IsEmitted}
 use Rattle.py_refusing.proofs.Ending.{refusal_heads, done_faultless}
 use Rattle.codegen.proofs.Wholes.{none_whole}
@@ -52,3 +55,10 @@ done_clean path t m l s w clean is = compiled t m l w ∙ (λ i. clean i ++ done
 pub emitted_clean : (code : CodeObject) (path : List ℕ) (t : tree.Mod) (m : Mode) (l : ℕ) → IsWhole t m → scan_faults t ≡ [] → IsEmitted code (around_tree t path l) (emitted t m (around_tree t path l)) → faults t m l ≡ []
 emitted_clean code path t m l w clean is =
     compiled t m l w ∙ (λ i. clean i ++ emitted_faultless code path t m l (emitted t m (around_tree t path l)) refl w.2 is i)
+
+-- an error of the scan, told as one of the compile calls, is the first of what the scan refuses
+pub told_first : (e : SymbolTableError) (told : LocatedError CodegenErrorType) (t : tree.Mod) (m : Mode) (c : Context) → IsScan t (Err e) → told.error ≡ codegen_error e.error → told.location ≡ e.location → IsScanned told t m c
+told_first e told t m c scanned p q = inl (λ known.
+    let f = scanned (λ out. known (p ∙ ap codegen_error out)) in
+    let at : (record { error = codegen_error e.error; location = e.location } ∷ f.0) ≡ fault_of told ∷ f.0 = λ i. record { error = sym p i; location = sym q i } ∷ f.0 in
+    (f.0, f.1 ∙ at))
