@@ -1,0 +1,34 @@
+-- What calls that answer Ok emitted runs so, in the blocks of an emitter that is finished too.
+use Rattle.std.proofs.Common.{[], refl, sym, append-nil, le_refl}
+use Rattle.std.specs.Prelude.{Ok, Err}
+use Rattle.std.proofs.lemmas.List.{length-map}
+use Rattle.py_ir.specs.Chain.{plain}
+use Rattle.py_emit.specs.States.{info, state}
+use Rattle.py_nodes.specs.Running.{BodyCallsRun, ExpressionCallsRun, FinishedHold, StoreCallsRun, TestCallsRun}
+use Rattle.py_nodes.proofs.Runs.{bodies_run, exprs_run, targets_run, tests_run}
+
+pub expression_calls_run : ExpressionCallsRun
+expression_calls_run (Ok a) e before after h few ready = λ bs tables held. exprs_run e few (state before) (state after) ready h.goes bs tables held
+expression_calls_run (Err x) e before after h few ready = tt
+
+pub test_calls_run : TestCallsRun
+test_calls_run (Ok a) e truth block before after h few ready lt = λ bs tables held. tests_run e few truth block (state before) (state after) ready lt h.goes bs tables held
+test_calls_run (Err x) e truth block before after h few ready lt = tt
+
+pub store_calls_run : StoreCallsRun
+store_calls_run (Ok a) e before after h few ready = λ bs tables held. targets_run e few (state before) (state after) ready h.goes bs tables held
+store_calls_run (Err x) e before after h few ready = tt
+
+pub body_calls_run : BodyCallsRun
+body_calls_run (Ok a) ts before after h few ready loop = λ bs tables held. bodies_run ts few (state before) (state after) ready loop h.goes bs tables held
+body_calls_run (Err x) ts before after h few ready loop = tt
+
+pub finished_hold : FinishedHold
+unfolding info
+finished_hold em level code h = record {
+  later = state em;
+  blocks = record { chain = h.laid.chain; is_chain = h.laid.is_chain; steps = refl; count = length-map em.scope.code.body.blocks plain };
+  steps = ([], sym (append-nil (state em).steps));
+  more = le_refl (state em).blocks;
+  tables_are = record { names = ([], sym (append-nil (state em).names)); varnames = ([], sym (append-nil (state em).varnames)); constants = ([], sym (append-nil (state em).constants)); cells = refl };
+}

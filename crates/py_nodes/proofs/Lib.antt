@@ -1,0 +1,7 @@
+pub mod Parts
+pub mod CodesOver
+pub mod Nodes
+pub mod Laid
+pub mod Runs
+pub mod Calls
+pub mod Samples

@@ -1,0 +1,3 @@
+pub mod Parts
+pub mod Adding
+pub mod Running

@@ -1,0 +1,25 @@
+//! Laws of runs of the code of nodes. Their bodies do nothing.
+ghost use Rattle.py_nodes.specs.Running.{BodiesRun, BodyCallsRun, ExprsRun, ExpressionCallsRun, FinishedHold, StatementsRun, StoreCallsRun, TargetsRun, TestCallsRun, TestsRun};
+
+/// Where the emission of a node is done, blocks that hold what is emitted then or later do what the node's form says, from any
+/// fit state at the place where the emission began.
+pub fn nodes_run()
+    ensures expressions { ExprsRun }
+    ensures tests { TestsRun }
+    ensures targets { TargetsRun }
+    ensures statements { StatementsRun }
+    ensures bodies { BodiesRun }
+{}
+
+/// The same of calls that emit a node and answer Ok.
+pub fn calls_run()
+    ensures expressions { ExpressionCallsRun }
+    ensures tests { TestCallsRun }
+    ensures targets { StoreCallsRun }
+    ensures bodies { BodyCallsRun }
+{}
+
+/// The blocks and the tables of an emitter that is finished hold what it has emitted.
+pub fn finished_hold()
+    ensures { FinishedHold }
+{}
