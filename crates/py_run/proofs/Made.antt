@@ -1,5 +1,5 @@
 -- What is made of bytes, command by command.
-use Rattle.std.proofs.Common.{◌≡◌, ◌≢◌, ◌<◌, ◌^◌, ◌↔◌, ℕ, List, [], ◌∷◌, Option, Result, Ok, Err, map, refl, sym, ap, subst, ◌∙◌, string_bytes}
+use Rattle.std.proofs.Common.{◌≡◌, ◌≢◌, ◌<◌, ◌^◌, ◌↔◌, ℕ, List, [], ◌∷◌, Option, Some, Result, Ok, Err, map, refl, sym, ap, subst, ◌∙◌, string_bytes}
 use Rattle.py_base.specs.declared.errors.CodegenErrorType.{CodegenErrorType}
 use Rattle.py_base.specs.declared.errors.CodegenErrorType.TheVariants as error
 use Rattle.py_base.specs.declared.location.LocatedError.{LocatedError}

@@ -5,7 +5,7 @@ use Rattle.py_run.specs.Statuses.{due_of, usage_line}
 use Rattle.py_run.specs.Words.{words_form}
 use Rattle.py_run.specs.declared.report.Status.TheVariants as status
 use Rattle.py_run.proofs.Dues.{refused_lines, misread_lines, misuse_lines, refused_due, misread_due, line_is, line_side, line_incomplete, code_due, code_text_is, told_due, told_text_is, told_side_is}
-use Rattle.py_run.proofs.Formed.{code_formed, code_form, code_reported, code_kind, report_formed, report_form, report_reported, refusal_form, misread_form, fault_form, memory_form}
+use Rattle.py_run.proofs.Formed.{code_formed, code_form, code_reported, code_kind, report_formed, report_form, report_reported, refusal_form, misread_form, fault_form}
 use Rattle.py_run.proofs.Rooms.{HasRoom, HasLineRoom, room_done, no_room, room_for, no_room_for, keeps_same, text_no_line, line_no_text, either_no_line, either_no_text}
 use Rattle.py_run.proofs.engine.run.Goals as goal
 
@@ -31,12 +31,12 @@ returns-in-Ok-clause-kind g c =
 
 pub returns-in-Ok-clause-out : goal.returns-in-Ok-clause-out
 returns-in-Ok-clause-out g c =
-    code_text_is (words_form c.args.words.now) (due_of c.args.words.now (g.S.Source.left c.args.source.now)) c.in-Code.code c.in-Code.text.items (Appends (g.O.Sink.held c.args.out.now) (g.O.Sink.held c.write_all-in-Code.new.sink)) (code_formed (words_form c.args.words.now) c.in-Code.code c.in-Code.text c.in-Code.ensures.form) (rw c.as_slice.ensures.value at c.in-Ok.ensures.whole)
+    code_text_is (words_form c.args.words.now) (due_of c.args.words.now (g.S.Source.left c.args.source.now)) c.in-Code.code c.in-Code.text.items (Appends (g.O.Sink.held c.args.out.now) (g.O.Sink.held c.write_all.new.sink)) (code_formed (words_form c.args.words.now) c.in-Code.code c.in-Code.text c.in-Code.ensures.form) (rw c.as_slice.ensures.value at c.in-Ok.ensures.whole)
 
 pub returns-in-Ok-clause-room : goal.returns-in-Ok-clause-room
 returns-in-Ok-clause-room g c =
-    λ _. code_text_is (words_form c.args.words.now) (due_of c.args.words.now (g.S.Source.left c.args.source.now)) c.in-Code.code c.in-Code.text.items (HasRoom status.Done (g.O.Sink.room c.args.out.now) (g.O.Sink.faults c.args.out.now) (g.O.Sink.faults c.write_all-in-Code.new.sink)) (code_formed (words_form c.args.words.now) c.in-Code.code c.in-Code.text c.in-Code.ensures.form)
-    (room_done (g.O.Sink.room c.args.out.now) c.in-Code.text.items (g.O.Sink.faults c.args.out.now) (g.O.Sink.faults c.write_all-in-Code.new.sink) (Ok c.in-Ok.field-0) (rw c.as_slice.ensures.value at c.in-Ok.ensures.room))
+    λ _. code_text_is (words_form c.args.words.now) (due_of c.args.words.now (g.S.Source.left c.args.source.now)) c.in-Code.code c.in-Code.text.items (HasRoom status.Done (g.O.Sink.room c.args.out.now) (g.O.Sink.faults c.args.out.now) (g.O.Sink.faults c.write_all.new.sink)) (code_formed (words_form c.args.words.now) c.in-Code.code c.in-Code.text c.in-Code.ensures.form)
+    (room_done (g.O.Sink.room c.args.out.now) c.in-Code.text.items (g.O.Sink.faults c.args.out.now) (g.O.Sink.faults c.write_all.new.sink) (Ok c.in-Ok.field-0) (rw c.as_slice.ensures.value at c.in-Ok.ensures.room))
 
 pub returns-in-Ok-clause-line_room : goal.returns-in-Ok-clause-line_room
 returns-in-Ok-clause-line_room g c =
@@ -52,12 +52,12 @@ returns-in-Code-clause-kind g c =
 
 pub returns-in-Code-clause-out : goal.returns-in-Code-clause-out
 returns-in-Code-clause-out g c =
-    code_text_is (words_form c.args.words.now) (due_of c.args.words.now (g.S.Source.left c.args.source.now)) c.in-Code.code c.in-Code.text.items (AppendsFront (g.O.Sink.held c.args.out.now) (g.O.Sink.held c.write_all-in-Code.new.sink)) (code_formed (words_form c.args.words.now) c.in-Code.code c.in-Code.text c.in-Code.ensures.form) (rw c.as_slice.ensures.value at c.in-Err.ensures.front)
+    code_text_is (words_form c.args.words.now) (due_of c.args.words.now (g.S.Source.left c.args.source.now)) c.in-Code.code c.in-Code.text.items (AppendsFront (g.O.Sink.held c.args.out.now) (g.O.Sink.held c.write_all.new.sink)) (code_formed (words_form c.args.words.now) c.in-Code.code c.in-Code.text c.in-Code.ensures.form) (rw c.as_slice.ensures.value at c.in-Err.ensures.front)
 
 pub returns-in-Code-clause-room : goal.returns-in-Code-clause-room
 returns-in-Code-clause-room g c =
-    λ _. code_text_is (words_form c.args.words.now) (due_of c.args.words.now (g.S.Source.left c.args.source.now)) c.in-Code.code c.in-Code.text.items (HasRoom status.WriteFault (g.O.Sink.room c.args.out.now) (g.O.Sink.faults c.args.out.now) (g.O.Sink.faults c.write_all-in-Code.new.sink)) (code_formed (words_form c.args.words.now) c.in-Code.code c.in-Code.text c.in-Code.ensures.form)
-    (no_room (g.O.Sink.room c.args.out.now) c.in-Code.text.items _ (g.O.Sink.faults c.args.out.now) (g.O.Sink.faults c.write_all-in-Code.new.sink) c.in-Err.field-0 (rw c.as_slice.ensures.value at c.in-Err.ensures.room))
+    λ _. code_text_is (words_form c.args.words.now) (due_of c.args.words.now (g.S.Source.left c.args.source.now)) c.in-Code.code c.in-Code.text.items (HasRoom status.WriteFault (g.O.Sink.room c.args.out.now) (g.O.Sink.faults c.args.out.now) (g.O.Sink.faults c.write_all.new.sink)) (code_formed (words_form c.args.words.now) c.in-Code.code c.in-Code.text c.in-Code.ensures.form)
+    (no_room (g.O.Sink.room c.args.out.now) c.in-Code.text.items _ (g.O.Sink.faults c.args.out.now) (g.O.Sink.faults c.write_all.new.sink) c.in-Err.field-0 (rw c.as_slice.ensures.value at c.in-Err.ensures.room))
 
 pub returns-in-Code-clause-line_room : goal.returns-in-Code-clause-line_room
 returns-in-Code-clause-line_room g c =
@@ -77,12 +77,12 @@ returns-in-Ok-write_all-clause-reported g c =
 
 pub returns-in-Ok-write_all-clause-out : goal.returns-in-Ok-write_all-clause-out
 returns-in-Ok-write_all-clause-out g c =
-    told_text_is (words_form c.args.words.now) (due_of c.args.words.now (g.S.Source.left c.args.source.now)) (string_bytes c.in-Report.text) (Appends (g.O.Sink.held c.args.out.now) (g.O.Sink.held c.write_all-in-Report.new.sink)) c.in-Report.ensures.due (rw (c.as_bytes-in-Report.ensures.value, c.as_str-in-Report.ensures.value) at c.in-Ok-write_all.ensures.whole)
+    told_text_is (words_form c.args.words.now) (due_of c.args.words.now (g.S.Source.left c.args.source.now)) (string_bytes c.in-Report.text) (Appends (g.O.Sink.held c.args.out.now) (g.O.Sink.held c.write_all-in-Report.new.sink)) c.in-Report.ensures.due (rw (c.as_bytes.ensures.value, c.as_str.ensures.value) at c.in-Ok-write_all.ensures.whole)
 
 pub returns-in-Ok-write_all-clause-room : goal.returns-in-Ok-write_all-clause-room
 returns-in-Ok-write_all-clause-room g c =
     λ _. told_text_is (words_form c.args.words.now) (due_of c.args.words.now (g.S.Source.left c.args.source.now)) (string_bytes c.in-Report.text) (HasRoom status.Done (g.O.Sink.room c.args.out.now) (g.O.Sink.faults c.args.out.now) (g.O.Sink.faults c.write_all-in-Report.new.sink)) c.in-Report.ensures.due
-    (room_done (g.O.Sink.room c.args.out.now) (string_bytes c.in-Report.text) (g.O.Sink.faults c.args.out.now) (g.O.Sink.faults c.write_all-in-Report.new.sink) (Ok c.in-Ok-write_all.field-0) (rw (c.as_bytes-in-Report.ensures.value, c.as_str-in-Report.ensures.value) at c.in-Ok-write_all.ensures.room))
+    (room_done (g.O.Sink.room c.args.out.now) (string_bytes c.in-Report.text) (g.O.Sink.faults c.args.out.now) (g.O.Sink.faults c.write_all-in-Report.new.sink) (Ok c.in-Ok-write_all.field-0) (rw (c.as_bytes.ensures.value, c.as_str.ensures.value) at c.in-Ok-write_all.ensures.room))
 
 pub returns-in-Ok-write_all-clause-line_room : goal.returns-in-Ok-write_all-clause-line_room
 returns-in-Ok-write_all-clause-line_room g c =
@@ -95,7 +95,7 @@ returns-in-Report-clause-write g c =
 pub returns-in-Report-clause-out : goal.returns-in-Report-clause-out
 returns-in-Report-clause-out g c =
     told_side_is (words_form c.args.words.now) (due_of c.args.words.now (g.S.Source.left c.args.source.now)) (string_bytes c.in-Report.text) (λ w. OutGets w status.WriteFault (text_by (words_form c.args.words.now) None (due_of c.args.words.now (g.S.Source.left c.args.source.now))) (g.O.Sink.held c.args.out.now) (g.O.Sink.held c.write_all-in-Report.new.sink)) (report_formed (words_form c.args.words.now) c.in-Report.text c.in-Report.ensures.form) c.in-Report.ensures.due
-    (told_text_is (words_form c.args.words.now) (due_of c.args.words.now (g.S.Source.left c.args.source.now)) (string_bytes c.in-Report.text) (AppendsFront (g.O.Sink.held c.args.out.now) (g.O.Sink.held c.write_all-in-Report.new.sink)) c.in-Report.ensures.due (rw (c.as_bytes-in-Report.ensures.value, c.as_str-in-Report.ensures.value) at c.in-Err-write_all.ensures.front)) tt
+    (told_text_is (words_form c.args.words.now) (due_of c.args.words.now (g.S.Source.left c.args.source.now)) (string_bytes c.in-Report.text) (AppendsFront (g.O.Sink.held c.args.out.now) (g.O.Sink.held c.write_all-in-Report.new.sink)) c.in-Report.ensures.due (rw (c.as_bytes.ensures.value, c.as_str.ensures.value) at c.in-Err-write_all.ensures.front)) tt
 
 pub returns-in-Report-clause-err : goal.returns-in-Report-clause-err
 returns-in-Report-clause-err g c =
@@ -108,11 +108,11 @@ returns-in-Report-clause-no_text g c =
 pub returns-in-Report-clause-room : goal.returns-in-Report-clause-room
 returns-in-Report-clause-room g c =
     λ _. told_text_is (words_form c.args.words.now) (due_of c.args.words.now (g.S.Source.left c.args.source.now)) (string_bytes c.in-Report.text) (HasRoom status.WriteFault (g.O.Sink.room c.args.out.now) (g.O.Sink.faults c.args.out.now) (g.O.Sink.faults c.write_all-in-Report.new.sink)) c.in-Report.ensures.due
-    (no_room (g.O.Sink.room c.args.out.now) (string_bytes c.in-Report.text) _ (g.O.Sink.faults c.args.out.now) (g.O.Sink.faults c.write_all-in-Report.new.sink) c.in-Err-write_all.field-0 (rw (c.as_bytes-in-Report.ensures.value, c.as_str-in-Report.ensures.value) at c.in-Err-write_all.ensures.room))
+    (no_room (g.O.Sink.room c.args.out.now) (string_bytes c.in-Report.text) _ (g.O.Sink.faults c.args.out.now) (g.O.Sink.faults c.write_all-in-Report.new.sink) c.in-Err-write_all.field-0 (rw (c.as_bytes.ensures.value, c.as_str.ensures.value) at c.in-Err-write_all.ensures.room))
 
 pub returns-in-Report-clause-line_room : goal.returns-in-Report-clause-line_room
 returns-in-Report-clause-line_room g c =
-    told_side_is (words_form c.args.words.now) (due_of c.args.words.now (g.S.Source.left c.args.source.now)) (string_bytes c.in-Report.text) (λ w. w ≡ Line → IfSome (line_of c.args.words.now (g.S.Source.left c.args.source.now)) (λ line. HasRoom status.WriteFault (g.E.Sink.room c.args.err.now) (g.E.Sink.faults c.args.err.now) (g.E.Sink.faults c.args.err.now) line)) (report_formed (words_form c.args.words.now) c.in-Report.text c.in-Report.ensures.form) c.in-Report.ensures.due (λ e. absurd (text_no_line e)) (λ e. absurd (either_no_line e))
+    told_side_is (words_form c.args.words.now) (due_of c.args.words.now (g.S.Source.left c.args.source.now)) (string_bytes c.in-Report.text) (λ w. w ≡ Line → IfSome (line_of c.args.words.now (g.S.Source.left c.args.source.now)) (HasLineRoom status.WriteFault (g.E.Sink.room c.args.err.now) (g.E.Sink.faults c.args.err.now) (g.E.Sink.faults c.args.err.now))) (report_formed (words_form c.args.words.now) c.in-Report.text c.in-Report.ensures.form) c.in-Report.ensures.due (λ e. absurd (text_no_line e)) (λ e. absurd (either_no_line e))
 
 pub returns-in-Ok-write_all-2-clause-form : goal.returns-in-Ok-write_all-2-clause-form
 returns-in-Ok-write_all-2-clause-form g c =
@@ -266,7 +266,3 @@ returns-in-Misuse-clause-line_room g c =
 pub returns-in-ReadFault-clause-form : goal.returns-in-ReadFault-clause-form
 returns-in-ReadFault-clause-form g c =
     fault_form (words_form c.args.words.now) c.in-ReadFault.ensures.form
-
-pub returns-in-Memory-clause-form : goal.returns-in-Memory-clause-form
-returns-in-Memory-clause-form g c =
-    memory_form (words_form c.args.words.now) c.in-Memory.ensures.form

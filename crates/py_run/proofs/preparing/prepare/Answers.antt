@@ -13,12 +13,12 @@ pub returns-in-Ok-clause-due : goal.returns-in-Ok-clause-due
 returns-in-Ok-clause-due g c =
     all_read c.args.words.now (command_view c.in-Some.command) _ _ c.in-Ok.bytes.items c.answered.result (sym c.in-Some.ensures) c.in-Ok.ensures.short c.in-Ok.ensures.whole c.in-Ok.ensures.end (rw c.as_slice.ensures.value at c.answered.ensures)
 
-pub returns-in-TooLong-clause-form : goal.returns-in-TooLong-clause-form
-returns-in-TooLong-clause-form g c =
+pub returns-in-Err-TooLong-clause-form : goal.returns-in-Err-TooLong-clause-form
+returns-in-Err-TooLong-clause-form g c =
     let command = command_view c.in-Some.command in
     has_form c.args.words.now command c.too_long.result (Misread (codes "too long")) (sym c.in-Some.ensures) (tells command c.too_long.result (codes "too long") c.too_long.ensures)
 
-pub returns-in-TooLong-clause-due : goal.returns-in-TooLong-clause-due
-returns-in-TooLong-clause-due g c =
+pub returns-in-Err-TooLong-clause-due : goal.returns-in-Err-TooLong-clause-due
+returns-in-Err-TooLong-clause-due g c =
     let command = command_view c.in-Some.command in
     too_long_due c.args.words.now command _ c.too_long.result (sym c.in-Some.ensures) (search rules) (tells command c.too_long.result (codes "too long") c.too_long.ensures)
