@@ -1,4 +1,4 @@
-use Rattle.std.proofs.Common.{sym, codes}
+use Rattle.std.proofs.Common.{Err, sym, codes}
 use Rattle.py_run.specs.Statuses.{Misread, answered}
 use Rattle.py_run.specs.Words.{command_view}
 use Rattle.py_run.proofs.Made.{tells}
@@ -21,4 +21,4 @@ returns-in-Err-TooLong-clause-form g c =
 pub returns-in-Err-TooLong-clause-due : goal.returns-in-Err-TooLong-clause-due
 returns-in-Err-TooLong-clause-due g c =
     let command = command_view c.in-Some.command in
-    too_long_due c.args.words.now command _ c.too_long.result (sym c.in-Some.ensures) (search rules) (tells command c.too_long.result (codes "too long") c.too_long.ensures)
+    too_long_due c.args.words.now command _ c.too_long.result (sym c.in-Some.ensures) (c.in-Err-TooLong.ensures.long (λ i. Err (c.in-Err-TooLong.field-0-is i))) (tells command c.too_long.result (codes "too long") c.too_long.ensures)
