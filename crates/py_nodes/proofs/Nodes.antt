@@ -12,7 +12,7 @@ use Rattle.py_steps.specs.Emitting.{Begin, LoopBlocks, Put, State, Step}
 use Rattle.py_meaning.specs.TableStmts.{stmt_form, stmts_form}
 use Rattle.py_adds.proofs.Adding as adding
 use Rattle.py_adds.proofs.Adding.{AllInside, AllRead}
-use Rattle.py_adds.proofs.Codes.{AllKnown, Ground, MadeFrom, Numbered, all_stand, by_number, scopes, stand_at}
+use Rattle.py_adds.proofs.Codes.{AllKnown, Ground, MadeWhereFew, Numbered, all_stand, by_number, scopes, stand_at}
 use Rattle.py_adds.proofs.Emitting.{Stands}
 use Rattle.py_agree.proofs.Controls.{InLoop, held}
 use Rattle.py_agree.proofs.ExprAdds.{expr_adds, target_adds}
@@ -48,9 +48,9 @@ tables_so s t h = record {
 }
 
 -- each scope stands beside the object that is made from it
-children_so : (ground : Ground) (cs : List Const) (d : ℕ → Object) (ps : List (Object × Scope)) → Numbered d ps → AllOf (MadeFrom ground) ps → AllKnown (objects ps) (codes_in cs) → AllOf (λ x. IsChild cs (by_number d x) x) (scopes ps)
+children_so : (ground : Ground) (cs : List Const) (d : ℕ → Object) (ps : List (Object × Scope)) → Numbered d ps → AllOf (MadeWhereFew ground) ps → AllKnown (objects ps) (codes_in cs) → AllOf (λ x. IsChild ground.1 cs (by_number d x) x) (scopes ps)
 children_so ground cs d [] n m k = tt
-children_so ground cs d (p ∷ ps) n m k = (subst (λ o. IsChild cs o p.1) (sym n.0) (record { made = m.0.from; kept = k.0 }), children_so ground cs d ps n.1 m.1 k.1)
+children_so ground cs d (p ∷ ps) n m k = (subst (λ o. IsChild ground.1 cs o p.1) (sym n.0) (record { made = λ few. (m.0 (record { down = few })).from; kept = k.0 }), children_so ground cs d ps n.1 m.1 k.1)
 
 pub adds_so : (s r : State) (is : List (Item Scope)) (m l : ℕ) → adding.Adds s r is m l → Adds s r is m l
 adds_so s r is m l a =
@@ -59,7 +59,7 @@ adds_so s r is m l a =
     let z : Numbered d a.made = all_stand a.made a.counted.apart in
     record {
       child = by_number d;
-      within = subst (λ xs. AllOf (λ x. IsChild r.constants (by_number d x) x) xs) (sym b.codes.loads) (children_so (adding.ground_in s) r.constants d a.made z b.codes.from_scopes b.codes.kept);
+      within = subst (λ xs. AllOf (λ x. IsChild s.around.context.scopes r.constants (by_number d x) x) xs) (sym b.codes.loads) (children_so (adding.ground_in s) r.constants d a.made z b.codes.from_scopes b.codes.kept);
       steps = b.steps;
       steps_are = b.steps_are;
       read = λ t h. read_so t b.steps (adding.read_as d is) (b.reads d z t (tables_so r t h));
@@ -74,14 +74,14 @@ adds_so s r is m l a =
 
 pub begins_ready : BeginsReady
 unfolding inside
-begins_ready level source scopes roomy = record { cells = refl; frees = refl; roomy = roomy }
+begins_ready level source scopes = record { cells = refl; frees = refl }
 
 pub enters_ready : EntersReady
 unfolding inside
-enters_ready typ number c at next roomy = record { cells = refl; frees = refl; roomy = roomy }
+enters_ready typ number c at next = record { cells = refl; frees = refl }
 
 stands : (s : State) → IsReady s → Stands s.around s
-stands s h = record { around = refl; settled = record { cells = h.cells; frees = h.frees }; roomy = h.roomy }
+stands s h = record { around = refl; settled = record { cells = h.cells; frees = h.frees } }
 
 looped_in : (x : Option LoopBlocks) (n : ℕ) → LoopIsMade x n → InLoop x (labels_of x) n
 looped_in None n h = tt

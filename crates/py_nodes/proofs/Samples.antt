@@ -14,7 +14,7 @@ use Rattle.py_bytecode.specs.Blocks.{Of}
 use Rattle.py_ir.specs.Chain.{Blk, IsChain, coded_blocks}
 use Rattle.py_scope.specs.declared.table_type.SymbolTableType.TheVariants as kind
 use Rattle.py_simulation.specs.Blocks.{Comes}
-use Rattle.py_steps.specs.Context.{Context, room}
+use Rattle.py_steps.specs.Context.{Context}
 use Rattle.py_steps.specs.Emitting.{Done, Put, State, begun, emit, emit_constant, located, move, with_constant, with_step}
 use Rattle.py_emission.specs.Emission.{emission}
 use Rattle.py_nodes.specs.Adding.{IsReady}
@@ -41,12 +41,8 @@ done : emission node before ≡ Done after
 unfolding move located emit_constant with_constant emit with_step
 done = refl
 
-no_room : (n : ℕ) → room [] n ≡ 0
-no_room zero = refl
-no_room (suc n) = let h = no_room n in omega (arith, h)
-
 ready : IsReady before
-ready = record { cells = refl; frees = refl; roomy = λ n. let h = no_room n in omega (arith, h) }
+ready = record { cells = refl; frees = refl }
 
 abbrev blocks : List Blk
 blocks = record { items = record { instr = op.LoadConst; arg = record { 0 = 0 }; target = record { 0 = 0xffff_ffff }; location = there } ∷ []; next = None } ∷ []

@@ -1,5 +1,5 @@
 -- What the emission of a node adds to what is emitted: the code of the node's form, from the next label on, over the code objects of the scopes within.
-use Rattle.std.specs.Prelude.{◌≡◌, ℕ, ◌+◌, ◌<◌, ◌^◌, List, [], ◌∷◌, ◌++◌, Bool, false, true, Option, Some, None}
+use Rattle.std.specs.Prelude.{◌≡◌, ℕ, ◌+◌, ◌*◌, ◌<◌, ◌^◌, List, [], ◌∷◌, ◌++◌, Bool, false, true, Option, Some, None}
 use Rattle.py_tree.specs.Tree as tree
 use Rattle.py_counts.specs.Counts.{scopes_in}
 use Rattle.py_limits.specs.Size.{expr_size, stmt_size, stmts_size}
@@ -16,8 +16,9 @@ use Rattle.py_forms.specs.CodeRuns.{children}
 use Rattle.py_forms.specs.Places.{items_over}
 use Rattle.py_forms.specs.Agree.{AllOf, OneOf, exactly}
 use Rattle.py_simulation.specs.Made.{IsMade}
-use Rattle.py_steps.specs.Context.{Context, cells_among, frees_among, head_of, inside, outermost, room, symbols_in}
+use Rattle.py_steps.specs.Context.{Context, cells_among, frees_among, head_of, inside, outermost, symbols_in}
 use Rattle.py_steps.specs.Emitting.{Begin, Done, LoopBlocks, Put, State, Step, begun, nothing}
+use Rattle.py_adds.specs.Loads.{LoadsUpTo}
 use Rattle.py_emission.specs.Emission.{emission, emission_of_store, emission_of_test}
 use Rattle.py_emission.specs.EmissionStmts.{emission_of_stmt, emission_of_stmts}
 use Rattle.py_meaning.specs.StmtCounts.{scopes_in_stmt, scopes_in_stmts}
@@ -58,15 +59,19 @@ NameBlocks n [] = Unit {0}
 NameBlocks n (Put o m to at ∷ xs) = IsNamed to n × NameBlocks n xs
 NameBlocks n (Begin b ∷ xs) = (b < n) × NameBlocks n xs
 
--- the code object of a scope within is made from it, and is among the constants
-pub record IsChild (constants : List Const) (o : Object) (x : Scope) : Type 0 where
-  pub made : (depth : ℕ) → IsMade depth o x
+-- no code of the scope, and none within it, loads more than 3 * 2^22 cells for the functions that it makes
+abbrev pub LoadsFew : List ScopeEntry → Scope → Type 0
+LoadsFew scopes x = (depth : ℕ) → LoadsUpTo scopes (3 * 2 ^ 22) depth x
+
+-- the code object of a scope within is made from it, where this loads few cells, and is among the constants
+pub record IsChild (scopes : List ScopeEntry) (constants : List Const) (o : Object) (x : Scope) : Type 0 where
+  pub made : LoadsFew scopes x → (depth : ℕ) → IsMade depth o x
   pub kept : OneOf (λ a b. a ≡ b) o (codes_in constants)
 
 -- the second state has these items more than the first, in so many blocks more, and past so many scopes
 pub record Adds (s r : State) (items : List (Item Scope)) (blocks scopes : ℕ) : Type 0 where
   pub child : Scope → Object
-  pub within : AllOf (λ x. IsChild r.constants (child x) x) (children items)
+  pub within : AllOf (λ x. IsChild s.around.context.scopes r.constants (child x) x) (children items)
   pub steps : List Step
   pub steps_are : r.steps ≡ s.steps ++ steps
   pub read : (t : Tables) → AreTables r t → AreItems t steps (items_over child items)
@@ -78,19 +83,17 @@ pub record Adds (s r : State) (items : List (Item Scope)) (blocks scopes : ℕ) 
   pub constants : Begins s.constants r.constants
   pub around : r.around ≡ s.around
 
--- The cells and the free names are those among the symbols of the present scope, as they are outermost and in each scope that is entered; and all scopes
--- together have fewer than 2^26 symbols.
+-- the cells and the free names are those among the symbols of the present scope, as they are outermost and in each scope that is entered
 pub record IsReady (s : State) : Type 0 where
   pub cells : s.around.context.cells ≡ cells_among (symbols_in s.around.context.scopes s.around.context.here)
   pub frees : s.around.context.frees ≡ frees_among (symbols_in s.around.context.scopes s.around.context.here)
-  pub roomy : (n : ℕ) → room s.around.context.scopes n < 2 ^ 26
 
 -- before anything is emitted outermost, and in a scope that is entered, it is so
 abbrev pub BeginsReady : Type 0
-BeginsReady = (level : ℕ) (source : List ℕ) (scopes : List ScopeEntry) → ((n : ℕ) → room scopes n < 2 ^ 26) → IsReady (nothing (outermost level source scopes))
+BeginsReady = (level : ℕ) (source : List ℕ) (scopes : List ScopeEntry) → IsReady (nothing (outermost level source scopes))
 
 abbrev pub EntersReady : Type 0
-EntersReady = (typ : SymbolTableType) (number : ℕ) (c : Context) (at : SourceLocation) (next : ℕ) → ((n : ℕ) → room c.scopes n < 2 ^ 26) → IsReady (begun (inside typ number c) at next)
+EntersReady = (typ : SymbolTableType) (number : ℕ) (c : Context) (at : SourceLocation) (next : ℕ) → IsReady (begun (inside typ number c) at next)
 
 -- what the form of a node is told: what stands around it, but for the path of the source
 abbrev pub told : State → Context

@@ -58,7 +58,7 @@ pub record Hold (r : State) (bs : List Blk) (tables : Tables) : Type 0 where
 -- the code objects of the scopes within, and what is so over them
 pub record Over (s r : State) (items : List (Item Scope)) (so : Interp Object → Type 0) : Type 0 where
   pub child : Scope → Object
-  pub within : AllOf (λ x. IsChild r.constants (child x) x) (children items)
+  pub within : AllOf (λ x. IsChild s.around.context.scopes r.constants (child x) x) (children items)
   pub runs : so (exactly child (present s))
 
 -- from any fit state at the place where s leaves off the machine comes to where r leaves off with the value, or to where the raise arrives
