@@ -4,5 +4,5 @@ pub mod Formed
 pub mod Made
 pub mod Pieces
 pub mod Rooms
-pub mod Unpacking
+pub mod Files
 pub mod Verdicts
