@@ -1,5 +1,5 @@
 -- A worked node: the constant None in a file. Each premise of the laws of runs holds of it, and the machine comes to the constant.
-use Rattle.std.proofs.Common.{◌≡◌, refl, ℕ, zero, suc, ◌<◌, List, [], ◌∷◌, None, false, arith}
+use Rattle.std.proofs.Common.{◌≡◌, refl, ◌<◌, List, [], ◌∷◌, None, false, arith}
 use Rattle.std.proofs.lemmas.List.Elements.{All-cons, All-nil}
 use Rattle.py_tree.specs.Tree as tree
 use Rattle.py_base.specs.Literal as literal
