@@ -5,3 +5,4 @@ pub mod Laid
 pub mod Runs
 pub mod Calls
 pub mod Samples
+pub mod LoadSamples
