@@ -48,6 +48,21 @@ write(2, err)
 os._exit(status)
 """
 
+# It packs into a file of its own, and reads files as tools/code_files.py does, but for the offset of what is bad.
+UNPACKS = """#!%s -BSE
+import sys
+sys.path.insert(0, %r)
+import code_files
+data = sys.stdin.buffer.read()
+if sys.argv[1] == "pack":
+    sys.stdout.buffer.write(code_files.FILES["one"])
+    sys.exit(0)
+said = code_files.answer(data)
+if said != "Ok":
+    sys.stderr.write("input: bad code file at %%d\\n" %% (int(said.split()[1]) + %d))
+    sys.exit(3)
+"""
+
 # It asks three times for memory, and says what it is told to say where there is none.
 ALLOCATES = r"""
 #include <stdio.h>
@@ -169,6 +184,11 @@ class Hostile(unittest.TestCase):
         for text in ("standard input is closed", "a listing: standard output is full", "a reader that goes after some bytes", "a source that ends late"):
             self.assertIn("devices: %s\n" % text, out)
 
+    def test_files(self):
+        for first_bad, status in (0, 0), (1, 1):
+            program = self.program(UNPACKS % (sys.executable, str(TOOLS), first_bad))
+            self.assertEqual(self.called("files", "--program", program, "--count", 20)[0], status)
+
     def test_stack(self):
         program = self.program(STACK)
         with mock.patch.object(cases, "deep_trees", lambda: [it for it in DEEP if it.title in ("Set", "Await")]):
@@ -177,7 +197,7 @@ class Hostile(unittest.TestCase):
         self.assertEqual(status, 1)
         self.assertRegex(out, r"(?m)^  100\d KB  Set$")
         self.assertIn("stack: Await\n", out)
-        self.assertRegex(out, r"stack: 2 runs, 1 differ; the most is 100\d KB, for Set\n$")
+        self.assertRegex(out, r"stack: 4 runs, 1 differ; the most is 100\d KB, for [^\n]*\n$")
 
     def compiled(self, early, status):
         """A program that asks for memory."""
@@ -222,7 +242,7 @@ class Hostile(unittest.TestCase):
             self.assertEqual((it.returncode, it.stdout), (2, b""), words)
         parser = hostile.parser_of_words()
         kinds = next(it for it in parser._actions if isinstance(it, argparse._SubParsersAction)).choices
-        self.assertEqual(sorted(kinds), ["allocations", "devices", "rows", "stack", "words"])
+        self.assertEqual(sorted(kinds), ["allocations", "calls", "devices", "files", "rows", "stack", "words"])
         for name, kind in kinds.items():
             self.assertTrue(all(it.help for it in kind._actions), name)
 
