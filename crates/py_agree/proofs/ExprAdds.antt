@@ -21,7 +21,7 @@ use Rattle.py_emission.specs.Texts.{texts_of}
 use Rattle.py_steps.specs.TableParts as table
 use Rattle.py_steps.specs.TableParts.{binary, binary_case, conversion_case, counted, constant_of, debug_constant, is_debug, name_form, no_operand}
 use Rattle.py_meaning.specs.Table.{after, after_clauses, expr_forms, all_forms, opt_form, key_forms, value_forms, keyword_forms, clause_forms, further_forms, filter_forms, default_forms, positional_defaults, keyword_defaults, target_forms, all_targets}
-use Rattle.py_meaning.specs.Table.{unbuilt as empty}
+use Rattle.py_meaning.specs.Table.{unsupported as empty}
 use Rattle.py_meaning.specs.TableScopes.{default_parts, iterator}
 use Rattle.py_base.specs.declared.errors.CodegenErrorType.{CodegenErrorType}
 use Rattle.py_base.specs.declared.errors.CodegenErrorType.TheVariants as error

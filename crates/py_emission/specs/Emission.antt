@@ -23,8 +23,8 @@ use Rattle.py_steps.specs.Refused.{lone_star, no_assignment, no_deletion}
 use Rattle.py_emission.specs.Predicates.{deletion_name}
 
 -- a node that is not compiled yet
-abbrev pub unbuilt : SourceLocation → Emission
-unbuilt at = move at ▸ refuse error.NotImplementedYet
+abbrev pub unsupported : SourceLocation → Emission
+unsupported at = move at ▸ refuse error.NotImplementedYet
 
 -- one text is returned by one instruction
 abbrev pub joined_return : Option (List ℕ) → List Emission → Emission

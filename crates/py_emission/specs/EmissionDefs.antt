@@ -14,7 +14,7 @@ use Rattle.py_steps.specs.Elements.{Function}
 use Rattle.py_steps.specs.Emitting.{Emission, ◌▸◌, by_context, by_level, emit, emit_constant, keep, refuse}
 use Rattle.py_steps.specs.EmissionParts.{built, elements, emission_of_call}
 use Rattle.py_steps.specs.TypeParameters.{bounded, generic_alias, hidden, load_handed, no_defaults, plain, plain_alias}
-use Rattle.py_emission.specs.Emission.{all_emissions, default_emissions, emission, keyword_emissions, unbuilt}
+use Rattle.py_emission.specs.Emission.{all_emissions, default_emissions, emission, keyword_emissions, unsupported}
 use Rattle.py_emission.specs.Parameters.{function_shape, parameters}
 use Rattle.py_emission.specs.Texts.{after_doc, doc_of}
 use Rattle.py_emission.specs.Predicates.{annotated, is_last_return}
@@ -77,7 +77,7 @@ emission_of_def name params stmts returns body =
 abbrev pub emission_of_param : tree.TypeParam → Emission
 emission_of_param (tree.TypeVar at name tree.no_expr) = plain name
 emission_of_param (tree.TypeVar at name (tree.some_expr e)) = bounded (emission e) name
-emission_of_param other = unbuilt (tree.type_param_location other)
+emission_of_param other = unsupported (tree.type_param_location other)
 
 -- each in order
 abbrev pub param_emissions : tree.TypeParams → List Emission

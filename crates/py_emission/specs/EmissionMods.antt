@@ -74,15 +74,15 @@ emission_of_interactive mode.Single ss = emission_of_prompt ss
 emission_of_interactive other ss = emission_behind emission_of_block ss
 
 -- a type of a function, which is no tree of a program in any mode, is at fault as a whole
-abbrev pub unbuilt_tree : Emission
-unbuilt_tree s = Refused error.NotImplementedYet None
+abbrev pub unsupported_tree : Emission
+unsupported_tree s = Refused error.NotImplementedYet None
 
 -- what is emitted of a tree in a mode
 abbrev pub emission_of_mod : tree.Mod → Mode → Emission
 emission_of_mod (tree.Module body) m = emission_of_program body
 emission_of_mod (tree.Interactive body) m = emission_of_interactive m body
 emission_of_mod (tree.Expression body) m = emission_of_return body
-emission_of_mod other m = unbuilt_tree
+emission_of_mod other m = unsupported_tree
 
 -- where this is the context of the outermost scope
 abbrev pub emitted : tree.Mod → Mode → Context → Outcome

@@ -25,7 +25,7 @@ use Rattle.py_steps.specs.Accesses.{emission_of_name, emission_of_stored}
 use Rattle.py_steps.specs.Context.{is_function, mangled}
 use Rattle.py_steps.specs.EmissionParts.{choice, only, only_in_function, pass_scopes, unless_debug, values}
 use Rattle.py_steps.specs.Refused.{no_assignment}
-use Rattle.py_emission.specs.Emission.{all_emissions, emission, emission_of_deletes, emission_of_return, emission_of_store, emission_of_test, unbuilt}
+use Rattle.py_emission.specs.Emission.{all_emissions, emission, emission_of_deletes, emission_of_return, emission_of_store, emission_of_test, unsupported}
 
 -- a value is stored to each target, and kept for those that follow
 abbrev pub emission_of_assign : tree.Exprs → Emission
@@ -138,7 +138,7 @@ abbrev mutual
   emission_of_stmt (tree.Break at) = move at ▸ by_loops (leave_loop op.Break (λ x. x.on_break) error.InvalidBreak)
   emission_of_stmt (tree.Continue at) = move at ▸ by_loops (leave_loop op.Continue (λ x. x.on_continue) error.InvalidContinue)
   emission_of_stmt (tree.Pass at) = move at
-  emission_of_stmt other = unbuilt (tree.stmt_location other)
+  emission_of_stmt other = unsupported (tree.stmt_location other)
 
   pub emission_of_stmts : tree.Stmts → Emission
   emission_of_stmts tree.no_stmts = keep

@@ -20,7 +20,7 @@ use Rattle.py_steps.specs.EmissionParts.{Emissions, pass_scopes, values, element
 use Rattle.py_steps.specs.Refused.{lone_star, no_assignment, no_deletion}
 use Rattle.py_bytecode.specs.Values.{Load, Store, Delete}
 use Rattle.py_steps.specs.Accesses.{accessed, emission_of_name}
-use Rattle.py_emission.specs.Emission.{clause_emissions, default_emissions, lambda_value, keyword_only_emissions, name_return, positional_emissions, opt_emission, opt_emissions, emission, emission_of_test, emissions, all_emissions, all_stores, stores, keyword_emissions, emission_of_delete, emission_of_deletes, unbuilt}
+use Rattle.py_emission.specs.Emission.{clause_emissions, default_emissions, lambda_value, keyword_only_emissions, name_return, positional_emissions, opt_emission, opt_emissions, emission, emission_of_test, emissions, all_emissions, all_stores, stores, keyword_emissions, emission_of_delete, emission_of_deletes, unsupported}
 use Rattle.py_emission.specs.Predicates.{deletion_name}
 use Rattle.py_emit.specs.Steps.{IsOpen}
 use Rattle.py_expr_scopes.proofs.OpenBlocks.{Keeps, grows_same, grows_block, grows_located, begun_other, still_open, opens, emit_keeps, jump_keeps, idle_keeps, accessed_keeps, mangled_keeps, constant_keeps, level_keeps, either_keeps, then_keeps, moved_keeps, refuse_keeps}
@@ -40,8 +40,8 @@ returned_keeps x =
     (then_keeps (accessed Load x) (emit op.ReturnValue 0) (accessed_keeps Load x) (emit_keeps op.ReturnValue 0))
 
 -- nothing follows a node of a kind that is refused
-pub unbuilt_keeps : (at : SourceLocation) → Keeps (unbuilt at)
-unbuilt_keeps at = moved_keeps at (refuse error.NotImplementedYet) (refuse_keeps error.NotImplementedYet)
+pub unsupported_keeps : (at : SourceLocation) → Keeps (unsupported at)
+unsupported_keeps at = moved_keeps at (refuse error.NotImplementedYet) (refuse_keeps error.NotImplementedYet)
 
 lambda_keeps : (params : tree.Arguments) (d : DefaultEmissions) (v : Emission) → DefaultsKeep d → Keeps (lambda_value params d v)
 unfolding lambda_value

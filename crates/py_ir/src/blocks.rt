@@ -1,3 +1,4 @@
+//! Blocks as a caller of `finalize_code` gives them, each with instructions of its own.
 ghost use Rattle.std.specs.Prelude.{◌≡◌, ◌<◌, ◌++◌, ◌∷◌, [], Some, length, slice_get, slice_set, OnOk, OnErr, IfErr};
 ghost use Rattle.std.specs.Borrow.{Lends, sem};
 ghost use Rattle.py_ir.specs.contracts.blocks.Block.{the_row as block_row};
@@ -84,7 +85,10 @@ impl Blocks {
         &mut self.blocks[i.0 as usize]
     }
 
-    /// Puts a block last. For want of memory alone the block comes back, and nothing has changed.
+    /// Puts a block last.
+    ///
+    /// # Errors
+    /// There is no memory for it: the block comes back, and nothing has changed.
     pub fn push(&mut self, block: Block) -> Result<(), Block>
         ensures ok { OnOk result (self.new ≡ self.old ++ block ∷ []) }
         ensures back { IfErr result (λ b. b ≡ block) }

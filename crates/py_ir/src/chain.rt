@@ -1,3 +1,4 @@
+//! The chain of blocks: the first block, the one after it, and so on, and its instructions in one list.
 ghost use Rattle.std.specs.Prelude.{◌≡◌, ◌≤◌, ◌++◌, IfErr, IfOk, OnOk, length, map, take};
 ghost use Rattle.py_ir.specs.Chain.{ChainFails, IsChain, body, plain};
 ghost use Rattle.py_ir.specs.Flattened.{IsFlattened};
@@ -24,7 +25,11 @@ fn next_block(block: &Block) -> Option<u32>
     }
 }
 
-/// The blocks of the chain, in order.
+/// The numbers of the blocks of the chain, in order.
+///
+/// # Errors
+/// `NoBlocks` where there is no block; `BrokenChain` at a block that leads to a number past the last or to a block before
+/// it; there may be no memory.
 pub fn chain_of(alloc: Global, blocks: &[Block]) -> Result<Vec<u32>, ChainError>
     ensures chain { IfOk result (λ cs. IsChain (map plain blocks.now) cs.items) }
     ensures refused { IfErr result (λ e. ChainFails (map plain blocks.now) e) }
@@ -94,7 +99,11 @@ fn push_body(
     items.extend_from_slice(&block[..count])
 }
 
-/// The instructions of the chain that stay at an optimization level.
+/// The instructions of the chain that stay at an optimization level: all at level 0, and from level 1 on those of each block
+/// up to its first jump, return or raise that always leaves.
+///
+/// # Errors
+/// There is no memory for them.
 pub fn cut(alloc: Global, blocks: &FlatBlocks, chain: &[u32], level: u8) -> Result<Flat, AllocError>
     requires { IsChain (map plain blocks.now.blocks) chain.now }
     ensures { IfOk result (λ f. IsFlattened level (map plain blocks.now.blocks) chain.now f.starts.items f.items.items) }

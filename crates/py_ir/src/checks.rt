@@ -1,3 +1,4 @@
+//! What is asked of each instruction before it has units: targets within the chain, and operands within their tables.
 ghost use Rattle.std.specs.Prelude.{◌≡◌, ◌<◌, ◌^◌, ℕ, All, IfErr, IfOk, MatchOption, false, length, slice_index_or, true};
 ghost use Rattle.std.specs.Option.{IfNone};
 ghost use Rattle.py_ir.specs.Checks.{Fails, FailsAt, NowhereFails, in_kind, operand_fits, rank};
@@ -146,8 +147,10 @@ fn fault(check: Check, place: usize) -> ItemFault
     ItemFault { check, place }
 }
 
-/// Checks the instructions; the first check that fails anywhere is answered, with a place where it does. Where none fails, as
-/// in what a compiler emits, one walk over them is enough.
+/// Checks the instructions. Where none fails, as in what a compiler emits, one walk over them is enough.
+///
+/// # Errors
+/// The first check that fails anywhere, in the order of `Check`, with a place in the list where it does.
 pub fn check_items(
     inside: &[bool],
     lens: TableLens,

@@ -1,3 +1,4 @@
+//! Why blocks have no code.
 use thiserror::Error;
 
 /// Why blocks have no code. A place is counted in its block, and one of 2^32 or more is given as 2^32 - 1.

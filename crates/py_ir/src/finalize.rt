@@ -1,3 +1,4 @@
+//! From blocks to units: the checks, the walk that finds the depth, and the layout.
 ghost use Rattle.std.specs.Prelude.{ℕ, ◌≡◌, ◌+◌, ◌<◌, ◌≤◌, ◌^◌, All, IfErr, IfOk, List, length, map, slice_index, slice_index_or, false, true};
 ghost use Rattle.std.specs.List.{Contains};
 ghost use Rattle.py_bytecode.specs.Decode.{Tables};
@@ -230,6 +231,10 @@ fn lay_cut(
 }
 
 /// The code of blocks whose operands name tables of these lengths. Blocks that have the same chain have the same code.
+///
+/// # Errors
+/// Each is answered only where its condition holds, at the place that it carries, and none before it in the order does
+/// anywhere; there may be no memory.
 pub fn lay_out_blocks(
     alloc: Global,
     blocks: &FlatBlocks,

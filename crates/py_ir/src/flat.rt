@@ -74,7 +74,10 @@ impl FlatBlocks {
         self.spans.len()
     }
 
-    /// Puts an instruction last in the current block. For want of memory nothing changes.
+    /// Puts an instruction last in the current block.
+    ///
+    /// # Errors
+    /// There is no memory for it; nothing has changed.
     pub fn push(&mut self, info: InstructionInfo) -> Result<(), AllocError>
         ensures whole { IsWhole self.old }
         ensures ok { OnOk result (self.new ≡ pushed self.old info) }
@@ -126,7 +129,10 @@ impl FlatBlocks {
         }
     }
 
-    /// A new empty block outside the chain. Where there is no memory for it, or no number, nothing changes.
+    /// The number of a new empty block outside the chain.
+    ///
+    /// # Errors
+    /// There is no memory for it, or no number below 2^32 - 1; nothing has changed.
     pub fn new_block(&mut self) -> Result<BlockIdx, AllocError>
         ensures whole { IsWhole self.old }
         ensures ok { OnOk result (self.new ≡ with_new_block self.old) }

@@ -1,3 +1,4 @@
+//! What a code object is made from, and its making.
 ghost use Rattle.std.specs.Prelude.{ℕ, ◌≡◌, ◌<◌, ◌≤◌, ◌^◌, ◌++◌, All, IfErr, IfOk, Some, None as Nothing, false, length, map, slice_get, true};
 ghost use Rattle.py_ir.specs.Chain.{plain};
 ghost use Rattle.py_ir.specs.Refusals.{NoneBefore, Refused};

@@ -1,3 +1,4 @@
+//! Sets that keep the order in which their values came: the tables of a code.
 ghost use Rattle.std.specs.Prelude.{◌≡◌, ◌<◌, ◌^◌, [], Some, true, length, position, slice_get, IfOk, IfErr, OnOk, OnErr};
 ghost use Rattle.std.specs.Option.{option_copied};
 ghost use Rattle.std.specs.List.{position_or_len, IsDistinct};
@@ -10,8 +11,10 @@ use std::alloc::{AllocError, AllocFailed, Global};
 use std::hash::Hash;
 use std::marker::Model;
 
+/// Names in the order in which they came, each once.
 pub type NameSet = OrderedSet<Text>;
 
+/// Constants in the order in which they came, each once.
 pub type ConstantSet = OrderedSet<ConstantData>;
 
 /// A set that keeps the order of insertion, seen as the list of its values.
@@ -32,6 +35,7 @@ impl<T: Eq + Hash> Model for OrderedSet<T> {
 }
 
 impl<T: Eq + Hash> OrderedSet<T> {
+    /// No values. It takes no memory.
     pub fn new(alloc: Global) -> OrderedSet<T>
         ensures { result ≡ [] }
     {
@@ -40,6 +44,7 @@ impl<T: Eq + Hash> OrderedSet<T> {
         }
     }
 
+    /// How many values there are.
     pub fn len(&self) -> usize
         ensures len { result ≡ length self.now }
         ensures small { result < 2 ^ 63 }
@@ -48,12 +53,14 @@ impl<T: Eq + Hash> OrderedSet<T> {
         self.set.len()
     }
 
+    /// The value at a place, if the place is taken.
     pub fn get_index(&self, i: usize) -> Option<&T>
         ensures { option_copied result ≡ slice_get self.now i }
     {
         self.set.get_index(i)
     }
 
+    /// The place of a value, if it is there.
     pub fn get_index_of(&self, x: &T) -> Option<usize>
         ensures { result ≡ position (T.eq x.now) self.now }
     {
@@ -62,7 +69,10 @@ impl<T: Eq + Hash> OrderedSet<T> {
 }
 
 impl<T: Eq + Hash + Drop> OrderedSet<T> {
-    /// A present value keeps its place, and a new one goes last.
+    /// The place of a value. A value that is there keeps its place, and a new one goes last.
+    ///
+    /// # Errors
+    /// There is no memory for it: the value comes back, and nothing has changed.
     pub fn insert_full(&mut self, x: T) -> Result<usize, T>
         ensures ok { OnOk result (self.new ≡ insert_key T.eq self.old x) }
         ensures place { IfOk result (λ i. i ≡ position_or_len (T.eq x) self.old) }

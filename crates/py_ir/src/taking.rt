@@ -46,6 +46,9 @@ fn place_all(blocks: &mut FlatBlocks, given: &[Block], chain: &[u32]) -> Result<
 }
 
 /// The blocks in one list; those outside the chain are emptied.
+///
+/// # Errors
+/// `NoBlocks` and `BrokenChain` as the chain has them; there may be no memory.
 pub fn flat_blocks(alloc: Global, given: &[Block]) -> Result<FlatBlocks, FinalizeError>
     ensures taken { IfOk result (λ blocks. IsChainOf given.now blocks) }
     ensures few { IfErr result (λ e. order e < 2) }

@@ -1,3 +1,4 @@
+//! The units of instructions, once the width of each is known.
 ghost use Rattle.std.specs.Prelude.{◌≡◌, ◌+◌, ◌<◌, ◌≤◌, ◌∷◌, ◌++◌, [], All, IfErr, IfOk, length, replicate, sum, vec_len, vec_capacity};
 ghost use Rattle.py_bytecode.specs.Operands.{byte_of};
 ghost use Rattle.py_walks.specs.Flat.{IsCode, IsLinked};

@@ -1,3 +1,4 @@
+//! The least widths of instructions: each holds its operand, and each jump the offset of its target.
 ghost use Rattle.std.specs.Prelude.{◌≡◌, ◌≢◌, ◌+◌, ◌-◌, ◌*◌, ◌^◌, ◌<◌, ◌≤◌, ℕ, List, All, IfOk, IfErr, length, sum, slice_index, true, false, MatchOption};
 ghost use Rattle.py_bytecode.specs.Operands.{units_for};
 ghost use Rattle.py_layout.specs.Widths.{AtMost, Chosen, Fits, IsLayout, IsNeed, IsWidth, Offsets, TooManyUnits, narrowest, offset, width_for, wanted_at};
@@ -27,7 +28,7 @@ pub struct Layout {
     pub units: u32,
 }
 
-/// How many units an operand takes.
+/// How many units an operand takes: 1 to 4, one for each byte that it has.
 pub fn width_of(n: u32) -> u8
     ensures value { result ≡ width_for n }
     ensures within { (1 ≤ result) × (result ≤ 4) }
@@ -127,7 +128,10 @@ fn settle(needs: &[Need], widths: &mut [u8], offsets: &mut [u32]) -> Option<u32>
     }
 }
 
-/// The layout with the least widths; refused exactly where each choice of widths that fits has 2 ^ 32 units or more.
+/// The layout with the least widths, in units.
+///
+/// # Errors
+/// `TooManyUnits` exactly where each choice of widths that fits has 2^32 units or more; there may be no memory.
 pub fn lay_out(alloc: Global, needs: &[Need]) -> Result<Layout, LayoutError>
     requires { All (IsNeed (length needs.now)) needs.now }
     ensures least { IfOk result (λ layout. IsLayout needs.now layout.widths.items layout.offsets.items layout.units) }

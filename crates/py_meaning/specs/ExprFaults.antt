@@ -36,8 +36,8 @@ abbrev pub when : Bool → Fault → List Fault
 when b f = if b then f ∷ [] else []
 
 -- a node that is not compiled yet, whatever stands within it
-abbrev pub unbuilt : SourceLocation → List Fault
-unbuilt at = fault_at error.NotImplementedYet at ∷ []
+abbrev pub unsupported : SourceLocation → List Fault
+unsupported at = fault_at error.NotImplementedYet at ∷ []
 
 -- a change of `__debug__`
 abbrev pub debug_faults : (text : List ℕ) → SourceLocation → (name : List ℕ) → List Fault

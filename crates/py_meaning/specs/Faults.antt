@@ -23,7 +23,7 @@ use Rattle.py_tree.specs.declared.statements.Alias.{Alias}
 use Rattle.py_emission.specs.Imports.{from_future, import_name, taken_name, takes_all}
 use Rattle.py_emission.specs.Futures.{Future, future_of, is_feature, postpones}
 use Rattle.py_meaning.specs.Scanned.{scan_faults}
-use Rattle.py_meaning.specs.ExprFaults.{Fault, all_faults, assign_faults, augment_faults, debug_faults, declared_faults, default_faults, deletes_faults, elements, expr_faults, exprs_faults, fault_at, faults_to, in_order, keyword_faults, keyword_values, opt_expr_faults, parameter_faults, unbuilt, when}
+use Rattle.py_meaning.specs.ExprFaults.{Fault, all_faults, assign_faults, augment_faults, debug_faults, declared_faults, default_faults, deletes_faults, elements, expr_faults, exprs_faults, fault_at, faults_to, in_order, keyword_faults, keyword_values, opt_expr_faults, parameter_faults, unsupported, when}
 
 -- a fault of the whole tree, where it is at fault
 abbrev pub whole : Fault → ℕ → ℕ → List Fault
@@ -41,8 +41,8 @@ only_in_loop true e at = []
 only_in_loop false e at = record { error = e; location = Some at } ∷ []
 
 -- the type of a function, which is no tree of a program in any mode
-abbrev pub unbuilt_tree : Fault
-unbuilt_tree = record { error = error.NotImplementedYet; location = None }
+abbrev pub unsupported_tree : Fault
+unsupported_tree = record { error = error.NotImplementedYet; location = None }
 
 -- the target of an item, which is entered
 abbrev pub item_faults : (in_function : Bool) → tree.OptExpr → List Fault
@@ -106,7 +106,7 @@ future_faults b f = feature_faults f.at f.names ++ names_faults b f.at f.names
 
 -- an f-string has no text
 abbrev pub text_faults : SourceLocation → Option (List ℕ) → List Fault
-text_faults p None = unbuilt p
+text_faults p None = unsupported p
 text_faults p (Some text) = []
 
 -- an annotation, before which the code leaves off there
@@ -145,7 +145,7 @@ notes_faults postponed b p (tree.arguments posonly args vararg kwonly kwarg) ret
 -- a type parameter, which stands in a hidden scope: its bound, and the name that it is stored under
 abbrev pub param_faults : SourceLocation → tree.TypeParam → List Fault
 param_faults p (tree.TypeVar at name bound) = opt_expr_faults true bound ++ debug_faults no_assignment (last_of p (some_of (opt_end bound))) name
-param_faults p other = unbuilt (tree.type_param_location other)
+param_faults p other = unsupported (tree.type_param_location other)
 
 -- type parameters, before which the code leaves off there
 abbrev pub params_faults : SourceLocation → tree.TypeParams → List Fault
@@ -215,7 +215,7 @@ abbrev mutual
   stmt_faults c b (tree.Break at) = only_in_loop b error.InvalidBreak at
   stmt_faults c b (tree.Continue at) = only_in_loop b error.InvalidContinue at
   stmt_faults c b (tree.Pass at) = []
-  stmt_faults c b other = unbuilt (tree.stmt_location other)
+  stmt_faults c b other = unsupported (tree.stmt_location other)
 
   pub stmts_faults : Setting → (in_loop : Bool) → tree.Stmts → List Fault
   stmts_faults c b tree.no_stmts = []
@@ -265,7 +265,7 @@ abbrev pub compile_faults : Mode → (level : ℕ) → tree.Mod → List Fault
 compile_faults m l (tree.Module body) = faults_behind (first_setting l) (after_doc body)
 compile_faults m l (tree.Interactive body) = interactive_faults m (first_setting l) body
 compile_faults m l (tree.Expression value) = expr_faults false value
-compile_faults m l other = unbuilt_tree ∷ []
+compile_faults m l other = unsupported_tree ∷ []
 
 -- a shape that no tree of a program has
 abbrev pub malformed : List Malformed → List Fault

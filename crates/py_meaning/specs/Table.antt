@@ -60,8 +60,8 @@ but_first_value tree.no_exprs = tree.no_exprs
 but_first_value (tree.more_exprs e es) = es
 
 -- what stands for an expression that is not compiled yet, or never is, which no code has
-abbrev pub unbuilt : SourceLocation → ExprForms
-unbuilt at = tested (VAt at no_operand)
+abbrev pub unsupported : SourceLocation → ExprForms
+unsupported at = tested (VAt at no_operand)
 
 abbrev mutual
   pub expr_forms : Context → (next : ℕ) → tree.Expr → ExprForms
@@ -88,7 +88,7 @@ abbrev mutual
   expr_forms c n (tree.GeneratorExp at elt gs) =
       let i = comprehension_inside c n in let m = after_clauses c (suc n) gs in
       tested (VAt at (called_at_once (codes "<genexpr>") (MkScope (head_of i) (generated (clause_forms i (suc n) gs) (expr_forms i m elt).value)) (first_iterable c (after c m elt) gs)))
-  expr_forms c n (tree.Await at value) = unbuilt at
+  expr_forms c n (tree.Await at value) = unsupported at
   expr_forms c n (tree.Yield at value) = tested (VAt at (VOp (operation op.YieldValue Bare) (VMore (value_or const.none (opt_form c n value)) VNone)))
   expr_forms c n (tree.YieldFrom at value) = tested (VAt at (VOp (operation op.YieldFrom Bare) (VMore (iterator (expr_forms c n value).value) (VMore (VConst const.none) VNone))))
   expr_forms c n (tree.Compare at left ops others) = tested (VAt at (compare_form (expr_forms c n left).value ops (all_forms c (after c n left) others)))

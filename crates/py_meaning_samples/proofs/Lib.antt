@@ -4,7 +4,7 @@ mod MeaningSamples
 mod ContextSamples
 mod ScannedSamples
 mod ControlSamples
-mod UnbuiltSamples
+mod UnsupportedSamples
 mod LoopSamples
 mod RaiseSamples
 mod WithSamples

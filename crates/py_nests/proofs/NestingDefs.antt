@@ -24,7 +24,7 @@ use Rattle.py_steps.specs.TypeParameters.{hidden, hidden_shape, kept_as, load_ha
 use Rattle.py_nests.proofs.Nests.{Nests, cell_nests, child_nests, context_nests, count_nests, emit_nests, if_nests, keep_nests, level_nests, name_nests, none_nests, refuse_nests, stored_nests, text_nests, then_nests, varname_nests}
 use Rattle.py_nests.proofs.NestingParts.{ElementNests, Every, built_nests, call_nests, elements_nest, join_every}
 use Rattle.py_nests.proofs.NestingScopes.{DefaultsNest, defaults_nest, documented_nests, function_made_nests, made_nests, noted_nests, scope_nests}
-use Rattle.py_nests.proofs.NestingExprs.{defaults_nested, expr_nests, exprs_nest, keywords_nest, unbuilt_nests}
+use Rattle.py_nests.proofs.NestingExprs.{defaults_nested, expr_nests, exprs_nest, keywords_nest, unsupported_nests}
 
 -- annotations
 text_of_nests : {k : ℕ} (text : Option (List ℕ)) → Nests k (emission_of_text text)
@@ -80,7 +80,7 @@ module _ (k : ℕ) where
   param_nests : (t : tree.TypeParam) → 2 * type_param_nesting t ≤ k → Nests k (emission_of_param t)
   param_nests (tree.TypeVar at name tree.no_expr) h = then_nests (text_nests op.LoadConst name) (then_nests (emit_nests op.TypeVar 0) (kept_nests name))
   param_nests (tree.TypeVar at name (tree.some_expr e)) h = then_nests (expr_nests k e (omega (arith, h))).value (then_nests (text_nests op.LoadConst name) (then_nests (emit_nests op.TypeVarWithBound 0) (kept_nests name)))
-  param_nests other h = unbuilt_nests (tree.type_param_location other)
+  param_nests other h = unsupported_nests (tree.type_param_location other)
 
   all_params_nest : (ts : tree.TypeParams) → 2 * type_params_nesting ts ≤ k → Every (Nests k) (param_emissions ts)
   all_params_nest tree.no_type_params h = tt

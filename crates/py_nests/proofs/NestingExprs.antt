@@ -10,7 +10,7 @@ use Rattle.py_bytecode.specs.Nesting.{const_nesting, consts_nesting}
 use Rattle.py_bytecode.specs.Objects as const
 use Rattle.py_bytecode.specs.Values.{Load}
 use Rattle.py_emission.specs.Awaits.{awaits, some_async}
-use Rattle.py_emission.specs.Emission.{all_emissions, all_stores, clause_emissions, default_emissions, emission, emission_of_delete, emission_of_deletes, emissions, joined_return, keyword_emissions, keyword_only_emissions, name_return, opt_emission, opt_emissions, positional_emissions, stores, unbuilt}
+use Rattle.py_emission.specs.Emission.{all_emissions, all_stores, clause_emissions, default_emissions, emission, emission_of_delete, emission_of_deletes, emissions, joined_return, keyword_emissions, keyword_only_emissions, name_return, opt_emission, opt_emissions, positional_emissions, stores, unsupported}
 use Rattle.py_emission.specs.Predicates.{deletion_name}
 use Rattle.py_emission.specs.Texts.{texts_of}
 use Rattle.py_base.specs.declared.errors.CodegenErrorType.TheVariants as error
@@ -44,8 +44,8 @@ name_returned : {k : ℕ} (x : List ℕ) → Nests k (name_return x)
 name_returned x = if_nests (is_debug x) (debug_nests op.ReturnConst) (value_returned (accessed_nests Load x))
 
 -- a node that is not compiled yet
-pub unbuilt_nests : {k : ℕ} (at : SourceLocation) → Nests k (unbuilt at)
-unbuilt_nests at = at_nests at (refuse_nests error.NotImplementedYet)
+pub unsupported_nests : {k : ℕ} (at : SourceLocation) → Nests k (unsupported at)
+unsupported_nests at = at_nests at (refuse_nests error.NotImplementedYet)
 
 mutual
   pub expr_nests : (k : ℕ) (e : tree.Expr) → 2 * expr_nesting e ≤ k → NestsWell k (emissions e)

@@ -27,7 +27,7 @@ use Rattle.py_nests.proofs.Nests.{Nests, at_nests, begin_nests, context_nests, e
 use Rattle.py_nests.proofs.NestingParts.{values_nest}
 use Rattle.py_nests.proofs.NestingTests.{choice_nests, only_nests}
 use Rattle.py_nests.proofs.NestingScopes.{decorated_nests}
-use Rattle.py_nests.proofs.NestingExprs.{deletes_nest, expr_nests, exprs_nest, stores_nest, unbuilt_nests}
+use Rattle.py_nests.proofs.NestingExprs.{deletes_nest, expr_nests, exprs_nest, stores_nest, unsupported_nests}
 use Rattle.py_nests.proofs.NestingControl.{asserted_nests, for_nests, handler_nests, managed_nests, named_body_nests, try_nests, typed_nests}
 use Rattle.py_nests.proofs.NestingDefs.{alias_nests, built_class_nests, end_nests, function_nests, note_nests}
 use Rattle.py_nests.proofs.NestingImports.{import_from_nests, import_nests}
@@ -153,7 +153,7 @@ mutual
   stmt_nests k (tree.Break at) h = at_nests at (loops_nest (leave_nests k op.Break (λ x. x.on_break) error.InvalidBreak))
   stmt_nests k (tree.Continue at) h = at_nests at (loops_nest (leave_nests k op.Continue (λ x. x.on_continue) error.InvalidContinue))
   stmt_nests k (tree.Pass at) h = move_nests at
-  stmt_nests k other h = unbuilt_nests (tree.stmt_location other)
+  stmt_nests k other h = unsupported_nests (tree.stmt_location other)
 
   pub stmts_nest : (k : ℕ) (ss : tree.Stmts) → 2 * stmts_nesting ss ≤ k → Nests k (emission_of_stmts ss)
   stmts_nest k tree.no_stmts h = keep_nests

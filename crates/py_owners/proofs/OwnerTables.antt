@@ -17,7 +17,7 @@ use Rattle.py_scope.proofs.Tabling.{length-all_symbols}
 use Rattle.py_tables.specs.Tables as tables
 use Rattle.py_uses.specs.Steps.{State, Outcome, Done, Refused, begun_state}
 use Rattle.py_scan.specs.Scan.{scan_program, scan_value}
-use Rattle.py_meaning.specs.Faults.{faults, unbuilt_tree}
+use Rattle.py_meaning.specs.Faults.{faults, unsupported_tree}
 use Rattle.py_meaning.specs.Scanned.{entries_of, fault_as, scopes_of}
 use Rattle.py_owners.specs.Owners.{Grove}
 use Rattle.py_owners.specs.StmtOwners.{in_whole, owners_of}
@@ -79,7 +79,7 @@ pub scan_done : (t : tree.Mod) (m : Mode) (level : ℕ) → faults t m level ≡
 scan_done (tree.Module stmts) m level h = done_so (scan_program stmts) (none_mapped fault_as (tables.body_faults stmts) (parts_none (tree.Module stmts) m level h).1)
 scan_done (tree.Interactive stmts) m level h = done_so (scan_program stmts) (none_mapped fault_as (tables.body_faults stmts) (parts_none (tree.Interactive stmts) m level h).1)
 scan_done (tree.Expression value) m level h = done_so (scan_value value) (none_mapped fault_as (tables.value_faults value) (parts_none (tree.Expression value) m level h).1)
-scan_done (tree.FunctionType argtypes returns) m level h = absurd (some_none unbuilt_tree [] (parts_none (tree.FunctionType argtypes returns) m level h).2)
+scan_done (tree.FunctionType argtypes returns) m level h = absurd (some_none unsupported_tree [] (parts_none (tree.FunctionType argtypes returns) m level h).2)
 
 -- the table of what the scan has come to
 table_so : (q : Bool) (os : Grove) (o : Outcome) (s : State) → o ≡ Done s → Came q os begun_state s → map kind_in_table (entries_of (tables.table_of o)) ≡ map kind_of_owner (in_whole os)

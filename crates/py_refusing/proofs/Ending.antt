@@ -12,7 +12,7 @@ use Rattle.py_emission.specs.EmissionMods.{emission_of_doc, emitted}
 use Rattle.py_meaning.specs.Ends.{expr_end}
 use Rattle.py_meaning.specs.ExprFaults.{Fault, expr_faults}
 use Rattle.py_emission.specs.EmissionStmts.{emission_of_stmts}
-use Rattle.py_meaning.specs.Faults.{compile_faults, faults_behind, first_setting, interactive_faults, unbuilt_tree}
+use Rattle.py_meaning.specs.Faults.{compile_faults, faults_behind, first_setting, interactive_faults, unsupported_tree}
 use Rattle.py_meaning.specs.StmtEnds.{Setting, setting_of}
 use Rattle.py_emission.specs.Predicates.{annotated}
 use Rattle.py_emission.specs.Texts.{first_text, unless_text, after_doc, doc_of}
@@ -45,7 +45,7 @@ abbrev faults_with : Mode → Setting → tree.Mod → List Fault
 faults_with m s (tree.Module body) = faults_behind s (after_doc body)
 faults_with m s (tree.Interactive body) = interactive_faults m s body
 faults_with m s (tree.Expression value) = expr_faults s.in_function value
-faults_with m s other = unbuilt_tree ∷ []
+faults_with m s other = unsupported_tree ∷ []
 
 -- so are the faults of a whole tree
 faults_first : (m : Mode) (l : ℕ) (t : tree.Mod) → faults_with m (first_setting l) t ≡ compile_faults m l t

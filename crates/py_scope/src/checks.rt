@@ -3,7 +3,7 @@
 ghost use Rattle.std.specs.Prelude.{◌≡◌, ◌<◌, length, OnOk, IfErr, IfOk, All, None, Some};
 ghost use Rattle.std.specs.Option.{option_map};
 ghost use Rattle.std.specs.Map.Iter.{deref_pair};
-ghost use Rattle.py_scope.specs.Outward.{IsNumbered};
+ghost use Rattle.py_scope.specs.Outward.{IsNumbered, look_from};
 ghost use Rattle.py_scope.specs.Roles.{bound_opt};
 ghost use Rattle.py_scope.specs.Lifts.{IsRefusal};
 ghost use Rattle.py_scope.specs.Marks.{is_class};
@@ -11,7 +11,7 @@ ghost use Rattle.py_scope.specs.declared.refusal.Refusal.TheVariants.{ClassName}
 ghost use Rattle.py_scope.specs.Checks.{unfound, wrong_nonlocal, is_type_params, hides, is_class_name, wrong_class_name, wrong_entry, wrong_opt, wrong_in, first_wrong};
 
 use crate::kinds::look_outward;
-use crate::outward::{Found, is_free};
+use crate::outward::is_free;
 use crate::refusal::{Fault, Refusal};
 use crate::rows::{Entry, Holds, Row};
 use crate::table_type::SymbolTableType;
@@ -34,19 +34,22 @@ fn unfound(alloc: Global, scope: usize, name: &Text) -> Fault
     }
 }
 
+/// Whether the name, where it is declared nonlocal, is bound around. Only then is it looked for.
 fn check_nonlocal(
     alloc: Global,
+    rows: &[Row],
     scope: usize,
     name: &Text,
-    found: Found,
     holds: Holds,
 ) -> Result<(), Fault>
-    ensures allowed { OnOk result (wrong_nonlocal scope name.now found holds ≡ None) }
-    ensures refused { IfErr result (λ e. IsRefusal e (wrong_nonlocal scope name.now found holds)) }
+    requires numbered { IsNumbered rows.now }
+    requires within { scope < length rows.now }
+    ensures allowed { OnOk result (wrong_nonlocal scope name.now (look_from rows.now scope name.now) holds ≡ None) }
+    ensures refused { IfErr result (λ e. IsRefusal e (wrong_nonlocal scope name.now (look_from rows.now scope name.now) holds)) }
 {
     match holds {
         Holds::DeclaredNonlocal => {
-            if is_free(found) {
+            if is_free(look_outward(rows, scope, name)) {
                 Ok(())
             } else {
                 Err(unfound(alloc, scope, name))
@@ -143,8 +146,7 @@ fn check_entry(
         Ok(()) => {}
         Err(fault) => return Err(fault),
     }
-    let found = look_outward(rows, scope, name);
-    check_nonlocal(alloc, scope, name, found, entry.holds)
+    check_nonlocal(alloc, rows, scope, name, entry.holds)
 }
 
 /// Checks the names of a scope, in order.

@@ -15,7 +15,7 @@ use Rattle.py_forms.specs.Code.{labels_v}
 use Rattle.py_steps.specs.TableParts.{ExprForms, tested, values, elements, parts_of, conversion_case, counted, named, binary, display, value_or, debug_constant, is_debug, no_operand, unpacked_to}
 use Rattle.py_steps.specs.Within.{lambda_inside}
 use Rattle.py_steps.specs.Context.{Context, head_of, mangled}
-use Rattle.py_meaning.specs.Table.{after, after_all, after_args, after_clauses, after_defaults, after_opt, after_key, after_value, but_first_key, but_first_value, expr_forms, all_forms, opt_form, key_forms, value_forms, default_forms, positional_defaults, keyword_defaults, keyword_forms, target_forms, all_targets, first_iterable, unbuilt}
+use Rattle.py_meaning.specs.Table.{after, after_all, after_args, after_clauses, after_defaults, after_opt, after_key, after_value, but_first_key, but_first_value, expr_forms, all_forms, opt_form, key_forms, value_forms, default_forms, positional_defaults, keyword_defaults, keyword_forms, target_forms, all_targets, first_iterable, unsupported}
 use Rattle.py_meaning.specs.TableScopes.{Defaults, default_flags, default_parts}
 use Rattle.py_adds.proofs.Burden.{burden-append}
 use Rattle.py_sizes.proofs.Together.{Together, Possible, OneElement, join_together}
@@ -52,8 +52,8 @@ module _ (i : Interp Object) where
   displayed_small at build unpack fs s h = tested_small i (VAt at (display build unpack (elements fs))) (s + 1) (display_small i build unpack (elements fs) s (elements_small i fs s h))
 
   -- a constant stands for what is never compiled
-  unbuilt_small : (at : SourceLocation) (s : ℕ) → 1 ≤ s → Small i (unbuilt at) s
-  unbuilt_small at s some = tested_small i (VAt at no_operand) s (λ n. omega (arith, some))
+  unsupported_small : (at : SourceLocation) (s : ℕ) → 1 ≤ s → Small i (unsupported at) s
+  unsupported_small at s some = tested_small i (VAt at no_operand) s (λ n. omega (arith, some))
 
   -- a lambda of these defaults
   lambda_small : (d : Defaults) (s : Scope) (name : List ℕ) (a b m : ℕ) → Together (FormSmall i) d.positional a → Together (NotedSmall i) d.keyword b → a + b + 2 ≤ m → FormSmall i (VMake (default_flags d) (default_parts d VNone) s name VNone) m
@@ -93,7 +93,7 @@ module _ (i : Interp Object) where
         let m = after c (after c (after_clauses c (suc k) gs) key) value in
         called_small i _ _ _ _ (expr_size key + expr_size value + generators_size gs) (first_small c m (expr_size key + expr_size value) gs (omega (arith, some)))
     expr_small c k (tree.GeneratorExp at elt gs) = let m = after c (after_clauses c (suc k) gs) elt in called_small i _ _ _ _ (expr_size elt + generators_size gs) (first_small c m (expr_size elt) gs (expr_some elt))
-    expr_small c k (tree.Await at value) = unbuilt_small at (expr_size value + 1) (omega arith)
+    expr_small c k (tree.Await at value) = unsupported_small at (expr_size value + 1) (omega arith)
     expr_small c k (tree.Yield at value) = tested_small i _ _ (yield_small i (opt_form c k value) (opt_expr_size value) (opt_small c k value))
     expr_small c k (tree.YieldFrom at value) = tested_small i _ _ (yield_from_small i (expr_forms c k value).value (expr_size value) (expr_small c k value).value)
     expr_small c k (tree.Compare at left ops others) =

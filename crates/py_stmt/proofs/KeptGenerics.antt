@@ -18,7 +18,7 @@ use Rattle.py_expr_scopes.proofs.OpenBlocks.{Keeps, accessed_keeps, constant_kee
 use Rattle.py_expr_scopes.proofs.KeptParts.{TurnsKeep}
 use Rattle.py_expr_scopes.proofs.KeptScopes.{DefaultsKeep, child_keeps, defaults_keep, made_keeps}
 use Rattle.py_expr_scopes.proofs.KeptTargets.{debug_keeps}
-use Rattle.py_expr_scopes.proofs.KeptExpressions.{defaults_each, expr_keeps, unbuilt_keeps}
+use Rattle.py_expr_scopes.proofs.KeptExpressions.{defaults_each, expr_keeps, unsupported_keeps}
 use Rattle.py_stmt.proofs.KeptClasses.{class_keeps}
 use Rattle.py_stmt.proofs.KeptFunctions.{def_keeps}
 
@@ -34,7 +34,7 @@ param_keeps (tree.TypeVar at name tree.no_expr) =
 param_keeps (tree.TypeVar at name (tree.some_expr e)) =
     then_keeps (emission e) _ (expr_keeps e).value
     (then_keeps (emit_constant op.LoadConst (const.str name)) _ (constant_keeps op.LoadConst (const.str name)) (then_keeps (emit op.TypeVarWithBound 0) (kept_as name) (emit_keeps op.TypeVarWithBound 0) (kept_keeps name)))
-param_keeps t = unbuilt_keeps (tree.type_param_location t)
+param_keeps t = unsupported_keeps (tree.type_param_location t)
 
 each_param_keeps : (ts : tree.TypeParams) → TurnsKeep (param_emissions ts)
 each_param_keeps tree.no_type_params = tt

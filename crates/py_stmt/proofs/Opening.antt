@@ -23,7 +23,7 @@ use Rattle.py_expr_scopes.proofs.OpenBlocks.{Keeps, begin_keeps, block_from, eit
 use Rattle.py_expr_scopes.proofs.KeptParts.{choice_keeps, only_keeps, values_keep}
 use Rattle.py_expr_scopes.proofs.KeptScopes.{function_keeps}
 use Rattle.py_expr_scopes.proofs.KeptTargets.{debug_keeps}
-use Rattle.py_expr_scopes.proofs.KeptExpressions.{deletes_keep, expr_keeps, exprs_keep, store_keeps, unbuilt_keeps}
+use Rattle.py_expr_scopes.proofs.KeptExpressions.{deletes_keep, expr_keeps, exprs_keep, store_keeps, unsupported_keeps}
 use Rattle.py_stmt.specs.Managing.{full_body}
 use Rattle.py_stmt.specs.Parts.{each_ended, each_turn, emission_of_caught, guarded, unguarded}
 use Rattle.py_stmt_simple.specs.Parts.{emission_of_match}
@@ -97,7 +97,7 @@ mutual
   stmt_keeps (tree.Break at) = moved_keeps at _ (loops_keep _ (leave_keeps op.Break (λ y. y.on_break) error.InvalidBreak))
   stmt_keeps (tree.Continue at) = moved_keeps at _ (loops_keep _ (leave_keeps op.Continue (λ y. y.on_continue) error.InvalidContinue))
   stmt_keeps (tree.Pass at) = move_keeps at
-  stmt_keeps t = unbuilt_keeps (tree.stmt_location t)
+  stmt_keeps t = unsupported_keeps (tree.stmt_location t)
 
   pub stmts_keep : (ts : tree.Stmts) → Keeps (emission_of_stmts ts)
   stmts_keep tree.no_stmts = idle_keeps

@@ -8,7 +8,7 @@ ghost use Rattle.py_steps.specs.Children.{code_head, made};
 ghost use Rattle.py_steps.specs.Emitting.{begun, emit_constant};
 ghost use Rattle.py_steps.specs.TypeParameters.{hidden_shape, kept_as, load_handed, plain};
 ghost use Rattle.py_steps.specs.Within.{hidden_name};
-ghost use Rattle.py_emission.specs.Emission.{unbuilt};
+ghost use Rattle.py_emission.specs.Emission.{unsupported};
 ghost use Rattle.py_emit.specs.States.{Emits, IsStarved, entered, entered_rest, rest, state};
 ghost use Rattle.py_expr_scopes.specs.Functions.{flag_if};
 ghost use Rattle.py_stmt_parts.specs.Generics.{defaults_of, given_flags, handed_by, name_if, params_flag};
@@ -40,7 +40,7 @@ pub fn params_flag(params: &[TypeParam]) -> MakeFunctionFlags
 /// NotImplementedYet, always.
 #[tactic(auto, using(crate::proofs::Steps::steps))]
 pub fn refuse_param(em: &mut Emitter, location: SourceLocation) -> Result<(), CodegenError>
-    ensures { Emits result (unbuilt location) em.old em.new }
+    ensures { Emits result (unsupported location) em.old em.new }
 {
     em.set_location(location);
     refuse_unsupported(em)

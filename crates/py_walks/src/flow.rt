@@ -1,3 +1,5 @@
+//! What each instruction does to the height of the stack and to the blocks, in numbers: the values it takes, looks at and
+//! gives, whether it goes on to the next one or jumps, and the block it needs, opens or closes.
 ghost use Rattle.std.specs.Prelude.{◌≡◌, ◌<◌, ◌^◌, ◌*◌};
 ghost use Rattle.py_walks.specs.Flow.{closes, flow_at, goes_on, jumps, jumps_away, leaves, made_of, raised_of, opening, opens_block, values_at};
 

@@ -1,3 +1,4 @@
+//! Instructions before they have units: with the number of the block they jump to and their place in the source.
 use py_base::SourceLocation;
 use py_bytecode::{Instruction, OpArg};
 

@@ -1,3 +1,4 @@
+//! What is known of a place on all walks that reach it, and how it grows when one more walk arrives.
 ghost use Rattle.std.specs.Prelude.{ℕ, ◌≡◌, ◌≢◌, ◌+◌, ◌-◌, ◌^◌, ◌<◌, ◌≤◌, true, false, nat_lt, Some, IfErr, IfOk, length};
 ghost use Rattle.std.specs.Option.{IfNone, IfSome};
 ghost use Rattle.py_walks.specs.Walks.{Shape, enough, falls_to, jumps_to, opened, state};
@@ -183,7 +184,12 @@ fn meet(
     }
 }
 
-// A state arrives at a place: it is put there, or its marks are added to those of the state that is there.
+/// A state arrives at a place: it is put there, or its marks are added to those of the state that is there. The answer
+/// says what changed.
+///
+/// # Errors
+/// `UnevenHeights` where the heights differ, `BlockMismatch` where the blocks differ or one would be marked both ways;
+/// there may be no memory.
 pub fn arrive(
     alloc: Global,
     states: &mut [Option<KnownState>],
@@ -219,7 +225,7 @@ pub fn arrive(
     }
 }
 
-// Both changes in one.
+/// The greater of two changes: a new place is more than new marks, and these are more than nothing.
 pub fn combine(one: Change, other: Change) -> Change
     ensures { result ≡ combined one other }
 {
@@ -293,6 +299,11 @@ pub struct Nexts {
     pub jump: Option<KnownState>,
 }
 
+/// What is known after an instruction, where it goes on to the next one and where it jumps, from what is known before it.
+///
+/// # Errors
+/// `BlockMismatch` where the block that it needs is not there; `HeightOutOfRange` where the stack holds fewer values than
+/// it takes and looks at above the innermost block, or would hold 2^32 or more; there may be no memory.
 pub fn nexts_of(alloc: Global, item: &InstructionInfo, known: &KnownState) -> Result<Nexts, Refused>
     ensures passes { IfOk result (λ _. Passes item.now (state_of known.now)) }
     ensures fall { IfOk result (λ nexts. FallIs item.now (state_of known.now) nexts.fall) }

@@ -1,3 +1,4 @@
+//! Shapes: the blocks that are open at a place, the innermost first.
 ghost use Rattle.std.specs.Prelude.{◌≡◌, ◌+◌, ◌<◌, ◌≤◌, ◌||◌, true, false, IfOk, drop, if◌then◌else◌, length};
 ghost use Rattle.py_walks.specs.Walks.{Alike, cut_to, from_loop, has_block, height_of, is_entered, is_final, is_handler, is_loop, is_with, opened, rest_of, tops};
 ghost use Rattle.py_walks.specs.Known.{Torn, join, joined, lacking, lacking_in, missing_in};
@@ -6,30 +7,35 @@ use crate::{Kind, Mark, NeededBlock, Opening};
 use std::alloc::{AllocError, Global};
 
 impl Kind {
+    /// Whether the block is that of a loop.
     pub fn is_loop(self) -> bool
         ensures { result ≡ is_loop self }
     {
         matches!(self, Kind::Loop)
     }
 
+    /// Whether the block is that of a `with`.
     pub fn is_with(self) -> bool
         ensures { result ≡ is_with self }
     {
         matches!(self, Kind::With)
     }
 
+    /// Whether the block is one that a setup instruction opens, and not that of a handler.
     pub fn is_entered(self) -> bool
         ensures { result ≡ is_entered self }
     {
         matches!(self, Kind::Loop | Kind::Except | Kind::Finally | Kind::With)
     }
 
+    /// Whether the block is that of an `except` handler.
     pub fn is_handler(self) -> bool
         ensures { result ≡ is_handler self }
     {
         matches!(self, Kind::ExceptHandler)
     }
 
+    /// Whether the block is that of a `finally` handler.
     pub fn is_final(self) -> bool
         ensures { result ≡ is_final self }
     {
@@ -37,7 +43,7 @@ impl Kind {
     }
 }
 
-// Where the innermost loop's block stands.
+/// The index of the innermost loop's block, or the length of the shape where there is none.
 pub fn loop_index(shape: &[Mark]) -> usize
     ensures at { drop result shape.now ≡ from_loop shape.now }
     ensures within { result ≤ length shape.now }
@@ -50,13 +56,15 @@ pub fn loop_index(shape: &[Mark]) -> usize
     shape.len()
 }
 
+/// Whether a loop's block is open.
 pub fn has_loop(shape: &[Mark]) -> bool
     ensures { result ≡ tops (λ m. true) (from_loop shape.now) }
 {
     loop_index(shape) < shape.len()
 }
 
-// The height that a continue cuts to.
+/// The height that a `continue` cuts the stack to, from this height: that of the outermost block within the innermost
+/// loop, one less where that block is a `with`'s, which keeps its exit below it.
 pub fn cut(height: u32, shape: &[Mark]) -> u32
     ensures { result ≡ cut_to height shape.now }
 {
@@ -74,7 +82,7 @@ pub fn cut(height: u32, shape: &[Mark]) -> u32
     cut
 }
 
-// The height of the innermost block.
+/// The height of the innermost block, or 0 where none is open.
 pub fn top_height(shape: &[Mark]) -> u32
     ensures { result ≡ height_of shape.now }
 {
@@ -84,7 +92,7 @@ pub fn top_height(shape: &[Mark]) -> u32
     }
 }
 
-// The blocks that stay in place.
+/// The blocks that stay: all, or all but the innermost where that is closed.
 pub fn kept_blocks(pops: bool, shape: &[Mark]) -> &[Mark]
     ensures { result.now ≡ (if pops then rest_of shape.now else shape.now) }
 {
@@ -95,7 +103,7 @@ pub fn kept_blocks(pops: bool, shape: &[Mark]) -> &[Mark]
     }
 }
 
-// Whether the block that is needed is there.
+/// Whether the block that an instruction needs is there, at this height of the stack.
 pub fn block_present(needs: NeededBlock, height: u32, shape: &[Mark]) -> bool
     ensures { result ≡ has_block needs height shape.now }
 {
@@ -125,7 +133,10 @@ pub fn block_present(needs: NeededBlock, height: u32, shape: &[Mark]) -> bool
     }
 }
 
-// A shape with one more block at this height, if any.
+/// The shape with one more block at this height, where one is opened.
+///
+/// # Errors
+/// There is no memory for it.
 pub fn with_top(
     alloc: Global,
     top: Option<Opening>,
@@ -180,7 +191,10 @@ fn adds(mine: Mark, theirs: Mark) -> bool
     plain || exit
 }
 
-// The marks of both.
+/// The blocks of two shapes of equal kinds and heights, with the marks of both.
+///
+/// # Errors
+/// There is no memory for them.
 pub fn join_shapes(alloc: Global, mine: &[Mark], theirs: &[Mark]) -> Result<Vec<Mark>, AllocError>
     requires { length mine.now ≡ length theirs.now }
     ensures { IfOk result (λ shape. shape.items ≡ join mine.now theirs.now) }
@@ -192,7 +206,7 @@ pub fn join_shapes(alloc: Global, mine: &[Mark], theirs: &[Mark]) -> Result<Vec<
     Ok(shape)
 }
 
-// Whether two shapes have the same kinds and heights.
+/// Whether two shapes have the same kinds and heights.
 pub fn are_alike(mine: &[Mark], theirs: &[Mark]) -> bool
     ensures yes { result ≡ true → Alike mine.now theirs.now }
     ensures no { result ≡ false → ¬ Alike mine.now theirs.now }
@@ -209,7 +223,7 @@ pub fn are_alike(mine: &[Mark], theirs: &[Mark]) -> bool
     true
 }
 
-// Whether a block is marked both ways.
+/// Whether a block is marked both ways: as that of a `finally` statement and as that of a `with`.
 pub fn is_torn(shape: &[Mark]) -> bool
     ensures yes { result ≡ true → Torn shape.now }
     ensures no { result ≡ false → ¬ Torn shape.now }
@@ -222,7 +236,7 @@ pub fn is_torn(shape: &[Mark]) -> bool
     false
 }
 
-// Whether the second shape has a mark that the first one lacks.
+/// Whether the second shape has a mark that the first one lacks.
 pub fn adds_mark(mine: &[Mark], theirs: &[Mark]) -> bool
     requires { length mine.now ≡ length theirs.now }
     ensures yes { result ≡ true → missing_in (join mine.now theirs.now) < missing_in mine.now }

@@ -1,3 +1,4 @@
+//! Walks over all instructions from the first one on, until nothing that is known changes.
 ghost use Rattle.std.specs.Prelude.{ℕ, ◌≡◌, ◌≢◌, ◌+◌, ◌<◌, ◌≤◌, ◌⊎◌, ◌||◌, [], All, None, Some, true, false, IfErr, IfOk, length, replicate, slice_index_or};
 ghost use Rattle.std.specs.Option.{IfNone, IfSome};
 ghost use Rattle.py_walks.specs.Walks.{IsDepth, Sound, state};
@@ -282,7 +283,12 @@ fn walk_all(
     Ok(greatest(states))
 }
 
-/// The greatest height on a walk; refused where a walk is.
+/// The greatest height of the stack on a walk from the first instruction, in values.
+///
+/// # Errors
+/// Each of the four refusals is told only where a walk meets it, at the place of that instruction in the list: `NoEnd`
+/// where a walk goes on behind the last instruction, `UnevenHeights` where two walks reach a place with different heights,
+/// `HeightOutOfRange` and `BlockMismatch` as one instruction has them. There may be no memory.
 pub fn depth(alloc: Global, starts: &[usize], items: &[InstructionInfo]) -> Result<u32, Fault>
     requires { IsCode starts.now items.now }
     ensures sound { IfOk result (λ depth. Sound (look_at starts.now items.now) 0 (depth + 1)) }

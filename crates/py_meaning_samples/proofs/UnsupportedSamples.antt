@@ -10,7 +10,7 @@ use Rattle.py_steps.specs.Emitting.{Refused, by_level, by_loops, located, move, 
 use Rattle.py_steps.specs.Context.{inside}
 use Rattle.py_emission.specs.EmissionMods.{emitted}
 use Rattle.py_meaning.specs.ExprFaults.{Fault, fault_at}
-use Rattle.py_meaning.specs.Faults.{faults, unbuilt_tree}
+use Rattle.py_meaning.specs.Faults.{faults, unsupported_tree}
 use Rattle.py_meaning_samples.proofs.SampleTools.{unscoped}
 
 abbrev at : ℕ → SourceLocation
@@ -71,7 +71,7 @@ not_prompted = refl
 abbrev type : tree.Mod
 type = tree.FunctionType tree.no_exprs (tree.Name (at 1) (codes "x"))
 
-typed : faults type Single 0 ≡ record { error = error.MalformedTree WrongMode; location = None } ∷ unbuilt_tree ∷ []
+typed : faults type Single 0 ≡ record { error = error.MalformedTree WrongMode; location = None } ∷ unsupported_tree ∷ []
 typed = refl
 
 type_refused : emitted type Single (unscoped 0) ≡ Refused error.NotImplementedYet None
