@@ -1,20 +1,12 @@
-use Rattle.std.proofs.Common.{◌≡◌, ◌≢◌, Result, Ok, Err, IfErr, IsErrAnd, sym, ap, ◌∙◌, subst}
-use Rattle.std.proofs.lemmas.Result.{err_from_is_err_and}
-use Rattle.py_base.specs.declared.location.LocatedError.{LocatedError}
-use Rattle.py_base.specs.declared.errors.CodegenErrorType.{CodegenErrorType}
-use Rattle.py_base.specs.declared.errors.CodegenErrorType.TheVariants as error
+use Rattle.std.proofs.Common.{sym, ap, ◌∙◌}
 use Rattle.py_bytecode.specs.Objects as const
-use Rattle.py_bytecode.specs.declared.flags.MakeFunctionFlags.{MakeFunctionFlags}
 use Rattle.py_tree.specs.View.{arguments, expr_tree}
-use Rattle.py_steps.specs.Children.{code_head, emission_of_defaults, enter_parameters}
-use Rattle.py_steps.specs.Emitting.{Done, Emission, Refused, ◌▸◌, add_constant}
+use Rattle.py_steps.specs.Children.{code_head, enter_parameters}
+use Rattle.py_steps.specs.Emitting.{Done, ◌▸◌, add_constant}
 use Rattle.py_steps.specs.Within.{lambda_inside}
-use Rattle.py_emission.specs.Emission.{default_emissions}
 use Rattle.py_emission.specs.Parameters.{function_shape, parameters}
 use Rattle.py_emit.specs.States.{entered_rest, rest, state}
 use Rattle.py_emit.specs.declared.emitter.Emitter.{Emitter}
-use Rattle.py_emit.proofs.Joined.{refused_first, went}
-use Rattle.py_calls.specs.Entering.{IsEntered, entry, opening}
 use Rattle.py_calls.proofs.functions.enter_function.Goals as goal
 
 pub returns-clause-entered : goal.returns-clause-entered
