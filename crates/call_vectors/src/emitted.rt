@@ -1,0 +1,126 @@
+//! What each call emits, beside what the order of emission says.
+ghost use Rattle.py_emit.specs.States.{AreMade, rest};
+
+use crate::fixtures::{emitter, taken, tree};
+use bitflags::Flags;
+use py_calls::{
+    CallType, compile_call_inner, compile_delete, compile_expression, compile_future_features,
+    compile_jump_if, compile_statement, compile_statements, compile_store, enter_function,
+};
+use py_emit::Emitter;
+use py_scope::SymbolTableType;
+use py_tree::{Expr, Mod, Stmt, Stmts};
+use std::alloc::Global;
+use std::test::Fail;
+
+/// The call that a case is for.
+#[derive(Clone, Copy)]
+enum Call {
+    Expression,
+    Store,
+    Delete,
+    Test,
+    Arguments,
+    Function,
+    Statement,
+    FromSecond,
+    Features,
+}
+
+/// Makes a call that is handed an expression.
+fn call_on_expr(em: &mut Emitter, call: Call, expr: &Expr) -> Result<(), Fail> {
+    match (call, expr) {
+        (Call::Expression, _) => compile_expression(em, expr)?,
+        (Call::Store, _) => compile_store(em, expr)?,
+        (Call::Delete, _) => compile_delete(em, expr)?,
+        (Call::Test, _) => {
+            let end = em.new_block()?;
+            compile_jump_if(em, expr, false, end)?;
+        }
+        (Call::Arguments, Expr::Call(e)) => {
+            if compile_call_inner(em, 0, &e.args, &e.keywords)?
+                != (CallType::Keyword { nargs: 2 })
+            {
+                return Err(Fail::from("another way to be called"));
+            }
+        }
+        (Call::Function, Expr::Lambda(e)) => {
+            let flags = enter_function(em, "<lambda>", &e.args)?;
+            if flags.bits() != 0x08 || em.scope_type() != SymbolTableType::Function {
+                return Err(Fail::from("another scope"));
+            }
+        }
+        _ => return Err(Fail::from("no such expression")),
+    }
+    Ok(())
+}
+
+/// Makes a call that is handed statements.
+fn call_on_stmts(em: &mut Emitter, call: Call, body: &Stmts) -> Result<(), Fail>
+    requires { AreMade (rest em.old).context.loop_blocks }
+{
+    match (call, body.get(0)) {
+        (Call::Statement, Some(statement)) => compile_statement(em, statement)?,
+        (Call::FromSecond, _) if body.len() > 1 => compile_statements(em, body, 1)?,
+        (Call::Features, Some(Stmt::ImportFrom(s))) => compile_future_features(em, &s.names)?,
+        _ => return Err(Fail::from("no such statement")),
+    }
+    Ok(())
+}
+
+/// What the call leaves in the current block.
+fn answered(alloc: Global, call: Call, program: &Mod) -> Result<String, Fail> {
+    let mut em = emitter(alloc, program)?;
+    match program {
+        Mod::Expression(m) => call_on_expr(&mut em, call, &m.body)?,
+        Mod::Module(m) => call_on_stmts(&mut em, call, &m.body)?,
+        _ => return Err(Fail::from("no such program")),
+    }
+    Ok(taken(alloc, &mut em)?)
+}
+
+const CALL: &str =
+    r#"[["Name",1,1,"f"],["Name",1,3,"a"],["int","1"],["Constant",1,7,2],["BinOp",1,3,1,"Add",3],["Call",1,1,0,[4],[]],["Expression",5]]"#;
+
+const NAME: &str = r#"[["Name",1,1,"a"],["Expression",0]]"#;
+
+const NAMED: &str =
+    r#"[["Name",1,1,"f"],["Name",1,3,"a"],["Name",1,8,"b"],["Keyword","k",2],["Call",1,1,0,[1],[3]],["Expression",4]]"#;
+
+const LAMBDA: &str =
+    r#"[["Arg",1,8,"a",null],["ArgWithDefault",0,null],["Arg",1,11,"b",null],["int","1"],["Constant",1,13,3],["ArgWithDefault",2,4],["Arguments",[],[1,5],null,[],null],["Name",1,16,"a"],["Lambda",1,1,6,7],["Expression",8]]"#;
+
+const TWO: &str =
+    r#"[["Name",1,1,"a"],["Expr",1,1,0],["Name",2,1,"b"],["Expr",2,1,2],["Module",[1,3]]]"#;
+
+const FUTURE: &str =
+    r#"[["Alias","division",null],["ImportFrom",1,1,"__future__",[0],0],["Module",[1]]]"#;
+
+#[test]
+fn each_call_emits_its_code(rt: HostRuntime) -> Result<(), Fail> {
+    for (call, rows, want) in [
+        (
+            Call::Expression,
+            CALL,
+            "CallFunctionPositional 1; BinaryOperation 0; LoadConst 0; LoadNameAny 1; LoadNameAny 0; ",
+        ),
+        (Call::Store, NAME, "StoreLocal 0; "),
+        (Call::Delete, NAME, "DeleteLocal 0; "),
+        (Call::Test, NAME, "JumpIfFalse 0; LoadNameAny 0; "),
+        (
+            Call::Arguments,
+            NAMED,
+            "LoadConst 0; LoadNameAny 1; LoadNameAny 0; ",
+        ),
+        (Call::Function, LAMBDA, ""),
+        (Call::Statement, TWO, "Pop 0; LoadNameAny 0; "),
+        (Call::FromSecond, TWO, "Pop 0; LoadNameAny 0; "),
+        (Call::Features, FUTURE, ""),
+    ] {
+        let program = tree(rt.alloc(), rows)?;
+        let given = answered(rt.alloc(), call, &program);
+        program.discard();
+        assert_eq!(rt; given?.as_str(), want);
+    }
+    Ok(())
+}
