@@ -15,7 +15,7 @@ use Rattle.pyc_c.proofs.Written.{TextRoom, LineRoom, fits_words, long_writes, ru
 -- what a run over these rows and these sinks says
 pub record Ran (words : List (List ℕ)) (rows : List ℕ) (r : Report) (old_out old_err out err : Shelf) : Type 0 where
   pub form : FitsForm r.status (words_form words)
-  pub due : IfSome (due_of words (Some rows)) (IsDue r.status)
+  pub is_due : IfSome (due_of words (Some rows)) (IsDue r.status)
   pub read : ReadCause r.status 0 0
   pub reported : Reports r.status (words_form words) r.code
   pub code : IfSome r.code (λ c. IfSome (due_of words (Some rows)) (λ d. IsCodeOf d c))

@@ -1,7 +1,7 @@
 -- The words of a run, by whether the path is UTF-8; they ask for the code of a tree.
-use Rattle.std.proofs.Common.{◌≡◌, ◌==◌, ℕ, List, [], ◌∷◌, Bool, true, false, IfOk, Option, Some, None, Result, Ok, Err, codes, if◌then◌else◌, option_map, refl, ◌∙◌, subst, sym}
+use Rattle.std.proofs.Common.{◌≡◌, ◌==◌, ◌&&◌, ◌^◌, nat_lt, length, ℕ, List, [], ◌∷◌, Bool, true, false, IfOk, Option, Some, None, Result, Ok, Err, codes, if◌then◌else◌, option_map, refl, ◌∙◌, subst, sym}
 use Rattle.std.proofs.lemmas.Str.{IsUtf8-from_is_utf8, is_utf8-from_IsUtf8}
-use Rattle.std.specs.Str.{IsUtf8, is_utf8}
+use Rattle.std.specs.Str.{IsUtf8, bytes_eq, is_utf8}
 use Rattle.py_run.specs.Words.{Command, Compilation, Compile, Pack, compilation_of, words_form}
 use Rattle.pyc_c.specs.Handed.{asked_words, level_word, mode_word, words_of}
 use Rattle.pyc_c.specs.Runs.{AsksForCode}
@@ -48,7 +48,7 @@ asks output mode level path = by_output (output == 0) (output == 1)
 
     by_output : (listing file : Bool) → AsksForCode (words_form (if listing then mode ∷ level ∷ path ∷ [] else (if file then codes "pack" ∷ mode ∷ level ∷ path ∷ [] else [])))
     by_output true file = asks_by (compilation_of mode level path)
-    by_output false true = if_packs _
+    by_output false true = if_packs (bytes_eq (codes "pack") (codes "pack") && nat_lt (length path) (2 ^ 32))
     by_output false false = tt
 
 handed_asks : (output mode level : ℕ) (path : List ℕ) → AsksForCode (words_form (words_of output mode level path))

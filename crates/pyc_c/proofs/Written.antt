@@ -60,7 +60,7 @@ too_long room (Some Unpack) d code b n m k asked owed kind text line = absurd as
 too_long room (Some Names) d code b n m k asked owed kind text line = absurd asked
 
 never_rose : ReadCause status.ReadFault 0 0 → ⊥
-never_rose rose = omega (arith, rose)
+never_rose rose = let l : 1 ≤ 0 = rose in omega (arith, l)
 
 -- what the two sinks got is what is written with the status
 pub run_writes :

@@ -15,7 +15,7 @@ returns-in-Some-clause-run c =
     let words = c.args.words.now in
     let ran : Ran words c.in-Ok.devices.source r c.in-Ok.devices.out c.in-Ok.devices.err c.run-report.new.out c.run-report.new.err = record {
       form = c.run-report.ensures.form;
-      due = c.run-report.ensures.due;
+      is_due = c.run-report.ensures.due;
       read = c.run-report.ensures.read;
       reported = c.run-report.ensures.reported;
       code = c.run-report.ensures.code;
@@ -26,7 +26,7 @@ returns-in-Some-clause-run c =
       line_room = c.run-report.ensures.line_room;
     } in
     at_front words c.args.rows.now r.status c.in-Some.put c.args.text.now c.put_front.new.text c.written.result.now
-    ran.form (subst (λ xs. IfSome (due_of words (Some xs)) (IsDue r.status)) c.in-Ok.ensures.source ran.due)
+    ran.form (subst (λ xs. IfSome (due_of words (Some xs)) (IsDue r.status)) c.in-Ok.ensures.source ran.is_due)
     (ran_writes words c.args.rows.now c.in-Ok.devices.source r (length c.args.text.now) c.in-Ok.devices.out c.in-Ok.devices.err c.run-report.new.out c.run-report.new.err c.written.result.now
     c.requires c.in-Ok.ensures.source c.in-Ok.ensures.out c.in-Ok.ensures.err ran c.written.ensures)
     c.in-Some.ensures.put.0 c.in-Some.ensures.put.2
@@ -37,7 +37,7 @@ returns-in-None-clause-run c =
     let words = c.args.words.now in
     let ran : Ran words c.in-Ok.devices.source r c.in-Ok.devices.out c.in-Ok.devices.err c.run-report.new.out c.run-report.new.err = record {
       form = c.run-report.ensures.form;
-      due = c.run-report.ensures.due;
+      is_due = c.run-report.ensures.due;
       read = c.run-report.ensures.read;
       reported = c.run-report.ensures.reported;
       code = c.run-report.ensures.code;
