@@ -3,7 +3,7 @@
 
 usage: example.py LIBRARY FILE.py [CODE]
 
-LIBRARY is libpyc.so, which tools/static_library.py --keep FOLDER makes. With CODE the file that holds the code is written
+LIBRARY is libpyc.so, which tools/static_library.py --to FOLDER makes. With CODE the file that holds the code is written
 there, and no listing. The status is that of the program (README.md).
 """
 import ctypes
@@ -22,7 +22,7 @@ class Compiler:
     """The library at a path."""
 
     def __init__(self, path):
-        library = ctypes.CDLL(str(path))
+        library = ctypes.CDLL(str(pathlib.Path(path).resolve()))
         slice_of, count = [ctypes.c_char_p, ctypes.c_size_t], ctypes.POINTER(ctypes.c_size_t)
         self.call, self.free = library.pyc_compile, library.pyc_free
         self.call.restype = ctypes.c_uint32
@@ -49,6 +49,11 @@ def main():
         return 0 if "--help" in words else 2
     library, source = words[:2]
     try:
+        compiler = Compiler(library)
+    except OSError as error:
+        print(error, file=sys.stderr)
+        return 127
+    try:
         rows = rows_of_python.rows_text(pathlib.Path(source).read_bytes()).encode("utf-8")
     except OSError as error:
         print("%s: %s" % (source, error.strerror), file=sys.stderr)
@@ -56,7 +61,7 @@ def main():
     except rows_of_python.Fault as fault:
         print(fault.line(source), file=sys.stderr)
         return REFUSED
-    status, text = Compiler(library).compile_rows(rows, source, output=FILE if len(words) > 2 else LISTING)
+    status, text = compiler.compile_rows(rows, source, output=FILE if len(words) > 2 else LISTING)
     if status != DONE:
         print("%s: %s" % (source, text.decode("utf-8").rstrip("\n")), file=sys.stderr)
     elif len(words) > 2:
