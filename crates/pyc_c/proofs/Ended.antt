@@ -13,17 +13,17 @@ use Rattle.pyc_c.specs.Runs.{AsksForCode, IsRun, Writes, empty_shelf, written_wi
 use Rattle.pyc_c.proofs.Written.{TextRoom, LineRoom, fits_words, long_writes, run_writes}
 
 -- what a run over these rows and these sinks says
-pub record Ran (words : List (List ℕ)) (rows : List ℕ) (r : Report) (old_out old_err out err : Shelf) : Type 0 where
+pub record Ran (words : List (List ℕ)) (rows : List ℕ) (r : Report) (old_out old_err new_out new_err : Shelf) : Type 0 where
   pub form : FitsForm r.status (words_form words)
   pub is_due : IfSome (due_of words (Some rows)) (IsDue r.status)
   pub read : ReadCause r.status 0 0
   pub reported : Reports r.status (words_form words) r.code
   pub code : IfSome r.code (λ c. IfSome (due_of words (Some rows)) (λ d. IsCodeOf d c))
   pub kind : IfSome r.code (λ c. IsOfForm (words_form words) (object c))
-  pub out : OutGets (written words (Some rows) r) r.status (text_of words (Some rows) r.code) (Some old_out.held) (Some out.held)
-  pub err : ErrGets (written words (Some rows) r) r.status (line_of words (Some rows)) (Some old_err.held) (Some err.held)
-  pub room : TextRoom (written words (Some rows) r) r.status (text_of words (Some rows) r.code) old_out.room old_out.faults out.faults
-  pub line_room : written words (Some rows) r ≡ Line → IfSome (line_of words (Some rows)) (λ line. length line ≤ old_err.room → (r.status ≢ status.WriteFault) × (err.faults ≡ old_err.faults))
+  pub out : OutGets (written words (Some rows) r) r.status (text_of words (Some rows) r.code) (Some old_out.held) (Some new_out.held)
+  pub err : ErrGets (written words (Some rows) r) r.status (line_of words (Some rows)) (Some old_err.held) (Some new_err.held)
+  pub room : TextRoom (written words (Some rows) r) r.status (text_of words (Some rows) r.code) old_out.room old_out.faults new_out.faults
+  pub line_room : written words (Some rows) r ≡ Line → IfSome (line_of words (Some rows)) (λ line. length line ≤ old_err.room → (r.status ≢ status.WriteFault) × (new_err.faults ≡ old_err.faults))
 
 -- something is due for all words over rows
 pub when_due : (P : Due → Type 0) (form : Option Command) (rows : List ℕ) → ((d : Due) → P d) → IfSome (due_by form (Some rows)) P

@@ -6,8 +6,8 @@ use Rattle.pyc_c.specs.Runs.{IsRun}
 use Rattle.pyc_c.proofs.Ended.{Ran, at_front, no_memory, no_room, ran_writes}
 use Rattle.pyc_c.proofs.ending.ended.Goals as goal
 
-pub returns-clause-run : goal.returns-clause-run
-returns-clause-run c = no_memory c.args.words.now c.args.rows.now c.args.text.now
+pub returns-in_default-clause-run : goal.returns-in_default-clause-run
+returns-in_default-clause-run c = no_memory c.args.words.now c.args.rows.now c.args.text.now
 
 pub returns-in-Some-clause-run : goal.returns-in-Some-clause-run
 returns-in-Some-clause-run c =
@@ -31,8 +31,8 @@ returns-in-Some-clause-run c =
     c.requires c.in-Ok.ensures.source c.in-Ok.ensures.out c.in-Ok.ensures.err ran c.written.ensures)
     c.in-Some.ensures.put.0 c.in-Some.ensures.put.2
 
-pub returns-in-None-clause-run : goal.returns-in-None-clause-run
-returns-in-None-clause-run c =
+pub returns-clause-run : goal.returns-clause-run
+returns-clause-run c =
     let r = c.run-report.result in
     let words = c.args.words.now in
     let ran : Ran words c.in-Ok.devices.source r c.in-Ok.devices.out c.in-Ok.devices.err c.run-report.new.out c.run-report.new.err = record {
