@@ -6,11 +6,11 @@ use Rattle.py_devices.specs.Memory.{Shelf}
 use Rattle.py_run.specs.declared.report.Status.{Status}
 use Rattle.py_run.specs.declared.report.Status.TheVariants as status
 use Rattle.py_run.specs.declared.report.Report.{Report}
-use Rattle.py_run.specs.Runs.{ErrGets, FitsForm, IsDue, IsOfForm, Line, OutGets, ReadCause, Reports, Text, line_of, side, side_of, text_by, text_of, written, line_for}
+use Rattle.py_run.specs.Runs.{ErrGets, FitsForm, IsDue, IsOfForm, Line, OutGets, ReadCause, Reports, line_of, side, side_of, text_by, text_of, written, line_for}
 use Rattle.py_run.specs.Statuses.{Due, IsCodeOf, Misuse, due, due_by, due_of}
 use Rattle.py_run.specs.Words.{Command, words_form}
 use Rattle.pyc_c.specs.Runs.{AsksForCode, IsRun, Writes, empty_shelf, written_with}
-use Rattle.pyc_c.proofs.Written.{TextRoom, LineRoom, fits_words, long_writes, run_writes}
+use Rattle.pyc_c.proofs.Written.{TextRoom, fits_words, long_writes, run_writes}
 
 -- what a run over these rows and these sinks says
 pub record Ran (words : List (List ℕ)) (rows : List ℕ) (r : Report) (old_out old_err new_out new_err : Shelf) : Type 0 where

@@ -2,7 +2,7 @@
 use Rattle.std.proofs.Common.{◌≡◌, ◌==◌, ◌&&◌, ◌^◌, nat_lt, length, ℕ, List, [], ◌∷◌, Bool, true, false, IfOk, Option, Some, None, Result, Ok, Err, codes, if◌then◌else◌, option_map, refl, ◌∙◌, subst, sym}
 use Rattle.std.proofs.lemmas.Str.{IsUtf8-from_is_utf8, is_utf8-from_IsUtf8}
 use Rattle.std.specs.Str.{IsUtf8, bytes_eq, is_utf8}
-use Rattle.py_run.specs.Words.{Command, Compilation, Compile, Pack, compilation_of, words_form}
+use Rattle.py_run.specs.Words.{Compilation, Compile, Pack, compilation_of, words_form}
 use Rattle.pyc_c.specs.Handed.{asked_words, level_word, mode_word, words_of}
 use Rattle.pyc_c.specs.Runs.{AsksForCode}
 

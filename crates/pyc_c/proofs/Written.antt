@@ -8,7 +8,7 @@ use Rattle.py_run.specs.declared.report.Status.TheVariants as status
 use Rattle.py_run.specs.Runs.{ErrGets, FitsForm, IsOfForm, Line, OutGets, ReadCause, Reports, Text, Written, line_for, side, side_of, text_by}
 use Rattle.py_run.specs.Statuses.{Due, IsCodeOf, code_text}
 use Rattle.py_run.specs.Words.{Command, Compile, Pack, Unpack, Names}
-use Rattle.pyc_c.specs.Runs.{AsksForCode, FitsWords, IsTextOf, IsTooLong, Writes, written_with}
+use Rattle.pyc_c.specs.Runs.{AsksForCode, FitsWords, IsTooLong, Writes, written_with}
 
 -- a status that fits the form of the words, whether memory ran out or not
 pub fits_words : (s : Status) (form : Option Command) → FitsForm s form → FitsWords s form

@@ -1,4 +1,4 @@
-use Rattle.std.proofs.Common.{◌≡◌, List, ℕ, IfSome, Some, length, subst, sym}
+use Rattle.std.proofs.Common.{IfSome, Some, length, subst, sym}
 use Rattle.py_run.specs.declared.report.Status.TheVariants as status
 use Rattle.py_run.specs.Runs.{IsDue}
 use Rattle.py_run.specs.Statuses.{due_of}
