@@ -166,8 +166,28 @@ want_program() {
     fi
 }
 
+# Whether a file is there, which is told where it is not. An option behind the files is no file, unless -- came first.
+is_there() {
+    if [ -d "$1" ]; then
+        echo "$1: Is a directory" >&2
+    elif [ -e "$1" ]; then
+        return 0
+    else
+        case $named$1 in
+            -?*) wrong "there is no file $1: options stand before the files, and before --run" ;;
+        esac
+        echo "$1: No such file or directory" >&2
+    fi
+    return 1
+}
+
+# Sees that one of the files at least has rows, before the program is built, which takes long.
+want_rows() {
+    [ -x "$pyc" ] || python3 -B "$root/tools/compile_files.py" --look --least $least -m "$mode" -- "$@" || exit
+}
+
 # The words.
-mode=exec level=0 rows='' to='' way=built
+mode=exec level=0 rows='' to='' way=built named=''
 if [ $# -eq 0 ]; then
     usage >&2
     exit 2
@@ -220,6 +240,7 @@ while [ $# -gt 0 ]; do
             ;;
         --)
             shift
+            named=yes
             break
             ;;
         -?*) wrong "there is no option $1" ;;
@@ -236,17 +257,13 @@ fi
 # The files: what is not there is told before anything is built. Of --run the first word alone is a file.
 least=0
 if [ "$way" = run ]; then
-    [ -e "$1" ] || {
-        echo "$1: No such file or directory" >&2
-        exit 4
-    }
+    is_there "$1" || exit 4
 else
     for file in "$@"; do
         shift
-        if [ "$file" = - ] || [ -e "$file" ]; then
+        if [ "$file" = - ] || is_there "$file"; then
             set -- "$@" "$file"
         else
-            echo "$file: No such file or directory" >&2
             least=4
         fi
     done
@@ -265,8 +282,11 @@ if [ "$way" = try ]; then
     say '--try: nothing is proved of this program, which is built anew for each file and checks itself while it runs'
     exec python3 -B "$root/tools/compile_files.py" --unproved --least $least -m "$mode" -O "$level" ${to:+-o "$to"} $rows -- "$@"
 fi
-want_program
 if [ "$way" = run ]; then
+    want_rows "$1"
+    want_program
     exec python3 -B "$root/tools/run.py" --program "$pyc" --level "$level" -- "$@"
 fi
+[ -n "$rows" ] || want_rows "$@"
+want_program
 exec python3 -B "$root/tools/compile_files.py" --program "$pyc" --least $least -m "$mode" -O "$level" ${to:+-o "$to"} $rows -- "$@"

@@ -1,10 +1,11 @@
 #!/usr/bin/env python3
 """Compiles Python files by the program, and writes the listings of their code. pyc.sh calls it.
 
-usage: compile_files.py (--program PROGRAM | --unproved) [-m MODE] [-O LEVEL] [-o FILE] [--rows] [--least STATUS] FILE..
+usage: compile_files.py (--program PROGRAM | --unproved | --look) [-m MODE] [-O LEVEL] [-o FILE] [--rows] [--least STATUS] FILE..
 
 Listings come on standard output, in the order of the files; `-` is standard input. What is refused is told on standard
 error, as `FILE:ROW:COL: TEXT`, with the line of the source and a mark below the column where the source has that line.
+With --look nothing is compiled: where none of the files has rows, that is told, and where one has, the status is 0.
 
 The status is the highest of the files' (README.md, "Statuses"): 1 also for what is no Python or has no rows.
 """
@@ -143,11 +144,25 @@ def compile_all(words, output):
     return highest
 
 
+def look(words):
+    """Tells of the files where none of them has rows; standard input may have them. The status."""
+    faults = []
+    for file in words.files:
+        try:
+            if file == "-" or rows_of(name_of(file), bytes_of(file), words.mode):
+                return 0
+        except Failed as failed:
+            faults.append(failed)
+    sys.stderr.write("".join(map(str, faults)))
+    return max([words.least, *(it.status for it in faults)])
+
+
 def main():
     parser = argparse.ArgumentParser(prog="compile_files.py", description=__doc__.split("\n")[0])
     by = parser.add_mutually_exclusive_group(required=True)
     by.add_argument("--program", metavar="PROGRAM", help="the program that compiles rows")
     by.add_argument("--unproved", action="store_true", help="compile by `rt try`, which builds the program without proof")
+    by.add_argument("--look", action="store_true", help="compile nothing, and see whether one of the files has rows")
     parser.add_argument("-m", dest="mode", choices=("exec", "eval", "single", "block"), default="exec", help="what the files hold (exec)")
     parser.add_argument("-O", dest="level", choices=("0", "1", "2"), default="0", help="the level of optimisation (0)")
     parser.add_argument("-o", dest="output", metavar="FILE", help="the file for the listings, written once all files have compiled")
@@ -156,6 +171,8 @@ def main():
     parser.add_argument("files", metavar="FILE", nargs="+", help="a file, or - for standard input")
     words = parser.parse_args()
     sys.stderr.reconfigure(encoding="utf-8", errors="backslashreplace")
+    if words.look:
+        return look(words)
     if words.output is None:
         return compile_all(words, None)
     with tempfile.TemporaryFile() as listings:

@@ -119,6 +119,17 @@ class Fresh(unittest.TestCase):
             self.check_wrong(words, usage)
         for words in (["-m"], ["-O2"], ["--rows"], ["--frob", "m.py"], ["--run"], ["-o", "x", "--run", "m.py"]):
             self.check_wrong(words, usage)
+        self.write("m.py", "a\n")
+        for words in (["--run", "-O", "1", "m.py"], ["m.py", "-o", "x"], ["m.py", "--help"]):
+            self.check_wrong(words, usage)
+        self.assertEqual(self.pyc("--", "-o"), (4, "", "-o: No such file or directory\n"))
+        self.assertEqual(self.pyc(self.folder), (4, "", "%s: Is a directory\n" % self.folder))
+        self.write("f.py", "a = 1.5\n")
+        self.write("g.py", "a = (\n")
+        told = "f.py:1:5: rows have no word for a float\na = 1.5\n    ^\n"
+        self.assertEqual(self.pyc("--run", "f.py"), (1, "", told))
+        self.assertEqual(self.pyc("f.py", "no.py", "g.py")[:2], (4, ""))
+        self.assertEqual(self.pyc("f.py"), (1, "", told))
         self.assertFalse((self.root / "proved").exists())
 
     def check_wrong(self, words, usage):
