@@ -1,0 +1,4 @@
+pub mod Turns
+pub mod Quiet
+pub mod Scans
+pub mod Faultless
