@@ -315,6 +315,21 @@ def functions(n):
     return rows.module(rows.nest(numbered("f" * 54, n), [rows.nothing()]))
 
 
+def rounds(n):
+    """A function of n `if`, each in the body of the one before it, and of so many `return` that their jumps widen one after the other.
+
+    A jump has three units from offset 2^16 on. The outermost ends there, each other one unit before the one around it, and each
+    jump that widens moves the ends of those within it on by one, so n rounds choose the widths.
+    """
+    rows = Rows()
+    body = [rows.add("Return", 1, 1, None) for _ in range(2 ** 16 + 1 - 4 * n)]
+    for at in range(n):
+        body = [rows.add("If", 1, 1, rows.name("a"), body, [])]
+        if at < n - 1:
+            body.append(rows.add("Return", 1, 1, None))
+    return rows.module([rows.function("f", body)])
+
+
 # What an input is in words, how many n are, and the function that gives its rows.
 Growing = collections.namedtuple("Growing", "text sizes make")
 
@@ -340,6 +355,7 @@ GROWING = {
     "f-strings": Growing("f-strings, n within one another", (62, 125, 250, 500), formatted),
     "generators": Growing("generators, n within one another", DEEP_SIZES, generators),
     "lambdas": Growing("n lambdas in a function with a name of n bytes", (500, 1000, 2000, 4000), lambdas_in_long),
+    "rounds": Growing("65,000 `return` within n `if`, whose jumps widen one after the other", DEEP_SIZES, rounds),
     "functions": Growing("functions with names of 60 bytes, n within one another", DEEP_SIZES, functions),
 }
 
