@@ -6,7 +6,7 @@ usage: memory.py [--check]
 A place is where a body in crates/*/src, but for crates of tests, writes OutOfMemory or AllocError as a value, or calls what
 makes one (MAKERS). It tells of an allocation
 - in an arm, a `let .. else` or an `is_err()` over a call that can fail for want of memory alone, as the types of the
-  functions of that name say, or as one of the library (LIBRARY);
+  functions of that name say, in the crates that the caller's crate stands on, or as one of the library (LIBRARY);
 - in an arm that says want of memory itself, in an `impl From<AllocError>`, or where `is_memory()` says so.
 
 Every other place stands in docs/DECISIONS.md between two marker lines, with the reason, a row for each function. Without
@@ -253,8 +253,29 @@ def function_at(text, at):
     return names[-1] if names else "-"
 
 
+def standing(top):
+    """Each crate of crates.txt with itself and those that it stands on; no crate where there is no such list."""
+    try:
+        rows = (top / "crates.txt").read_text(encoding="utf-8").splitlines()
+    except FileNotFoundError:
+        return {}
+    below = {}
+    for row in rows:
+        name, _, others = row.partition("#")[0].partition(":")
+        if name.strip():
+            below[name.split()[0]] = set(others.split())
+    for name in below:
+        left = [*below[name]]
+        while left:
+            more = below.get(left.pop(), set()) - below[name]
+            below[name] |= more
+            left += more
+    return {name: {name, *others} for name, others in below.items()}
+
+
 def places(top):
     """The places, as (file, function): how many."""
+    below = standing(top)
     sources = {}
     for path in sorted(top.glob("crates/*/src/**/*.rt")):
         file = path.relative_to(top / "crates").as_posix()
@@ -263,9 +284,11 @@ def places(top):
     functions = answers(sources)
     found = collections.Counter()
     for file, text in sources.items():
+        near = below.get(crate_of(file))
+        seen = functions if near is None else {name: [it for it in those if it.crate in near] for name, those in functions.items()}
         for it in re.finditer(r"\b(?:OutOfMemory|AllocError|%s)\b" % "|".join(MAKERS), text):
             function = function_at(text, it.start())
-            told = tells_of_memory(text, it.start(), crate_of(file), functions)
+            told = tells_of_memory(text, it.start(), crate_of(file), seen)
             if function not in MAKERS and is_value(text, *it.span()) and not told:
                 found[file, function] += 1
     return found
