@@ -1,4 +1,3 @@
-pub mod Again
 pub mod Dues
 pub mod Formed
 pub mod Made
