@@ -299,7 +299,7 @@ impl Emitter {
         ensures err { IfErr result (λ e. IsStarved e (rest self.old).path) }
     {
         let Some(around) = self.outer.pop() else {
-            return Err(self.error(CodegenErrorType::OutOfMemory));
+            unreachable!();
         };
         let scope = mem::replace(&mut self.scope, around);
         if !has_short_tables(&scope.code) {

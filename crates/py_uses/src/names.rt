@@ -1,7 +1,7 @@
 //! Names that statements register.
 ghost use Rattle.std.specs.Prelude.{◌≡◌, IfErr, codes};
 ghost use Rattle.py_scope.specs.Names.{class_cell};
-ghost use Rattle.py_uses.specs.Goes.{Goes, IsPlaced, state};
+ghost use Rattle.py_uses.specs.Goes.{Goes, IsTextOrMemory, state};
 ghost use Rattle.py_uses.specs.Parts.{bound_name, check_future, first_segment, is_annotations, is_future, names_annotations, use_aliases, use_each, use_first_names, use_opt_name};
 ghost use Rattle.py_scope.specs.declared.roles.Role.TheVariants as role;
 ghost use Rattle.py_uses.specs.Steps.{◌▸◌, Done, use_name};
@@ -19,7 +19,7 @@ pub fn use_each(
     at: &SourceLocation,
 ) -> Result<(), SymbolTableError>
     ensures goes { Goes result (state scan.new) (use_each role names.now at.now (state scan.old)) }
-    ensures placed { IfErr result IsPlaced }
+    ensures told { IfErr result IsTextOrMemory }
 {
     for name in names {
         scan.use_name(role, name, *at)?;
@@ -30,7 +30,7 @@ pub fn use_each(
 /// Registers the names that each class has.
 pub fn use_first_names(scan: &mut Scan, at: &SourceLocation) -> Result<(), SymbolTableError>
     ensures goes { Goes result (state scan.new) (use_first_names at.now (state scan.old)) }
-    ensures placed { IfErr result IsPlaced }
+    ensures told { IfErr result IsTextOrMemory }
 {
     scan.use_own(Role::Assigned, "__module__", *at)?;
     scan.use_own(Role::Assigned, "__qualname__", *at)?;
@@ -39,7 +39,7 @@ pub fn use_first_names(scan: &mut Scan, at: &SourceLocation) -> Result<(), Symbo
 
 fn use_last_names(scan: &mut Scan, at: &SourceLocation) -> Result<(), SymbolTableError>
     ensures goes { Goes result (state scan.new) ((use_name role.Assigned (codes "__doc__") at.now ▸ use_name role.Assigned class_cell at.now) (state scan.old)) }
-    ensures placed { IfErr result IsPlaced }
+    ensures told { IfErr result IsTextOrMemory }
 {
     scan.use_own(Role::Assigned, "__doc__", *at)?;
     scan.use_own(Role::Assigned, "__class__", *at)
@@ -52,7 +52,7 @@ pub fn use_opt_name(
     at: &SourceLocation,
 ) -> Result<(), SymbolTableError>
     ensures goes { Goes result (state scan.new) (use_opt_name name.now at.now (state scan.old)) }
-    ensures placed { IfErr result IsPlaced }
+    ensures told { IfErr result IsTextOrMemory }
 {
     match name {
         Some(name) => scan.use_name(Role::Assigned, name, *at),
@@ -67,7 +67,7 @@ pub fn use_aliases(
     at: &SourceLocation,
 ) -> Result<(), SymbolTableError>
     ensures goes { Goes result (state scan.new) (use_aliases names.now at.now (state scan.old)) }
-    ensures placed { IfErr result IsPlaced }
+    ensures told { IfErr result IsTextOrMemory }
 {
     for alias in names {
         use_alias(scan, alias, at)?;
@@ -77,7 +77,7 @@ pub fn use_aliases(
 
 fn use_alias(scan: &mut Scan, alias: &Alias, at: &SourceLocation) -> Result<(), SymbolTableError>
     ensures goes { Goes result (state scan.new) (use_name role.Imported (bound_name alias.now.asname alias.now.name) at.now (state scan.old)) }
-    ensures placed { IfErr result IsPlaced }
+    ensures told { IfErr result IsTextOrMemory }
 {
     match &alias.asname {
         Some(name) => scan.use_name(Role::Imported, name, *at),
@@ -92,7 +92,7 @@ fn use_first_segment(
     at: &SourceLocation,
 ) -> Result<(), SymbolTableError>
     ensures goes { Goes result (state scan.new) (use_name role.Imported (first_segment path.now) at.now (state scan.old)) }
-    ensures placed { IfErr result IsPlaced }
+    ensures told { IfErr result IsTextOrMemory }
 {
     match path.as_str().split_once('.') {
         Some((first, _)) => scan.use_own(Role::Imported, first, *at),
