@@ -1,6 +1,6 @@
 //! The table of constants of a code: a set that keeps the order in which they came, whose hash tells codes apart that
 //! differ in their constants alone.
-ghost use Rattle.std.specs.Prelude.{◌≡◌, [], Some, true, fold, slice_get, IfOk, IfErr, OnOk, OnErr};
+ghost use Rattle.std.specs.Prelude.{◌≡◌, ◌<◌, ◌^◌, [], Some, true, fold, length, slice_get, IfOk, IfErr, OnOk, OnErr};
 ghost use Rattle.py_bytecode.specs.declared.code.ConstantData.{ConstantData};
 ghost use Rattle.std.specs.Option.{option_copied};
 ghost use Rattle.std.specs.List.{flat_map, position_or_len};
@@ -25,6 +25,11 @@ impl Model for ConstantKey {
     ghost use Rattle.py_bytecode.specs.declared.code.ConstantData.{ConstantData};
 
     ghost Value = { ConstantData };
+
+    ghost use Rattle.py_bytecode.specs.contracts.code.ConstantData as constants;
+    ghost use Rattle.std.specs.Coded.{codes};
+
+    ghost coded = { Prim.hlevel (codes, constants.the_row.coded) };
 
     ghost view = { λ k. k.constant };
 }
@@ -140,6 +145,11 @@ impl Model for ConstantSet {
 
     ghost Value = { List ConstantData };
 
+    ghost use Rattle.py_bytecode.specs.contracts.code.ConstantData as constants;
+    ghost use Rattle.std.specs.Coded.{codes};
+
+    ghost coded = { Prim.hlevel (codes, constants.the_row.coded) };
+
     ghost view = { λ s. s.set.keys };
 }
 
@@ -151,6 +161,14 @@ impl ConstantSet {
         ConstantSet {
             set: IndexSet::new(alloc),
         }
+    }
+
+    /// How many constants there are.
+    pub fn len(&self) -> usize
+        ensures len { result ≡ length self.now }
+        ensures small { result < 2 ^ 63 }
+    {
+        self.set.len()
     }
 
     /// The constant at a place, if the place is taken.
