@@ -1,6 +1,7 @@
 ghost use Rattle.std.specs.Prelude.{◌≡◌, ◌++◌, ◌∷◌, [], ◌+◌, ◌↔◌, List, length, IsTrue, IfOk, IfErr, OnOk, OnErr};
 ghost use Rattle.std.specs.Borrow.{Array, Lends, follows, sem};
 ghost use Rattle.std.specs.Iterator.Adapters.{IterMutYieldsInOrder};
+ghost use Rattle.std.specs.List.{refill};
 ghost use Rattle.std.specs.Slice.Iter.{iter_mut_name, iter_mut_rest, iter_rest};
 ghost use Rattle.std.specs.Fn.{FnOnceTakesAtMut, FnOnceReturnsAtMut};
 ghost use Rattle.py_scope.specs.contracts.stack.StackStack.{the_row};
@@ -100,7 +101,7 @@ impl<T> StackStack<T> {
 
     /// The values to write, the first appended first. The stack ends as what is written.
     pub fn as_mut(&mut self) -> &mut [T]
-        ensures* writes_back { sem 𝓛 (Lends (the_row T.row) (Array T.row 0) self.entry result (λ items. items)) }
+        ensures* writes_back { sem 𝓛 (Lends (the_row T.row) (Array T.row 0) self.entry result (refill (length self.old) self.old)) }
         ensures value { result.now ≡ self.old }
     {
         self.items.as_mut_slice()
@@ -115,7 +116,7 @@ impl<T> StackStack<T> {
 
     /// The values in turn, to write, the first appended first. The stack ends as what is written.
     pub fn iter_mut(&mut self) -> IterMut<'_, T>
-        ensures* writes_back { sem 𝓛 (follows (the_row T.row) (Array T.row 0) self.entry.ghost_name (iter_mut_name result) (λ items. items)) }
+        ensures* writes_back { sem 𝓛 (follows (the_row T.row) (Array T.row 0) self.entry.ghost_name (iter_mut_name result) (refill (length self.old) self.old)) }
         ensures rest { iter_mut_rest result ≡ self.old }
         ensures runs { IterMutYieldsInOrder T }
     {
