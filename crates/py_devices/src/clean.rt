@@ -1,3 +1,4 @@
+//! Devices over memory that never fail.
 ghost use Rattle.std.specs.Prelude.{◌≡◌, ◌≤◌, ◌<◌, [], Some, true, length};
 ghost use Rattle.py_devices.specs.Devices.{ReadGives, ReadCounts, ReadKeepsCount, WriteTakes, WriteCounts, WriteKeepsCount, HasRoom};
 

@@ -1,3 +1,4 @@
+//! Devices in memory.
 ghost use Rattle.std.specs.Prelude.{◌≡◌, ◌≤◌, ◌<◌, [], Some, None, true, length};
 ghost use Rattle.py_devices.specs.Devices.{ReadGives, ReadCounts, ReadKeepsCount, WriteTakes, WriteCounts, WriteKeepsCount, HasRoom};
 

@@ -1,3 +1,4 @@
+//! What bytes are read from.
 ghost use Rattle.std.specs.Prelude.{◌<◌, List, ℕ, Option, Bool, false, length};
 ghost use Rattle.py_devices.specs.Devices.{ReadGives, ReadCounts, ReadKeepsCount};
 

@@ -127,6 +127,9 @@ impl Emitter {
     }
 
     /// A place in a table. What does not fit 32 bits counts as want of memory.
+    ///
+    /// # Errors
+    /// OutOfMemory, where the place is 2^32 or more.
     pub fn narrow(&mut self, place: usize) -> Result<u32, CodegenError>
         ensures value { IfOk result (λ n. n ≡ place) }
         ensures same { OnOk result (self.new ≡ self.old) }

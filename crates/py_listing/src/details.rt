@@ -1,3 +1,4 @@
+//! What a listing writes behind an operand.
 ghost use Rattle.std.specs.Prelude.{◌≡◌, ◌++◌, codes, decimal, slice_get, string_bytes, OnOk};
 ghost use Rattle.py_listing.specs.Listing.{constant_text, detail, entry};
 ghost use Rattle.py_quote.specs.Quote.{quote};
@@ -14,6 +15,9 @@ use py_quote::push_quote;
 use std::alloc::AllocError;
 
 /// Appends what a whole operand names, after a space: a constant, a name, a place or a case.
+///
+/// # Errors
+/// There is no memory for it.
 #[tactic(auto, using(py_bytecode::proofs::View::views, crate::proofs::Joining::constant_entry))]
 pub fn push_detail(
     out: &mut String,

@@ -1,3 +1,4 @@
+//! The lines of a listing.
 ghost use Rattle.std.specs.Prelude.{◌≡◌, ◌++◌, ◌%◌, ◌+◌, ◌*◌, ◌^◌, ℕ, ℤ, List, codes, decimal, slice_get, string_bytes, OnOk};
 ghost use Rattle.std.specs.Fmt.{signed_decimal};
 ghost use Rattle.std.specs.List.{join_by};
@@ -16,6 +17,9 @@ use std::alloc::AllocError;
 use std::fmt::Write;
 
 /// Appends the line that begins a code's text.
+///
+/// # Errors
+/// There is no memory for it.
 #[tactic(auto, unfolding(crate::specs::Listing::head_line))]
 pub fn push_head(out: &mut String, code: &CodeObject) -> Result<(), AllocError>
     ensures { OnOk result (string_bytes out.new ≡ string_bytes out.old ++ head_line (head_of code.now)) }
@@ -57,6 +61,9 @@ fn push_numbers(out: &mut String, code: &CodeObject) -> Result<(), AllocError>
 }
 
 /// Appends the line of constants, where there are some.
+///
+/// # Errors
+/// There is no memory for it.
 #[tactic(auto, using(crate::proofs::Joining::constants_line_some))]
 pub fn push_constants(out: &mut String, constants: &[ConstantData]) -> Result<(), AllocError>
     ensures { OnOk result (string_bytes out.new ≡ string_bytes out.old ++ constants_line (constants_of constants.now)) }
@@ -78,6 +85,9 @@ fn push_all_constants(out: &mut String, constants: &[ConstantData]) -> Result<()
 }
 
 /// Appends a line of names after its word, where there are some.
+///
+/// # Errors
+/// There is no memory for it.
 #[tactic(auto, unfolding(crate::specs::Listing::names_line))]
 pub fn push_names(out: &mut String, word: &str, names: &[Text]) -> Result<(), AllocError>
     ensures { OnOk result (string_bytes out.new ≡ string_bytes out.old ++ names_line word.now names.now) }
@@ -95,6 +105,9 @@ pub fn push_names(out: &mut String, word: &str, names: &[Text]) -> Result<(), Al
 }
 
 /// Appends the line that says for each cell which parameter it is.
+///
+/// # Errors
+/// There is no memory for it.
 #[tactic(auto, unfolding(crate::specs::Listing::cells_line))]
 pub fn push_cells(out: &mut String, places: &Option<List<i32>>) -> Result<(), AllocError>
     ensures { OnOk result (string_bytes out.new ≡ string_bytes out.old ++ cells_line places.now) }
@@ -121,6 +134,9 @@ fn push_places(out: &mut String, places: &[i32]) -> Result<(), AllocError>
 }
 
 /// Appends a line for each unit. The operand of a unit that is no prefix is whole, prefixes included.
+///
+/// # Errors
+/// There is no memory for it.
 pub fn push_units(out: &mut String, code: &CodeObject, units: &[CodeUnit]) -> Result<(), AllocError>
     ensures { OnOk result (string_bytes out.new ≡ string_bytes out.old ++ unit_lines (object code.now) 0 0 units.now) }
 {

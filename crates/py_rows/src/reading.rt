@@ -1,3 +1,4 @@
+//! The rows, read one by one.
 ghost use Rattle.std.specs.Prelude.{◌<◌, ◌^◌, length};
 ghost use Rattle.serde_json.specs.View.{view, items_view};
 ghost use Rattle.py_rows_fields.specs.Gives.{Gives};

@@ -1,3 +1,4 @@
+//! Bytes as JSON, and the array of rows in it.
 ghost use Rattle.serde_json.specs.View.{view, items_view};
 ghost use Rattle.py_rows_fields.specs.Gives.{Gives};
 ghost use Rattle.py_rows_fields.specs.JsonRows.{json_of, rows_in};
@@ -7,6 +8,9 @@ use serde_json::Value;
 use std::alloc::Global;
 
 /// The value that the bytes are as JSON.
+///
+/// # Errors
+/// `NotJson` where they are no JSON; there may be no memory.
 pub fn read_json(alloc: Global, bytes: &[u8]) -> Result<Value, RowsError>
     ensures { Gives view result (json_of bytes.now) }
 {
@@ -23,6 +27,9 @@ pub fn read_json(alloc: Global, bytes: &[u8]) -> Result<Value, RowsError>
 }
 
 /// The rows, which are the entries of an array that is not empty.
+///
+/// # Errors
+/// `NotRows` where the value is no array, or an empty one.
 pub fn rows_of(value: &Value) -> Result<&[Value], RowsError>
     ensures { Gives (λ r. items_view r.now) result (rows_in (view value.now)) }
 {

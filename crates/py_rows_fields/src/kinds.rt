@@ -1,3 +1,4 @@
+//! The kinds of rows.
 ghost use Rattle.std.specs.Prelude.{◌≡◌};
 ghost use Rattle.py_rows_fields.specs.Kinds.{kind_of, kind_of_two, kind_of_three, kind_of_four, kind_of_five, kind_of_six, kind_of_seven, kind_of_eight, kind_of_nine, kind_of_ten, kind_of_eleven, kind_of_twelve, kind_of_thirteen, kind_of_fourteen, kind_of_sixteen};
 ghost use Rattle.py_rows_fields.specs.Sorts.{sort_number, sort_of};

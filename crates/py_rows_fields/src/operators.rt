@@ -1,3 +1,4 @@
+//! The words for operators.
 ghost use Rattle.std.specs.Prelude.{◌≡◌};
 ghost use Rattle.serde_json.specs.View.{view};
 ghost use Rattle.py_rows_fields.specs.Gives.{Gives};
@@ -10,6 +11,9 @@ use serde_json::Value;
 use std::alloc::Global;
 
 /// The operator of a `BoolOp`.
+///
+/// # Errors
+/// `WrongRow` where the field has not this form; there may be no memory.
 pub fn bool_operator(value: &Value, row: u32) -> Result<BoolOp, RowsError>
     ensures { Gives (λ x. x) result (bool_operator_at row (view value.now)) }
 {
@@ -30,6 +34,9 @@ fn bool_operator_of(word: &str) -> Option<BoolOp>
 }
 
 /// The operator of a `BinOp`.
+///
+/// # Errors
+/// `WrongRow` where the field has not this form; there may be no memory.
 pub fn operator(value: &Value, row: u32) -> Result<Operator, RowsError>
     ensures { Gives (λ x. x) result (operator_at row (view value.now)) }
 {
@@ -61,6 +68,9 @@ fn operator_of(word: &str) -> Option<Operator>
 }
 
 /// The operator of a `UnaryOp`.
+///
+/// # Errors
+/// `WrongRow` where the field has not this form; there may be no memory.
 pub fn unary_operator(value: &Value, row: u32) -> Result<UnaryOp, RowsError>
     ensures { Gives (λ x. x) result (unary_operator_at row (view value.now)) }
 {
@@ -111,6 +121,9 @@ fn comparison_of(word: &str) -> Option<CmpOp>
 }
 
 /// The operators of a `Compare`.
+///
+/// # Errors
+/// `WrongRow` where the field has not this form; there may be no memory.
 pub fn comparisons(alloc: Global, value: &Value, row: u32) -> Result<List<CmpOp>, RowsError>
     ensures { Gives (λ x. x) result (comparisons_at row (view value.now)) }
 {
@@ -122,6 +135,9 @@ pub fn comparisons(alloc: Global, value: &Value, row: u32) -> Result<List<CmpOp>
 }
 
 /// The conversion of a `FormattedValue`.
+///
+/// # Errors
+/// `WrongRow` where the field has not this form; there may be no memory.
 pub fn conversion(value: &Value, row: u32) -> Result<ConversionFlag, RowsError>
     ensures { Gives (λ x. x) result (conversion_at row (view value.now)) }
 {

@@ -1,3 +1,4 @@
+//! The one call: words and a source give a listing, a file, a report or a line.
 ghost use Rattle.std.specs.Prelude.{◌≡◌, ◌≢◌, ◌⊎◌, ◌≤◌, None, length, IfSome, option_map};
 ghost use Rattle.py_bytecode.specs.View.{object};
 ghost use Rattle.py_devices.specs.Devices.{Rose};

@@ -1,3 +1,4 @@
+//! From words and a source to the text that is due.
 ghost use Rattle.std.specs.Prelude.{◌≡◌, ◌<◌, ◌^◌, None, length, IfSome, codes};
 ghost use Rattle.py_rows.specs.Rows.{rows_tree};
 ghost use Rattle.py_run.specs.Prepared.{HasForm, IsListed, Prepares, Readies, ReadsOf, ReadsTree, RefusesTree, TellsFault};

@@ -1,3 +1,4 @@
+//! Words, read as a command.
 ghost use Rattle.std.specs.Prelude.{◌≡◌, option_map};
 ghost use Rattle.py_run.specs.Words.{command_view, compilation_of, compilation_view, compile_of, level_of, mode_of, names_of, pack_of, unpack_of, words_form};
 

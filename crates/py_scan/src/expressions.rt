@@ -61,6 +61,9 @@ pub fn scan_expr(scan: &mut Scan, usage: Usage, expr: &Expr) -> Result<(), Symbo
 }
 
 /// Scans expressions one after the other.
+///
+/// # Errors
+/// The first fault of the scan, at its place; or OutOfMemory.
 #[cycle(scan)]
 pub fn scan_exprs(scan: &mut Scan, usage: Usage, items: &[Expr]) -> Result<(), SymbolTableError>
     ensures goes { Goes result (state scan.new) (scan_exprs usage (exprs expr_tree items.now) (state scan.old)) }
@@ -73,6 +76,9 @@ pub fn scan_exprs(scan: &mut Scan, usage: Usage, items: &[Expr]) -> Result<(), S
 }
 
 /// Scans an expression that may be missing.
+///
+/// # Errors
+/// The first fault of the scan, at its place; or OutOfMemory.
 #[cycle(scan)]
 pub fn scan_opt(
     scan: &mut Scan,
@@ -332,6 +338,9 @@ fn scan_call(scan: &mut Scan, usage: Usage, e: &ExprCall) -> Result<(), SymbolTa
 }
 
 /// Scans the values of keywords.
+///
+/// # Errors
+/// The first fault of the scan, at its place; or OutOfMemory.
 #[cycle(scan)]
 pub fn scan_keywords(scan: &mut Scan, items: &[Keyword]) -> Result<(), SymbolTableError>
     ensures goes { Goes result (state scan.new) (scan_keywords (keywords expr_tree items.now) (state scan.old)) }
@@ -372,6 +381,9 @@ fn scan_slice(scan: &mut Scan, usage: Usage, e: &ExprSlice) -> Result<(), Symbol
 }
 
 /// Scans the defaults of parameters, in their order.
+///
+/// # Errors
+/// The first fault of the scan, at its place; or OutOfMemory.
 #[cycle(scan)]
 pub fn scan_defaults(scan: &mut Scan, params: &Arguments) -> Result<(), SymbolTableError>
     ensures goes { Goes result (state scan.new) (scan_defaults (arguments expr_tree params.now) (state scan.old)) }
@@ -394,6 +406,9 @@ fn scan_defaults_in(scan: &mut Scan, params: &[ArgWithDefault]) -> Result<(), Sy
 }
 
 /// Scans the annotations of parameters, in the order of the parameters, unless they are postponed.
+///
+/// # Errors
+/// The first fault of the scan, at its place; or OutOfMemory.
 #[cycle(scan)]
 pub fn scan_annotations(scan: &mut Scan, params: &Arguments) -> Result<(), SymbolTableError>
     ensures goes { Goes result (state scan.new) (scan_annotations (arguments expr_tree params.now) (state scan.old)) }

@@ -68,6 +68,9 @@ fn scan_stmt(scan: &mut Scan, stmt: &Stmt) -> Result<(), SymbolTableError>
 }
 
 /// Scans statements one after the other.
+///
+/// # Errors
+/// The first fault of the scan, at its place; or OutOfMemory.
 #[cycle(scan)]
 pub fn scan_stmts(scan: &mut Scan, body: &[Stmt]) -> Result<(), SymbolTableError>
     ensures goes { Goes result (state scan.new) (scan_stmts (stmts stmt_tree body.now) (state scan.old)) }

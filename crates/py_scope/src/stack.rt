@@ -1,3 +1,4 @@
+//! A stack of scopes.
 ghost use Rattle.std.specs.Prelude.{◌≡◌, ◌++◌, ◌∷◌, [], ◌+◌, ◌↔◌, List, length, IsTrue, IfOk, IfErr, OnOk, OnErr};
 ghost use Rattle.std.specs.Borrow.{Array, Lends, follows, sem};
 ghost use Rattle.std.specs.Iterator.Adapters.{IterMutYieldsInOrder};

@@ -12,6 +12,9 @@ use py_scope::{Role, SymbolTableError};
 use py_tree::Alias;
 
 /// Registers names one after the other.
+///
+/// # Errors
+/// The first fault of the scan, at its place; or OutOfMemory.
 pub fn use_each(
     scan: &mut Scan,
     role: Role,
@@ -28,6 +31,9 @@ pub fn use_each(
 }
 
 /// Registers the names that each class has.
+///
+/// # Errors
+/// The first fault of the scan, at its place; or OutOfMemory.
 pub fn use_first_names(scan: &mut Scan, at: &SourceLocation) -> Result<(), SymbolTableError>
     ensures goes { Goes result (state scan.new) (use_first_names at.now (state scan.old)) }
     ensures told { IfErr result IsTextOrMemory }
@@ -46,6 +52,9 @@ fn use_last_names(scan: &mut Scan, at: &SourceLocation) -> Result<(), SymbolTabl
 }
 
 /// Registers a name that may be missing.
+///
+/// # Errors
+/// The first fault of the scan, at its place; or OutOfMemory.
 pub fn use_opt_name(
     scan: &mut Scan,
     name: &Option<Text>,
@@ -61,6 +70,9 @@ pub fn use_opt_name(
 }
 
 /// Registers the names that an import binds.
+///
+/// # Errors
+/// The first fault of the scan, at its place; or OutOfMemory.
 pub fn use_aliases(
     scan: &mut Scan,
     names: &[Alias],

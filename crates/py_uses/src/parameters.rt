@@ -9,6 +9,9 @@ use py_scope::{Role, SymbolTableError};
 use py_tree::{Arg, ArgWithDefault, Arguments};
 
 /// Registers the parameters of a function.
+///
+/// # Errors
+/// The first fault of the scan, at its place; or OutOfMemory.
 pub fn use_parameters(scan: &mut Scan, params: &Arguments) -> Result<(), SymbolTableError>
     ensures goes { Goes result (state scan.new) (use_parameters (arguments expr_tree params.now) (state scan.old)) }
     ensures told { IfErr result IsTextOrMemory }

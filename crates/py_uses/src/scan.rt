@@ -35,6 +35,9 @@ fn copy(alloc: Global, text: &str) -> Result<Text, SymbolTableError>
 
 impl Scan {
     /// A use of a name in the open scope, where it is not refused.
+    ///
+    /// # Errors
+    /// The first fault of the scan, at its place; or OutOfMemory.
     pub fn note(
         &mut self,
         role: Role,
@@ -111,6 +114,9 @@ impl Scan {
     }
 
     /// A use of a name that every program has.
+    ///
+    /// # Errors
+    /// The first fault of the scan, at its place; or OutOfMemory.
     pub fn use_own(
         &mut self,
         role: Role,
@@ -125,6 +131,9 @@ impl Scan {
     }
 
     /// Names are mangled by this class from here on. Answers the class around.
+    ///
+    /// # Errors
+    /// OutOfMemory alone.
     pub fn enter_class(&mut self, name: &Text) -> Result<Option<Text>, SymbolTableError>
         ensures goes { Goes result (state self.new) (set_class (Some name.now) (state self.old)) }
         ensures around { IfOk result (λ around. around ≡ (state self.old).class) }
@@ -137,6 +146,9 @@ impl Scan {
     }
 
     /// Enters a scope.
+    ///
+    /// # Errors
+    /// The first fault of the scan, at its place; or OutOfMemory.
     pub fn enter(
         &mut self,
         kind: SymbolTableType,
@@ -155,6 +167,9 @@ impl Scan {
     }
 
     /// Leaves the open scope.
+    ///
+    /// # Errors
+    /// OutOfMemory alone.
     pub fn leave(&mut self) -> Result<(), SymbolTableError>
         requires { IsWithin (state self.old).scopes }
         ensures goes { Goes result (state self.new) (leave (state self.old)) }
@@ -198,6 +213,9 @@ impl Scan {
     }
 
     /// A name as a target or a value.
+    ///
+    /// # Errors
+    /// The first fault of the scan, at its place; or OutOfMemory.
     pub fn use_as(
         &mut self,
         usage: Usage,
@@ -218,6 +236,9 @@ impl Scan {
     }
 
     /// Refuses a walrus in the iterable of a comprehension.
+    ///
+    /// # Errors
+    /// The first fault of the scan, at its place; or OutOfMemory.
     pub fn check_iterable(&self, usage: Usage, at: SourceLocation) -> Result<(), SymbolTableError>
         ensures goes { Goes result (state self.now) (check_iterable usage at (state self.now)) }
         ensures told { IfErr result IsTextOrMemory }
@@ -233,6 +254,9 @@ impl Scan {
     }
 
     /// Refuses a walrus that would bind in a scope of type parameters.
+    ///
+    /// # Errors
+    /// The first fault of the scan, at its place; or OutOfMemory.
     pub fn check_holder(&self, at: SourceLocation) -> Result<(), SymbolTableError>
         ensures goes { Goes result (state self.now) (check_holder at (state self.now)) }
         ensures told { IfErr result IsTextOrMemory }
@@ -248,6 +272,9 @@ impl Scan {
     }
 
     /// Refuses a `yield` directly in a scope of type parameters.
+    ///
+    /// # Errors
+    /// The first fault of the scan, at its place; or OutOfMemory.
     pub fn check_yield(&self, at: SourceLocation) -> Result<(), SymbolTableError>
         ensures goes { Goes result (state self.now) (check_yield at (state self.now)) }
         ensures told { IfErr result IsTextOrMemory }

@@ -17,6 +17,9 @@ use py_tree::{ArgWithDefault, Arguments, TypeParam};
 use std::alloc::{AllocError, Global};
 
 /// Refuses type parameters other than plain ones.
+///
+/// # Errors
+/// The first fault of the scan, at its place; or OutOfMemory.
 pub fn check_type_params(scan: &Scan, params: &[TypeParam]) -> Result<(), SymbolTableError>
     ensures goes { Goes result (state scan.now) (check_type_params (type_params params.now) (state scan.now)) }
     ensures told { IfErr result IsTextOrMemory }
@@ -74,6 +77,9 @@ pub fn is_generic(params: &[TypeParam]) -> bool
 }
 
 /// Enters the scope of type parameters, where there are any.
+///
+/// # Errors
+/// The first fault of the scan, at its place; or OutOfMemory.
 pub fn enter_type_params(
     scan: &mut Scan,
     generic: bool,
@@ -92,6 +98,9 @@ pub fn enter_type_params(
 }
 
 /// Leaves the scope of type parameters, where there are any.
+///
+/// # Errors
+/// OutOfMemory alone.
 pub fn leave_type_params(scan: &mut Scan, generic: bool) -> Result<(), SymbolTableError>
     requires { IsOpen generic (state scan.old).scopes }
     ensures goes { Goes result (state scan.new) (when generic leave (state scan.old)) }
@@ -116,6 +125,9 @@ pub fn has_default(params: &[ArgWithDefault]) -> bool
 }
 
 /// Registers the defaults that the scope of type parameters is handed, where there is one.
+///
+/// # Errors
+/// The first fault of the scan, at its place; or OutOfMemory.
 pub fn use_handed_defaults(
     scan: &mut Scan,
     generic: bool,
