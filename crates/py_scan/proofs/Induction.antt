@@ -1,6 +1,6 @@
 -- What holds of the parts of a scan, and of steps one after the other, in a scope and by choice, holds of the scan of each node.
 use Rattle.std.proofs.Common.{Bool, true, false, List, [], ◌∷◌, ◌++◌, Option, Some, None, if◌then◌else◌}
-use Rattle.std.specs.Prelude.{codes, ◌&&◌, Unit}
+use Rattle.std.specs.Prelude.{codes, ◌&&◌}
 use Rattle.py_base.specs.declared.location.SourceLocation.{SourceLocation}
 use Rattle.py_tree.specs.Tree as tree
 use Rattle.py_tree.specs.Tree.{expr_location}
