@@ -1,8 +1,10 @@
 pub mod Again
+pub mod Counting
 pub mod Dues
 pub mod Formed
 pub mod Made
 pub mod Pieces
 pub mod Rooms
+pub mod Sampling
 pub mod Files
 pub mod Verdicts

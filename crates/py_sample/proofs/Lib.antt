@@ -1,0 +1,4 @@
+pub mod Statements
+pub mod Quiet
+pub mod Scans
+pub mod Faultless

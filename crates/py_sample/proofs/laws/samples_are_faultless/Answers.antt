@@ -1,0 +1,5 @@
+use Rattle.py_sample.proofs.Faultless.{samples_faultless}
+use Rattle.py_sample.proofs.laws.samples_are_faultless.Goals as goal
+
+pub returns : goal.returns
+returns c = samples_faultless
