@@ -1,5 +1,5 @@
 -- The scan of a made program meets quiet scopes alone.
-use Rattle.std.proofs.Common.{◌≡◌, refl, sym, ap, subst, ℕ, zero, suc, Bool, true, false, ◌&&◌, List, [], ◌∷◌, Option, Some, None, if◌then◌else◌, codes}
+use Rattle.std.proofs.Common.{◌≡◌, refl, sym, ap, subst, ℕ, zero, suc, Bool, true, false, ◌&&◌, List, [], ◌∷◌, Option, Some, None, if◌then◌else◌, codes, slice_get}
 use Rattle.py_base.specs.declared.location.SourceLocation.{SourceLocation}
 use Rattle.py_forms.specs.Agree.{AllOf}
 use Rattle.py_scope.specs.declared.refusal.Refusal.{Refusal}
@@ -46,7 +46,7 @@ uses : (r : Role) → IsUse r → (n : Name) (at : SourceLocation) → Quiets (u
 uses r u n at s h =
     let m = written s n in
     let P : Option Refusal → Type 0 = λ o. EndsQuiet (go_on (unless_refused o at s) (λ t. Done (with_scopes (with_use t.scopes m r) t))) in
-    subst P (sym (allowed r u m _ (get_quiet s.scopes.rows s.scopes.current h))) (changed_quiet (used_in m r) (used_quiet r u m) s.scopes.current s.scopes.rows h)
+    subst P (sym (allowed r u m (slice_get s.scopes.rows s.scopes.current) (get_quiet s.scopes.rows s.scopes.current h))) (changed_quiet (used_in m r) (used_quiet r u m) s.scopes.current s.scopes.rows h)
 
 supers : (n : Name) (at : SourceLocation) → Quiets (super_cell n at)
 supers n at s h = by (same_name n (codes "super") && is_function (kind_here s.scopes))
@@ -101,13 +101,19 @@ lambda_quiet at =
     (within (codes "lambda") at (use_parameters no_parameters ▸ scan_expr Load (a_sum at)) (sum_quiet at))
     (unless nothing stays)
 
--- the scope of the function, and what is left of its parameters
+-- the parameter of the function, which is one of a list among others that are empty
+parameter_quiet : (at : SourceLocation) → Quiets (use_parameters (one_parameter at (codes "a")))
+parameter_quiet at =
+    let a = use_name role.Parameter (codes "a") at in
+    before (a ▸ nothing) nothing (before a nothing (uses role.Parameter parameter (codes "a") at) stays) stays
+
+-- the scope of the function, and its annotations
 scope_quiet : (at : SourceLocation) → Quiets (scan_function_scope at (codes "g") (one_parameter at (codes "a")) (scan_stmts (one_stmt (a_return at))) tree.no_expr)
 scope_quiet at =
     let params = one_parameter at (codes "a") in
     let body = scan_stmts (one_stmt (a_return at)) in
     before (inside scope.Function (codes "g") at (use_parameters params ▸ body)) (unless_postponed nothing ▸ scan_annotations params)
-    (within (codes "g") at (use_parameters params ▸ body) (before (use_parameters params) body (before (use_name role.Parameter (codes "a") at) nothing (uses role.Parameter parameter (codes "a") at) stays) (one_quiet (a_return at) (lambda_quiet at))))
+    (within (codes "g") at (use_parameters params ▸ body) (before (use_parameters params) body (parameter_quiet at) (one_quiet (a_return at) (lambda_quiet at))))
     (before (unless_postponed nothing) (scan_annotations params) (unless nothing stays) (unless nothing stays))
 
 function_quiet : (at : SourceLocation) → Quiets (scan_stmt (a_function at))

@@ -9,7 +9,7 @@ use std::alloc::{AllocError, Global};
 
 /// How many code objects and units there are, and the greatest depth.
 #[derive(Clone, Copy)]
-pub struct Counts {
+struct Counts {
     codes: usize,
     units: usize,
     depth: u32,

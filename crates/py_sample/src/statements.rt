@@ -184,16 +184,14 @@ fn one_parameter(alloc: Global, at: SourceLocation, id: &str) -> Result<Box<Argu
         default: None,
     };
     let args = one(alloc, parameter)?;
-    Box::new(
-        alloc,
-        Arguments {
-            posonlyargs: List::new(alloc),
-            args,
-            vararg: None,
-            kwonlyargs: List::new(alloc),
-            kwarg: None,
-        },
-    )
+    let arguments = Arguments {
+        posonlyargs: List::new(alloc),
+        args,
+        vararg: None,
+        kwonlyargs: List::new(alloc),
+        kwarg: None,
+    };
+    Ok(Box::new(alloc, arguments)?)
 }
 
 /// A number.
@@ -220,7 +218,7 @@ fn boxed_name(alloc: Global, at: SourceLocation, id: &str) -> Result<Box<Expr>, 
     ensures { IfOk result (λ made. expr_tree made.value ≡ tree.Name at id.now) }
 {
     let name = name(alloc, at, id)?;
-    Box::new(alloc, name)
+    Ok(Box::new(alloc, name)?)
 }
 
 fn text(alloc: Global, id: &str) -> Result<Text, AllocError>
