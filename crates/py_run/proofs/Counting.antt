@@ -1,8 +1,9 @@
 -- Numbers among the words, digit by digit.
 use Rattle.std.proofs.Common.{◌≡◌, ◌<◌, ◌≤◌, ◌+◌, ◌-◌, ◌*◌, ◌^◌, ℕ, Bool, true, false, ◌&&◌, nat_lt, List, [], ◌∷◌, Option, Some, None, refl, sym, ap, ◌∙◌, if◌then◌else◌, arith}
+use Rattle.std.specs.Char.{is_ascii_digit}
 use Rattle.std.specs.List.{list_all}
 use Rattle.std.proofs.lemmas.Bool.{le-ltb, lt-ltb, ltb-false}
-use Rattle.py_run.specs.Words.{count_behind, is_digit, number_behind, with_digit}
+use Rattle.py_run.specs.Words.{count_behind, number_behind, with_digit}
 
 -- a number grows with each digit behind it
 grows : (high : ℕ) (cs : List ℕ) → high ≤ number_behind high cs
@@ -21,19 +22,19 @@ module _ (high c : ℕ) (cs : List ℕ) where
   next = high * 10 + (c - 48)
 
   pub stepped : (n : ℕ) → with_digit high c ≡ Some n → count_behind high (c ∷ cs) ≡ count_behind n cs
-  stepped n = by (is_digit c) (nat_lt next (2 ^ 17))
+  stepped n = by (is_ascii_digit c) (nat_lt next (2 ^ 17))
     where
-      by : (d few : Bool) → (if d && few then Some next else None) ≡ Some n → (if (d && list_all is_digit cs) && nat_lt (number_behind next cs) (2 ^ 17) then Some (number_behind next cs) else None) ≡ count_behind n cs
+      by : (d few : Bool) → (if d && few then Some next else None) ≡ Some n → (if (d && list_all is_ascii_digit cs) && nat_lt (number_behind next cs) (2 ^ 17) then Some (number_behind next cs) else None) ≡ count_behind n cs
       by true true h = let e : next ≡ n = cc in ap (λ m. count_behind m cs) e
       by true false h = cc
       by false few h = cc
 
   pub stopped : with_digit high c ≡ None → count_behind high (c ∷ cs) ≡ None
-  stopped = by (is_digit c) (nat_lt next (2 ^ 17)) refl
+  stopped = by (is_ascii_digit c) (nat_lt next (2 ^ 17)) refl
     where
-      by : (d few : Bool) → nat_lt next (2 ^ 17) ≡ few → (if d && few then Some next else None) ≡ None → (if (d && list_all is_digit cs) && nat_lt (number_behind next cs) (2 ^ 17) then Some (number_behind next cs) else None) ≡ None
+      by : (d few : Bool) → nat_lt next (2 ^ 17) ≡ few → (if d && few then Some next else None) ≡ None → (if (d && list_all is_ascii_digit cs) && nat_lt (number_behind next cs) (2 ^ 17) then Some (number_behind next cs) else None) ≡ None
       by true true e h = cc
-      by true false e h = let l = ltb-false next (2 ^ 17) e in let g = grows next cs in all_or_none (list_all is_digit cs) (number_behind next cs) (omega (arith, l, g))
+      by true false e h = let l = ltb-false next (2 ^ 17) e in let g = grows next cs in all_or_none (list_all is_ascii_digit cs) (number_behind next cs) (omega (arith, l, g))
       by false few e h = refl
 
 pub ruleset counting = (ended, stepped, stopped)

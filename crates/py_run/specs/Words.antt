@@ -1,5 +1,6 @@
 -- The words that the program is called with.
-use Rattle.std.specs.Prelude.{ℕ, ◌+◌, ◌-◌, ◌*◌, ◌<◌, ◌^◌, nat_eq, nat_le, nat_lt, Bool, true, false, not, ◌&&◌, List, [], ◌∷◌, length, Option, Some, None, option_and_then, option_map, if◌then◌else◌, codes}
+use Rattle.std.specs.Prelude.{ℕ, ◌+◌, ◌-◌, ◌*◌, ◌<◌, ◌^◌, ◌==◌, nat_lt, Bool, true, false, ◌&&◌, List, [], ◌∷◌, length, Option, Some, None, option_and_then, option_map, if◌then◌else◌, codes}
+use Rattle.std.specs.Char.{is_ascii_digit}
 use Rattle.std.specs.List.{list_all}
 use Rattle.std.specs.Str.{bytes_eq}
 use Rattle.py_tree.specs.declared.modules.Mode.{Mode}
@@ -68,24 +69,21 @@ level_of word =
     (if bytes_eq word (codes "1") then Some 1 else
     (if bytes_eq word (codes "2") then Some 2 else None))
 
--- decimal digits, and what they say behind a number
-abbrev pub is_digit : ℕ → Bool
-is_digit byte = nat_le 48 byte && nat_le byte 57
-
+-- the number that decimal digits say behind a number
 abbrev pub number_behind : (high : ℕ) → List ℕ → ℕ
 number_behind high [] = high
 number_behind high (c ∷ cs) = number_behind (high * 10 + (c - 48)) cs
 
 -- one digit behind a number, and digits alone, where the number stays below 2 ^ 17
 abbrev pub with_digit : (high byte : ℕ) → Option ℕ
-with_digit high byte = if is_digit byte && nat_lt (high * 10 + (byte - 48)) (2 ^ 17) then Some (high * 10 + (byte - 48)) else None
+with_digit high byte = if is_ascii_digit byte && nat_lt (high * 10 + (byte - 48)) (2 ^ 17) then Some (high * 10 + (byte - 48)) else None
 
 abbrev pub count_behind : (high : ℕ) → List ℕ → Option ℕ
-count_behind high word = if list_all is_digit word && nat_lt (number_behind high word) (2 ^ 17) then Some (number_behind high word) else None
+count_behind high word = if list_all is_ascii_digit word && nat_lt (number_behind high word) (2 ^ 17) then Some (number_behind high word) else None
 
 -- one digit or more, whose number is below 2 ^ 17
 abbrev pub count_of : List ℕ → Option ℕ
-count_of word = if nat_eq (length word) 0 then None else count_behind 0 word
+count_of word = if length word == 0 then None else count_behind 0 word
 
 -- a mode, a level and any path
 abbrev pub compilation_of : (mode level path : List ℕ) → Option Compilation

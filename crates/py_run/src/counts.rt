@@ -35,7 +35,7 @@ fn with_digit(high: u32, byte: u8) -> Option<u32>
     ensures value { result ≡ with_digit high byte }
     ensures few { IfSome result (λ n. n < 2 ^ 17) }
 {
-    if !(b'0'..=b'9').contains(&byte) {
+    if !byte.is_ascii_digit() {
         return None;
     }
     let count = high * 10 + u32::from(byte - b'0');
