@@ -5,6 +5,6 @@ pub mod Formed
 pub mod Made
 pub mod Pieces
 pub mod Rooms
-pub mod Sampling
+pub mod Summed
 pub mod Files
 pub mod Verdicts

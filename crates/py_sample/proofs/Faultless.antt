@@ -14,7 +14,7 @@ use Rattle.py_tree.specs.declared.modules.Mode.{Mode}
 use Rattle.py_sample.specs.Laws.{SamplesAreFaultless}
 use Rattle.py_sample.specs.Sample.{program, statement, statements}
 use Rattle.py_sample.proofs.Scans.{scans_right}
-use Rattle.py_sample.proofs.Statements.{every}
+use Rattle.py_sample.proofs.Turns.{every}
 
 -- ---- nesting and size
 

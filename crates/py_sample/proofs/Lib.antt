@@ -1,4 +1,4 @@
-pub mod Statements
+pub mod Turns
 pub mod Quiet
 pub mod Scans
 pub mod Faultless

@@ -17,7 +17,7 @@ use Rattle.py_uses.specs.Parts.{in_type_params, use_parameters}
 use Rattle.py_uses.specs.Steps.{State, Outcome, Done, Refused, Step, ◌▸◌, begun_state, enter, go_on, inside, leave, noted, nothing, super_cell, unless_postponed, unless_refused, use_as, use_name, when, with_scopes, written}
 use Rattle.py_sample.specs.Sample.{a_call, a_choice, a_function, a_lambda, a_loop, a_return, a_sum, an_assignment, no_parameters, one_expr, one_parameter, one_stmt, statement, statements}
 use Rattle.py_sample.proofs.Quiet.{IsQuietRow, IsUse, added_quiet, allowed, assigned, changed_quiet, get_quiet, nothing_wrong, parameter, used, used_quiet}
-use Rattle.py_sample.proofs.Statements.{every}
+use Rattle.py_sample.proofs.Turns.{every}
 
 abbrev IsQuiet : State → Type 0
 IsQuiet s = AllOf IsQuietRow s.scopes.rows

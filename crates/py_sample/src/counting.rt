@@ -35,7 +35,7 @@ pub fn summary(alloc: Global, statements: u32, code: &CodeObject) -> Result<Stri
 }
 
 /// How many constants the code object has.
-#[tactic(auto, using(crate::proofs::Statements::constants_counted))]
+#[tactic(auto, using(crate::proofs::Turns::constants_counted))]
 fn constant_count(code: &CodeObject) -> usize
     ensures { result ≡ length (constants (object code.now)) }
 {

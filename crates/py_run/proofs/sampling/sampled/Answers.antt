@@ -2,7 +2,7 @@ use Rattle.std.proofs.Common.{Err, subst}
 use Rattle.py_tree.specs.View.{mod_tree}
 use Rattle.py_run.specs.Prepared.{Compiles}
 use Rattle.py_run.specs.Statuses.{IsCodeOf}
-use Rattle.py_run.proofs.Sampling.{sample_due, summed_ready, unsummed}
+use Rattle.py_run.proofs.Summed.{sample_due, summed_ready, unsummed}
 use Rattle.py_run.proofs.sampling.sampled.Goals as goal
 
 pub returns-in-Ok-code_of_sample : goal.returns-in-Ok-code_of_sample
