@@ -34,10 +34,10 @@ fn statement(alloc: Global, i: u32) -> Result<Stmt, AllocError>
 {
     let at = place(i);
     match i % 4 {
-        0 => an_assignment(alloc, at, i),
-        1 => a_choice(alloc, at),
-        2 => a_function(alloc, at),
-        _ => a_loop(alloc, at),
+        0 => an_assignment(alloc, &at, i),
+        1 => a_choice(alloc, &at),
+        2 => a_function(alloc, &at),
+        _ => a_loop(alloc, &at),
     }
 }
 

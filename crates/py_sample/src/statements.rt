@@ -14,29 +14,28 @@ use std::alloc::{AllocError, Global};
 
 /// `v = i`.
 #[tactic(auto, using(py_tree::proofs::View::tree_Assign))]
-pub(crate) fn an_assignment(alloc: Global, at: SourceLocation, i: u32) -> Result<Stmt, AllocError>
-    ensures { IfOk result (λ made. stmt_tree made ≡ an_assignment at i) }
+pub(crate) fn an_assignment(alloc: Global, at: &SourceLocation, i: u32) -> Result<Stmt, AllocError>
+    ensures { IfOk result (λ made. stmt_tree made ≡ an_assignment at.now i) }
 {
     let target = name(alloc, at, "v")?;
     let targets = one(alloc, target)?;
     let value = Box::new(alloc, number(at, i))?;
     Ok(Stmt::Assign(StmtAssign {
-        location: at,
+        location: *at,
         targets,
         value,
     }))
 }
 
 /// `if v: f(v)`.
-#[tactic(auto, using(py_tree::proofs::View::tree_If))]
-pub(crate) fn a_choice(alloc: Global, at: SourceLocation) -> Result<Stmt, AllocError>
-    ensures { IfOk result (λ made. stmt_tree made ≡ a_choice at) }
+pub(crate) fn a_choice(alloc: Global, at: &SourceLocation) -> Result<Stmt, AllocError>
+    ensures { IfOk result (λ made. stmt_tree made ≡ a_choice at.now) }
 {
     let test = boxed_name(alloc, at, "v")?;
     let called = called(alloc, at)?;
     let body = one(alloc, called)?;
     Ok(Stmt::If(StmtIf {
-        location: at,
+        location: *at,
         test,
         body,
         orelse: List::new(alloc),
@@ -45,27 +44,26 @@ pub(crate) fn a_choice(alloc: Global, at: SourceLocation) -> Result<Stmt, AllocE
 
 /// `f(v)` as a statement.
 #[tactic(auto, using(py_tree::proofs::View::tree_StmtExpr))]
-fn called(alloc: Global, at: SourceLocation) -> Result<Stmt, AllocError>
-    ensures { IfOk result (λ made. stmt_tree made ≡ tree.StmtExpr at (a_call at)) }
+fn called(alloc: Global, at: &SourceLocation) -> Result<Stmt, AllocError>
+    ensures { IfOk result (λ made. stmt_tree made ≡ tree.StmtExpr at.now (a_call at.now)) }
 {
     let call = a_call(alloc, at)?;
     let value = Box::new(alloc, call)?;
     Ok(Stmt::Expr(StmtExpr {
-        location: at,
+        location: *at,
         value,
     }))
 }
 
 /// `f(v)`.
-#[tactic(auto, using(py_tree::proofs::View::tree_Call))]
-fn a_call(alloc: Global, at: SourceLocation) -> Result<Expr, AllocError>
-    ensures { IfOk result (λ made. expr_tree made ≡ a_call at) }
+fn a_call(alloc: Global, at: &SourceLocation) -> Result<Expr, AllocError>
+    ensures { IfOk result (λ made. expr_tree made ≡ a_call at.now) }
 {
     let func = boxed_name(alloc, at, "f")?;
     let given = name(alloc, at, "v")?;
     let args = one(alloc, given)?;
     Ok(Expr::Call(ExprCall {
-        location: at,
+        location: *at,
         func,
         args,
         keywords: List::new(alloc),
@@ -73,16 +71,15 @@ fn a_call(alloc: Global, at: SourceLocation) -> Result<Expr, AllocError>
 }
 
 /// `def g(a): return lambda: a + v`.
-#[tactic(auto, using(py_tree::proofs::View::tree_FunctionDef))]
-pub(crate) fn a_function(alloc: Global, at: SourceLocation) -> Result<Stmt, AllocError>
-    ensures { IfOk result (λ made. stmt_tree made ≡ a_function at) }
+pub(crate) fn a_function(alloc: Global, at: &SourceLocation) -> Result<Stmt, AllocError>
+    ensures { IfOk result (λ made. stmt_tree made ≡ a_function at.now) }
 {
     let name = text(alloc, "g")?;
     let args = one_parameter(alloc, at, "a")?;
     let returned = a_return(alloc, at)?;
     let body = one(alloc, returned)?;
     Ok(Stmt::FunctionDef(StmtFunctionDef {
-        location: at,
+        location: *at,
         name,
         args,
         body,
@@ -94,27 +91,26 @@ pub(crate) fn a_function(alloc: Global, at: SourceLocation) -> Result<Stmt, Allo
 
 /// `return lambda: a + v`.
 #[tactic(auto, using(py_tree::proofs::View::tree_Return))]
-fn a_return(alloc: Global, at: SourceLocation) -> Result<Stmt, AllocError>
-    ensures { IfOk result (λ made. stmt_tree made ≡ a_return at) }
+fn a_return(alloc: Global, at: &SourceLocation) -> Result<Stmt, AllocError>
+    ensures { IfOk result (λ made. stmt_tree made ≡ a_return at.now) }
 {
     let lambda = a_lambda(alloc, at)?;
     let value = Box::new(alloc, lambda)?;
     Ok(Stmt::Return(StmtReturn {
-        location: at,
+        location: *at,
         value: Some(value),
     }))
 }
 
 /// `lambda: a + v`.
-#[tactic(auto, using(py_tree::proofs::View::tree_Lambda))]
-fn a_lambda(alloc: Global, at: SourceLocation) -> Result<Expr, AllocError>
-    ensures { IfOk result (λ made. expr_tree made ≡ a_lambda at) }
+fn a_lambda(alloc: Global, at: &SourceLocation) -> Result<Expr, AllocError>
+    ensures { IfOk result (λ made. expr_tree made ≡ a_lambda at.now) }
 {
     let sum = a_sum(alloc, at)?;
     let body = Box::new(alloc, sum)?;
     let args = Box::new(alloc, no_parameters(alloc))?;
     Ok(Expr::Lambda(ExprLambda {
-        location: at,
+        location: *at,
         args,
         body,
     }))
@@ -122,13 +118,13 @@ fn a_lambda(alloc: Global, at: SourceLocation) -> Result<Expr, AllocError>
 
 /// `a + v`.
 #[tactic(auto, using(py_tree::proofs::View::tree_BinOp))]
-fn a_sum(alloc: Global, at: SourceLocation) -> Result<Expr, AllocError>
-    ensures { IfOk result (λ made. expr_tree made ≡ a_sum at) }
+fn a_sum(alloc: Global, at: &SourceLocation) -> Result<Expr, AllocError>
+    ensures { IfOk result (λ made. expr_tree made ≡ a_sum at.now) }
 {
     let left = boxed_name(alloc, at, "a")?;
     let right = boxed_name(alloc, at, "v")?;
     Ok(Expr::BinOp(ExprBinOp {
-        location: at,
+        location: *at,
         left,
         op: Operator::Add,
         right,
@@ -136,14 +132,13 @@ fn a_sum(alloc: Global, at: SourceLocation) -> Result<Expr, AllocError>
 }
 
 /// `while v: break`.
-#[tactic(auto, using(py_tree::proofs::View::tree_While))]
-pub(crate) fn a_loop(alloc: Global, at: SourceLocation) -> Result<Stmt, AllocError>
-    ensures { IfOk result (λ made. stmt_tree made ≡ a_loop at) }
+pub(crate) fn a_loop(alloc: Global, at: &SourceLocation) -> Result<Stmt, AllocError>
+    ensures { IfOk result (λ made. stmt_tree made ≡ a_loop at.now) }
 {
     let test = boxed_name(alloc, at, "v")?;
     let body = one(alloc, a_break(at))?;
     Ok(Stmt::While(StmtWhile {
-        location: at,
+        location: *at,
         test,
         body,
         orelse: List::new(alloc),
@@ -152,10 +147,10 @@ pub(crate) fn a_loop(alloc: Global, at: SourceLocation) -> Result<Stmt, AllocErr
 
 /// `break`.
 #[tactic(auto, using(py_tree::proofs::View::tree_Break))]
-fn a_break(at: SourceLocation) -> Stmt
-    ensures { stmt_tree result ≡ tree.Break at }
+fn a_break(at: &SourceLocation) -> Stmt
+    ensures { stmt_tree result ≡ tree.Break at.now }
 {
-    Stmt::Break(StmtBreak { location: at })
+    Stmt::Break(StmtBreak { location: *at })
 }
 
 /// `()`.
@@ -172,12 +167,12 @@ fn no_parameters(alloc: Global) -> Arguments
 }
 
 /// `(id)`.
-fn one_parameter(alloc: Global, at: SourceLocation, id: &str) -> Result<Box<Arguments>, AllocError>
-    ensures { IfOk result (λ made. arguments expr_tree made.value ≡ one_parameter at id.now) }
+fn one_parameter(alloc: Global, at: &SourceLocation, id: &str) -> Result<Box<Arguments>, AllocError>
+    ensures { IfOk result (λ made. arguments expr_tree made.value ≡ one_parameter at.now id.now) }
 {
     let parameter = ArgWithDefault {
         def: Arg {
-            location: at,
+            location: *at,
             arg: text(alloc, id)?,
             annotation: None,
         },
@@ -196,26 +191,26 @@ fn one_parameter(alloc: Global, at: SourceLocation, id: &str) -> Result<Box<Argu
 
 /// A number.
 #[tactic(auto, using(py_tree::proofs::View::tree_Constant, py_tree::proofs::View::literal_Int))]
-fn number(at: SourceLocation, i: u32) -> Expr
-    ensures { expr_tree result ≡ tree.Constant at (literal.Int (pos i)) }
+fn number(at: &SourceLocation, i: u32) -> Expr
+    ensures { expr_tree result ≡ tree.Constant at.now (literal.Int (pos i)) }
 {
     Expr::Constant(ExprConstant {
-        location: at,
+        location: *at,
         value: Constant::Int(i128::from(i)),
     })
 }
 
 /// A name.
 #[tactic(auto, using(py_tree::proofs::View::tree_Name))]
-fn name(alloc: Global, at: SourceLocation, id: &str) -> Result<Expr, AllocError>
-    ensures { IfOk result (λ made. expr_tree made ≡ tree.Name at id.now) }
+fn name(alloc: Global, at: &SourceLocation, id: &str) -> Result<Expr, AllocError>
+    ensures { IfOk result (λ made. expr_tree made ≡ tree.Name at.now id.now) }
 {
     let id = text(alloc, id)?;
-    Ok(Expr::Name(ExprName { location: at, id }))
+    Ok(Expr::Name(ExprName { location: *at, id }))
 }
 
-fn boxed_name(alloc: Global, at: SourceLocation, id: &str) -> Result<Box<Expr>, AllocError>
-    ensures { IfOk result (λ made. expr_tree made.value ≡ tree.Name at id.now) }
+fn boxed_name(alloc: Global, at: &SourceLocation, id: &str) -> Result<Box<Expr>, AllocError>
+    ensures { IfOk result (λ made. expr_tree made.value ≡ tree.Name at.now id.now) }
 {
     let name = name(alloc, at, id)?;
     Ok(Box::new(alloc, name)?)
