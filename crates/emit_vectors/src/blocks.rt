@@ -6,6 +6,7 @@ use py_base::{List, OneIndexed, SourceLocation};
 use py_bytecode::{CodeFlags, CodeObject, ConstantData, Instruction, OpArg};
 use py_ir::{Block, BlockIdx, Blocks, CodeInfo, ConstantSet, InstructionInfo, NameSet};
 use std::alloc::Global;
+use std::process::Abort;
 use std::test::Fail;
 
 fn instruction(name: &str) -> Instruction {
@@ -21,6 +22,23 @@ fn instruction(name: &str) -> Instruction {
         "Pop" => Instruction::Pop,
         "BuildTuple" => Instruction::BuildTuple,
         "ExtendedArg" => Instruction::ExtendedArg,
+        _ => leaving_instruction(name),
+    }
+}
+
+/// An instruction that leaves something, or that begins or ends a block of handlers, a last part or a `with`.
+fn leaving_instruction(name: &str) -> Instruction {
+    match name {
+        "Continue" => Instruction::Continue,
+        "Raise" => Instruction::Raise,
+        "SetupExcept" => Instruction::SetupExcept,
+        "SetupFinally" => Instruction::SetupFinally,
+        "SetupWith" => Instruction::SetupWith,
+        "PopException" => Instruction::PopException,
+        "EnterFinally" => Instruction::EnterFinally,
+        "EndFinally" => Instruction::EndFinally,
+        "WithCleanupStart" => Instruction::WithCleanupStart,
+        "WithCleanupFinish" => Instruction::WithCleanupFinish,
         _ => Instruction::Nop,
     }
 }
@@ -146,6 +164,7 @@ fn shown(alloc: Global, code: &CodeObject) -> Result<String, Fail> {
     Ok(out)
 }
 
+/// What `finalize_code` answers.
 fn answer(alloc: Global, given: &str, level: u8) -> Result<String, Fail> {
     match code_info(alloc, given)?.finalize_code(alloc, level) {
         Ok(code) => shown(alloc, &code),
@@ -176,15 +195,59 @@ const CODES: &'static str = "
 1 Nop|ReturnConst 0; Jump => 2 units, depth 0: Nop 0; ReturnConst 0;
 ";
 
-#[test]
-fn finalized_blocks(rt: HostRuntime) -> Result<(), Fail> {
-    for line in CODES.trim().lines() {
+/// The same, with blocks of handlers, of last parts and of `with`. Of those that are refused one refusal alone holds.
+const HANDLERS: &'static str = "
+0 SetupExcept >1; LoadConst 0; Pop; PopBlock; Jump >2|Pop; PopException|ReturnConst 0 => 8 units, depth 1: SetupExcept 5; LoadConst 0; Pop 0; PopBlock 0; Jump 7; Pop 0; PopException 0; ReturnConst 0;
+0 SetupExcept >1; LoadConst 0; Pop; PopBlock; Jump >2|Raise 2|ReturnConst 0 => 7 units, depth 1: SetupExcept 5; LoadConst 0; Pop 0; PopBlock 0; Jump 6; Raise 2; ReturnConst 0;
+0 SetupExcept >1; PopBlock; Jump >2|Pop; ReturnConst 0|ReturnConst 0 => 6 units, depth 1: SetupExcept 3; PopBlock 0; Jump 5; Pop 0; ReturnConst 0; ReturnConst 0;
+0 SetupFinally >1; LoadConst 0; Pop; PopBlock; EnterFinally|LoadConst 0; Pop; EndFinally|ReturnConst 0 => 9 units, depth 1: SetupFinally 5; LoadConst 0; Pop 0; PopBlock 0; EnterFinally 0; LoadConst 0; Pop 0; EndFinally 0; ReturnConst 0;
+0 SetupFinally >1; LoadConst 0; ReturnValue|EndFinally; ReturnConst 0 => 5 units, depth 1: SetupFinally 3; LoadConst 0; ReturnValue 0; EndFinally 0; ReturnConst 0;
+0 SetupFinally >2; PopBlock|EnterFinally|EndFinally; ReturnConst 0 => 5 units, depth 0: SetupFinally 3; PopBlock 0; EnterFinally 0; EndFinally 0; ReturnConst 0;
+0 LoadConst 0; SetupWith >1; Pop; PopBlock; EnterFinally|WithCleanupStart; WithCleanupFinish; ReturnConst 0 => 8 units, depth 2: LoadConst 0; SetupWith 5; Pop 0; PopBlock 0; EnterFinally 0; WithCleanupStart 0; WithCleanupFinish 0; ReturnConst 0;
+0 SetupWith >1; Pop; PopBlock; EnterFinally|WithCleanupStart; WithCleanupFinish; ReturnConst 0 => HeightOutOfRange { block: 0, place: 0 }
+0 SetupLoop; SetupFinally >1; Break >2; PopBlock; EnterFinally|EndFinally; PopBlock; Jump >3|Nop|ReturnConst 0 => 10 units, depth 0: SetupLoop 0; SetupFinally 5; Break 8; PopBlock 0; EnterFinally 0; EndFinally 0; PopBlock 0; Jump 9; Nop 0; ReturnConst 0;
+0 SetupLoop|LoadConst 0; JumpIfFalse >3; SetupExcept >2; Continue >1|Pop; PopException; Jump >1|PopBlock; ReturnConst 0 => 10 units, depth 1: SetupLoop 0; LoadConst 0; JumpIfFalse 8; SetupExcept 5; Continue 1; Pop 0; PopException 0; Jump 1; PopBlock 0; ReturnConst 0;
+0 SetupLoop|SetupExcept >2; Continue >1|Pop; Continue >1 => 5 units, depth 1: SetupLoop 0; SetupExcept 3; Continue 1; Pop 0; Continue 1;
+0 SetupLoop; SetupExcept >1; Break >2|Pop; Break >2|ReturnConst 0 => 6 units, depth 1: SetupLoop 0; SetupExcept 3; Break 5; Pop 0; Break 5; ReturnConst 0;
+0 EndFinally; ReturnConst 0 => BlockMismatch { block: 0, place: 0 }
+0 SetupExcept >1; PopException; ReturnConst 0|ReturnConst 0 => BlockMismatch { block: 0, place: 1 }
+0 PopException; ReturnConst 0 => BlockMismatch { block: 0, place: 0 }
+0 SetupFinally >1; PopBlock; ReturnConst 0|WithCleanupStart; WithCleanupFinish; ReturnConst 0 => HeightOutOfRange { block: 1, place: 0 }
+0 EnterFinally; ReturnConst 0 => 2 units, depth 0: EnterFinally 0; ReturnConst 0;
+0 SetupExcept; ReturnConst 0 => JumpWithoutTarget { block: 0, place: 0 }
+0 SetupExcept >7; ReturnConst 0 => TargetOutside { block: 0, place: 0 }
+0 LoadConst 0; JumpIfFalse >1; SetupFinally >1; PopBlock; Jump >1|ReturnConst 0 => BlockMismatch { block: 1, place: 0 }
+0 Raise 0 => HeightOutOfRange { block: 0, place: 0 }
+0 Raise 3 => OperandOutside { block: 0, place: 0 }
+0 LoadConst 0; Raise 0 => 2 units, depth 1: LoadConst 0; Raise 0;
+0 LoadConst 0; LoadConst 0; Raise 1 => 3 units, depth 2: LoadConst 0; LoadConst 0; Raise 1;
+0 Break >0 => BlockMismatch { block: 0, place: 0 }
+0 Continue >0 => BlockMismatch { block: 0, place: 0 }
+0 SetupLoop|Continue >1 => 2 units, depth 0: SetupLoop 0; Continue 1;
+0 SetupExcept >1; PopBlock; Jump >2|Pop; PopException; Jump >2|Nop => NoEnd { block: 2 }
+1 SetupFinally >1; PopBlock; EnterFinally; Jump|EndFinally; ReturnConst 0; Pop => JumpWithoutTarget { block: 0, place: 3 }
+0 SetupLoop; SetupLoop; PopBlock; Break >1|PopBlock; ReturnConst 0 => BlockMismatch { block: 1, place: 0 }
+";
+
+/// Each line's blocks give the answer that it names.
+fn finalizes(rt: &(impl Abort + AllocGlobal), table: &str) -> Result<(), Fail> {
+    for line in table.trim().lines() {
         let (given, want) = line.split_once(" => ").ok_or("no answer")?;
         let (level, blocks) = given.split_once(" ").ok_or("no blocks")?;
         let answer = answer(rt.alloc(), blocks, level.parse::<u8>()?)?;
         assert!(rt; answer.as_str().starts_with(want), "{line}");
     }
     Ok(())
+}
+
+#[test]
+fn finalized_blocks(rt: HostRuntime) -> Result<(), Fail> {
+    finalizes(&rt, CODES)
+}
+
+#[test]
+fn finalized_handlers(rt: HostRuntime) -> Result<(), Fail> {
+    finalizes(&rt, HANDLERS)
 }
 
 /// A block that is written through a borrow; the other stays.
