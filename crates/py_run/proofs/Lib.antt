@@ -5,4 +5,5 @@ pub mod Made
 pub mod Pieces
 pub mod Rooms
 pub mod Files
+pub mod Takes
 pub mod Verdicts

@@ -1,6 +1,7 @@
-ghost use Rattle.std.specs.Prelude.{◌≡◌, ◌≢◌, ◌⊎◌, ◌≤◌, None, length, IfSome, option_map};
+ghost use Rattle.std.specs.Prelude.{◌≡◌, ◌≢◌, ◌⊎◌, ◌≤◌, None, false, length, IfSome, option_map};
 ghost use Rattle.py_bytecode.specs.View.{object};
 ghost use Rattle.py_devices.specs.Devices.{Rose};
+ghost use Rattle.py_run.specs.Reading.{TakesFew};
 ghost use Rattle.py_run.specs.Runs.{ErrGets, FitsForm, IsDue, IsLineless, IsOfForm, IsSound, IsTextless, NoReadFailed, NoWriteFailed, OutGets, ReadCause, Reports, Text, Line, WriteCause, line_of, text_of, written};
 ghost use Rattle.py_run.specs.Statuses.{IsCodeOf, due_of};
 ghost use Rattle.py_run.specs.Words.{words_form};
@@ -45,6 +46,10 @@ pub fn run<S: Source, O: Sink, E: Sink>(
     ensures unread { words_form words.now ≡ None → source.new ≡ source.old }
     ensures no_text { IsTextless (written words.now (S.left source.old) result) → out.new ≡ out.old }
     ensures no_line { IsLineless (written words.now (S.left source.old) result) → err.new ≡ err.old }
+
+    // Reading ends at the first of a read that gives no byte, a failed read and 2^26 bytes.
+    ensures in_time { S.ended source.old ≡ false → S.late source.new ≡ S.late source.old }
+    ensures taken { TakesFew (S.left source.old) (S.left source.new) }
 
     // Always where a call failed.
     ensures reads { NoReadFailed result.status S.counts_failures (S.faults source.old) (S.faults source.new) }

@@ -1,6 +1,7 @@
-ghost use Rattle.std.specs.Prelude.{◌≡◌, ◌<◌, ◌^◌, None, length, IfSome, codes};
+ghost use Rattle.std.specs.Prelude.{◌≡◌, ◌<◌, ◌^◌, None, false, length, IfSome, codes};
 ghost use Rattle.py_rows.specs.Rows.{rows_tree};
 ghost use Rattle.py_run.specs.Prepared.{HasForm, IsListed, Prepares, Readies, ReadsOf, ReadsTree, RefusesTree, TellsFault};
+ghost use Rattle.py_run.specs.Reading.{TakesFew};
 ghost use Rattle.py_run.specs.Statuses.{answered, due_of, rows_text};
 ghost use Rattle.py_run.specs.Words.{command_view, words_form};
 
@@ -38,10 +39,13 @@ pub enum Prepared {
 }
 
 /// Makes what the words ask for of what the source has.
+#[tactic(auto, using(crate::proofs::Takes::takes_none))]
 pub fn prepare<S: Source>(alloc: Global, words: &Words, source: &mut S) -> Prepared
     ensures form { HasForm result (words_form words.now) }
     ensures due { IfSome (due_of words.now (S.left source.old)) (Prepares result) }
     ensures reads { ReadsOf result S.counts_failures (S.faults source.old) (S.faults source.new) }
+    ensures in_time { S.ended source.old ≡ false → S.late source.new ≡ S.late source.old }
+    ensures taken { TakesFew (S.left source.old) (S.left source.new) }
     ensures unread { words_form words.now ≡ None → source.new ≡ source.old }
 {
     let Some(command) = parse(words) else {

@@ -1,7 +1,7 @@
-ghost use Rattle.std.specs.Prelude.{◌≡◌, ◌≤◌, ◌<◌, ◌^◌, length, IfOk, OnOk, IfSome, IsErrOf};
+ghost use Rattle.std.specs.Prelude.{◌≡◌, ◌≤◌, ◌<◌, ◌^◌, false, length, IfOk, OnOk, IfSome, IsErrOf};
 ghost use Rattle.std.specs.Io.KnownBytes.{Consumes, IsAtEnd};
 ghost use Rattle.py_devices.specs.Devices.{Rose};
-ghost use Rattle.py_run.specs.Reading.{ReadsStill};
+ghost use Rattle.py_run.specs.Reading.{ReadsStill, TakesFew};
 
 use py_devices::{ReadAnswer, Source};
 use std::alloc::{AllocError, Global};
@@ -37,7 +37,7 @@ impl From<AllocError> for ReadError {
 /// All bytes that are left, where they are fewer than 2^26 and no read fails.
 ///
 /// # Errors
-/// The reading ends at the first of a failed read and 2^26 bytes. Want of memory is free.
+/// The reading ends at the first of a read that gives no byte, a failed read and 2^26 bytes. Want of memory is free.
 pub fn read_all<S: Source>(alloc: Global, source: &mut S) -> Result<Vec<u8>, ReadError>
     ensures whole { IfOk result (λ v. Consumes (S.left source.old) (S.left source.new) v.items) }
     ensures end { OnOk result (IsAtEnd (S.left source.new)) }
@@ -46,6 +46,8 @@ pub fn read_all<S: Source>(alloc: Global, source: &mut S) -> Result<Vec<u8>, Rea
     ensures fault { IsErrOf result ReadError.Failed → Rose (S.faults source.old) (S.faults source.new) }
     ensures later { S.faults source.old ≤ S.faults source.new }
     ensures still { ReadsStill S.counts_failures (S.faults source.old) (S.faults source.new) result }
+    ensures in_time { S.ended source.old ≡ false → S.late source.new ≡ S.late source.old }
+    ensures taken { TakesFew (S.left source.old) (S.left source.new) }
 {
     let mut found = Vec::new(alloc);
     'reading: while found.len() < INPUT_LIMIT {
