@@ -1,1 +1,5 @@
+pub mod Growing
+pub mod Staying
+pub mod StayingExprs
+pub mod StayingStmts
 mod Words

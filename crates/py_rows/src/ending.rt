@@ -1,4 +1,4 @@
-ghost use Rattle.std.specs.Prelude.{◌≡◌, Some, position};
+ghost use Rattle.std.specs.Prelude.{◌≡◌, ◌<◌, ◌^◌, IfSome, Some, length, position};
 ghost use Rattle.py_tree.specs.View.{mod_tree};
 ghost use Rattle.py_rows_fields.specs.Gives.{Fails, Gives};
 ghost use Rattle.py_rows_slots.specs.Nodes.{is_left, nodes_view};
@@ -10,6 +10,7 @@ use py_tree::Mod;
 
 /// The tree of the last row, where that is a program and each other row is named.
 pub(crate) fn take_program(nodes: &mut Nodes) -> Result<Mod, RowsError>
+    requires { length nodes.old.rows.items < 2 ^ 32 }
     ensures { Gives mod_tree result (whole (nodes_view nodes.old)) }
 {
     if !ends_in_program(nodes.rows.as_slice()) {
@@ -42,6 +43,7 @@ fn is_program(sort: Sort) -> bool
 /// # Errors
 /// `NotNamed` with the lowest that is not.
 fn check_named(nodes: &Nodes) -> Result<(), RowsError>
+    requires { length nodes.now.rows.items < 2 ^ 32 }
     ensures { Gives (λ x. x) result (none_left (first_left (nodes_view nodes.now))) }
 {
     let rows = nodes.rows.as_slice();
@@ -54,19 +56,18 @@ fn check_named(nodes: &Nodes) -> Result<(), RowsError>
     }
 }
 
-/// That no row names this one. There are fewer than 2^32 rows, so its number is one.
+/// That no row names this one.
 fn not_named(row: usize) -> RowsError
+    requires { row < 2 ^ 32 }
     ensures { Fails result (none_left (Some row)) }
 {
-    match u32::try_from(row) {
-        Ok(row) => RowsError::NotNamed { row },
-        Err(_) => RowsError::OutOfMemory,
-    }
+    RowsError::NotNamed { row: row as u32 }
 }
 
 /// The lowest of these rows that no row has named.
 fn lowest_left(nodes: &Nodes, rows: &[Row]) -> Option<usize>
-    ensures { result ≡ position (λ r. is_left r.sort r.index (nodes_view nodes.now)) rows.now }
+    ensures lowest { result ≡ position (λ r. is_left r.sort r.index (nodes_view nodes.now)) rows.now }
+    ensures below { IfSome result (λ row. row < length rows.now) }
 {
     rows.iter().position(|row| nodes.is_left(row))
 }
