@@ -7,7 +7,7 @@ use crate::cases::{
     push_binary, push_compare, push_conversion, push_raise_kind, push_test, push_unary,
 };
 use crate::constants::push_constant;
-use crate::texts::push_number;
+use crate::texts::{push_mark, push_number};
 use py_base::Text;
 use py_bytecode::{CodeObject, ConstantData, OperandKind};
 use py_quote::push_quote;
@@ -59,7 +59,7 @@ fn push_constant_entry(
 {
     match constants.get(place as usize) {
         Some(item) => {
-            out.push_str(" ")?;
+            push_mark(out, ' ')?;
             push_constant(out, item)
         }
         None => out.push_str(" ?"),
@@ -71,7 +71,7 @@ fn push_name_entry(out: &mut String, names: &[Text], place: usize) -> Result<(),
 {
     match names.get(place) {
         Some(name) => {
-            out.push_str(" ")?;
+            push_mark(out, ' ')?;
             push_quote(out, name.as_str())
         }
         None => out.push_str(" ?"),

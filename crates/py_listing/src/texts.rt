@@ -1,4 +1,4 @@
-ghost use Rattle.std.specs.Prelude.{◌≡◌, ◌++◌, string_bytes, OnOk};
+ghost use Rattle.std.specs.Prelude.{◌≡◌, ◌<◌, [], ◌∷◌, ◌++◌, string_bytes, OnOk};
 
 use itoa::{Buffer, Integer};
 use std::alloc::AllocError;
@@ -8,6 +8,14 @@ pub fn push_text(out: &mut String, text: &str) -> Result<(), AllocError>
     ensures { OnOk result (string_bytes out.new ≡ string_bytes out.old ++ text.now) }
 {
     out.push_str(text)
+}
+
+/// Appends an ASCII character, which is a byte by itself.
+pub fn push_mark(out: &mut String, mark: char) -> Result<(), AllocError>
+    requires { mark < 128 }
+    ensures { OnOk result (string_bytes out.new ≡ string_bytes out.old ++ mark ∷ []) }
+{
+    out.push(mark)
 }
 
 /// Appends a number in decimal digits.

@@ -23,14 +23,14 @@ pub fn read_json(alloc: Global, bytes: &[u8]) -> Result<Value, RowsError>
 }
 
 /// The rows, which are the entries of an array that is not empty.
-pub fn rows_of(value: &Value) -> Result<&[Value], RowsError>
-    ensures { Gives (λ r. items_view r.now) result (rows_in (view value.now)) }
+pub fn rows_of(value: Value) -> Result<Vec<Value>, RowsError>
+    ensures { Gives (λ r. items_view r.items) result (rows_in (view value)) }
 {
-    let Some(rows) = value.as_array() else {
+    let Value::Array(rows) = value else {
         return Err(RowsError::NotRows);
     };
     if rows.is_empty() {
         return Err(RowsError::NotRows);
     }
-    Ok(rows.as_slice())
+    Ok(rows)
 }

@@ -10,7 +10,7 @@ use std::alloc::{AllocError, Global};
 pub const INPUT_LIMIT: usize = 1 << 26;
 
 /// How many bytes one read asks for at most.
-const PIECE: usize = 4096;
+const PIECE: usize = 65536;
 
 /// Why the input was not read to its end.
 #[derive(Clone, Copy, Debug, PartialEq, Eq)]
@@ -48,8 +48,8 @@ pub fn read_all<S: Source>(alloc: Global, source: &mut S) -> Result<Vec<u8>, Rea
     ensures still { ReadsStill S.counts_failures (S.faults source.old) (S.faults source.new) result }
 {
     let mut found = Vec::new(alloc);
+    let mut buf = [0u8; PIECE];
     'reading: while found.len() < INPUT_LIMIT {
-        let mut buf = [0u8; PIECE];
         let room = (INPUT_LIMIT - found.len()).min(PIECE);
         match source.read(&mut buf[..room]) {
             ReadAnswer::Failed => return Err(ReadError::Failed),
