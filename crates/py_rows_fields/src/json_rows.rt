@@ -26,11 +26,8 @@ pub fn read_json(alloc: Global, bytes: &[u8]) -> Result<Value, RowsError>
 pub fn rows_of(value: Value) -> Result<Vec<Value>, RowsError>
     ensures { Gives (λ r. items_view r.items) result (rows_in (view value)) }
 {
-    let Value::Array(rows) = value else {
-        return Err(RowsError::NotRows);
-    };
-    if rows.is_empty() {
-        return Err(RowsError::NotRows);
+    match value {
+        Value::Array(rows) if !rows.is_empty() => Ok(rows),
+        _ => Err(RowsError::NotRows),
     }
-    Ok(rows)
 }

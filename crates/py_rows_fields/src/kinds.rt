@@ -174,22 +174,22 @@ impl Kind {
 pub fn kind_of(word: &str) -> Option<Kind>
     ensures { result ≡ kind_of word.now }
 {
-    let word = word.as_bytes();
-    match word.len() {
-        2 => kind_of_two(word),
-        3 => kind_of_three(word),
-        4 => kind_of_four(word),
-        5 => kind_of_five(word),
-        6 => kind_of_six(word),
-        7 => kind_of_seven(word),
-        8 => kind_of_eight(word),
-        9 => kind_of_nine(word),
-        10 => kind_of_ten(word),
-        11 => kind_of_eleven(word),
-        12 => kind_of_twelve(word),
-        13 => kind_of_thirteen(word),
-        14 => kind_of_fourteen(word),
-        16 => kind_of_sixteen(word),
+    let bytes = word.as_bytes();
+    match bytes.len() {
+        2 => kind_of_two(bytes),
+        3 => kind_of_three(bytes),
+        4 => kind_of_four(bytes),
+        5 => kind_of_five(bytes),
+        6 => kind_of_six(bytes),
+        7 => kind_of_seven(bytes),
+        8 => kind_of_eight(bytes),
+        9 => kind_of_nine(bytes),
+        10 => kind_of_ten(bytes),
+        11 => kind_of_eleven(bytes),
+        12 => kind_of_twelve(bytes),
+        13 => kind_of_thirteen(bytes),
+        14 => kind_of_fourteen(bytes),
+        16 => kind_of_sixteen(bytes),
         _ => None,
     }
 }

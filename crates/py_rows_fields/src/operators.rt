@@ -23,8 +23,8 @@ pub fn bool_operator(value: &Value, row: u32) -> Result<BoolOp, RowsError>
 fn bool_operator_of(word: &str) -> Option<BoolOp>
     ensures { result ≡ bool_operator_of word.now }
 {
-    let word = word.as_bytes();
-    find_word! { word;
+    let bytes = word.as_bytes();
+    find_word! { bytes;
         b"And" => BoolOp::And,
         b"Or" => BoolOp::Or,
     }
@@ -43,8 +43,8 @@ pub fn operator(value: &Value, row: u32) -> Result<Operator, RowsError>
 fn operator_of(word: &str) -> Option<Operator>
     ensures { result ≡ operator_of word.now }
 {
-    let word = word.as_bytes();
-    find_word! { word;
+    let bytes = word.as_bytes();
+    find_word! { bytes;
         b"Add" => Operator::Add,
         b"Sub" => Operator::Sub,
         b"Mult" => Operator::Mult,
@@ -74,8 +74,8 @@ pub fn unary_operator(value: &Value, row: u32) -> Result<UnaryOp, RowsError>
 fn unary_operator_of(word: &str) -> Option<UnaryOp>
     ensures { result ≡ unary_operator_of word.now }
 {
-    let word = word.as_bytes();
-    find_word! { word;
+    let bytes = word.as_bytes();
+    find_word! { bytes;
         b"Invert" => UnaryOp::Invert,
         b"Not" => UnaryOp::Not,
         b"UAdd" => UnaryOp::UAdd,
@@ -96,8 +96,8 @@ pub(crate) fn comparison(value: &Value, row: u32) -> Result<CmpOp, RowsError>
 fn comparison_of(word: &str) -> Option<CmpOp>
     ensures { result ≡ comparison_of word.now }
 {
-    let word = word.as_bytes();
-    find_word! { word;
+    let bytes = word.as_bytes();
+    find_word! { bytes;
         b"Eq" => CmpOp::Eq,
         b"NotEq" => CmpOp::NotEq,
         b"Lt" => CmpOp::Lt,
@@ -135,8 +135,8 @@ pub fn conversion(value: &Value, row: u32) -> Result<ConversionFlag, RowsError>
 fn conversion_of(word: &str) -> Option<ConversionFlag>
     ensures { result ≡ conversion_of word.now }
 {
-    let word = word.as_bytes();
-    find_word! { word;
+    let bytes = word.as_bytes();
+    find_word! { bytes;
         b"None" => ConversionFlag::None,
         b"Str" => ConversionFlag::Str,
         b"Ascii" => ConversionFlag::Ascii,
