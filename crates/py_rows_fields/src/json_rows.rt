@@ -1,6 +1,6 @@
 ghost use Rattle.serde_json.specs.View.{view, items_view};
 ghost use Rattle.py_rows_fields.specs.Gives.{Gives};
-ghost use Rattle.py_rows_fields.specs.JsonRows.{json_of, rows_in};
+ghost use Rattle.py_rows_fields.specs.JsonRows.{json_of, rows_in, some_rows};
 
 use crate::error::RowsError;
 use serde_json::Value;
@@ -27,7 +27,16 @@ pub fn rows_of(value: Value) -> Result<Vec<Value>, RowsError>
     ensures { Gives (λ r. items_view r.items) result (rows_in (view value)) }
 {
     match value {
-        Value::Array(rows) if !rows.is_empty() => Ok(rows),
-        _ => Err(RowsError::NotRows),
+        Value::Array(rows) => some_rows(rows),
+        _other => Err(RowsError::NotRows),
     }
+}
+
+fn some_rows(rows: Vec<Value>) -> Result<Vec<Value>, RowsError>
+    ensures { Gives (λ r. items_view r.items) result (some_rows (items_view rows.items)) }
+{
+    if rows.is_empty() {
+        return Err(RowsError::NotRows);
+    }
+    Ok(rows)
 }
