@@ -1,5 +1,5 @@
 use Rattle.std.proofs.Common.{arith}
-use Rattle.py_listing.proofs.Numbers.{places_utf8}
+use Rattle.py_listing.proofs.Places.{places_utf8}
 use Rattle.py_listing.proofs.numbers.push_places.Goals as goal
 
 pub prove-unreachable-requires : goal.prove-unreachable-requires
