@@ -4,10 +4,10 @@ use Rattle.py_listing.proofs.Places.{short}
 use Rattle.py_listing.proofs.numbers.write_marked.Goals as goal
 
 pub write_digits-requires : goal.write_digits-requires
-write_digits-requires c = (omega (arith, short c.args.number c.ranges.number), omega (arith, length-set c.args.buffer.now (c.args.end - 1) c.args.mark))
+write_digits-requires c = (omega (arith, short c.args.number c.ranges.number.fits), omega (arith, length-set c.args.buffer.now (c.args.end - 1) c.args.mark))
 
 pub returns-clause-room : goal.returns-clause-room
-returns-clause-room c = omega (arith, short c.args.number c.ranges.number)
+returns-clause-room c = omega (arith, short c.args.number c.ranges.number.fits)
 
 pub returns-clause-written : goal.returns-clause-written
 returns-clause-written c =
