@@ -1,2 +1,2 @@
 mod Words
-mod Reading
+mod LetGo
