@@ -5,7 +5,7 @@ use py_base::{CodegenErrorType, List};
 use py_bytecode::{ConstantData, Instruction, OpArg};
 use py_emit::{CompileOpts, Emitter};
 use py_ir::BlockIdx;
-use py_scope::{FlatScopes, SymbolTable, SymbolTableType, Symbols};
+use py_scope::{SymbolTable, SymbolTableType, Symbols};
 use std::alloc::Global;
 use std::process::Abort;
 use std::test::Fail;
@@ -20,8 +20,7 @@ fn emitter(alloc: Global) -> Result<Emitter, Fail> {
         symbols: Symbols::new(alloc),
         sub_tables: List::new(alloc),
     };
-    let scopes = FlatScopes::from_table(alloc, table)?;
-    Ok(Emitter::new(alloc, CompileOpts::default(), text(alloc, "m.py")?, scopes)?)
+    Ok(Emitter::new(alloc, CompileOpts::default(), text(alloc, "m.py")?, table)?)
 }
 
 /// Takes the last instruction out, which is this one, with no target, at this column.

@@ -3,7 +3,7 @@ use Rattle.py_steps.specs.Emitting.{begun}
 use Rattle.py_emit.specs.States.{entered, head_of, rest, shape_of, source_of, state, state_of}
 use Rattle.py_emit.specs.declared.scopes.OpenScope.{OpenScope}
 use Rattle.py_emit.proofs.Within.{head_within}
-use Rattle.py_emit.proofs.emitter.Emitter.enter_scope.Goals as goal
+use Rattle.py_emit.proofs.emitter.Emitter.open_scope.Goals as goal
 
 pub returns-clause-state : goal.returns-clause-state
 returns-clause-state c =
