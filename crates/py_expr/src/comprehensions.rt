@@ -72,7 +72,7 @@ pub(crate) fn compile_generator_exp(
 
 /// Emits a comprehension, which has a clause, and in which nothing is awaited.
 #[cycle(code)]
-fn compile_comprehension(
+pub(crate) fn compile_comprehension(
     em: &mut Emitter,
     generators: &[Comprehension],
     element: &ComprehensionElement<'_>,
