@@ -79,3 +79,34 @@ fn debug_is_no_name_of_its_own(rt: HostRuntime) -> Result<(), Fail> {
     }
     Ok(())
 }
+
+#[test]
+fn names_are_entered_as_the_class_writes_them(rt: HostRuntime) -> Result<(), Fail> {
+    let alloc = rt.alloc();
+    let mut em = emitter(alloc)?;
+    assert!(rt; em.set_class(Some(text(alloc, "A")?)).is_none());
+    assert_eq!(rt; em.mangled("__x")?.as_str(), "_A__x");
+    assert_eq!(rt; em.mangled("x")?.as_str(), "x");
+    assert_eq!(rt; em.name("x")?, 0);
+    assert_eq!(rt; em.name("__x")?, 1);
+    assert_eq!(rt; em.name("_A__x")?, 1);
+    assert_eq!(rt; em.varname("__y")?, 0);
+    assert_eq!(rt; em.varname("_A__y")?, 0);
+    assert!(rt; em.varname("__debug__").is_err());
+    Ok(())
+}
+
+#[test]
+fn the_qualified_name_is_told_part_by_part(rt: HostRuntime) -> Result<(), Fail> {
+    let alloc = rt.alloc();
+    let mut em = emitter(alloc)?;
+    em.push_path(text(alloc, "f")?)?;
+    em.push_path(text(alloc, "<locals>")?)?;
+    assert_eq!(rt; em.qualified_name()?.as_str(), "f.<locals>");
+    em.pop_path();
+    assert_eq!(rt; em.qualified_name()?.as_str(), "f");
+    em.pop_path();
+    assert_eq!(rt; em.set_path(text(alloc, "A")?).as_str(), "");
+    assert_eq!(rt; em.qualified_name()?.as_str(), "A");
+    Ok(())
+}

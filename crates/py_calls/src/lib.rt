@@ -2,7 +2,6 @@
 //! users that take the compiler apart.
 #![tactic(auto)]
 
-mod contexts;
 mod errors;
 mod functions;
 mod futures;
@@ -10,13 +9,13 @@ mod scans;
 mod statements;
 pub mod tree;
 
-pub use contexts::SetContext;
 pub use errors::IntoCodegenError;
 pub use functions::enter_function;
 pub use futures::compile_future_features;
 pub use py_emit::{CompileOpts, EmitContext, Emitter, NameUsage, ScopeHead};
 pub use py_expr::{
-    compile_call_inner, compile_delete, compile_expression, compile_jump_if, compile_store,
+    ComprehensionParts, compile_call_inner, compile_comprehension, compile_delete,
+    compile_expression, compile_jump_if, compile_store,
 };
 pub use py_expr_parts::calls::CallType;
 pub use py_expr_scopes::awaits::contains_await;
