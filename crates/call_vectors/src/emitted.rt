@@ -2,6 +2,7 @@
 ghost use Rattle.py_emit.specs.States.{AreMade, rest};
 
 use crate::fixtures::{emitter, taken, tree};
+use bitflags::Flags;
 use py_calls::{
     CallType, compile_call_inner, compile_delete, compile_expression, compile_future_features,
     compile_jump_if, compile_statement, compile_statements, compile_store, enter_function,
@@ -45,7 +46,7 @@ fn call_on_expr(em: &mut Emitter, call: Call, expr: &Expr) -> Result<(), Fail> {
         }
         (Call::Function, Expr::Lambda(e)) => {
             let flags = enter_function(em, "<lambda>", &e.args)?;
-            if flags.0 != 0x08 || em.scope_type() != SymbolTableType::Function {
+            if flags.bits() != 0x08 || em.scope_type() != SymbolTableType::Function {
                 return Err(Fail::from("another scope"));
             }
         }
@@ -60,7 +61,7 @@ fn call_on_stmts(em: &mut Emitter, call: Call, body: &Stmts) -> Result<(), Fail>
 {
     match (call, body.get(0)) {
         (Call::Statement, Some(statement)) => compile_statement(em, statement)?,
-        (Call::FromSecond, Some(_)) => compile_statements(em, body, 1)?,
+        (Call::FromSecond, _) if body.len() > 1 => compile_statements(em, body, 1)?,
         (Call::Features, Some(Stmt::ImportFrom(s))) => compile_future_features(em, &s.names)?,
         _ => return Err(Fail::from("no such statement")),
     }
