@@ -1,15 +1,11 @@
-//! Calls on an emitter one at a time, scans as calls of a symbol table, and what is asked of a tree before either: for
-//! users that take the compiler apart.
+//! Calls on an emitter one at a time, and what is asked of a tree before: for users that take the compiler apart.
 #![tactic(auto)]
 
-mod errors;
 mod functions;
 mod futures;
-mod scans;
 mod statements;
 pub mod tree;
 
-pub use errors::IntoCodegenError;
 pub use functions::enter_function;
 pub use futures::compile_future_features;
 pub use py_emit::{CompileOpts, EmitContext, Emitter, NameUsage, ScopeHead};
@@ -20,5 +16,5 @@ pub use py_expr::{
 pub use py_expr_parts::calls::CallType;
 pub use py_expr_scopes::awaits::contains_await;
 pub use py_stmt_parts::{find_ann, split_doc};
-pub use scans::Scan;
+pub use py_table_calls::{IntoCodegenError, Scan};
 pub use statements::{compile_statement, compile_statements};
