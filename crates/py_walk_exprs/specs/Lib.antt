@@ -1,0 +1,4 @@
+pub mod Options
+pub mod Parts
+pub mod Starred
+pub mod Texts
