@@ -1,3 +1,4 @@
+pub mod Keywords
 pub mod Options
 pub mod Parts
 pub mod Starred

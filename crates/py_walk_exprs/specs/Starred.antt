@@ -1,5 +1,5 @@
--- Which expressions are starred, and which are attributes; which keywords are unpacked.
-use Rattle.std.specs.Prelude.{Bool, true, false, ◌||◌, Option, Some, None}
+-- Which expressions are starred, and which are attributes.
+use Rattle.std.specs.Prelude.{Bool, true, false, ◌||◌}
 use Rattle.py_tree.specs.Tree as tree
 
 abbrev pub is_starred : tree.Expr → Bool
@@ -14,8 +14,3 @@ any_starred (tree.more_exprs e es) = is_starred e || any_starred es
 abbrev pub is_attribute : tree.Expr → Bool
 is_attribute (tree.Attribute at e attr) = true
 is_attribute other = false
-
-abbrev pub any_unpacked : tree.Keywords → Bool
-any_unpacked tree.no_keywords = false
-any_unpacked (tree.more_keywords None e ks) = true
-any_unpacked (tree.more_keywords (Some name) e ks) = any_unpacked ks

@@ -7,7 +7,8 @@ ghost use Rattle.py_script.specs.Log.{Gets, world_of};
 ghost use Rattle.py_script.specs.Told.{value_of, values_of};
 ghost use Rattle.py_walk.specs.Doing.{call_packed, call_placed, does, name_tuple, packed_call, placed_call};
 ghost use Rattle.py_walk.specs.Walks.{all_walks, keyword_walks, walk_expr, walks};
-ghost use Rattle.py_walk_exprs.specs.Starred.{any_starred, any_unpacked, is_attribute};
+ghost use Rattle.py_walk_exprs.specs.Keywords.{any_unpacked};
+ghost use Rattle.py_walk_exprs.specs.Starred.{any_starred, is_attribute};
 
 use crate::displays::walk_display;
 use crate::elements::{has_star, walk_all};

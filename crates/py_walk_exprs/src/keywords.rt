@@ -5,10 +5,10 @@ ghost use Rattle.py_bytecode.specs.View.{constant};
 ghost use Rattle.py_bytecode.specs.Objects.{tuple};
 ghost use Rattle.py_script.specs.Log.{Gets, world_of};
 ghost use Rattle.py_script.specs.Told.{values_of};
-ghost use Rattle.py_walk.specs.Doing.{get_all, get_maps, name_tuple, names_in, values_in};
+ghost use Rattle.py_walk.specs.Doing.{get_all, get_maps, name_tuple, values_in};
 ghost use Rattle.py_walk.specs.Walks.{keyword_walks, walk_expr};
 ghost use Rattle.py_walk_exprs.specs.Parts.{get_named};
-ghost use Rattle.py_walk_exprs.specs.Starred.{any_unpacked};
+ghost use Rattle.py_walk_exprs.specs.Keywords.{any_unpacked, names_of};
 
 use crate::elements::walk_behind;
 use crate::expressions::walk_expression;
@@ -70,7 +70,7 @@ pub(crate) fn names_given(alloc: Global, keywords: &[Keyword]) -> Result<Vec<Ste
 // The tuple of the names of keywords.
 #[tactic(auto, using(py_bytecode::proofs::View::views))]
 fn tuple_of_names(alloc: Global, keywords: &[Keyword]) -> Result<ConstantData, AllocError>
-    ensures { IfOk result (λ c. (around : Around) → constant c ≡ tuple (names_in (keyword_walks around (keyword_trees expr_tree keywords.now)))) }
+    ensures { IfOk result (λ c. constant c ≡ tuple (names_of (keyword_trees expr_tree keywords.now))) }
 {
     let mut names = Vec::new(alloc);
     for keyword in keywords {
