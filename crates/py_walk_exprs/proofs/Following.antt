@@ -16,26 +16,30 @@ pub then_same : {A B : Type 0} (g : Got Known A) (f h : A → World Known → Go
 then_same g f h e = λ j. then_get g (λ x w. e x w j)
 
 -- a part that gave a value
-pub after : {X A B : Type 0} (view : X → A) (x : X) (w : World Known) (g : Got Known A) (k : A → World Known → Got Known B) → Gets view (Ok x) w g → then_get g k ≡ k (view x) w
-after view x w g k e = ap (λ h. then_get h k) e
+pub after : {A B : Type 0} (g : Got Known A) (k : A → World Known → Got Known B) (x : A) (w : World Known) → g ≡ Fine x w → then_get g k ≡ k x w
+after g k x w e = ap (λ h. then_get h k) e
 
 -- by another name
 pub same : {X A : Type 0} (view : X → A) (r : Result X Halt) (w : World Known) (g h : Got Known A) → g ≡ h → Gets view r w h → Gets view r w g
 same view r w g h e p = subst (λ q. Gets view r w q) (sym e) p
 
 -- a part that gave a value, and what follows
-pub goes : {X Y A B : Type 0} (view : X → A) (see : Y → B) (x : X) (r : Result Y Halt) (w v : World Known) (g : Got Known A) (k : A → World Known → Got Known B) → Gets view (Ok x) w g → Gets see r v (k (view x) w) → Gets see r v (then_get g k)
-goes view see x r w v g k e h = same see r v (then_get g k) (k (view x) w) (after view x w g k e) h
+pub goes : {Y A B : Type 0} (see : Y → B) (r : Result Y Halt) (v : World Known) (g : Got Known A) (k : A → World Known → Got Known B) (x : A) (w : World Known) → g ≡ Fine x w → Gets see r v (k x w) → Gets see r v (then_get g k)
+goes see r v g k x w e h = same see r v (then_get g k) (k x w) (after g k x w e) h
 
--- a part that gave none ends what follows too
-pub ends : {X Y A B : Type 0} (view : X → A) (see : Y → B) (h : Halt) (w : World Known) (g : Got Known A) (k : A → World Known → Got Known B) → Gets view (Err h) w g → Gets see (Err h) w (then_get g k)
-ends view see (Halt.Raised n) w g k e = ap (λ q. then_get q k) e
-ends view see Halt.Stopped w g k e = ap (λ q. then_get q k) e
-ends view see Halt.OutOfMemory w g k e = tt
+-- what a part gets that ends so
+abbrev pub Ends : {A : Type 0} → Halt → World Known → Got Known A → Type 0
+Ends {A = A} h w g = Gets {X = A} (λ x. x) (Err h) w g
+
+-- it ends what follows too
+pub ends : {Y A B : Type 0} (see : Y → B) (h : Halt) (w : World Known) (g : Got Known A) (k : A → World Known → Got Known B) → Ends h w g → Gets see (Err h) w (then_get g k)
+ends see (Halt.Raised n) w g k e = ap (λ q. then_get q k) e
+ends see Halt.Stopped w g k e = ap (λ q. then_get q k) e
+ends see Halt.OutOfMemory w g k e = tt
 
 -- the same where the whole begins with the part
-pub ended : {X Y A B : Type 0} (view : X → A) (see : Y → B) (r : Result Y Halt) (h : Halt) (w : World Known) (whole : Got Known B) (g : Got Known A) (k : A → World Known → Got Known B) → r ≡ Err h → whole ≡ then_get g k → Gets view (Err h) w g → Gets see r w whole
-ended view see r h w whole g k e p b = subst (λ q. Gets see q w whole) (sym e) (same see (Err h) w whole (then_get g k) p (ends view see h w g k b))
+pub ended : {Y A B : Type 0} (see : Y → B) (r : Result Y Halt) (h : Halt) (w : World Known) (whole : Got Known B) (g : Got Known A) (k : A → World Known → Got Known B) → r ≡ Err h → whole ≡ then_get g k → Ends h w g → Gets see r w whole
+ended see r h w whole g k e p b = subst (λ q. Gets see q w whole) (sym e) (same see (Err h) w whole (then_get g k) p (ends see h w g k b))
 
 -- want of memory is free
 pub starved : {Y B : Type 0} (see : Y → B) (r : Result Y Halt) (h : Halt) (w : World Known) (whole : Got Known B) → r ≡ Err h → h ≡ Halt.OutOfMemory → Gets see r w whole

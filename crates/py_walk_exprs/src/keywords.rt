@@ -2,6 +2,7 @@
 ghost use Rattle.std.specs.Prelude.{◌≡◌, [], IfErr, IfOk};
 ghost use Rattle.py_tree.specs.View.{expr_tree, keywords as keyword_trees};
 ghost use Rattle.py_bytecode.specs.View.{constant};
+ghost use Rattle.py_bytecode.specs.Objects as object;
 ghost use Rattle.py_bytecode.specs.Objects.{tuple};
 ghost use Rattle.py_script.specs.Log.{Gets, world_of};
 ghost use Rattle.py_script.specs.Told.{values_of};
@@ -75,12 +76,20 @@ fn tuple_of_names(alloc: Global, keywords: &[Keyword]) -> Result<ConstantData, A
     let mut names = Vec::new(alloc);
     for keyword in keywords {
         if let Some(name) = &keyword.arg {
-            let value = name.try_clone(alloc)?;
-            names.push(ConstantData::Str { value })?;
+            names.push(text_data(alloc, name)?)?;
         }
     }
     let elements = List::from_vec(names);
     Ok(ConstantData::Tuple { elements })
+}
+
+// The constant that a text is.
+#[tactic(auto, using(py_bytecode::proofs::View::views))]
+fn text_data(alloc: Global, text: &Text) -> Result<ConstantData, AllocError>
+    ensures { IfOk result (λ c. constant c ≡ object.str text.now) }
+{
+    let value = text.try_clone(alloc)?;
+    Ok(ConstantData::Str { value })
 }
 
 /// Gets a map of each longest run of named values, and each map that is unpacked.
