@@ -1,12 +1,13 @@
 -- Runs that are closed, by whether they are empty.
-use Rattle.std.proofs.Common.{◌≡◌, ℕ, ◌<◌, ◌≤◌, List, [], ◌∷◌, ◌++◌, length, Bool, true, false, Some, refl, sym, ap, ◌∙◌, arith, rules}
-use Rattle.std.specs.Prelude.{nat_eq}
+use Rattle.std.proofs.Common.{◌≡◌, ℕ, ◌<◌, ◌≤◌, List, [], ◌∷◌, ◌++◌, length, Bool, true, false, Option, None, Some, refl, sym, ap, ◌∙◌, arith, rules}
+use Rattle.std.specs.Prelude.{nat_eq, option_map}
 use Rattle.py_bytecode.specs.declared.instruction.Instruction.TheVariants as op
-use Rattle.py_bytecode.specs.Values.{Value, World, Fine, then_get}
+use Rattle.py_bytecode.specs.Objects as const
+use Rattle.py_bytecode.specs.Values.{Value, Constant, World, Fine, then_get}
 use Rattle.py_steps.specs.Within.{some_flag}
 use Rattle.py_script.specs.declared.trace.StepValue.{StepValue}
 use Rattle.py_script.specs.Told.{Known, values_of}
-use Rattle.py_walk.specs.Doing.{add_map, build, build_map, close_map, close_pairs, close_run, join_maps}
+use Rattle.py_walk.specs.Doing.{ExprWalk, add_map, build, build_map, close_map, close_pairs, close_run, get_all, join_maps, joined, of_all, values_of_all}
 
 pub not_none : {A : Type 0} (x : A) (xs : List A) → nat_eq (length (x ∷ xs)) 0 ≡ true → ⊥
 not_none x xs e = let z : length (x ∷ xs) ≡ 0 = search (rules, e) in absurd (omega (arith, z))
@@ -58,3 +59,19 @@ flag_none flag (x ∷ xs) e = absurd (not_none x xs e)
 pub flag_some : (flag : ℕ) (xs : List StepValue) → nat_eq (length xs) 0 ≡ false → flag ≡ some_flag flag (values_of xs)
 flag_some flag [] e = absurd cc
 flag_some flag (x ∷ xs) e = refl
+
+abbrev pub text_value : List ℕ → Value Known
+text_value s = Constant (const.str s)
+
+-- one text, or what is built of the parts
+text_same : (x y : Value Known) → Some x ≡ Some y → x ≡ y
+text_same x y e = cc
+
+module _ (es : List ExprWalk) (w : World Known) where
+  pub joined_so : (t : Option (List ℕ)) (x : Value Known) → Some x ≡ option_map (λ s. text_value s) t → joined t es w ≡ Fine x w
+  joined_so None x e = absurd cc
+  joined_so (Some s) x e = ap (λ y. Fine y w) (text_same (Constant (const.str s)) x (sym e))
+
+  pub joined_not : (t : Option (List ℕ)) → None ≡ option_map (λ s. text_value s) t → joined t es w ≡ of_all (get_all [] (values_of_all es)) op.BuildString w
+  joined_not None e = refl
+  joined_not (Some s) e = absurd cc

@@ -1,5 +1,6 @@
 -- What a part that gets something does to what follows it.
 use Rattle.std.proofs.Common.{◌≡◌, Result, Ok, Err, refl, sym, ap, ◌∙◌, subst}
+use Rattle.std.specs.Prelude.{IfOk, IfErr}
 use Rattle.py_bytecode.specs.Values.{World, Got, Fine, Raises, Stops, then_get}
 use Rattle.py_script.specs.declared.log.Halt.{Halt}
 use Rattle.py_script.specs.Log.{Gets}
@@ -44,3 +45,10 @@ ended see r h w whole g k e p b = subst (λ q. Gets see q w whole) (sym e) (same
 -- want of memory is free
 pub starved : {Y B : Type 0} (see : Y → B) (r : Result Y Halt) (h : Halt) (w : World Known) (whole : Got Known B) → r ≡ Err h → h ≡ Halt.OutOfMemory → Gets see r w whole
 starved see r h w whole e f = subst (λ q. Gets see q w whole) (sym (e ∙ ap Err f)) tt
+
+-- a value is given for which there may be no memory
+pub gives : {X A : Type 0} (view : X → A) (r : Result X Halt) (w : World Known) (g : Got Known A) (x : A) → IfOk r (λ v. view v ≡ x) → IfErr r (λ h. h ≡ Halt.OutOfMemory) → g ≡ Fine x w → Gets view r w g
+gives view (Ok v) w g x p q e = e ∙ ap (λ y. Fine y w) (sym p)
+gives view (Err (Halt.Raised n)) w g x p q e = absurd cc
+gives view (Err Halt.Stopped) w g x p q e = absurd cc
+gives view (Err Halt.OutOfMemory) w g x p q e = tt

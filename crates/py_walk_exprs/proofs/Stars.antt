@@ -10,8 +10,10 @@ use Rattle.py_meaning.specs.ExprFaults.{starring}
 use Rattle.py_steps.specs.Elements.{after_star, before_star, starred, stars}
 use Rattle.py_steps.specs.TableParts.{counted, unpacking}
 use Rattle.py_walk.specs.declared.around.Around.{Around}
-use Rattle.py_walk.specs.Doing.{some_star}
-use Rattle.py_walk.specs.Walks.{all_walks, keyword_walks, walks}
+use Rattle.py_bytecode.specs.Values.{Operation, Value, Operates, World, Got, then_get, ask_for}
+use Rattle.py_script.specs.Told.{Known}
+use Rattle.py_walk.specs.Doing.{TargetWalk, put_each, some_star}
+use Rattle.py_walk.specs.Walks.{all_walks, keyword_walks, unpacked, walks}
 use Rattle.py_walk_exprs.specs.Keywords.{any_unpacked}
 use Rattle.py_walk_exprs.specs.Starred.{any_starred, is_attribute, is_starred}
 use Rattle.py_walk_exprs.proofs.Places.{next}
@@ -132,3 +134,11 @@ unpacking_by es false e h = ap (λ b. if b then counted op.UnpackSequence (lengt
 
 pub unpacking_starred : (es : tree.Exprs) → any_starred es ≡ true → unpacking (starring es) ≡ counted op.UnpackEx (before_star (starring es) + 256 * after_star (starring es))
 unpacking_starred es h = unpacking_by es (nat_eq (stars (starring es)) 0) refl h
+
+-- the operation that unpacks a value, by its parts
+pub unpacked_as : (es : tree.Exprs) (ts : List TargetWalk) (v : Value Known) (o : Operation) (vs : List (Value Known)) (n : ℕ) (w : World Known) → o ≡ unpacking (starring es) → vs ≡ v ∷ [] → n ≡ length (starring es) → unpacked es ts v w ≡ then_get (ask_for (Operates o vs) (Some n) w) (λ us w1. put_each ts us w1)
+unpacked_as es ts v o vs n w p q r =
+    let k : List (Value Known) → World Known → Got Known (Unit {0}) = λ us w1. put_each ts us w1 in
+    ap (λ x. then_get (ask_for (Operates x (v ∷ [])) (Some (length (starring es))) w) k) (sym p)
+    ∙ ap (λ x. then_get (ask_for (Operates o x) (Some (length (starring es))) w) k) (sym q)
+    ∙ ap (λ x. then_get (ask_for (Operates o vs) (Some x) w) k) (sym r)
