@@ -1,6 +1,6 @@
 -- Values, tests and comparisons of which one may decide.
-use Rattle.std.proofs.Common.{◌≡◌, ℕ, suc, ◌+◌, ◌-◌, ◌<◌, ◌≤◌, ◌⊎◌, inl, inr, List, [], ◌∷◌, length, drop, get_or, Bool, true, false, refl, sym, ap, ◌∙◌, arith}
-use Rattle.std.specs.Prelude.{◌==◌, nat_lt, not}
+use Rattle.std.proofs.Common.{◌≡◌, ◌≢◌, ℕ, ◌+◌, ◌-◌, ◌<◌, ◌≤◌, ◌⊎◌, inl, inr, List, [], ◌∷◌, length, drop, get_or, Bool, true, false, refl, sym, ap, ◌∙◌, arith, rules}
+use Rattle.std.specs.Prelude.{nat_eq, nat_lt, not}
 use Rattle.std.specs.Bool.{beq}
 use Rattle.std.proofs.lemmas.List.{length-drop}
 use Rattle.py_base.specs.declared.operators.CmpOp.{CmpOp}
@@ -127,16 +127,22 @@ links_end whole a ops xs n i b o c x l w p os is m k some all low high =
     ∙ ap (λ ys. links (o ∷ drop ((n - 1) + 1) ops) (all_walks a (exprs expr_tree ys)) l w) (next xs (n - 1) c x is (omega (arith, k, some)))
     ∙ links_one a o (drop ((n - 1) + 1) ops) x (drop ((n - 1) + 1) xs) l w over
 
+eq_not : (m n : ℕ) → m ≢ n → nat_eq m n ≡ false
+eq_not m n h = search (rules, h)
+
+less_so : (m n : ℕ) → m < n → nat_lt m n ≡ true
+less_so m n h = search (rules, h)
+
 module _ (a : Around) where
   -- whether there are operands, by how many comparisons and operands there are
   pub comparable_none : (ops : List CmpOp) (xs : List Expr) → length ops ≡ 0 → false ≡ comparable ops (all_walks a (exprs expr_tree xs))
   comparable_none [] xs e = refl
   comparable_none (o ∷ ops) xs e = absurd (omega (arith, e))
 
-  pub comparable_one : (ops : List CmpOp) (xs : List Expr) → length ops ≡ 1 → not (length xs == 0) ≡ comparable ops (all_walks a (exprs expr_tree xs))
+  pub comparable_one : (ops : List CmpOp) (xs : List Expr) → length ops ≡ 1 → not (nat_eq (length xs) 0) ≡ comparable ops (all_walks a (exprs expr_tree xs))
   comparable_one [] xs e = absurd (omega (arith, e))
   comparable_one (o ∷ []) [] e = refl
-  comparable_one (o ∷ []) (x ∷ xs) e = refl
+  comparable_one (o ∷ []) (x ∷ xs) e = ap not (eq_not (length (x ∷ xs)) 0 (λ z. absurd (omega (arith, z))))
   comparable_one (o ∷ p ∷ ops) xs e = absurd (omega (arith, e))
 
   pub comparable_some : (ops : List CmpOp) (xs : List Expr) → 1 < length ops → nat_lt 1 (length xs) ≡ comparable ops (all_walks a (exprs expr_tree xs))
@@ -144,7 +150,7 @@ module _ (a : Around) where
   comparable_some (o ∷ []) xs e = absurd (omega (arith, e))
   comparable_some (o ∷ p ∷ ops) [] e = refl
   comparable_some (o ∷ p ∷ ops) (x ∷ []) e = refl
-  comparable_some (o ∷ p ∷ ops) (x ∷ y ∷ xs) e = refl
+  comparable_some (o ∷ p ∷ ops) (x ∷ y ∷ xs) e = less_so 1 (length (x ∷ y ∷ xs)) (omega arith)
 
   -- there are, so there is one of each
   pub some_links : (ops : List CmpOp) (xs : List Expr) → comparable ops (all_walks a (exprs expr_tree xs)) ≡ true → (0 < length ops) × (0 < length xs)

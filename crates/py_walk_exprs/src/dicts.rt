@@ -26,7 +26,8 @@ pub(crate) fn walk_dict(log: &mut Log<'_>, around: Around, e: &ExprDict) -> Resu
     let mut count = 0;
     let mut run = Vec::new(log.alloc);
     for i in 0..pair_count(e) {
-        match &keys[i] {
+        let key = &keys[i];
+        match key {
             Some(key) => {
                 run = walk_pair(log, around, run, key, &values[i])?;
                 count += 1;

@@ -223,4 +223,3 @@ decreases-targets::put_each l = 16 * goal.size-targets::put_each l + 4
 
 abbrev pub decreases-targets::put_element : goal.decreases-targets::put_element
 decreases-targets::put_element l = 16 * goal.size-targets::put_element l + 2
-
