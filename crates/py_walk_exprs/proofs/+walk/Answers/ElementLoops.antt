@@ -10,7 +10,6 @@ use Rattle.py_walk_exprs.proofs.Places.{values_at, walks_at}
 use Rattle.py_walk_exprs.proofs.Stars.{star_walk}
 use Rattle.py_walk_exprs.proofs.Turns.{all_step, plain_step, star_step}
 use Rattle.py_walk_exprs.proofs.+walk.Goals as goal
-use Rattle.py_walk_exprs.proofs.+walk.Goals.{elements::walk_groups-then-is_star, elements::walk_groups-else-is_star}
 
 pub all_go_on : goal.elements::walk_all-loop-item-preserved
 all_go_on t c =
