@@ -7,3 +7,4 @@ pub mod Stars
 pub mod Otherwise
 pub mod JoinedTexts
 pub mod Callings
+pub mod DefaultPlaces

@@ -12,7 +12,7 @@ use Rattle.py_walk.specs.declared.around.Around.{Around}
 use Rattle.py_walk.specs.Doing.{Doing, KeywordWalks, values_in, values_of_all}
 use Rattle.py_walk.specs.Walks.{all_targets, all_walks, key_walks, keyword_walks, target_walks, value_walks, walk_expr, walks}
 
-one_more : (i : ℕ) → suc i ≡ i + 1
+pub one_more : (i : ℕ) → suc i ≡ i + 1
 one_more i = omega arith
 
 module _ {A : Type 0} where

@@ -5,7 +5,7 @@ ghost use Rattle.py_steps.specs.TableParts.{any, counted, named};
 ghost use Rattle.py_tree.specs.View.{call_tree, expr_tree, exprs, keywords as keyword_trees};
 ghost use Rattle.py_script.specs.Log.{Gets, world_of};
 ghost use Rattle.py_script.specs.Told.{value_of, values_of};
-ghost use Rattle.py_walk.specs.Doing.{call_packed, call_placed, does, name_tuple, packed_call, placed_call};
+ghost use Rattle.py_walk.specs.Doing.{call, call_packed, call_placed, does, name_tuple, packed_call, placed_call};
 ghost use Rattle.py_walk.specs.Walks.{all_walks, keyword_walks, walk_expr, walks};
 ghost use Rattle.py_walk_exprs.specs.Keywords.{any_unpacked};
 ghost use Rattle.py_walk_exprs.specs.Starred.{any_starred, is_attribute};
@@ -29,12 +29,32 @@ use std::alloc::Global;
 pub(crate) fn walk_call(log: &mut Log<'_>, around: Around, e: &ExprCall) -> Result<StepValue, Halt>
     ensures { Gets value_of result (world_of log.new) (walk_expr around (call_tree e.now) (world_of log.old)) }
 {
-    let callee = walk_callee(log, around, &e.func)?;
-    let method = is_method(&e.func);
-    if is_packed(e) {
-        return walk_packed(log, around, method, callee, e);
+    walk_called(
+        log,
+        around,
+        &e.func,
+        e.args.as_slice(),
+        e.keywords.as_slice(),
+    )
+}
+
+// Gets what is called, and calls it with these arguments.
+#[cycle(walk)]
+fn walk_called(
+    log: &mut Log<'_>,
+    around: Around,
+    func: &Expr,
+    args: &[Expr],
+    keywords: &[Keyword],
+) -> Result<StepValue, Halt>
+    ensures { Gets value_of result (world_of log.new) (call (walks around (expr_tree func.now)) (all_walks around (exprs expr_tree args.now)) (keyword_walks around (keyword_trees expr_tree keywords.now)) (world_of log.old)) }
+{
+    let callee = walk_callee(log, around, func)?;
+    let method = is_method(func);
+    if is_packed(args, keywords) {
+        return walk_packed(log, around, method, callee, args, keywords);
     }
-    walk_placed(log, around, method, callee, e)
+    walk_placed(log, around, method, callee, args, keywords)
 }
 
 #[tactic(auto, using(py_tree::proofs::View::trees))]
@@ -48,10 +68,10 @@ fn is_method(func: &Expr) -> bool
 }
 
 // Whether an argument is starred, or a map is unpacked.
-fn is_packed(e: &ExprCall) -> bool
-    ensures { result ≡ (any_starred (exprs expr_tree e.now.args) || any_unpacked (keyword_trees expr_tree e.now.keywords)) }
+fn is_packed(args: &[Expr], keywords: &[Keyword]) -> bool
+    ensures { result ≡ (any_starred (exprs expr_tree args.now) || any_unpacked (keyword_trees expr_tree keywords.now)) }
 {
-    has_star(e.args.as_slice()) || has_map(e.keywords.as_slice())
+    has_star(args) || has_map(keywords)
 }
 
 // Gets what is called: one value, or the three of a method.
@@ -105,12 +125,12 @@ fn walk_placed(
     around: Around,
     method: bool,
     callee: Vec<StepValue>,
-    e: &ExprCall,
+    args: &[Expr],
+    keywords: &[Keyword],
 ) -> Result<StepValue, Halt>
-    ensures { Gets value_of result (world_of log.new) (call_placed method (values_of callee.items) (all_walks around (exprs expr_tree e.now.args)) (keyword_walks around (keyword_trees expr_tree e.now.keywords)) (world_of log.old)) }
+    ensures { Gets value_of result (world_of log.new) (call_placed method (values_of callee.items) (all_walks around (exprs expr_tree args.now)) (keyword_walks around (keyword_trees expr_tree keywords.now)) (world_of log.old)) }
 {
-    let keywords = e.keywords.as_slice();
-    let values = walk_all(log, around, e.args.as_slice())?;
+    let values = walk_all(log, around, args)?;
     let values = walk_keyword_values(log, around, values, keywords)?;
     call_placed(log, method, callee, values, keywords)
 }
@@ -151,18 +171,18 @@ fn walk_packed(
     around: Around,
     method: bool,
     callee: Vec<StepValue>,
-    e: &ExprCall,
+    args: &[Expr],
+    keywords: &[Keyword],
 ) -> Result<StepValue, Halt>
-    ensures { Gets value_of result (world_of log.new) (call_packed method (values_of callee.items) (all_walks around (exprs expr_tree e.now.args)) (keyword_walks around (keyword_trees expr_tree e.now.keywords)) (world_of log.old)) }
+    ensures { Gets value_of result (world_of log.new) (call_packed method (values_of callee.items) (all_walks around (exprs expr_tree args.now)) (keyword_walks around (keyword_trees expr_tree keywords.now)) (world_of log.old)) }
 {
     let tuple = walk_display(
         log,
         around,
         Instruction::BuildTuple,
         Instruction::BuildTupleUnpack,
-        e.args.as_slice(),
+        args,
     )?;
-    let keywords = e.keywords.as_slice();
     let maps = walk_maps(log, around, keywords)?;
     let joined = join_maps(log, maps)?;
     call_packed(log, method, callee, tuple, joined, keywords)

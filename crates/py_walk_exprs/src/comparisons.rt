@@ -4,7 +4,7 @@ ghost use Rattle.py_tree.specs.View.{compare_tree, expr_tree, exprs};
 ghost use Rattle.py_steps.specs.TableParts.{comparison_operation};
 ghost use Rattle.py_script.specs.Log.{Gets, world_of};
 ghost use Rattle.py_script.specs.Told.{value_of};
-ghost use Rattle.py_walk.specs.Doing.{comparable, does, links};
+ghost use Rattle.py_walk.specs.Doing.{comparable, compared, does, links};
 ghost use Rattle.py_walk.specs.Walks.{all_walks, walk_expr};
 ghost use Rattle.py_walk_exprs.specs.Parts.{get_truth};
 
@@ -26,12 +26,30 @@ pub(crate) fn walk_compare(
 ) -> Result<StepValue, Halt>
     ensures { Gets value_of result (world_of log.new) (walk_expr around (compare_tree e.now) (world_of log.old)) }
 {
-    let ops = e.ops.as_slice();
-    let others = e.comparators.as_slice();
+    walk_compared(
+        log,
+        around,
+        &e.left,
+        e.ops.as_slice(),
+        e.comparators.as_slice(),
+    )
+}
+
+// Compares a value with others, where there are comparisons and operands.
+#[cycle(walk)]
+fn walk_compared(
+    log: &mut Log<'_>,
+    around: Around,
+    left: &Expr,
+    ops: &[CmpOp],
+    others: &[Expr],
+) -> Result<StepValue, Halt>
+    ensures { Gets value_of result (world_of log.new) (compared (walk_expr around (expr_tree left.now)) ops.now (all_walks around (exprs expr_tree others.now)) (world_of log.old)) }
+{
     if !is_comparable(ops, others) {
         return Ok(none());
     }
-    let left = walk_expression(log, around, &e.left)?;
+    let left = walk_expression(log, around, left)?;
     walk_links(log, around, ops, others, left)
 }
 

@@ -1,9 +1,11 @@
 //! Displays of dicts.
-ghost use Rattle.std.specs.Prelude.{◌≡◌, ◌≤◌, ◌⊎◌, length};
-ghost use Rattle.py_tree.specs.View.{dict_tree, expr_tree};
+ghost use Rattle.std.specs.Prelude.{◌≡◌, ◌≤◌, ◌⊎◌, [], None, length};
+ghost use Rattle.py_tree.specs.View.{dict_tree, expr_tree, exprs, opt_exprs};
 ghost use Rattle.py_script.specs.Log.{Gets, world_of};
 ghost use Rattle.py_script.specs.Told.{value_of, values_of};
-ghost use Rattle.py_walk.specs.Walks.{walk_expr};
+ghost use Rattle.py_steps.specs.Elements.{pairs};
+ghost use Rattle.py_walk.specs.Doing.{get_entries};
+ghost use Rattle.py_walk.specs.Walks.{key_walks, value_walks, walk_expr};
 ghost use Rattle.py_walk_exprs.specs.Options.{told_option};
 ghost use Rattle.py_walk_exprs.specs.Parts.{add_spread, get_pair};
 
@@ -15,17 +17,28 @@ use py_walk::Around;
 use py_walk_values::operands::push;
 use py_walk_values::operations::add_map;
 
-/// Gets the map of a dict display: that of the first pairs, to which each later run of pairs and each map that is unpacked is added.
 #[cycle(walk)]
 pub(crate) fn walk_dict(log: &mut Log<'_>, around: Around, e: &ExprDict) -> Result<StepValue, Halt>
     ensures { Gets value_of result (world_of log.new) (walk_expr around (dict_tree e.now) (world_of log.old)) }
 {
-    let keys = e.keys.as_slice();
-    let values = e.values.as_slice();
+    walk_entries(log, around, e.keys.as_slice(), e.values.as_slice())
+}
+
+// Gets the map of a dict display: that of the first pairs, to which each later run of pairs and each map that is unpacked is
+// added.
+#[cycle(walk)]
+fn walk_entries(
+    log: &mut Log<'_>,
+    around: Around,
+    keys: &[Option<Expr>],
+    values: &[Expr],
+) -> Result<StepValue, Halt>
+    ensures { Gets value_of result (world_of log.new) (get_entries None 0 [] (pairs (key_walks around (opt_exprs expr_tree keys.now)) (value_walks around (exprs expr_tree values.now))) (world_of log.old)) }
+{
     let mut map = None;
     let mut count = 0;
     let mut run = Vec::new(log.alloc);
-    for i in 0..pair_count(e) {
+    for i in 0..pair_count(keys, values) {
         let key = &keys[i];
         match key {
             Some(key) => {
@@ -43,15 +56,15 @@ pub(crate) fn walk_dict(log: &mut Log<'_>, around: Around, e: &ExprDict) -> Resu
     close_pairs(log, map, count, run)
 }
 
-/// How many keys have a value beside them.
-fn pair_count(e: &ExprDict) -> usize
-    ensures keys { result ≤ length e.now.keys }
-    ensures values { result ≤ length e.now.values }
-    ensures all { (result ≡ length e.now.keys) ⊎ (result ≡ length e.now.values) }
+// How many keys have a value beside them.
+fn pair_count(keys: &[Option<Expr>], values: &[Expr]) -> usize
+    ensures keys { result ≤ length keys.now }
+    ensures values { result ≤ length values.now }
+    ensures all { (result ≡ length keys.now) ⊎ (result ≡ length values.now) }
 {
-    let keys = e.keys.len();
-    let values = e.values.len();
-    if keys < values { keys } else { values }
+    let count = keys.len();
+    let most = values.len();
+    if count < most { count } else { most }
 }
 
 // Gets a key and its value behind others.

@@ -1,11 +1,12 @@
 //! Expressions.
 ghost use Rattle.std.specs.Prelude.{◌≡◌, []};
-ghost use Rattle.py_tree.specs.View.{attribute_tree, bin_op_tree, expr_tree, formatted_value_tree, if_exp_tree, joined_str_tree, named_expr_tree, opt_box, subscript_tree, unary_op_tree, yield_from_tree, yield_tree};
+ghost use Rattle.py_tree.specs.View.{attribute_tree, bin_op_tree, expr_tree, exprs, formatted_value_tree, if_exp_tree, joined_str_tree, named_expr_tree, opt_box, subscript_tree, unary_op_tree, yield_from_tree, yield_tree};
 ghost use Rattle.py_bytecode.specs.Objects as object;
+ghost use Rattle.py_emission.specs.Texts.{texts_of};
 ghost use Rattle.py_script.specs.Log.{Gets, world_of};
 ghost use Rattle.py_script.specs.Told.{value_of};
-ghost use Rattle.py_walk.specs.Doing.{get_or, iterator};
-ghost use Rattle.py_walk.specs.Walks.{opt_walk, walk_expr};
+ghost use Rattle.py_walk.specs.Doing.{get_or, iterator, joined};
+ghost use Rattle.py_walk.specs.Walks.{all_walks, opt_walk, walk_expr};
 
 use crate::calls::walk_call;
 use crate::comparisons::walk_compare;
@@ -194,7 +195,14 @@ fn walk_format_spec(
 fn walk_joined_str(log: &mut Log<'_>, around: Around, e: &ExprJoinedStr) -> Result<StepValue, Halt>
     ensures { Gets value_of result (world_of log.new) (walk_expr around (joined_str_tree e.now) (world_of log.old)) }
 {
-    let parts = e.values.as_slice();
+    walk_joined(log, around, e.values.as_slice())
+}
+
+// Gets the parts of an f-string joined, or where each is a text, the one text.
+#[cycle(walk)]
+fn walk_joined(log: &mut Log<'_>, around: Around, parts: &[Expr]) -> Result<StepValue, Halt>
+    ensures { Gets value_of result (world_of log.new) (joined (texts_of (exprs expr_tree parts.now)) (all_walks around (exprs expr_tree parts.now)) (world_of log.old)) }
+{
     if let Some(text) = whole_text(log.alloc, parts)? {
         return Ok(text);
     }

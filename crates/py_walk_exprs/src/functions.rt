@@ -83,7 +83,12 @@ pub fn walk_defaults(
 ) -> Result<Defaults, Halt>
     ensures { Gets (λ d. (values_of d.positional.items, values_of d.keyword.items)) result (world_of log.new) (get_defaults (default_walks around (arguments expr_tree params.now)) (world_of log.old)) }
 {
-    let values = walk_positionals(log, around, params)?;
+    let values = walk_positionals(
+        log,
+        around,
+        params.posonlyargs.as_slice(),
+        params.args.as_slice(),
+    )?;
     let positional = close_run(log, Vec::new(log.alloc), values)?;
     let keyword = walk_keyword_only(log, around, params.kwonlyargs.as_slice())?;
     Ok(Defaults {
@@ -97,13 +102,14 @@ pub fn walk_defaults(
 fn walk_positionals(
     log: &mut Log<'_>,
     around: Around,
-    params: &Arguments,
+    posonly: &[ArgWithDefault],
+    args: &[ArgWithDefault],
 ) -> Result<Vec<StepValue>, Halt>
-    ensures { Gets (λ v. values_of v.items) result (world_of log.new) (get_all [] (positional_walks around (arg_trees expr_tree params.now.posonlyargs) ++ positional_walks around (arg_trees expr_tree params.now.args)) (world_of log.old)) }
+    ensures { Gets (λ v. values_of v.items) result (world_of log.new) (get_all [] (positional_walks around (arg_trees expr_tree posonly.now) ++ positional_walks around (arg_trees expr_tree args.now)) (world_of log.old)) }
 {
-    let first = Vec::new(log.alloc);
-    let values = walk_positional(log, around, first, params.posonlyargs.as_slice())?;
-    walk_positional(log, around, values, params.args.as_slice())
+    let values = Vec::new(log.alloc);
+    let values = walk_positional(log, around, values, posonly)?;
+    walk_positional(log, around, values, args)
 }
 
 // Gets the defaults of some parameters behind others.

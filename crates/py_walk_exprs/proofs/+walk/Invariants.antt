@@ -19,8 +19,8 @@ invariant-elements::walk_groups-loop-elt l =
     get_groups [] [] (all_walks l.around (exprs expr_tree l.elts)) (world_of l.initial.log)
     ≡ get_groups (values_of l.groups.items) (values_of l.run.items) (all_walks l.around (exprs expr_tree (drop l.elt-index l.elts))) (world_of l.log)
 
-abbrev pub invariant-dicts::walk_dict-loop-i : goal.invariant-dicts::walk_dict-loop-i
-invariant-dicts::walk_dict-loop-i l =
+abbrev pub invariant-dicts::walk_entries-loop-i : goal.invariant-dicts::walk_entries-loop-i
+invariant-dicts::walk_entries-loop-i l =
     (get_entries (told_option l.initial.map) 0 [] (entries l.around l.keys l.values) (world_of l.initial.log)
     ≡ get_entries (told_option l.map) l.count (values_of l.run.items) (entries l.around (drop l.i l.keys) (drop l.i l.values)) (world_of l.log))
     × (l.count ≤ l.i)
@@ -162,7 +162,7 @@ abbrev pub decreases-comparisons::walk_links : goal.decreases-comparisons::walk_
 decreases-comparisons::walk_links l = 16 * goal.size-comparisons::walk_links l + 4
 
 abbrev pub decreases-calls::walk_call : goal.decreases-calls::walk_call
-decreases-calls::walk_call l = 16 * goal.size-calls::walk_call l + 9
+decreases-calls::walk_call l = 16 * goal.size-calls::walk_call l + 10
 
 abbrev pub decreases-calls::walk_callee : goal.decreases-calls::walk_callee
 decreases-calls::walk_callee l = 16 * goal.size-calls::walk_callee l + 2
@@ -223,3 +223,15 @@ decreases-targets::put_each l = 16 * goal.size-targets::put_each l + 4
 
 abbrev pub decreases-targets::put_element : goal.decreases-targets::put_element
 decreases-targets::put_element l = 16 * goal.size-targets::put_element l + 2
+
+abbrev pub decreases-dicts::walk_entries : goal.decreases-dicts::walk_entries
+decreases-dicts::walk_entries l = 16 * goal.size-dicts::walk_entries l + 6
+
+abbrev pub decreases-comparisons::walk_compared : goal.decreases-comparisons::walk_compared
+decreases-comparisons::walk_compared l = 16 * goal.size-comparisons::walk_compared l + 6
+
+abbrev pub decreases-calls::walk_called : goal.decreases-calls::walk_called
+decreases-calls::walk_called l = 16 * goal.size-calls::walk_called l + 9
+
+abbrev pub decreases-expressions::walk_joined : goal.decreases-expressions::walk_joined
+decreases-expressions::walk_joined l = 16 * goal.size-expressions::walk_joined l + 6
