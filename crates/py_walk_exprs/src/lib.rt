@@ -1,0 +1,21 @@
+//! The walk of expressions, tests and targets over a script of answers.
+#![tactic(auto)]
+
+pub mod calls;
+mod comparisons;
+mod conditions;
+mod displays;
+pub mod elements;
+pub mod expressions;
+pub mod functions;
+pub mod groups;
+pub mod making;
+mod targets;
+mod texts;
+#[cfg(test)]
+mod tests;
+
+pub use conditions::walk_test;
+pub use expressions::walk_expression;
+pub use functions::{Defaults, walk_defaults};
+pub use targets::walk_target;

@@ -1,0 +1,157 @@
+//! Annotations, and the texts of those that are postponed.
+ghost use Rattle.std.specs.Prelude.{[], ◌≡◌};
+ghost use Rattle.py_texts.specs.Annotation.{annotation};
+ghost use Rattle.py_tree.specs.View.{arg as arg_tree, args as arg_trees, arguments, expr_tree, opt_arg, opt_box};
+ghost use Rattle.py_bytecode.specs.Values.{World};
+ghost use Rattle.py_script.specs.Log.{Gets, world_of};
+ghost use Rattle.py_script.specs.Told.{Known, value_of, values_of};
+ghost use Rattle.py_walk.specs.Doing.{get_maps};
+ghost use Rattle.py_walk.specs.Statements.{arg_note, arg_notes, note_walk, note_walks, opt_arg_note, opt_note, param_notes, text_value};
+ghost use Rattle.py_walk_simple.specs.Parts.{get_named};
+
+use py_base::Text;
+use py_bytecode::ConstantData;
+use py_script::{Halt, Log, StepValue};
+use py_texts::{TextError, annotation_text};
+use py_tree::{Arg, ArgWithDefault, Arguments, Expr};
+use py_walk::Around;
+use py_walk_exprs::functions::fixed_name;
+use py_walk_exprs::groups::close_map;
+use py_walk_exprs::walk_expression;
+use py_walk_values::constants::{none, text};
+use py_walk_values::operands::push;
+use std::alloc::Global;
+
+/// The value of an annotation, or its text where annotations are postponed.
+///
+/// # Errors
+/// What ends the run, or OutOfMemory.
+pub(crate) fn walk_note(log: &mut Log<'_>, around: Around, note: &Expr) -> Result<StepValue, Halt>
+    ensures { Gets value_of result (world_of log.new) (note_walk around (expr_tree note.now) (world_of log.old)) }
+{
+    if around.postponed {
+        return note_text(log.alloc, note);
+    }
+    walk_expression(log, around, note)
+}
+
+// The text of an annotation. One that has none is not compiled.
+#[tactic(auto, using(py_bytecode::proofs::View::views))]
+fn note_text(alloc: Global, note: &Expr) -> Result<StepValue, Halt>
+    ensures { (w : World Known) → Gets value_of result w (text_value (annotation (expr_tree note.now)) w) }
+{
+    match annotation_text(alloc, note) {
+        Ok(text) => {
+            let value = Text::from_string(text);
+            Ok(StepValue::Constant(ConstantData::Str { value }))
+        }
+        Err(TextError::FString) => Ok(none()),
+        Err(TextError::OutOfMemory) => Err(Halt::OutOfMemory),
+    }
+}
+
+/// A map of the annotations of a function by name, that of what it returns first; none where there are none.
+///
+/// # Errors
+/// What ends the run, or OutOfMemory.
+pub(crate) fn walk_notes(
+    log: &mut Log<'_>,
+    around: Around,
+    params: &Arguments,
+    returns: &Option<Box<Expr>>,
+) -> Result<Vec<StepValue>, Halt>
+    ensures { Gets (λ v. values_of v.items) result (world_of log.new) (get_maps [] 0 [] (note_walks around (arguments expr_tree params.now) (opt_box expr_tree returns.now)) (world_of log.old)) }
+{
+    let notes = get_notes(log, around, params, returns)?;
+    let count = notes.len() / 2;
+    close_map(log, Vec::new(log.alloc), count, notes)
+}
+
+// The names and values of the annotations of a function.
+fn get_notes(
+    log: &mut Log<'_>,
+    around: Around,
+    params: &Arguments,
+    returns: &Option<Box<Expr>>,
+) -> Result<Vec<StepValue>, Halt>
+    ensures { Gets (λ v. values_of v.items) result (world_of log.new) (get_named [] (note_walks around (arguments expr_tree params.now) (opt_box expr_tree returns.now)) (world_of log.old)) }
+{
+    let mut notes = Vec::new(log.alloc);
+    let name = fixed_name(log.alloc, "return")?;
+    push_note(log, around, &mut notes, &name, returns)?;
+    push_param_notes(log, around, &mut notes, params)?;
+    Ok(notes)
+}
+
+// Puts the names and values of the annotations of parameters behind others.
+fn push_param_notes(
+    log: &mut Log<'_>,
+    around: Around,
+    notes: &mut Vec<StepValue>,
+    params: &Arguments,
+) -> Result<(), Halt>
+    ensures { Gets (λ u. values_of notes.new.items) result (world_of log.new) (get_named (values_of notes.old.items) (param_notes around (arguments expr_tree params.now)) (world_of log.old)) }
+{
+    push_arg_notes(log, around, notes, params.posonlyargs.as_slice())?;
+    push_arg_notes(log, around, notes, params.args.as_slice())?;
+    push_arg_notes(log, around, notes, params.kwonlyargs.as_slice())?;
+    push_opt_arg_note(log, around, notes, &params.vararg)?;
+    push_opt_arg_note(log, around, notes, &params.kwarg)
+}
+
+fn push_arg_notes(
+    log: &mut Log<'_>,
+    around: Around,
+    notes: &mut Vec<StepValue>,
+    args: &[ArgWithDefault],
+) -> Result<(), Halt>
+    ensures { Gets (λ u. values_of notes.new.items) result (world_of log.new) (get_named (values_of notes.old.items) (arg_notes around (arg_trees expr_tree args.now)) (world_of log.old)) }
+{
+    for arg in args {
+        push_arg_note(log, around, notes, &arg.def)?;
+    }
+    Ok(())
+}
+
+fn push_arg_note(
+    log: &mut Log<'_>,
+    around: Around,
+    notes: &mut Vec<StepValue>,
+    arg: &Arg,
+) -> Result<(), Halt>
+    ensures { Gets (λ u. values_of notes.new.items) result (world_of log.new) (get_named (values_of notes.old.items) (arg_note around (arg_tree expr_tree arg.now)) (world_of log.old)) }
+{
+    push_note(log, around, notes, &arg.arg, &arg.annotation)
+}
+
+fn push_opt_arg_note(
+    log: &mut Log<'_>,
+    around: Around,
+    notes: &mut Vec<StepValue>,
+    arg: &Option<Box<Arg>>,
+) -> Result<(), Halt>
+    ensures { Gets (λ u. values_of notes.new.items) result (world_of log.new) (get_named (values_of notes.old.items) (opt_arg_note around (opt_arg expr_tree arg.now)) (world_of log.old)) }
+{
+    match arg {
+        Some(arg) => push_arg_note(log, around, notes, arg),
+        None => Ok(()),
+    }
+}
+
+// Puts the name and the value of an annotation behind others, where there is one.
+fn push_note(
+    log: &mut Log<'_>,
+    around: Around,
+    notes: &mut Vec<StepValue>,
+    name: &Text,
+    note: &Option<Box<Expr>>,
+) -> Result<(), Halt>
+    ensures { Gets (λ u. values_of notes.new.items) result (world_of log.new) (get_named (values_of notes.old.items) (opt_note around name.now (opt_box expr_tree note.now)) (world_of log.old)) }
+{
+    let Some(note) = note else {
+        return Ok(());
+    };
+    let value = walk_note(log, around, note)?;
+    push(notes, text(log.alloc, name)?)?;
+    push(notes, value)
+}
