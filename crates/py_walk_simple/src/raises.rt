@@ -36,11 +36,22 @@ pub fn walk_raise(
 ) -> Result<Flow, Halt>
     ensures { Ends flow_of result (world_of log.new) (raise_walk around (opt_box expr_tree s.now.exc) (opt_box expr_tree s.now.cause) (slot_of slot) (world_of log.old)) }
 {
-    match &s.exc {
-        Some(exception) => raise_new(log, around, exception, &s.cause)?,
-        None => raise_again(log, slot)?,
-    }
+    raise_one(log, around, s, slot)?;
     Ok(Flow::Normal)
+}
+
+fn raise_one(
+    log: &mut Log<'_>,
+    around: Around,
+    s: &StmtRaise,
+    slot: Option<u32>,
+) -> Result<(), Halt>
+    ensures { Ends goes_on result (world_of log.new) (raise_walk around (opt_box expr_tree s.now.exc) (opt_box expr_tree s.now.cause) (slot_of slot) (world_of log.old)) }
+{
+    match &s.exc {
+        Some(exception) => raise_new(log, around, exception, &s.cause),
+        None => raise_again(log, slot),
+    }
 }
 
 // Raises the exception that is handled again, where there is one.

@@ -1,0 +1,122 @@
+//! `with`: what is entered before a body and left on every way out of it.
+ghost use Rattle.std.specs.Prelude.{[], ◌∷◌};
+ghost use Rattle.py_tree.specs.View.{expr_tree, opt_box, stmt_tree, stmts, with_items};
+ghost use Rattle.py_bytecode.specs.Values.{Ended, Given, Operates, enter_with, for_two, throws};
+ghost use Rattle.py_forms.specs.Form.{assigned};
+ghost use Rattle.py_script.specs.Log.{Gets, world_of};
+ghost use Rattle.py_script.specs.Told.{Known, value_of};
+ghost use Rattle.py_walk.specs.Statements.{item_walk, stmts_walk, with_walk};
+ghost use Rattle.py_walk_simple.specs.Ends.{Ends, flow_of, slot_of};
+ghost use Rattle.py_walk_stmts.specs.Leaving.{exit_truth, exited};
+
+use crate::statements::walk_statements;
+use py_base::List;
+use py_bytecode::Instruction;
+use py_script::{Halt, Log, StepValue};
+use py_tree::{Expr, Stmt, WithItem};
+use py_walk::Around;
+use py_walk_exprs::{walk_expression, walk_target};
+use py_walk_simple::Flow;
+use py_walk_values::constants::none;
+use py_walk_values::operands::one;
+use py_walk_values::operations::{bare, does_two};
+
+/// Enters items, walks a body, and leaves the items, the last one first. Further items stand within the first.
+#[cycle(walk)]
+pub(crate) fn walk_with(
+    log: &mut Log<'_>,
+    around: Around,
+    items: &[WithItem],
+    body: &[Stmt],
+    slot: Option<u32>,
+) -> Result<Flow, Halt>
+    ensures { Ends flow_of result (world_of log.new) (with_walk around (with_items items.now) (stmts_walk around (stmts stmt_tree body.now) (slot_of slot)) (world_of log.old)) }
+{
+    let Some((item, rest)) = items.split_first() else {
+        return walk_statements(log, around, body, slot);
+    };
+    let manager = walk_expression(log, around, &item.context_expr)?;
+    let answer = enter(log, manager)?;
+    let ended = walk_entered(log, around, &item.optional_vars, answer, (rest, body), slot);
+    leave(log, answer, ended)
+}
+
+// Gives what was entered to the target, where there is one, and walks what stands within.
+#[cycle(walk)]
+fn walk_entered(
+    log: &mut Log<'_>,
+    around: Around,
+    target: &Option<Box<Expr>>,
+    answer: u32,
+    within: (&[WithItem], &[Stmt]),
+    slot: Option<u32>,
+) -> Result<Flow, Halt>
+    ensures { Ends flow_of result (world_of log.new) (assigned (item_walk around (opt_box expr_tree target.now)) (with_walk around (with_items within.entry.0.now) (stmts_walk around (stmts stmt_tree within.entry.1.now) (slot_of slot))) (Given answer 1) (world_of log.old)) }
+{
+    put_entered(log, around, target, answer)?;
+    let (rest, body) = within;
+    walk_with(log, around, rest, body, slot)
+}
+
+fn put_entered(
+    log: &mut Log<'_>,
+    around: Around,
+    target: &Option<Box<Expr>>,
+    answer: u32,
+) -> Result<(), Halt>
+    ensures { Gets (λ u. u) result (world_of log.new) (item_walk around (opt_box expr_tree target.now) (Given answer 1) (world_of log.old)) }
+{
+    match target {
+        Some(target) => walk_target(log, around, target, StepValue::Given { answer, index: 1 }),
+        None => Ok(()),
+    }
+}
+
+// Enters: gives the number of the answer whose first value is the exit, and whose second is entered.
+fn enter(log: &mut Log<'_>, manager: StepValue) -> Result<u32, Halt>
+    ensures { Gets (λ n. (Given n 0, Given n 1)) result (world_of log.new) (for_two (Operates enter_with (value_of manager ∷ [])) (world_of log.old)) }
+{
+    let operands = one(log.alloc, manager)?;
+    log.operate(
+        bare(Instruction::SetupWith),
+        List::from_vec(operands),
+        Some(2),
+    )
+}
+
+// Leaves what the answer of this number gave, on the way out that is in hand. An exception ends there where the exit says so.
+fn leave(log: &mut Log<'_>, exit: u32, ended: Result<Flow, Halt>) -> Result<Flow, Halt>
+    ensures { (end : Ended Known) → Ends flow_of ended (world_of log.old) end → Ends flow_of result (world_of log.new) (exited (Given exit 0) end) }
+{
+    match ended {
+        Ok(flow) => {
+            exit_with(log, exit, none())?;
+            Ok(flow)
+        }
+        Err(Halt::Raised(answer)) => leave_raised(log, exit, answer),
+        Err(Halt::Stopped) => Err(Halt::Stopped),
+        Err(Halt::OutOfMemory) => Err(Halt::OutOfMemory),
+    }
+}
+
+fn leave_raised(log: &mut Log<'_>, exit: u32, answer: u32) -> Result<Flow, Halt>
+    ensures { Ends flow_of result (world_of log.new) (exited (Given exit 0) (throws (Given answer 0) (world_of log.old))) }
+{
+    let exception = StepValue::Given { answer, index: 0 };
+    if exit_with(log, exit, exception)? {
+        return Ok(Flow::Normal);
+    }
+    Err(Halt::Raised(answer))
+}
+
+// Calls the exit with an exception or None, and asks for the truth of its answer.
+fn exit_with(log: &mut Log<'_>, exit: u32, exception: StepValue) -> Result<bool, Halt>
+    ensures { Gets (λ b. b) result (world_of log.new) (exit_truth (Given exit 0) (value_of exception) (world_of log.old)) }
+{
+    let exit = StepValue::Given {
+        answer: exit,
+        index: 0,
+    };
+    let answer = does_two(log, bare(Instruction::WithCleanupStart), exit, exception)?;
+    log.truth(answer)
+}
