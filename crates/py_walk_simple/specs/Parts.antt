@@ -29,8 +29,8 @@ abbrev pub called_by : List (Value Known) → Value Known → Doing (Value Known
 called_by [] v w = Fine v w
 called_by (x ∷ xs) v w = then_get (called_by xs v w) (λ y w1. does (counted op.CallFunctionPositional 1) (x ∷ y ∷ []) w1)
 
--- behind others the names and values of named values
-abbrev pub get_named : (run : List (Value Known)) → KeywordWalks → Doing (List (Value Known))
-get_named run [] w = Fine run w
-get_named run (Single p ∷ ks) w = then_get (p.1 w) (λ x w1. get_named (run ++ Constant (const.str p.0) ∷ x ∷ []) ks w1)
-get_named run (Spread e ∷ ks) w = get_named run ks w
+-- the names and values of annotations, behind others
+abbrev pub get_notes : (run : List (Value Known)) → KeywordWalks → Doing (List (Value Known))
+get_notes run [] w = Fine run w
+get_notes run (Single p ∷ ks) w = then_get (p.1 w) (λ x w1. get_notes (run ++ Constant (const.str p.0) ∷ x ∷ []) ks w1)
+get_notes run (Spread e ∷ ks) w = get_notes run ks w

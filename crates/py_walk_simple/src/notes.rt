@@ -7,7 +7,7 @@ ghost use Rattle.py_script.specs.Log.{Gets, world_of};
 ghost use Rattle.py_script.specs.Told.{Known, value_of, values_of};
 ghost use Rattle.py_walk.specs.Doing.{get_maps};
 ghost use Rattle.py_walk.specs.Statements.{arg_note, arg_notes, note_walk, note_walks, opt_arg_note, opt_note, param_notes, text_value};
-ghost use Rattle.py_walk_simple.specs.Parts.{get_named};
+ghost use Rattle.py_walk_simple.specs.Parts.{get_notes};
 
 use py_base::Text;
 use py_bytecode::ConstantData;
@@ -74,84 +74,83 @@ fn get_notes(
     params: &Arguments,
     returns: &Option<Box<Expr>>,
 ) -> Result<Vec<StepValue>, Halt>
-    ensures { Gets (λ v. values_of v.items) result (world_of log.new) (get_named [] (note_walks around (arguments expr_tree params.now) (opt_box expr_tree returns.now)) (world_of log.old)) }
+    ensures { Gets (λ v. values_of v.items) result (world_of log.new) (get_notes [] (note_walks around (arguments expr_tree params.now) (opt_box expr_tree returns.now)) (world_of log.old)) }
 {
-    let mut notes = Vec::new(log.alloc);
     let name = fixed_name(log.alloc, "return")?;
-    push_note(log, around, &mut notes, &name, returns)?;
-    push_param_notes(log, around, &mut notes, params)?;
+    let notes = walk_opt_note(log, around, Vec::new(log.alloc), &name, returns)?;
+    walk_param_notes(log, around, notes, params)
+}
+
+// The names and values of the annotations of parameters, behind others.
+fn walk_param_notes(
+    log: &mut Log<'_>,
+    around: Around,
+    notes: Vec<StepValue>,
+    params: &Arguments,
+) -> Result<Vec<StepValue>, Halt>
+    ensures { Gets (λ v. values_of v.items) result (world_of log.new) (get_notes (values_of notes.items) (param_notes around (arguments expr_tree params.now)) (world_of log.old)) }
+{
+    let notes = walk_arg_notes(log, around, notes, params.posonlyargs.as_slice())?;
+    let notes = walk_arg_notes(log, around, notes, params.args.as_slice())?;
+    let notes = walk_arg_notes(log, around, notes, params.kwonlyargs.as_slice())?;
+    let notes = walk_opt_arg_note(log, around, notes, &params.vararg)?;
+    walk_opt_arg_note(log, around, notes, &params.kwarg)
+}
+
+fn walk_arg_notes(
+    log: &mut Log<'_>,
+    around: Around,
+    mut notes: Vec<StepValue>,
+    args: &[ArgWithDefault],
+) -> Result<Vec<StepValue>, Halt>
+    ensures { Gets (λ v. values_of v.items) result (world_of log.new) (get_notes (values_of notes.items) (arg_notes around (arg_trees expr_tree args.now)) (world_of log.old)) }
+{
+    for arg in args {
+        notes = walk_arg_note(log, around, notes, &arg.def)?;
+    }
     Ok(notes)
 }
 
-// Puts the names and values of the annotations of parameters behind others.
-fn push_param_notes(
+fn walk_arg_note(
     log: &mut Log<'_>,
     around: Around,
-    notes: &mut Vec<StepValue>,
-    params: &Arguments,
-) -> Result<(), Halt>
-    ensures { Gets (λ u. values_of notes.new.items) result (world_of log.new) (get_named (values_of notes.old.items) (param_notes around (arguments expr_tree params.now)) (world_of log.old)) }
-{
-    push_arg_notes(log, around, notes, params.posonlyargs.as_slice())?;
-    push_arg_notes(log, around, notes, params.args.as_slice())?;
-    push_arg_notes(log, around, notes, params.kwonlyargs.as_slice())?;
-    push_opt_arg_note(log, around, notes, &params.vararg)?;
-    push_opt_arg_note(log, around, notes, &params.kwarg)
-}
-
-fn push_arg_notes(
-    log: &mut Log<'_>,
-    around: Around,
-    notes: &mut Vec<StepValue>,
-    args: &[ArgWithDefault],
-) -> Result<(), Halt>
-    ensures { Gets (λ u. values_of notes.new.items) result (world_of log.new) (get_named (values_of notes.old.items) (arg_notes around (arg_trees expr_tree args.now)) (world_of log.old)) }
-{
-    for arg in args {
-        push_arg_note(log, around, notes, &arg.def)?;
-    }
-    Ok(())
-}
-
-fn push_arg_note(
-    log: &mut Log<'_>,
-    around: Around,
-    notes: &mut Vec<StepValue>,
+    notes: Vec<StepValue>,
     arg: &Arg,
-) -> Result<(), Halt>
-    ensures { Gets (λ u. values_of notes.new.items) result (world_of log.new) (get_named (values_of notes.old.items) (arg_note around (arg_tree expr_tree arg.now)) (world_of log.old)) }
+) -> Result<Vec<StepValue>, Halt>
+    ensures { Gets (λ v. values_of v.items) result (world_of log.new) (get_notes (values_of notes.items) (arg_note around (arg_tree expr_tree arg.now)) (world_of log.old)) }
 {
-    push_note(log, around, notes, &arg.arg, &arg.annotation)
+    walk_opt_note(log, around, notes, &arg.arg, &arg.annotation)
 }
 
-fn push_opt_arg_note(
+fn walk_opt_arg_note(
     log: &mut Log<'_>,
     around: Around,
-    notes: &mut Vec<StepValue>,
+    notes: Vec<StepValue>,
     arg: &Option<Box<Arg>>,
-) -> Result<(), Halt>
-    ensures { Gets (λ u. values_of notes.new.items) result (world_of log.new) (get_named (values_of notes.old.items) (opt_arg_note around (opt_arg expr_tree arg.now)) (world_of log.old)) }
+) -> Result<Vec<StepValue>, Halt>
+    ensures { Gets (λ v. values_of v.items) result (world_of log.new) (get_notes (values_of notes.items) (opt_arg_note around (opt_arg expr_tree arg.now)) (world_of log.old)) }
 {
     match arg {
-        Some(arg) => push_arg_note(log, around, notes, arg),
-        None => Ok(()),
+        Some(arg) => walk_arg_note(log, around, notes, arg),
+        None => Ok(notes),
     }
 }
 
-// Puts the name and the value of an annotation behind others, where there is one.
-fn push_note(
+// The name and the value of an annotation behind others, where there is one.
+fn walk_opt_note(
     log: &mut Log<'_>,
     around: Around,
-    notes: &mut Vec<StepValue>,
+    mut notes: Vec<StepValue>,
     name: &Text,
     note: &Option<Box<Expr>>,
-) -> Result<(), Halt>
-    ensures { Gets (λ u. values_of notes.new.items) result (world_of log.new) (get_named (values_of notes.old.items) (opt_note around name.now (opt_box expr_tree note.now)) (world_of log.old)) }
+) -> Result<Vec<StepValue>, Halt>
+    ensures { Gets (λ v. values_of v.items) result (world_of log.new) (get_notes (values_of notes.items) (opt_note around name.now (opt_box expr_tree note.now)) (world_of log.old)) }
 {
     let Some(note) = note else {
-        return Ok(());
+        return Ok(notes);
     };
     let value = walk_note(log, around, note)?;
-    push(notes, text(log.alloc, name)?)?;
-    push(notes, value)
+    push(&mut notes, text(log.alloc, name)?)?;
+    push(&mut notes, value)?;
+    Ok(notes)
 }

@@ -8,7 +8,7 @@ ghost use Rattle.py_script.specs.Told.{Known};
 ghost use Rattle.py_walk.specs.Acting.{constant, into, put_name, remove, store, unname};
 ghost use Rattle.py_walk.specs.Statements.{handlers_walk, stmt_walk, stmts_walk};
 ghost use Rattle.py_bytecode.specs.Objects as object;
-ghost use Rattle.py_walk_simple.specs.Ends.{Ends, flow_of, slot_of};
+ghost use Rattle.py_walk_simple.specs.Ends.{Ends, flow_of, goes_on, slot_of};
 ghost use Rattle.py_walk_stmts.specs.Catching.{handled, takes};
 ghost use Rattle.py_walk_stmts.specs.Over.{do_last};
 
@@ -180,17 +180,21 @@ fn walk_named(
     forget(log, name, ended)
 }
 
-fn forget(
-    log: &mut Log<'_>,
-    name: &Text,
-    ended: Result<Flow, Halt>,
-) -> Result<Flow, Halt>
+// Sets a name to None and deletes it, on the way out that is in hand.
+fn forget(log: &mut Log<'_>, name: &Text, ended: Result<Flow, Halt>) -> Result<Flow, Halt>
     ensures { (end : Ended Known) → Ends flow_of ended (world_of log.old) end → Ends flow_of result (world_of log.new) (do_last (λ w. then_do (into (constant object.none) (store name.now) w) (remove name.now)) end) }
 {
     if is_over(&ended) {
         return ended;
     }
+    remove_name(log, name)?;
+    ended
+}
+
+fn remove_name(log: &mut Log<'_>, name: &Text) -> Result<(), Halt>
+    ensures { Ends goes_on result (world_of log.new) (then_do (into (constant object.none) (store name.now) (world_of log.old)) (remove name.now)) }
+{
     store(log, name, none())?;
     log.delete(name)?;
-    ended
+    Ok(())
 }

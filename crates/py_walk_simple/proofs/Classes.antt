@@ -1,0 +1,30 @@
+-- Classes, by whether a base is starred.
+use Rattle.std.proofs.Common.{◌≡◌, ℕ, List, [], ◌∷◌, ◌++◌, Bool, true, false, refl, sym, ap, ◌∙◌}
+use Rattle.std.specs.Prelude.{◌||◌}
+use Rattle.py_bytecode.specs.Objects as const
+use Rattle.py_bytecode.specs.Values.{Value, Constant, World, Fine, then_get, choose}
+use Rattle.py_bytecode.specs.declared.instruction.Instruction.TheVariants as op
+use Rattle.py_bytecode.specs.Values.{operation, Bare}
+use Rattle.py_steps.specs.Elements.{starred}
+use Rattle.py_script.specs.Told.{Known}
+use Rattle.py_walk.specs.Acting.{build_class, class_args, class_pair}
+use Rattle.py_walk.specs.Doing.{ExprWalk, KeywordWalks, call_packed, call_placed, does, get_all, make, some_star, tested, values_of_all}
+use Rattle.py_walk_exprs.proofs.Following.{assoc, then_same}
+
+-- the call is packed where a base is starred or a map is unpacked
+some_args : (b : Bool) (name : List ℕ) (es : List ExprWalk) → some_star es ≡ b → some_star (class_args b name es) ≡ b
+some_args true name es e = refl
+some_args false name es e = e
+
+pub builds : (b u : Bool) (name : List ℕ) (es : List ExprWalk) (ks : KeywordWalks) (w : World Known) → some_star es ≡ b → starred ks ≡ u →
+    build_class name es ks w ≡ then_get (does (operation op.LoadBuildClass Bare) [] w) (λ f w1. choose (b || u) (call_packed false (f ∷ []) (class_args b name es) ks w1) (call_placed false (f ∷ []) (class_args b name es) ks w1))
+builds b u name es ks w e f =
+    assoc (does (operation op.LoadBuildClass Bare) [] w) (λ g w1. Fine (g ∷ []) w1) (λ fs w1. choose (some_star (class_args (some_star es) name es) || starred ks) (call_packed false fs (class_args (some_star es) name es) ks w1) (call_placed false fs (class_args (some_star es) name es) ks w1))
+    ∙ then_same (does (operation op.LoadBuildClass Bare) [] w) _ _ (λ g w1.
+        ap (λ c. choose (some_star (class_args c name es) || starred ks) (call_packed false (g ∷ []) (class_args c name es) ks w1) (call_placed false (g ∷ []) (class_args c name es) ks w1)) e
+        ∙ ap (λ c. choose (c || starred ks) (call_packed false (g ∷ []) (class_args b name es) ks w1) (call_placed false (g ∷ []) (class_args b name es) ks w1)) (some_args b name es e)
+        ∙ ap (λ c. choose (b || c) (call_packed false (g ∷ []) (class_args b name es) ks w1) (call_placed false (g ∷ []) (class_args b name es) ks w1)) f)
+
+-- the function of a class and its name come first
+pub parts_first : (name : List ℕ) (es : List ExprWalk) (w : World Known) → get_all [] (values_of_all (class_args false name es)) w ≡ then_get (then_get (make 0 [] [] name w) (λ f w1. Fine (f ∷ Constant (const.str name) ∷ []) w1)) (λ vs w1. get_all vs (values_of_all es) w1)
+parts_first name es w = sym (assoc (make 0 [] [] name w) (λ f w1. Fine (f ∷ Constant (const.str name) ∷ []) w1) (λ vs w1. get_all vs (values_of_all es) w1))

@@ -1,0 +1,5 @@
+pub mod Endings
+pub mod Decorating
+pub mod Noting
+pub mod Places
+pub mod Classes

@@ -1,0 +1,6 @@
+pub mod Places
+pub mod Turning
+pub mod Endings
+pub mod Opening
+pub mod Prompting
+pub mod Blocks
