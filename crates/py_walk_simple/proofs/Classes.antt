@@ -21,9 +21,9 @@ pub builds : (b u : Bool) (name : List ℕ) (es : List ExprWalk) (ks : KeywordWa
 builds b u name es ks w e f =
     assoc (does (operation op.LoadBuildClass Bare) [] w) (λ g w1. Fine (g ∷ []) w1) (λ fs w1. choose (some_star (class_args (some_star es) name es) || starred ks) (call_packed false fs (class_args (some_star es) name es) ks w1) (call_placed false fs (class_args (some_star es) name es) ks w1))
     ∙ then_same (does (operation op.LoadBuildClass Bare) [] w) _ _ (λ g w1.
-        ap (λ c. choose (some_star (class_args c name es) || starred ks) (call_packed false (g ∷ []) (class_args c name es) ks w1) (call_placed false (g ∷ []) (class_args c name es) ks w1)) e
-        ∙ ap (λ c. choose (c || starred ks) (call_packed false (g ∷ []) (class_args b name es) ks w1) (call_placed false (g ∷ []) (class_args b name es) ks w1)) (some_args b name es e)
-        ∙ ap (λ c. choose (b || c) (call_packed false (g ∷ []) (class_args b name es) ks w1) (call_placed false (g ∷ []) (class_args b name es) ks w1)) f)
+    ap (λ c. choose (some_star (class_args c name es) || starred ks) (call_packed false (g ∷ []) (class_args c name es) ks w1) (call_placed false (g ∷ []) (class_args c name es) ks w1)) e
+    ∙ ap (λ c. choose (c || starred ks) (call_packed false (g ∷ []) (class_args b name es) ks w1) (call_placed false (g ∷ []) (class_args b name es) ks w1)) (some_args b name es e)
+    ∙ ap (λ c. choose (b || c) (call_packed false (g ∷ []) (class_args b name es) ks w1) (call_placed false (g ∷ []) (class_args b name es) ks w1)) f)
 
 -- the function of a class and its name come first
 pub parts_first : (name : List ℕ) (es : List ExprWalk) (w : World Known) → get_all [] (values_of_all (class_args false name es)) w ≡ then_get (then_get (make 0 [] [] name w) (λ f w1. Fine (f ∷ Constant (const.str name) ∷ []) w1)) (λ vs w1. get_all vs (values_of_all es) w1)

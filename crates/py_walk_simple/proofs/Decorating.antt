@@ -47,9 +47,9 @@ all_behind done [] f w = refl
 all_behind done (d ∷ ds) f w =
     assoc (d w) (λ x w1. then_get (decorate ds f w1) (λ y w2. calls x y w2)) (λ v w1. called_by done v w1)
     ∙ then_same (d w) (λ x w1. then_get (then_get (decorate ds f w1) (λ y w2. calls x y w2)) (λ v w2. called_by done v w2)) (λ x w1. behind_all (done ++ x ∷ []) ds f w1)
-        (λ x w1. assoc (decorate ds f w1) (λ y w2. calls x y w2) (λ v w2. called_by done v w2)
-            ∙ then_same (decorate ds f w1) (λ y w2. then_get (calls x y w2) (λ v w3. called_by done v w3)) (λ y w2. called_by (done ++ x ∷ []) y w2) (λ y w2. sym (last_called done x y w2))
-            ∙ all_behind (done ++ x ∷ []) ds f w1)
+    (λ x w1. assoc (decorate ds f w1) (λ y w2. calls x y w2) (λ v w2. called_by done v w2)
+    ∙ then_same (decorate ds f w1) (λ y w2. then_get (calls x y w2) (λ v w3. called_by done v w3)) (λ y w2. called_by (done ++ x ∷ []) y w2) (λ y w2. sym (last_called done x y w2))
+    ∙ all_behind (done ++ x ∷ []) ds f w1)
     ∙ sym (assoc (d w) (λ x w1. get_all (done ++ x ∷ []) ds w1) (λ xs w1. then_get (f w1) (λ v w2. called_by xs v w2)))
 
 pub decorated : (ds : List (Doing (Value Known))) (f : Doing (Value Known)) (w : World Known) → decorate ds f w ≡ then_get (get_all [] ds w) (λ xs w1. then_get (f w1) (λ v w2. called_by xs v w2))

@@ -64,7 +64,7 @@ maps_of : (run : List (Value Known)) (ks : KeywordWalks) (w : World Known) → A
 maps_of run [] w h = refl
 maps_of run (Single p ∷ ks) w h =
     then_same (p.1 w) (λ x w1. get_maps [] (suc (length run / 2)) (run ++ Constant (const.str p.0) ∷ x ∷ []) ks w1) (λ x w1. then_get (get_notes (run ++ Constant (const.str p.0) ∷ x ∷ []) ks w1) (λ r w2. close_map [] (length r / 2) r w2))
-        (λ x w1. ap (λ n. get_maps [] n (run ++ Constant (const.str p.0) ∷ x ∷ []) ks w1) (sym (half_more run (Constant (const.str p.0)) x)) ∙ maps_of (run ++ Constant (const.str p.0) ∷ x ∷ []) ks w1 h)
+    (λ x w1. ap (λ n. get_maps [] n (run ++ Constant (const.str p.0) ∷ x ∷ []) ks w1) (sym (half_more run (Constant (const.str p.0)) x)) ∙ maps_of (run ++ Constant (const.str p.0) ∷ x ∷ []) ks w1 h)
     ∙ sym (assoc (p.1 w) (λ x w1. get_notes (run ++ Constant (const.str p.0) ∷ x ∷ []) ks w1) (λ r w1. close_map [] (length r / 2) r w1))
 maps_of run (Spread e ∷ ks) w h = absurd h
 

@@ -32,11 +32,7 @@ use py_walk_values::operations::{bare, does_none, does_one, does_two, numbered};
 ///
 /// # Errors
 /// What ends the run, or OutOfMemory.
-pub fn walk_expr_statement(
-    log: &mut Log<'_>,
-    around: Around,
-    value: &Expr,
-) -> Result<Flow, Halt>
+pub fn walk_expr_statement(log: &mut Log<'_>, around: Around, value: &Expr) -> Result<Flow, Halt>
     ensures { Ends flow_of result (world_of log.new) (into (walk_expr around (expr_tree value.now)) drop_it (world_of log.old)) }
 {
     let _value = walk_expression(log, around, value)?;
@@ -70,12 +66,7 @@ fn put_all(
     Ok(())
 }
 
-fn put_copy(
-    log: &mut Log<'_>,
-    around: Around,
-    target: &Expr,
-    value: &StepValue,
-) -> Result<(), Halt>
+fn put_copy(log: &mut Log<'_>, around: Around, target: &Expr, value: &StepValue) -> Result<(), Halt>
     ensures { Gets (λ u. u) result (world_of log.new) (walk_target around (expr_tree target.now) (value_of value.now) (world_of log.old)) }
 {
     let copied = copy_value(log.alloc, value)?;

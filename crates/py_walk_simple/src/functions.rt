@@ -98,11 +98,7 @@ fn doc_of(alloc: Global, level: u8, body: &Stmts) -> Result<Option<Text>, Halt>
 }
 
 // Stores a docstring to a function, where there is one.
-fn document(
-    log: &mut Log<'_>,
-    doc: &Option<Text>,
-    function: StepValue,
-) -> Result<StepValue, Halt>
+fn document(log: &mut Log<'_>, doc: &Option<Text>, function: StepValue) -> Result<StepValue, Halt>
     ensures { Gets value_of result (world_of log.new) (document doc.now (λ w. Fine (value_of function) w) (world_of log.old)) }
 {
     let Some(doc) = doc else {

@@ -13,8 +13,8 @@ ghost use Rattle.py_walk_simple.specs.Parts.{class_value, function_value};
 
 use crate::futures::walk_futures;
 use crate::statements::{walk_statement, walk_statements};
-use py_script::{Halt, Log, StepValue};
 use py_base::Text;
+use py_script::{Halt, Log, StepValue};
 use py_tree::{Expr, Stmt, StmtClassDef, StmtFunctionDef};
 use py_walk::Around;
 use py_walk_exprs::walk_expression;

@@ -8,8 +8,8 @@ mod futures;
 mod loops;
 mod prompts;
 mod statements;
-mod tries;
 mod trees;
+mod tries;
 mod withs;
 
 pub use statements::{walk_statement, walk_statements};

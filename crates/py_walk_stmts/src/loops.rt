@@ -100,6 +100,11 @@ fn walk_round(
 ) -> Result<Flow, Halt>
     ensures { Ends flow_of result (world_of log.new) (assigned (walk_target around (expr_tree s.now.target.value)) (stmts_walk around (stmts stmt_tree s.now.body) (slot_of slot)) (Given answer 0) (world_of log.old)) }
 {
-    walk_target(log, around, &s.target, StepValue::Given { answer, index: 0 })?;
+    walk_target(
+        log,
+        around,
+        &s.target,
+        StepValue::Given { answer, index: 0 },
+    )?;
     walk_statements(log, around, s.body.as_slice(), slot)
 }

@@ -89,12 +89,7 @@ fn value_in(statement: &Stmt) -> Option<&Expr>
 }
 
 // Prints a value, and returns the last.
-fn walk_printed(
-    log: &mut Log<'_>,
-    around: Around,
-    value: &Expr,
-    last: bool,
-) -> Result<Flow, Halt>
+fn walk_printed(log: &mut Log<'_>, around: Around, value: &Expr, last: bool) -> Result<Flow, Halt>
     ensures { (rest : Acting) → Ends (λ f w. then_do (flow_of f w) rest) result (world_of log.new) (printed last (walk_expr around (expr_tree value.now)) rest (world_of log.old)) }
 {
     let value = walk_expression(log, around, value)?;

@@ -87,12 +87,7 @@ pub fn walk_statement(
 }
 
 #[cycle(walk)]
-fn walk_if(
-    log: &mut Log<'_>,
-    around: Around,
-    s: &StmtIf,
-    slot: Option<u32>,
-) -> Result<Flow, Halt>
+fn walk_if(log: &mut Log<'_>, around: Around, s: &StmtIf, slot: Option<u32>) -> Result<Flow, Halt>
     ensures { Ends flow_of result (world_of log.new) (stmt_walk around (if_tree s.now) (slot_of slot) (world_of log.old)) }
 {
     if walk_test(log, around, &s.test)? {

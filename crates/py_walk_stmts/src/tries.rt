@@ -139,7 +139,13 @@ fn walk_handler(
 {
     match &handler.type_ {
         None => walk_statements(log, around, handler.body.as_slice(), Some(exception)),
-        Some(_) => walk_bound(log, around, &handler.name, handler.body.as_slice(), exception),
+        Some(_) => walk_bound(
+            log,
+            around,
+            &handler.name,
+            handler.body.as_slice(),
+            exception,
+        ),
     }
 }
 

@@ -37,7 +37,7 @@ pub(crate) fn walk_with(
     };
     let manager = walk_expression(log, around, &item.context_expr)?;
     let answer = enter(log, manager)?;
-    let ended = walk_entered(log, around, &item.optional_vars, answer, (rest, body), slot);
+    let ended = walk_entered(log, around, &item.optional_vars, answer, rest, body, slot);
     leave(log, answer, ended)
 }
 
@@ -48,13 +48,13 @@ fn walk_entered(
     around: Around,
     target: &Option<Box<Expr>>,
     answer: u32,
-    within: (&[WithItem], &[Stmt]),
+    rest: &[WithItem],
+    body: &[Stmt],
     slot: Option<u32>,
 ) -> Result<Flow, Halt>
-    ensures { Ends flow_of result (world_of log.new) (assigned (item_walk around (opt_box expr_tree target.now)) (with_walk around (with_items within.entry.0.now) (stmts_walk around (stmts stmt_tree within.entry.1.now) (slot_of slot))) (Given answer 1) (world_of log.old)) }
+    ensures { Ends flow_of result (world_of log.new) (assigned (item_walk around (opt_box expr_tree target.now)) (with_walk around (with_items rest.now) (stmts_walk around (stmts stmt_tree body.now) (slot_of slot))) (Given answer 1) (world_of log.old)) }
 {
     put_entered(log, around, target, answer)?;
-    let (rest, body) = within;
     walk_with(log, around, rest, body, slot)
 }
 
