@@ -2,10 +2,10 @@
 use Rattle.std.proofs.Common.{◌≡◌, Result, Ok, Err, Bool, true, false, refl, sym, ap, ◌∙◌, subst}
 use Rattle.py_bytecode.specs.Values.{World, Got, Fine, Raises, Stops, Ended, Normal, then_do, then_get, use_it}
 use Rattle.py_script.specs.declared.log.Halt.{Halt}
-use Rattle.py_script.specs.Log.{Gets}
 use Rattle.py_script.specs.Told.{Known}
 use Rattle.py_walk_simple.specs.declared.flow.Flow.{Flow}
-use Rattle.py_walk_simple.specs.Ends.{Ends, flow_of, is_normal}
+use Rattle.py_walk_exprs.proofs.Following.{Ends as Stopping}
+use Rattle.py_walk_simple.specs.Ends.{Ends, flow_of, goes_on, is_normal}
 
 -- by another name
 pub same : {X : Type 0} (how : X → World Known → Ended Known) (r : Result X Halt) (w : World Known) (g h : Ended Known) → g ≡ h → Ends how r w h → Ends how r w g
@@ -25,23 +25,31 @@ used g k x w e = ap (λ q. use_it q k) e
 pub done : (g : Ended Known) (k : World Known → Ended Known) (w : World Known) → g ≡ Normal w → then_do g k ≡ k w
 done g k w e = ap (λ q. then_do q k) e
 
--- what halts in a part halts the whole
-pub got_halts : {X Y A : Type 0} (how : X → World Known → Ended Known) (see : Y → A) (h : Halt) (w : World Known) (g : Got Known A) (k : A → World Known → Ended Known) → Gets see (Err h) w g → Ends how (Err h) w (use_it g k)
-got_halts how see (Halt.Raised n) w g k e = ap (λ q. use_it q k) e
-got_halts how see Halt.Stopped w g k e = ap (λ q. use_it q k) e
-got_halts how see Halt.OutOfMemory w g k e = tt
+-- how a part ends that halts so
+abbrev pub Halted : Halt → World Known → Ended Known → Type 0
+Halted h w g = Ends goes_on (Err h) w g
 
-pub do_halts : {X Y : Type 0} (how : X → World Known → Ended Known) (see : Y → World Known → Ended Known) (h : Halt) (w : World Known) (g : Ended Known) (k : World Known → Ended Known) → Ends see (Err h) w g → Ends how (Err h) w (then_do g k)
-do_halts how see (Halt.Raised n) w g k e = ap (λ q. then_do q k) e
-do_halts how see Halt.Stopped w g k e = ap (λ q. then_do q k) e
-do_halts how see Halt.OutOfMemory w g k e = tt
+-- what halts in a part halts the whole
+pub got_halts : {X A : Type 0} (how : X → World Known → Ended Known) (h : Halt) (w : World Known) (g : Got Known A) (k : A → World Known → Ended Known) → Stopping h w g → Ends how (Err h) w (use_it g k)
+got_halts how (Halt.Raised n) w g k e = ap (λ q. use_it q k) e
+got_halts how Halt.Stopped w g k e = ap (λ q. use_it q k) e
+got_halts how Halt.OutOfMemory w g k e = tt
+
+pub do_halts : {X : Type 0} (how : X → World Known → Ended Known) (h : Halt) (w : World Known) (g : Ended Known) (k : World Known → Ended Known) → Halted h w g → Ends how (Err h) w (then_do g k)
+do_halts how (Halt.Raised n) w g k e = ap (λ q. then_do q k) e
+do_halts how Halt.Stopped w g k e = ap (λ q. then_do q k) e
+do_halts how Halt.OutOfMemory w g k e = tt
 
 -- the same where the whole begins with the part
-pub got_halted : {X Y A : Type 0} (how : X → World Known → Ended Known) (see : Y → A) (r : Result X Halt) (h : Halt) (w : World Known) (whole : Ended Known) (g : Got Known A) (k : A → World Known → Ended Known) → r ≡ Err h → whole ≡ use_it g k → Gets see (Err h) w g → Ends how r w whole
-got_halted how see r h w whole g k e p b = subst (λ q. Ends how q w whole) (sym e) (same how (Err h) w whole (use_it g k) p (got_halts how see h w g k b))
+pub got_halted : {X A : Type 0} (how : X → World Known → Ended Known) (r : Result X Halt) (h : Halt) (w : World Known) (whole : Ended Known) (g : Got Known A) (k : A → World Known → Ended Known) → r ≡ Err h → whole ≡ use_it g k → Stopping h w g → Ends how r w whole
+got_halted how r h w whole g k e p b = subst (λ q. Ends how q w whole) (sym e) (same how (Err h) w whole (use_it g k) p (got_halts how h w g k b))
 
-pub do_halted : {X Y : Type 0} (how : X → World Known → Ended Known) (see : Y → World Known → Ended Known) (r : Result X Halt) (h : Halt) (w : World Known) (whole g : Ended Known) (k : World Known → Ended Known) → r ≡ Err h → whole ≡ then_do g k → Ends see (Err h) w g → Ends how r w whole
-do_halted how see r h w whole g k e p b = subst (λ q. Ends how q w whole) (sym e) (same how (Err h) w whole (then_do g k) p (do_halts how see h w g k b))
+pub do_halted : {X : Type 0} (how : X → World Known → Ended Known) (r : Result X Halt) (h : Halt) (w : World Known) (whole g : Ended Known) (k : World Known → Ended Known) → r ≡ Err h → whole ≡ then_do g k → Halted h w g → Ends how r w whole
+do_halted how r h w whole g k e p b = subst (λ q. Ends how q w whole) (sym e) (same how (Err h) w whole (then_do g k) p (do_halts how h w g k b))
+
+-- a whole that halts as a part does
+pub halted_as : {X : Type 0} (how : X → World Known → Ended Known) (r : Result X Halt) (h : Halt) (w : World Known) (whole g : Ended Known) → r ≡ Err h → whole ≡ g → Halted h w g → Ends how r w whole
+halted_as how r h w whole g e p b = subst (λ q. Ends how q w whole) (sym e) (same how (Err h) w whole g p b)
 
 -- want of memory is free
 pub starved : {X : Type 0} (how : X → World Known → Ended Known) (r : Result X Halt) (h : Halt) (w : World Known) (whole : Ended Known) → r ≡ Err h → h ≡ Halt.OutOfMemory → Ends how r w whole

@@ -8,8 +8,8 @@ use Rattle.py_script.specs.Log.{Gets}
 use Rattle.py_script.specs.Told.{Known, value_of}
 use Rattle.py_walk.specs.Acting.{Acting}
 use Rattle.py_walk_simple.specs.declared.flow.Flow.{Flow}
-use Rattle.py_walk_simple.specs.Ends.{Ends, flow_of, is_normal, slot_of}
-use Rattle.py_walk_simple.proofs.Endings.{do_halts, other_leaves, same, use_assoc}
+use Rattle.py_walk_simple.specs.Ends.{Ends, flow_of, goes_on, is_normal, slot_of}
+use Rattle.py_walk_simple.proofs.Endings.{Halted, do_halts, other_leaves, use_assoc}
 use Rattle.py_walk_stmts.specs.Leaving.{exit_truth, exited}
 use Rattle.py_walk_stmts.specs.Over.{do_last, in_hand_of, is_over}
 
@@ -50,19 +50,14 @@ over_stays (Err Halt.Stopped) w end n k o e = ap (λ g. on_ended g n k Halts) e
 over_stays (Err Halt.OutOfMemory) w end n k o e = tt
 
 -- the last part halts
-halts_on : {Y : Type 0} (see : Y → World Known → Ended Known) (h : Halt) (w : World Known) (g : Ended Known) → Ends see (Err h) w g → Ends flow_of (Err h) w g
-halts_on see (Halt.Raised n) w g e = e
-halts_on see Halt.Stopped w g e = e
-halts_on see Halt.OutOfMemory w g e = tt
-
-pub last_halts : {Y : Type 0} (see : Y → World Known → Ended Known) (ended : Result Flow Halt) (h : Halt) (w : World Known) (g : Ended Known) → Ends see (Err h) w g → Ends flow_of (Err h) w (goes_last ended g)
-last_halts see (Ok Flow.Normal) h w g e = halts_on see h w g e
-last_halts see (Ok Flow.Break) h w g e = do_halts flow_of see h w g (λ w1. Leaves Breaks w1) e
-last_halts see (Ok Flow.Continue) h w g e = do_halts flow_of see h w g (λ w1. Leaves Continues w1) e
-last_halts see (Ok (Flow.Return v)) h w g e = do_halts flow_of see h w g (λ w1. Leaves (Returns (It (value_of v))) w1) e
-last_halts see (Err (Halt.Raised n)) h w g e = do_halts flow_of see h w g (λ w1. Leaves (Throws (Given n 0)) w1) e
-last_halts see (Err Halt.Stopped) h w g e = halts_on see h w g e
-last_halts see (Err Halt.OutOfMemory) h w g e = halts_on see h w g e
+pub last_halts : (ended : Result Flow Halt) (h : Halt) (w : World Known) (g : Ended Known) → Halted h w g → Halted h w (goes_last ended g)
+last_halts (Ok Flow.Normal) h w g e = e
+last_halts (Ok Flow.Break) h w g e = do_halts goes_on h w g (λ w1. Leaves Breaks w1) e
+last_halts (Ok Flow.Continue) h w g e = do_halts goes_on h w g (λ w1. Leaves Continues w1) e
+last_halts (Ok (Flow.Return v)) h w g e = do_halts goes_on h w g (λ w1. Leaves (Returns (It (value_of v))) w1) e
+last_halts (Err (Halt.Raised n)) h w g e = do_halts goes_on h w g (λ w1. Leaves (Throws (Given n 0)) w1) e
+last_halts (Err Halt.Stopped) h w g e = e
+last_halts (Err Halt.OutOfMemory) h w g e = e
 
 -- it goes on, and so does what was in hand
 pub last_normal : (ended : Result Flow Halt) (w : World Known) (g : Ended Known) → is_over ended ≡ false → g ≡ Normal w → Ends flow_of ended w (goes_last ended g)

@@ -8,7 +8,7 @@ use Rattle.py_walk.specs.Acting.{Acting}
 use Rattle.py_walk.specs.Doing.{Doing}
 use Rattle.py_walk_simple.specs.declared.flow.Flow.{Flow}
 use Rattle.py_walk_simple.specs.Ends.{Ends, after_loop, flow_of, goes_again}
-use Rattle.py_walk_simple.proofs.Endings.{same}
+use Rattle.py_walk_simple.proofs.Endings.{Halted, same}
 
 -- what follows a turn that has ended so
 abbrev pub then_turn : Ended Known → Acting → Ended Known
@@ -27,13 +27,13 @@ ends_loop Flow.Continue again w e = absurd cc
 ends_loop (Flow.Return v) again w e = refl
 
 -- what halts in a turn halts the loop
-pub turn_halts : {X Y : Type 0} (how : X → World Known → Ended Known) (see : Y → World Known → Ended Known) (h : Halt) (w : World Known) (g : Ended Known) (again : Acting) → Ends see (Err h) w g → Ends how (Err h) w (then_turn g again)
-turn_halts how see (Halt.Raised n) w g again e = ap (λ q. then_turn q again) e
-turn_halts how see Halt.Stopped w g again e = ap (λ q. then_turn q again) e
-turn_halts how see Halt.OutOfMemory w g again e = tt
+pub turn_halts : {X : Type 0} (how : X → World Known → Ended Known) (h : Halt) (w : World Known) (g : Ended Known) (again : Acting) → Halted h w g → Ends how (Err h) w (then_turn g again)
+turn_halts how (Halt.Raised n) w g again e = ap (λ q. then_turn q again) e
+turn_halts how Halt.Stopped w g again e = ap (λ q. then_turn q again) e
+turn_halts how Halt.OutOfMemory w g again e = tt
 
-pub turn_halted : {X Y : Type 0} (how : X → World Known → Ended Known) (see : Y → World Known → Ended Known) (r : Result X Halt) (h : Halt) (w : World Known) (whole g : Ended Known) (again : Acting) → r ≡ Err h → whole ≡ then_turn g again → Ends see (Err h) w g → Ends how r w whole
-turn_halted how see r h w whole g again e p b = subst (λ q. Ends how q w whole) (sym e) (same how (Err h) w whole (then_turn g again) p (turn_halts how see h w g again b))
+pub turn_halted : {X : Type 0} (how : X → World Known → Ended Known) (r : Result X Halt) (h : Halt) (w : World Known) (whole g : Ended Known) (again : Acting) → r ≡ Err h → whole ≡ then_turn g again → Halted h w g → Ends how r w whole
+turn_halted how r h w whole g again e p b = subst (λ q. Ends how q w whole) (sym e) (same how (Err h) w whole (then_turn g again) p (turn_halts how h w g again b))
 
 less : (n : ℕ) → suc n - 1 ≡ n
 less n = omega arith
