@@ -3,3 +3,4 @@ pub mod Decorating
 pub mod Noting
 pub mod Places
 pub mod Classes
+pub mod Defining

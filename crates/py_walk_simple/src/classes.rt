@@ -49,6 +49,7 @@ pub fn walk_class_def(log: &mut Log<'_>, around: Around, s: &StmtClassDef) -> Re
 ///
 /// # Errors
 /// What ends the run, or OutOfMemory.
+#[tactic(auto, using(crate::proofs::Decorating::decorated))]
 pub fn walk_class(log: &mut Log<'_>, around: Around, s: &StmtClassDef) -> Result<StepValue, Halt>
     ensures { Gets value_of result (world_of log.new) (class_value around s.now (world_of log.old)) }
 {
@@ -102,6 +103,7 @@ fn build_placed(
 }
 
 // The function of a class, its name, and the values of its bases.
+#[tactic(auto, using(crate::proofs::Classes::parts_first))]
 fn walk_placed(
     log: &mut Log<'_>,
     around: Around,

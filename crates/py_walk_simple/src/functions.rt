@@ -52,6 +52,7 @@ pub fn walk_function_def(
 ///
 /// # Errors
 /// What ends the run, or OutOfMemory.
+#[tactic(auto, using(crate::proofs::Decorating::decorated))]
 pub fn walk_function(
     log: &mut Log<'_>,
     around: Around,
@@ -74,6 +75,7 @@ fn define(log: &mut Log<'_>, around: Around, s: &StmtFunctionDef) -> Result<Step
     call_with_defaults(log, around, &s.name, &s.args)
 }
 
+#[tactic(auto, using(crate::proofs::Defining::documented))]
 fn make_documented(
     log: &mut Log<'_>,
     around: Around,

@@ -54,6 +54,7 @@ fn note_text(alloc: Global, note: &Expr) -> Result<StepValue, Halt>
 ///
 /// # Errors
 /// What ends the run, or OutOfMemory.
+#[tactic(auto, using(crate::proofs::Noting::notes_map, py_walk_values::proofs::Lengths::lengths))]
 pub(crate) fn walk_notes(
     log: &mut Log<'_>,
     around: Around,
@@ -68,6 +69,7 @@ pub(crate) fn walk_notes(
 }
 
 // The names and values of the annotations of a function.
+#[tactic(auto, using(crate::proofs::Noting::notes_joined))]
 fn get_notes(
     log: &mut Log<'_>,
     around: Around,
@@ -82,6 +84,7 @@ fn get_notes(
 }
 
 // The names and values of the annotations of parameters, behind others.
+#[tactic(auto, using(crate::proofs::Noting::params_joined))]
 fn walk_param_notes(
     log: &mut Log<'_>,
     around: Around,
