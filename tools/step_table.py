@@ -92,6 +92,9 @@ EXPRESSIONS = ["a", "f(a, *b)", "[x for x in y]", "a and b", "lambda: a", "a if 
 # so many scripts of each tree in a mode at a level
 SCRIPTS = 7
 
+# scripts of the first source: each answer fits; one raises; there is none; one does not fit; one is left over
+WORKED = ["g1,g1,g1,g1", "g1,r", "", "g1,d", "g1,g1,g1,g1,t"]
+
 
 def constant_of(word):
     """A constant of a row of codes.txt, as code files have it."""
@@ -147,7 +150,7 @@ def byte_text(b):
         return "\\" + chr(b)
     if 32 <= b < 127:
         return chr(b)
-    return {9: "\\t", 10: "\\n", 13: "\\r"}.get(b, "\\x%02x" % b)
+    return "\\x%02x" % b
 
 
 def constant_text(c):
@@ -220,16 +223,29 @@ def scripts_of(rng, scope, count):
         yield script
 
 
+def both_lines(tree, mode, level, script):
+    """What is wanted of the runs of a tree and its code, which the model has alike."""
+    code, scope = emit.compile_top(tree, "m.py", mode, level), meaning.body(tree, mode, level)
+    told = machine_lines(code, script)
+    meant = lines_of(agree.view_meaning(meaning.meaning(scope, list(script)), None))
+    assert told == meant, (dumped(rows_of(tree)), mode, level, answers.show_script(script))
+    return ["code", *told, "tree", *meant]
+
+
 def tree_cases(rng, tree, ways):
     """The rows of a tree, and what is asked and wanted of its runs in these ways."""
     yield dumped(rows_of(tree)), None
     for mode, level in ways:
-        code, scope = emit.compile_top(tree, "m.py", mode, level), meaning.body(tree, mode, level)
-        for script in scripts_of(rng, scope, SCRIPTS):
-            told = machine_lines(code, script)
-            meant = lines_of(agree.view_meaning(meaning.meaning(scope, list(script)), None))
-            assert told == meant, (dumped(rows_of(tree)), mode, level, answers.show_script(script))
-            yield f"run {mode} {level} {answers.show_script(script)}".rstrip(), ["code", *told, "tree", *meant]
+        for script in scripts_of(rng, meaning.body(tree, mode, level), SCRIPTS):
+            yield f"run {mode} {level} {answers.show_script(script)}".rstrip(), both_lines(tree, mode, level, script)
+
+
+def worked_cases():
+    """The first source, over scripts that are written by hand."""
+    tree = tree_of(FILES[0])
+    yield dumped(rows_of(tree)), None
+    for script in WORKED:
+        yield f"run exec 0 {script}".rstrip(), both_lines(tree, "exec", 0, [answer_of(word) for word in words_of(script)])
 
 
 def interactive(source):
@@ -254,6 +270,7 @@ def trees():
 
 
 def cases():
+    yield from worked_cases()
     yield from machine_cases()
     rng = random.Random(7)
     for tree, ways in trees():

@@ -2,5 +2,5 @@ pub mod Endings
 pub mod Decorating
 pub mod Noting
 pub mod Places
-pub mod Classes
+pub mod ClassCalls
 pub mod Defining

@@ -103,7 +103,7 @@ fn build_placed(
 }
 
 // The function of a class, its name, and the values of its bases.
-#[tactic(auto, using(crate::proofs::Classes::parts_first))]
+#[tactic(auto, using(crate::proofs::ClassCalls::parts_first))]
 fn walk_placed(
     log: &mut Log<'_>,
     around: Around,

@@ -11,7 +11,7 @@ use py_bytecode::Instruction;
 use py_script::{Halt, Log, StepValue};
 use py_tree::Expr;
 use py_walk::Around;
-use py_walk_exprs::expressions::walk_all;
+use py_walk_exprs::elements::walk_all;
 use py_walk_values::operations::{does_two, numbered};
 
 /// Gets decorators in order.

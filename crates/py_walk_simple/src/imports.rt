@@ -82,27 +82,27 @@ fn import_whole(log: &mut Log<'_>, path: &Text) -> Result<StepValue, Halt>
 }
 
 // Loads each further segment of a path, as an attribute of what stands before it.
-fn load_segments(log: &mut Log<'_>, path: &str, package: StepValue) -> Result<StepValue, Halt>
-    ensures { Gets value_of result (world_of log.new) (get_attributes (further_segments path.now) (value_of package) (world_of log.old)) }
+fn load_segments(log: &mut Log<'_>, path: &str, outermost: StepValue) -> Result<StepValue, Halt>
+    ensures { Gets value_of result (world_of log.new) (get_attributes (further_segments path.now) (value_of outermost) (world_of log.old)) }
 {
     let mut left = path;
-    let mut module = package;
+    let mut object = outermost;
     while let Some(behind) = behind_dot(left) {
-        module = load_segment(log, first_segment(behind), module)?;
+        object = load_segment(log, first_segment(behind), object)?;
         left = behind;
     }
-    Ok(module)
+    Ok(object)
 }
 
-fn load_segment(log: &mut Log<'_>, segment: &str, module: StepValue) -> Result<StepValue, Halt>
-    ensures { Gets value_of result (world_of log.new) (does (named op.LoadAttr segment.now) (value_of module ∷ []) (world_of log.old)) }
+fn load_segment(log: &mut Log<'_>, segment: &str, object: StepValue) -> Result<StepValue, Halt>
+    ensures { Gets value_of result (world_of log.new) (does (named op.LoadAttr segment.now) (value_of object ∷ []) (world_of log.old)) }
 {
     let name = fixed_name(log.alloc, segment)?;
     let operation = Operation {
         op: Instruction::LoadAttr,
         operand: Operand::Named(&name),
     };
-    does_one(log, operation, module)
+    does_one(log, operation, object)
 }
 
 // What stands behind the first dot of a path.
@@ -246,19 +246,19 @@ fn import_some(log: &mut Log<'_>, s: &StmtImportFrom) -> Result<(), Halt>
 }
 
 // Takes names from a module, one after the other.
-fn take_each(log: &mut Log<'_>, names: &[Alias], module: &StepValue) -> Result<(), Halt>
-    ensures { Gets (λ u. u) result (world_of log.new) (take_each names.now (value_of module.now) (world_of log.old)) }
+fn take_each(log: &mut Log<'_>, names: &[Alias], source: &StepValue) -> Result<(), Halt>
+    ensures { Gets (λ u. u) result (world_of log.new) (take_each names.now (value_of source.now) (world_of log.old)) }
 {
     for alias in names {
-        take(log, alias, module)?;
+        take(log, alias, source)?;
     }
     Ok(())
 }
 
-fn take(log: &mut Log<'_>, alias: &Alias, module: &StepValue) -> Result<(), Halt>
-    ensures { Gets (λ u. u) result (world_of log.new) (then_get (does (named op.ImportFrom alias.now.name) (value_of module.now ∷ []) (world_of log.old)) (λ x w1. store (taken_name alias.now) x w1)) }
+fn take(log: &mut Log<'_>, alias: &Alias, source: &StepValue) -> Result<(), Halt>
+    ensures { Gets (λ u. u) result (world_of log.new) (then_get (does (named op.ImportFrom alias.now.name) (value_of source.now ∷ []) (world_of log.old)) (λ x w1. store (taken_name alias.now) x w1)) }
 {
-    let copied = copy_value(log.alloc, module)?;
+    let copied = copy_value(log.alloc, source)?;
     let operation = Operation {
         op: Instruction::ImportFrom,
         operand: Operand::Named(&alias.name),

@@ -1,6 +1,6 @@
 pub mod Places
 pub mod Turning
-pub mod Endings
+pub mod Behind
 pub mod Opening
 pub mod Prompting
-pub mod Blocks
+pub mod Lasts

@@ -7,8 +7,8 @@ use Rattle.py_walk_simple.proofs.imports.load_segments.Given as goal
 
 abbrev pub invariant-loop-behind : goal.invariant-loop-behind
 invariant-loop-behind l =
-    (get_attributes (further_segments l.fn.path) (value_of l.initial.module) (world_of l.initial.log)
-    ≡ get_attributes (further_segments l.left) (value_of l.module) (world_of l.log))
+    (get_attributes (further_segments l.fn.path) (value_of l.initial.object) (world_of l.initial.log)
+    ≡ get_attributes (further_segments l.left) (value_of l.object) (world_of l.log))
     × IsUtf8 l.left
 
 abbrev pub decreases-loop-behind : goal.decreases-loop-behind

@@ -5,4 +5,4 @@ use Rattle.py_walk.specs.Acting.{take_each}
 use Rattle.py_walk_simple.proofs.imports.take_each.Given as goal
 
 abbrev pub invariant-loop-alias : goal.invariant-loop-alias
-invariant-loop-alias l = take_each l.names (value_of l.module) (world_of l.initial.log) ≡ take_each (drop l.alias-index l.names) (value_of l.module) (world_of l.log)
+invariant-loop-alias l = take_each l.names (value_of l.source) (world_of l.initial.log) ≡ take_each (drop l.alias-index l.names) (value_of l.source) (world_of l.log)
