@@ -67,3 +67,10 @@ other_leaves Flow.Normal k w e = absurd cc
 other_leaves Flow.Break k w e = refl
 other_leaves Flow.Continue k w e = refl
 other_leaves (Flow.Return v) k w e = refl
+
+-- the same of a statement that has ended so
+pub followed : (f : Flow) (g : Ended Known) (k : World Known → Ended Known) (w : World Known) → g ≡ flow_of f w → is_normal f ≡ true → then_do g k ≡ k w
+followed f g k w e p = ap (λ q. then_do q k) e ∙ normal_goes f k w p
+
+pub left : (f : Flow) (g : Ended Known) (k : World Known → Ended Known) (w : World Known) → g ≡ flow_of f w → is_normal f ≡ false → then_do g k ≡ flow_of f w
+left f g k w e p = ap (λ q. then_do q k) e ∙ other_leaves f k w p

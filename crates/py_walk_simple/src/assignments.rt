@@ -8,7 +8,7 @@ ghost use Rattle.py_script.specs.Told.{value_of};
 ghost use Rattle.py_walk.specs.Acting.{into, put_all};
 ghost use Rattle.py_walk.specs.Doing.{drop_it};
 ghost use Rattle.py_walk.specs.Statements.{annotate, augment_walk, declare_walk, note_walk, targets_of};
-ghost use Rattle.py_walk.specs.Walks.{walk_expr};
+ghost use Rattle.py_walk.specs.Walks.{walk_expr, walk_target};
 ghost use Rattle.py_walk_simple.specs.Ends.{Ends, flow_of, goes_on};
 
 use crate::flow::Flow;

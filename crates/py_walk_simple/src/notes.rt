@@ -1,5 +1,5 @@
 //! Annotations, and the texts of those that are postponed.
-ghost use Rattle.std.specs.Prelude.{[], ◌≡◌};
+ghost use Rattle.std.specs.Prelude.{[]};
 ghost use Rattle.py_texts.specs.Annotation.{annotation};
 ghost use Rattle.py_tree.specs.View.{arg as arg_tree, args as arg_trees, arguments, expr_tree, opt_arg, opt_box};
 ghost use Rattle.py_bytecode.specs.Values.{World};

@@ -1,5 +1,5 @@
 //! `raise`, `assert` and `return`.
-ghost use Rattle.std.specs.Prelude.{true};
+ghost use Rattle.std.specs.Prelude.{true, Option};
 ghost use Rattle.py_tree.specs.Tree as tree;
 ghost use Rattle.py_tree.specs.View.{expr_tree, opt_box};
 ghost use Rattle.py_bytecode.specs.declared.instruction.Instruction.TheVariants as op;

@@ -1,17 +1,22 @@
 -- What is done behind a part that has ended in some way.
-use Rattle.std.proofs.Common.{◌≡◌, ℕ, List, [], ◌∷◌, Bool, true, false, Option, Some, None, Result, Ok, Err, refl, sym, ap, ◌∙◌, subst}
+use Rattle.std.proofs.Common.{◌≡◌, ℕ, List, [], ◌∷◌, Bool, true, false, Option, None, Result, Ok, Err, refl, sym, ap, ◌∙◌}
 use Rattle.py_bytecode.specs.Objects as const
-use Rattle.py_bytecode.specs.Values.{exit_with, Value, Constant, Given, It, World, Operates, Got, Fine, Ended, Leave, Breaks, Continues, Returns, Throws, Normal, Leaves, Halts, choose, for_one, on_ended, then_do, then_get, throws, truth_of, use_it}
-use Rattle.py_forms.specs.Form.{exit_leave, exit_run, finally_run, handle, in_hand, try_run}
+use Rattle.py_bytecode.specs.Values.{enter_with, exit_with, for_two, Value, Constant, Given, It, World, Operates, Ended, Leave, Breaks, Continues, Returns, Throws, Normal, Leaves, Halts, choose, for_one, on_ended, then_do, throws, truth_of, use_it}
+use Rattle.py_forms.specs.Form.{assigned, exit_run, in_hand}
 use Rattle.py_script.specs.declared.log.Halt.{Halt}
-use Rattle.py_script.specs.Log.{Gets}
 use Rattle.py_script.specs.Told.{Known, value_of}
+use Rattle.py_tree.specs.View.{expr_tree, opt_box, with_items}
+use Rattle.py_tree.specs.declared.expressions.Expr.{Expr}
+use Rattle.py_tree.specs.declared.statements.WithItemOf.{WithItemOf}
+use Rattle.py_walk.specs.declared.around.Around.{Around}
 use Rattle.py_walk.specs.Acting.{Acting}
+use Rattle.py_walk.specs.Statements.{item_walk, with_walk}
+use Rattle.py_walk.specs.Walks.{walk_expr}
 use Rattle.py_walk_simple.specs.declared.flow.Flow.{Flow}
 use Rattle.py_walk_simple.specs.Ends.{Ends, flow_of, goes_on, is_normal, slot_of}
-use Rattle.py_walk_simple.proofs.Endings.{Halted, do_halts, other_leaves, use_assoc}
+use Rattle.py_walk_simple.proofs.Endings.{Halted, do_halts, other_leaves, same, use_assoc}
 use Rattle.py_walk_stmts.specs.Leaving.{exit_truth, exited}
-use Rattle.py_walk_stmts.specs.Over.{do_last, in_hand_of, is_over}
+use Rattle.py_walk_stmts.specs.Over.{in_hand_of, is_over}
 
 -- ---- a last part
 
@@ -85,6 +90,20 @@ flow_is_normal Flow.Break w e = absurd cc
 flow_is_normal Flow.Continue w e = absurd cc
 flow_is_normal (Flow.Return v) w e = absurd cc
 
+module _ (last : Option (Value Known) → Acting) (slot : Option ℕ) (w : World Known) (ended : Result Flow Halt) (end : Ended Known) (o : is_over ended ≡ false) (e : Ends flow_of ended w end) (x : Option ℕ) (p : x ≡ in_hand_of ended slot) (w1 : World Known) where
+  -- the last part is done while this exception is handled
+  done_last : finished end last (slot_of slot) ≡ goes_last ended (last (slot_of x) w)
+  done_last = finished_is last slot w ended end o e ∙ ap (λ y. goes_last ended (last (slot_of y) w)) (sym p)
+
+  pub finally_halts : (h : Halt) → Halted h w1 (last (slot_of x) w) → Halted h w1 (finished end last (slot_of slot))
+  finally_halts h b = same goes_on (Err h) w1 (finished end last (slot_of slot)) (goes_last ended (last (slot_of x) w)) done_last (last_halts ended h w1 (last (slot_of x) w) b)
+
+  pub finally_normal : (f : Flow) → last (slot_of x) w ≡ flow_of f w1 → is_normal f ≡ true → Ends flow_of ended w1 (finished end last (slot_of slot))
+  finally_normal f b n = same flow_of ended w1 (finished end last (slot_of slot)) (goes_last ended (last (slot_of x) w)) done_last (last_normal ended w1 (last (slot_of x) w) o (b ∙ flow_is_normal f w1 n))
+
+  pub finally_leaves : (f : Flow) → last (slot_of x) w ≡ flow_of f w1 → is_normal f ≡ false → finished end last (slot_of slot) ≡ flow_of f w1
+  finally_leaves f b n = done_last ∙ last_leaves ended f w1 (last (slot_of x) w) n b
+
 -- ---- the exit of a `with`
 
 exit_is : (x e : Value Known) (ends : Bool → Acting) (w : World Known) → exit_run x e ends w ≡ use_it (exit_truth x e w) ends
@@ -98,3 +117,16 @@ exited_flow x (Flow.Return v) w = exit_is x (Constant const.none) (λ t w1. Leav
 
 pub exited_raised : (x e : Value Known) (w : World Known) → exited x (throws e w) ≡ use_it (exit_truth x e w) (λ t w1. choose t (Normal w1) (throws e w1))
 exited_raised x e w = exit_is x e (λ t w1. choose t (Normal w1) (Leaves (Throws e) w1)) w
+
+-- the exit of a body that has ended so, called with None
+pub leaves_flow : (x v : Value Known) (f : Flow) (w : World Known) (end : Ended Known) → v ≡ Constant const.none → end ≡ flow_of f w → exited x end ≡ use_it (exit_truth x v w) (λ t w1. flow_of f w1)
+leaves_flow x v f w end p e = ap (exited x) e ∙ exited_flow x f w ∙ ap (λ u. use_it (exit_truth x u w) (λ t w1. flow_of f w1)) (sym p)
+
+-- the first of some items
+pub with_at : (a : Around) (items rest : List (WithItemOf Expr)) (item : WithItemOf Expr) (body : Acting) (w : World Known) → items ≡ item ∷ rest →
+    with_walk a (with_items items) body w
+    ≡ use_it (walk_expr a (expr_tree item.context_expr.value) w) (λ v w1. use_it (for_two (Operates enter_with (v ∷ [])) w1) (λ xu w2. exited xu.0 (assigned (item_walk a (opt_box expr_tree item.optional_vars)) (with_walk a (with_items rest) body) xu.1 w2)))
+with_at a items rest item body w e = ap (λ ys. with_walk a (with_items ys) body w) e
+
+pub with_none : (a : Around) (items : List (WithItemOf Expr)) (body : Acting) (w : World Known) → items ≡ [] → with_walk a (with_items items) body w ≡ body w
+with_none a items body w e = ap (λ ys. with_walk a (with_items ys) body w) e

@@ -1,10 +1,10 @@
 -- Future imports, one after the other.
-use Rattle.std.proofs.Common.{◌≡◌, ℕ, ◌+◌, ◌<◌, List, [], ◌∷◌, length, drop, get_or, Option, Some, None, refl, sym, ap, ◌∙◌}
+use Rattle.std.proofs.Common.{◌≡◌, ℕ, ◌+◌, ◌<◌, List, [], ◌∷◌, length, drop, get_or, Option, Some, None, refl, sym, ap, ◌∙◌, arith}
 use Rattle.py_tree.specs.Tree as tree
 use Rattle.py_tree.specs.View.{stmt_tree, stmts}
 use Rattle.py_tree.specs.declared.statements.Stmt.{Stmt}
 use Rattle.py_tree.specs.declared.statements.StmtImportFrom.{StmtImportFrom}
-use Rattle.py_bytecode.specs.Values.{World, Ended, then_do}
+use Rattle.py_bytecode.specs.Values.{World, then_do}
 use Rattle.py_emission.specs.Futures.{Future, future_of}
 use Rattle.py_script.specs.Told.{Known}
 use Rattle.py_walk.specs.declared.around.Around.{Around}
@@ -35,3 +35,9 @@ module _ (follow : Around → tree.Stmts → Acting) where
   pub none_left : (a : Around) (xs : List Stmt) (w : World Known) → xs ≡ [] → behind_futures follow a (stmts stmt_tree xs) w ≡ follow a (stmts stmt_tree xs) w
   none_left a [] w e = refl
   none_left a (x ∷ xs) w e = absurd cc
+
+  -- the same, whatever stands beyond the end
+  pub future_from : (a : Around) (xs : List Stmt) (i : ℕ) (s : StmtImportFrom) (w : World Known) → ((d : Stmt) → future_of (stmt_tree (get_or xs i d)) ≡ Some (future s)) → i < length xs →
+      behind_futures follow a (stmts stmt_tree (drop i xs)) w ≡ then_do (import_from s.«module» s.names s.level w) (behind_futures follow (after_future (future s) a) (stmts stmt_tree (drop (i + 1) xs)))
+  future_from a [] i s w is lt = absurd (omega (arith, lt))
+  future_from a (y ∷ ys) i s w is lt = future_at a (y ∷ ys) i y (get_or (y ∷ ys) i y) s w refl lt (is y)

@@ -1,5 +1,5 @@
 -- What stands at a place of a list of nodes, and what follows it.
-use Rattle.std.proofs.Common.{◌≡◌, ℕ, ◌+◌, ◌<◌, List, [], ◌∷◌, length, drop, get_or, Bool, true, false, Option, Some, refl, sym, ap, ◌∙◌}
+use Rattle.std.proofs.Common.{◌≡◌, ℕ, ◌+◌, ◌<◌, List, [], ◌∷◌, length, drop, get_or, Bool, true, false, Option, refl, sym, ap, ◌∙◌}
 use Rattle.py_tree.specs.Tree as tree
 use Rattle.py_tree.specs.View.{handlers, opt_box, expr_tree, stmt_tree, stmts}
 use Rattle.py_tree.specs.declared.statements.ExceptHandlerOf.{ExceptHandlerOf}
@@ -36,3 +36,10 @@ pub handlers_at : (a : Around) (xs : List (ExceptHandlerOf Stmt)) (i : ℕ) (d x
 handlers_at a xs i d x e w is lt =
     ap (λ ys. handlers_walk a (handlers stmt_tree ys) e w) (next xs i d x is lt)
     ∙ first_handler a (opt_box expr_tree x.type_) x.name (stmts stmt_tree x.body) (handlers stmt_tree (drop (i + 1) xs)) e w
+
+-- the truth decides
+pub taken : (g : Got Known Bool) (b : Bool) (w : World Known) (yes no : World Known → Ended Known) → g ≡ Fine b w → b ≡ true → use_it g (λ c w1. choose c (yes w1) (no w1)) ≡ yes w
+taken g b w yes no e p = ap (λ q. use_it q (λ c w1. choose c (yes w1) (no w1))) e ∙ ap (λ c. choose c (yes w) (no w)) p
+
+pub passed : (g : Got Known Bool) (b : Bool) (w : World Known) (yes no : World Known → Ended Known) → g ≡ Fine b w → b ≡ false → use_it g (λ c w1. choose c (yes w1) (no w1)) ≡ no w
+passed g b w yes no e p = ap (λ q. use_it q (λ c w1. choose c (yes w1) (no w1))) e ∙ ap (λ c. choose c (yes w) (no w)) p

@@ -1,5 +1,5 @@
 -- Statements at a prompt, by what each is.
-use Rattle.std.proofs.Common.{◌≡◌, Bool, true, false, Option, Some, None, refl, sym, ap, ◌∙◌}
+use Rattle.std.proofs.Common.{◌≡◌, Bool, true, false, Option, Some, None, refl, ap}
 use Rattle.py_tree.specs.Tree as tree
 use Rattle.py_bytecode.specs.Values.{World, then_do}
 use Rattle.py_emission.specs.Futures.{Future, future_of}

@@ -1,6 +1,6 @@
 -- The turns of loops.
-use Rattle.std.proofs.Common.{◌≡◌, ℕ, zero, suc, ◌-◌, ◌<◌, Bool, true, false, Option, Some, None, Result, Ok, Err, refl, sym, ap, ◌∙◌, subst, arith}
-use Rattle.py_bytecode.specs.Values.{Value, World, Got, Fine, Ended, Leave, Normal, Leaves, Halts, choose, next_of, on_ended, on_some, use_it}
+use Rattle.std.proofs.Common.{◌≡◌, ℕ, zero, suc, ◌-◌, ◌<◌, Bool, true, false, Option, Some, None, Result, Err, refl, sym, ap, ◌∙◌, subst, arith}
+use Rattle.py_bytecode.specs.Values.{Value, World, Fine, Ended, Halts, choose, next_of, on_ended, on_some, use_it}
 use Rattle.py_forms.specs.Form.{after_turn, rounds, turns}
 use Rattle.py_script.specs.declared.log.Halt.{Halt}
 use Rattle.py_script.specs.Told.{Known}
@@ -26,6 +26,13 @@ ends_loop Flow.Break again w e = refl
 ends_loop Flow.Continue again w e = absurd cc
 ends_loop (Flow.Return v) again w e = refl
 
+-- the same of a turn that has ended so
+pub went_on : (f : Flow) (g : Ended Known) (again : Acting) (w : World Known) → g ≡ flow_of f w → goes_again f ≡ true → then_turn g again ≡ again w
+went_on f g again w e p = ap (λ q. then_turn q again) e ∙ goes_on f again w p
+
+pub left_loop : (f : Flow) (g : Ended Known) (again : Acting) (w : World Known) → g ≡ flow_of f w → goes_again f ≡ false → then_turn g again ≡ flow_of (after_loop f) w
+left_loop f g again w e p = ap (λ q. then_turn q again) e ∙ ends_loop f again w p
+
 -- what halts in a turn halts the loop
 pub turn_halts : {X : Type 0} (how : X → World Known → Ended Known) (h : Halt) (w : World Known) (g : Ended Known) (again : Acting) → Halted h w g → Ends how (Err h) w (then_turn g again)
 turn_halts how (Halt.Raised n) w g again e = ap (λ q. then_turn q again) e
@@ -44,11 +51,14 @@ module _ (test : Doing Bool) (body orelse : Acting) where
   one_turn (suc n) w h = ap (λ m. use_it (test w) (λ c w1. choose c (then_turn (body w1) (turns m test body orelse)) (orelse w1))) (sym (less n))
 
   -- the test holds, or not
-  pub turn_true : (n : ℕ) (w w1 : World Known) → 0 < n → test w ≡ Fine true w1 → turns n test body orelse w ≡ then_turn (body w1) (turns (n - 1) test body orelse)
-  turn_true n w w1 h e = one_turn n w h ∙ ap (λ g. use_it g (λ c w2. choose c (then_turn (body w2) (turns (n - 1) test body orelse)) (orelse w2))) e
+  chosen : (n : ℕ) (w w1 : World Known) (b : Bool) → 0 < n → test w ≡ Fine b w1 → turns n test body orelse w ≡ choose b (then_turn (body w1) (turns (n - 1) test body orelse)) (orelse w1)
+  chosen n w w1 b h e = one_turn n w h ∙ ap (λ g. use_it g (λ c w2. choose c (then_turn (body w2) (turns (n - 1) test body orelse)) (orelse w2))) e
 
-  pub turn_false : (n : ℕ) (w w1 : World Known) → 0 < n → test w ≡ Fine false w1 → turns n test body orelse w ≡ orelse w1
-  turn_false n w w1 h e = one_turn n w h ∙ ap (λ g. use_it g (λ c w2. choose c (then_turn (body w2) (turns (n - 1) test body orelse)) (orelse w2))) e
+  pub turn_true : (n : ℕ) (w w1 : World Known) (b : Bool) → 0 < n → test w ≡ Fine b w1 → b ≡ true → turns n test body orelse w ≡ then_turn (body w1) (turns (n - 1) test body orelse)
+  turn_true n w w1 b h e p = chosen n w w1 b h e ∙ ap (λ c. choose c (then_turn (body w1) (turns (n - 1) test body orelse)) (orelse w1)) p
+
+  pub turn_false : (n : ℕ) (w w1 : World Known) (b : Bool) → 0 < n → test w ≡ Fine b w1 → b ≡ false → turns n test body orelse w ≡ orelse w1
+  turn_false n w w1 b h e p = chosen n w w1 b h e ∙ ap (λ c. choose c (then_turn (body w1) (turns (n - 1) test body orelse)) (orelse w1)) p
 
   pub no_turn : (n : ℕ) (w : World Known) → n ≡ 0 → turns n test body orelse w ≡ Halts w.events
   no_turn n w e = ap (λ m. turns m test body orelse w) e

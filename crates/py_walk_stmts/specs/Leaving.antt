@@ -1,5 +1,5 @@
 -- How a `with` is left.
-use Rattle.std.specs.Prelude.{ℕ, List, [], ◌∷◌, Bool}
+use Rattle.std.specs.Prelude.{[], ◌∷◌, Bool}
 use Rattle.py_bytecode.specs.Objects as const
 use Rattle.py_bytecode.specs.Values.{exit_with, Value, Constant, Operates, Ended, Normal, Halts, then_get, for_one, on_ended, truth_of}
 use Rattle.py_forms.specs.Form.{exit_leave, exit_run}

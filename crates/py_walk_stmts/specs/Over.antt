@@ -1,5 +1,5 @@
 -- How a part of a body has ended, behind which something else is done.
-use Rattle.std.specs.Prelude.{ℕ, Bool, true, false, Option, Some, None, Result, Ok, Err}
+use Rattle.std.specs.Prelude.{ℕ, Bool, true, false, Option, Some, Result, Ok, Err}
 use Rattle.py_bytecode.specs.Values.{World, Ended, Leaves, Halts, on_ended, then_do}
 use Rattle.py_script.specs.declared.log.Halt.{Halt}
 use Rattle.py_script.specs.Told.{Known}

@@ -1,7 +1,5 @@
 //! How a part of a body has ended, behind which something else is done.
 ghost use Rattle.std.specs.Prelude.{◌≡◌};
-ghost use Rattle.py_bytecode.specs.Values.{Ended};
-ghost use Rattle.py_script.specs.Told.{Known};
 ghost use Rattle.py_walk_stmts.specs.Over.{in_hand_of, is_over};
 
 use py_script::Halt;

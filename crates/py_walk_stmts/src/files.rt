@@ -1,6 +1,5 @@
 //! Files.
-ghost use Rattle.std.specs.Prelude.{◌≡◌, ◌≤◌, [], None, drop, false, length, IfErr, IfOk};
-ghost use Rattle.py_bytecode.specs.declared.instruction.Instruction.TheVariants as op;
+ghost use Rattle.std.specs.Prelude.{◌≡◌, ◌≤◌, None, drop, length, IfErr, IfOk};
 ghost use Rattle.py_bytecode.specs.Values.{then_do};
 ghost use Rattle.py_emission.specs.Texts.{after_doc, doc_of};
 ghost use Rattle.py_forms.specs.Form.{returns};

@@ -4,7 +4,9 @@ ghost use Rattle.py_emission.specs.Futures.{future_of};
 ghost use Rattle.py_tree.specs.Tree as tree;
 ghost use Rattle.py_tree.specs.View.{stmt_tree, stmts};
 ghost use Rattle.py_tree.specs.declared.statements.Stmt.{Stmt as Stmt1};
+ghost use Rattle.py_bytecode.specs.Values.{World};
 ghost use Rattle.py_script.specs.Log.{world_of};
+ghost use Rattle.py_script.specs.Told.{Known};
 ghost use Rattle.py_walk.specs.declared.around.Around.{Around as Around1};
 ghost use Rattle.py_walk.specs.Acting.{Acting};
 ghost use Rattle.py_walk.specs.Statements.{after_future, behind_futures};
@@ -62,7 +64,7 @@ pub(crate) fn after_future(around: Around, s: &StmtImportFrom) -> Around
 // The future import at a place.
 fn future_at(body: &[Stmt], place: usize) -> Option<&StmtImportFrom>
     requires { place ≤ length body.now }
-    ensures none { IfNone result ((follow : Around1 → tree.Stmts → Acting) (around : Around1) → behind_futures follow around (stmts stmt_tree (drop place body.now)) ≡ follow around (stmts stmt_tree (drop place body.now))) }
+    ensures none { IfNone result ((follow : Around1 → tree.Stmts → Acting) (around : Around1) (w : World Known) → behind_futures follow around (stmts stmt_tree (drop place body.now)) w ≡ follow around (stmts stmt_tree (drop place body.now)) w) }
     ensures within { IfSome result (λ s. place < length body.now) }
     ensures is { IfSome result (λ s. (d : Stmt1) → future_of (stmt_tree (get_or body.now place d)) ≡ Some (future s.now)) }
 {

@@ -2,17 +2,17 @@
 ghost use Rattle.std.specs.Prelude.{suc, length};
 ghost use Rattle.py_tree.specs.View.{expr_tree, for_tree, stmt_tree, stmts, while_tree};
 ghost use Rattle.py_bytecode.specs.Values.{Given, next_of};
-ghost use Rattle.py_forms.specs.Form.{assigned, rounds};
+ghost use Rattle.py_forms.specs.Form.{assigned, rounds, while_run};
 ghost use Rattle.py_script.specs.Log.{Gets, next_given, world_of};
 ghost use Rattle.py_script.specs.Told.{value_of};
 ghost use Rattle.py_walk.specs.Statements.{stmt_walk, stmts_walk};
-ghost use Rattle.py_walk.specs.Walks.{walk_target};
+ghost use Rattle.py_walk.specs.Walks.{walk_target, walk_test};
 ghost use Rattle.py_walk_simple.specs.Ends.{Ends, flow_of, slot_of};
 
 use crate::statements::walk_statements;
 use py_bytecode::Instruction;
 use py_script::{Halt, Log, StepValue};
-use py_tree::{StmtFor, StmtWhile};
+use py_tree::{Expr, Stmt, StmtFor, StmtWhile};
 use py_walk::Around;
 use py_walk_exprs::{walk_expression, walk_target, walk_test};
 use py_walk_simple::Flow;
@@ -28,13 +28,35 @@ pub(crate) fn walk_while(
 ) -> Result<Flow, Halt>
     ensures { Ends flow_of result (world_of log.new) (stmt_walk around (while_tree s.now) (slot_of slot) (world_of log.old)) }
 {
+    walk_turns(
+        log,
+        around,
+        &s.test,
+        s.body.as_slice(),
+        s.orelse.as_slice(),
+        slot,
+    )
+}
+
+// Walks a body while a test holds, and then an else part.
+#[cycle(walk)]
+fn walk_turns(
+    log: &mut Log<'_>,
+    around: Around,
+    test: &Expr,
+    body: &[Stmt],
+    orelse: &[Stmt],
+    slot: Option<u32>,
+) -> Result<Flow, Halt>
+    ensures { Ends flow_of result (world_of log.new) (while_run (walk_test around (expr_tree test.now)) (stmts_walk around (stmts stmt_tree body.now) (slot_of slot)) (stmts_walk around (stmts stmt_tree orelse.now) (slot_of slot)) (world_of log.old)) }
+{
     let mut left = log.answers.len() + 1;
     while left > 0 {
         left -= 1;
-        if !walk_test(log, around, &s.test)? {
-            return walk_statements(log, around, s.orelse.as_slice(), slot);
+        if !walk_test(log, around, test)? {
+            return walk_statements(log, around, orelse, slot);
         }
-        let flow = walk_statements(log, around, s.body.as_slice(), slot)?;
+        let flow = walk_statements(log, around, body, slot)?;
         if !flow.goes_again() {
             return Ok(flow.after_loop());
         }
@@ -53,27 +75,37 @@ pub(crate) fn walk_for(
 {
     let value = walk_expression(log, around, &s.iter)?;
     let iterator = does_one(log, bare(Instruction::GetIter), value)?;
-    walk_rounds(log, around, s, &iterator, slot)
+    walk_rounds(
+        log,
+        around,
+        &iterator,
+        &s.target,
+        s.body.as_slice(),
+        s.orelse.as_slice(),
+        slot,
+    )
 }
 
-// Asks an iterator for one value after the other.
+// Asks an iterator for one value after the other, and walks a body for each; and then an else part.
 #[cycle(walk)]
 fn walk_rounds(
     log: &mut Log<'_>,
     around: Around,
-    s: &StmtFor,
     iterator: &StepValue,
+    target: &Expr,
+    body: &[Stmt],
+    orelse: &[Stmt],
     slot: Option<u32>,
 ) -> Result<Flow, Halt>
-    ensures { Ends flow_of result (world_of log.new) (rounds (suc (length (world_of log.old).answers)) (value_of iterator.now) (assigned (walk_target around (expr_tree s.now.target.value)) (stmts_walk around (stmts stmt_tree s.now.body) (slot_of slot))) (stmts_walk around (stmts stmt_tree s.now.orelse) (slot_of slot)) (world_of log.old)) }
+    ensures { Ends flow_of result (world_of log.new) (rounds (suc (length (world_of log.old).answers)) (value_of iterator.now) (assigned (walk_target around (expr_tree target.now)) (stmts_walk around (stmts stmt_tree body.now) (slot_of slot))) (stmts_walk around (stmts stmt_tree orelse.now) (slot_of slot)) (world_of log.old)) }
 {
     let mut left = log.answers.len() + 1;
     while left > 0 {
         left -= 1;
         let Some(answer) = next(log, iterator)? else {
-            return walk_statements(log, around, s.orelse.as_slice(), slot);
+            return walk_statements(log, around, orelse, slot);
         };
-        let flow = walk_round(log, around, s, answer, slot)?;
+        let flow = walk_round(log, around, target, answer, body, slot)?;
         if !flow.goes_again() {
             return Ok(flow.after_loop());
         }
@@ -94,17 +126,14 @@ fn next(log: &mut Log<'_>, iterator: &StepValue) -> Result<Option<u32>, Halt>
 fn walk_round(
     log: &mut Log<'_>,
     around: Around,
-    s: &StmtFor,
+    target: &Expr,
     answer: u32,
+    body: &[Stmt],
     slot: Option<u32>,
 ) -> Result<Flow, Halt>
-    ensures { Ends flow_of result (world_of log.new) (assigned (walk_target around (expr_tree s.now.target.value)) (stmts_walk around (stmts stmt_tree s.now.body) (slot_of slot)) (Given answer 0) (world_of log.old)) }
+    ensures { Ends flow_of result (world_of log.new) (assigned (walk_target around (expr_tree target.now)) (stmts_walk around (stmts stmt_tree body.now) (slot_of slot)) (Given answer 0) (world_of log.old)) }
 {
-    walk_target(
-        log,
-        around,
-        &s.target,
-        StepValue::Given { answer, index: 0 },
-    )?;
-    walk_statements(log, around, s.body.as_slice(), slot)
+    let value = StepValue::Given { answer, index: 0 };
+    walk_target(log, around, target, value)?;
+    walk_statements(log, around, body, slot)
 }

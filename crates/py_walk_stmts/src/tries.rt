@@ -38,7 +38,7 @@ pub(crate) fn walk_try(
     if s.finalbody.is_empty() {
         return walk_handled(log, around, s, slot);
     }
-    walk_finally(log, around, s, slot)
+    walk_finally(log, around, s, s.finalbody.as_slice(), slot)
 }
 
 #[cycle(walk)]
@@ -46,16 +46,17 @@ fn walk_finally(
     log: &mut Log<'_>,
     around: Around,
     s: &StmtTry,
+    last: &[Stmt],
     slot: Option<u32>,
 ) -> Result<Flow, Halt>
-    ensures { Ends flow_of result (world_of log.new) (finally_run (try_run (stmts_walk around (stmts stmt_tree s.now.body) (slot_of slot)) (handlers_walk around (handler_trees stmt_tree s.now.handlers)) (stmts_walk around (stmts stmt_tree s.now.orelse) (slot_of slot))) (stmts_walk around (stmts stmt_tree s.now.finalbody)) (slot_of slot) (world_of log.old)) }
+    ensures { Ends flow_of result (world_of log.new) (finally_run (try_run (stmts_walk around (stmts stmt_tree s.now.body) (slot_of slot)) (handlers_walk around (handler_trees stmt_tree s.now.handlers)) (stmts_walk around (stmts stmt_tree s.now.orelse) (slot_of slot))) (stmts_walk around (stmts stmt_tree last.now)) (slot_of slot) (world_of log.old)) }
 {
     let ended = walk_handled(log, around, s, slot);
     if is_over(&ended) {
         return ended;
     }
-    let last = in_hand(&ended, slot);
-    let flow = walk_statements(log, around, s.finalbody.as_slice(), last)?;
+    let raised = in_hand(&ended, slot);
+    let flow = walk_statements(log, around, last, raised)?;
     if flow.is_normal() {
         return ended;
     }

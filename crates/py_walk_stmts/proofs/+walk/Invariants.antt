@@ -14,18 +14,18 @@ invariant-statements::walk_statements-loop-statement l =
     stmts_walk l.around (stmts stmt_tree l.body) (slot_of l.slot) (world_of l.initial.log)
     ≡ stmts_walk l.around (stmts stmt_tree (drop l.statement-index l.body)) (slot_of l.slot) (world_of l.log)
 
-abbrev pub invariant-loops::walk_while-loop-left : goal.invariant-loops::walk_while-loop-left
-invariant-loops::walk_while-loop-left l =
-    let test = walk_test l.around (expr_tree l.s.test.value) in let body = stmts_walk l.around (stmts stmt_tree l.s.body) (slot_of l.slot) in let orelse = stmts_walk l.around (stmts stmt_tree l.s.orelse) (slot_of l.slot) in
-    turns (suc (length l.initial.log.answers.now)) test body orelse (world_of l.initial.log) ≡ turns l.left test body orelse (world_of l.log)
+abbrev pub invariant-loops::walk_turns-loop-left : goal.invariant-loops::walk_turns-loop-left
+invariant-loops::walk_turns-loop-left l =
+    let test = walk_test l.around (expr_tree l.test) in let body = stmts_walk l.around (stmts stmt_tree l.body) (slot_of l.slot) in let orelse = stmts_walk l.around (stmts stmt_tree l.orelse) (slot_of l.slot) in
+    turns (suc (length (world_of l.initial.log).answers)) test body orelse (world_of l.initial.log) ≡ turns l.left test body orelse (world_of l.log)
 
-abbrev pub decreases-loops::walk_while-loop-left : goal.decreases-loops::walk_while-loop-left
-decreases-loops::walk_while-loop-left l = l.left
+abbrev pub decreases-loops::walk_turns-loop-left : goal.decreases-loops::walk_turns-loop-left
+decreases-loops::walk_turns-loop-left l = l.left
 
 abbrev pub invariant-loops::walk_rounds-loop-left : goal.invariant-loops::walk_rounds-loop-left
 invariant-loops::walk_rounds-loop-left l =
-    let turn = assigned (walk_target l.around (expr_tree l.s.target.value)) (stmts_walk l.around (stmts stmt_tree l.s.body) (slot_of l.slot)) in let orelse = stmts_walk l.around (stmts stmt_tree l.s.orelse) (slot_of l.slot) in
-    rounds (suc (length l.initial.log.answers.now)) (value_of l.iterator) turn orelse (world_of l.initial.log) ≡ rounds l.left (value_of l.iterator) turn orelse (world_of l.log)
+    let turn = assigned (walk_target l.around (expr_tree l.target)) (stmts_walk l.around (stmts stmt_tree l.body) (slot_of l.slot)) in let orelse = stmts_walk l.around (stmts stmt_tree l.orelse) (slot_of l.slot) in
+    rounds (suc (length (world_of l.initial.log).answers)) (value_of l.iterator) turn orelse (world_of l.initial.log) ≡ rounds l.left (value_of l.iterator) turn orelse (world_of l.log)
 
 abbrev pub decreases-loops::walk_rounds-loop-left : goal.decreases-loops::walk_rounds-loop-left
 decreases-loops::walk_rounds-loop-left l = l.left
@@ -44,8 +44,11 @@ decreases-statements::walk_statements l = 16 * goal.size-statements::walk_statem
 abbrev pub decreases-statements::walk_if : goal.decreases-statements::walk_if
 decreases-statements::walk_if l = 16 * goal.size-statements::walk_if l + 3
 
+abbrev pub decreases-loops::walk_turns : goal.decreases-loops::walk_turns
+decreases-loops::walk_turns l = 16 * goal.size-loops::walk_turns l + 3
+
 abbrev pub decreases-loops::walk_while : goal.decreases-loops::walk_while
-decreases-loops::walk_while l = 16 * goal.size-loops::walk_while l + 3
+decreases-loops::walk_while l = 16 * goal.size-loops::walk_while l + 4
 
 abbrev pub decreases-loops::walk_round : goal.decreases-loops::walk_round
 decreases-loops::walk_round l = 16 * goal.size-loops::walk_round l + 3
