@@ -1,14 +1,14 @@
 -- Classes, by whether a base is starred.
-use Rattle.std.proofs.Common.{◌≡◌, ℕ, List, [], ◌∷◌, ◌++◌, Bool, true, false, refl, sym, ap, ◌∙◌}
+use Rattle.std.proofs.Common.{◌≡◌, ℕ, List, [], ◌∷◌, Bool, true, false, refl, sym, ap, ◌∙◌}
 use Rattle.std.specs.Prelude.{◌||◌}
 use Rattle.py_bytecode.specs.Objects as const
-use Rattle.py_bytecode.specs.Values.{Value, Constant, World, Fine, then_get, choose}
+use Rattle.py_bytecode.specs.Values.{Constant, World, Fine, then_get, choose}
 use Rattle.py_bytecode.specs.declared.instruction.Instruction.TheVariants as op
 use Rattle.py_bytecode.specs.Values.{operation, Bare}
 use Rattle.py_steps.specs.Elements.{starred}
 use Rattle.py_script.specs.Told.{Known}
-use Rattle.py_walk.specs.Acting.{build_class, class_args, class_pair}
-use Rattle.py_walk.specs.Doing.{ExprWalk, KeywordWalks, call_packed, call_placed, does, get_all, make, some_star, tested, values_of_all}
+use Rattle.py_walk.specs.Acting.{build_class, class_args}
+use Rattle.py_walk.specs.Doing.{ExprWalk, KeywordWalks, call_packed, call_placed, does, get_all, make, some_star, values_of_all}
 use Rattle.py_walk_exprs.proofs.Following.{assoc, then_same}
 
 -- the call is packed where a base is starred or a map is unpacked

@@ -1,8 +1,5 @@
 -- Functions that are made, and what is done to them.
-use Rattle.std.proofs.Common.{◌≡◌, ℕ, List, [], ◌∷◌, ◌++◌, Option, Some, None, refl, sym, ap, ◌∙◌}
-use Rattle.py_tree.specs.Tree as tree
-use Rattle.py_tree.specs.View.{type_params}
-use Rattle.py_tree.specs.declared.statements.TypeParam.{TypeParam}
+use Rattle.std.proofs.Common.{◌≡◌, ℕ, List, Option, Some, None, refl}
 use Rattle.py_bytecode.specs.Values.{Value, World, Got, Fine, Raises, Stops, then_get}
 use Rattle.py_script.specs.Told.{Known}
 use Rattle.py_walk.specs.Acting.{document}

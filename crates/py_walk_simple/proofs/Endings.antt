@@ -1,5 +1,5 @@
 -- What a part of a run does to what follows it, where the whole ends as a statement does.
-use Rattle.std.proofs.Common.{◌≡◌, Result, Ok, Err, Bool, true, false, refl, sym, ap, ◌∙◌, subst}
+use Rattle.std.proofs.Common.{◌≡◌, Result, Err, true, false, refl, sym, ap, ◌∙◌, subst}
 use Rattle.py_bytecode.specs.Values.{World, Got, Fine, Raises, Stops, Ended, Normal, then_do, then_get, use_it}
 use Rattle.py_script.specs.declared.log.Halt.{Halt}
 use Rattle.py_script.specs.Told.{Known}

@@ -3,11 +3,11 @@ use Rattle.std.proofs.Common.{◌≡◌, ℕ, suc, ◌+◌, ◌/◌, List, [], �
 use Rattle.std.specs.Prelude.{codes}
 use Rattle.py_tree.specs.Tree as tree
 use Rattle.py_bytecode.specs.Objects as const
-use Rattle.py_bytecode.specs.Values.{Value, Constant, World, Got, Fine, then_get}
-use Rattle.py_steps.specs.Elements.{Element, Single, Spread}
+use Rattle.py_bytecode.specs.Values.{Value, Constant, World, then_get}
+use Rattle.py_steps.specs.Elements.{Single, Spread}
 use Rattle.py_script.specs.Told.{Known}
 use Rattle.py_walk.specs.declared.around.Around.{Around}
-use Rattle.py_walk.specs.Doing.{Doing, KeywordWalks, close_map, get_maps}
+use Rattle.py_walk.specs.Doing.{KeywordWalks, close_map, get_maps}
 use Rattle.py_walk.specs.Statements.{arg_note, arg_notes, note_walks, opt_arg_note, opt_note, param_notes}
 use Rattle.py_walk_exprs.proofs.Following.{assoc, then_same}
 use Rattle.py_walk_simple.specs.Parts.{get_notes}

@@ -1,11 +1,10 @@
 -- What stands at a place of a list of nodes, and what follows it.
-use Rattle.std.proofs.Common.{◌≡◌, ℕ, ◌+◌, ◌<◌, List, [], ◌∷◌, ◌++◌, length, drop, get_or, refl, sym, ap, ◌∙◌}
-use Rattle.py_tree.specs.Tree as tree
+use Rattle.std.proofs.Common.{◌≡◌, ℕ, ◌+◌, ◌<◌, List, [], ◌∷◌, length, drop, get_or, sym, ap, ◌∙◌}
 use Rattle.py_tree.specs.View.{arg, args, expr_tree, exprs}
 use Rattle.py_tree.specs.declared.expressions.ArgWithDefaultOf.{ArgWithDefaultOf}
 use Rattle.py_tree.specs.declared.expressions.Expr.{Expr}
 use Rattle.py_tree.specs.declared.statements.Alias.{Alias}
-use Rattle.py_bytecode.specs.Values.{Value, World, Ended, then_do, then_get}
+use Rattle.py_bytecode.specs.Values.{Value, World, then_do, then_get}
 use Rattle.py_bytecode.specs.declared.instruction.Instruction.TheVariants as op
 use Rattle.py_emission.specs.Imports.{import_name, taken_name}
 use Rattle.py_steps.specs.TableParts.{named}
@@ -15,7 +14,7 @@ use Rattle.py_walk.specs.Acting.{get_module, import_all, into, put_all, store, t
 use Rattle.py_walk.specs.Doing.{does}
 use Rattle.py_walk.specs.Statements.{arg_note, arg_notes, delete_walk, deletes_walk, targets_of}
 use Rattle.py_walk.specs.Walks.{walk_target}
-use Rattle.py_walk_exprs.proofs.Following.{assoc, then_same}
+use Rattle.py_walk_exprs.proofs.Following.{assoc}
 use Rattle.py_walk_exprs.proofs.Places.{next}
 use Rattle.py_walk_simple.specs.Parts.{get_notes}
 use Rattle.py_walk_simple.proofs.Noting.{notes_joined}

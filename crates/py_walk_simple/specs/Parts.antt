@@ -1,5 +1,5 @@
 -- Parts of definitions.
-use Rattle.std.specs.Prelude.{ℕ, List, [], ◌∷◌, ◌++◌}
+use Rattle.std.specs.Prelude.{List, [], ◌∷◌, ◌++◌}
 use Rattle.py_tree.specs.View.{arguments, expr_tree, exprs, keywords, opt_box, stmt_tree, stmts, type_params}
 use Rattle.py_tree.specs.declared.statements.Stmt.{Stmt}
 use Rattle.py_tree.specs.declared.statements.StmtClassDefOf.{StmtClassDefOf}
