@@ -144,11 +144,7 @@ fn import_path(
 }
 
 // Imports the package so many packages further out, which is asked for these names.
-fn import_nameless(
-    log: &mut Log<'_>,
-    level: u32,
-    names: ConstantData,
-) -> Result<StepValue, Halt>
+fn import_nameless(log: &mut Log<'_>, level: u32, names: ConstantData) -> Result<StepValue, Halt>
     ensures { Gets value_of result (world_of log.new) (import_value None level (constant names) (world_of log.old)) }
 {
     does_two(
