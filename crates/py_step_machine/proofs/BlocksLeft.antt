@@ -1,16 +1,16 @@
 -- Blocks are left one at a time.
-use Rattle.std.proofs.Common.{◌≡◌, ℕ, ◌+◌, ◌-◌, List, [], ◌∷◌, length, drop, slice_get, Bool, true, false, Option, Some, None, refl, inl, inr, ap, ◌∙◌}
-use Rattle.std.specs.Prelude.{nat_le, Ok}
+use Rattle.std.proofs.Common.{◌≡◌, ℕ, ◌+◌, ◌-◌, List, [], ◌∷◌, length, drop, slice_get, Bool, true, false, Option, Some, None, refl, inl, inr, sym, ap, ◌∙◌}
+use Rattle.std.specs.Prelude.{nat_le, Ok, Err, ◌||◌}
 use Rattle.std.proofs.lemmas.List.{drop_more, drop_all}
 use Rattle.std.proofs.lemmas.Option.{slice_get_within, slice_get_cases, get_or_from_slice_get}
-use Rattle.py_bytecode.specs.Values.{Value, Entry, Event, World, choose}
+use Rattle.py_bytecode.specs.Values.{Value, Entry, Event, World, Outcome, Returned, RaisedOut, Stopped, Wrong, Leaked, choose, ran}
 use Rattle.py_bytecode.specs.Machine.{Reason, BreakTo, ContinueTo, ReturnOf, RaiseOf, Block, Loop, Except, Finally, ExceptHandler, FinallyHandler, Config, has_loop, wrong, unwind, unwind_out, slot_for}
 use Rattle.py_script.specs.Told.{Known}
 use Rattle.py_step_machine.specs.declared.held.Block.{Block as Block1}
 use Rattle.py_step_machine.specs.declared.held.End.{End}
-use Rattle.py_step_machine.specs.Held.{block_of}
+use Rattle.py_step_machine.specs.Held.{block_of, ending_of}
 use Rattle.py_step_machine.specs.State.{State, state, Run, ◌>>=◌, Fails, gone, blocked}
-use Rattle.py_step_machine.specs.Leaving.{cutting, handled, leaving_loop, leaving_except, leaving_finally, leaving_handler, leaving_block, unwinding}
+use Rattle.py_step_machine.specs.Leaving.{cutting, handled, leaving_loop, leaving_except, leaving_finally, leaving_handler, leaving_block, out_of, unwinding}
 use Rattle.py_step_machine.proofs.Failing.{fails_on, fails_same}
 
 -- where a block takes the reason the run goes on, and else the next one is left
@@ -66,8 +66,23 @@ left_at r (Finally h q) s bs slot w = finally_left h s bs slot w q r
 left_at r (ExceptHandler h old) s bs slot w = handler_left h s bs slot w old r
 left_at r (FinallyHandler h k old) s bs slot w = last_left h s bs slot w k old r
 
--- no block takes the reason
-pub none_left : (r : Reason Known ℕ) (s : List (Entry Known)) (slot : Option (Value Known)) (w : World Known) → unwinding r (state s [] slot w) ≡ gone (unwind_out r w)
+-- ---- no block takes the reason
+
+out_is : (r : Reason Known ℕ) (w : World Known) → gone (unwind_out r w) ≡ Err (ran w.events (out_of r))
+out_is (BreakTo p) w = refl
+out_is (ContinueTo p) w = refl
+out_is (ReturnOf e) w = refl
+out_is (RaiseOf x) w = refl
+
+ends_as : (e : End) (events : List (Event Known)) (o : Outcome Known) → ending_of e ≡ o → Fails {A = ℕ} e events (Err (ran events o))
+ends_as (End.Returned x) events o h = ap (λ z. Err (ran events z)) (sym h)
+ends_as (End.Raised n) events o h = ap (λ z. Err (ran events z)) (sym h)
+ends_as End.Stopped events o h = ap (λ z. Err (ran events z)) (sym h)
+ends_as End.Wrong events o h = ap (λ z. Err (ran events z)) (sym h)
+ends_as End.Leaked events o h = ap (λ z. Err (ran events z)) (sym h)
+ends_as End.OutOfMemory events o h = tt
+
+none_left : (r : Reason Known ℕ) (s : List (Entry Known)) (slot : Option (Value Known)) (w : World Known) → unwinding r (state s [] slot w) ≡ gone (unwind_out r w)
 unfolding unwinding
 none_left r s slot w = refl
 
@@ -88,10 +103,26 @@ module _ (r : Reason Known ℕ) (x : State) (d : Run (Option ℕ)) (left : unwin
   block_fails e events f = fails_same e events (d >>= after_block r) (unwinding r x) left (fails_on e events d (after_block r) f)
 
 -- no block is there
-pub nothing_left : (r : Reason Known ℕ) (s : List (Entry Known)) (slot : Option (Value Known)) (w : World Known) (bs : List Block1) → bs ≡ [] → unwinding r (state s (blocked bs) slot w) ≡ gone (unwind_out r w)
-nothing_left r s slot w bs e = ap (λ l. unwinding r (state s (blocked l) slot w)) e ∙ none_left r s slot w
+pub nothing_left : (r : Reason Known ℕ) (s : List (Entry Known)) (slot : Option (Value Known)) (w : World Known) (bs : List Block1) (e : End) → bs ≡ [] → ending_of e ≡ out_of r → Fails e w.events (unwinding r (state s (blocked bs) slot w))
+nothing_left r s slot w bs e none ended =
+    fails_same e w.events (Err (ran w.events (out_of r))) (unwinding r (state s (blocked bs) slot w))
+    (ap (λ l. unwinding r (state s (blocked l) slot w)) none ∙ none_left r s slot w ∙ out_is r w)
+    (ends_as e w.events (out_of r) ended)
 
 -- ---- a loop among the blocks, looked for from the top
+
+loop_first : (b : Block Known ℕ) (rest : List (Block Known ℕ)) → has_loop (b ∷ rest) ≡ (has_loop (b ∷ []) || has_loop rest)
+loop_first (Loop h) rest = refl
+loop_first (Except h q) rest = refl
+loop_first (Finally h q) rest = refl
+loop_first (ExceptHandler h old) rest = refl
+loop_first (FinallyHandler h k old) rest = refl
+
+pub loop_here : (b : Block Known ℕ) (rest : List (Block Known ℕ)) → has_loop (b ∷ []) ≡ true → has_loop (b ∷ rest) ≡ true
+loop_here b rest h = loop_first b rest ∙ ap (λ x. x || has_loop rest) h
+
+pub loop_behind : (b : Block Known ℕ) (rest : List (Block Known ℕ)) → has_loop (b ∷ []) ≡ false → has_loop (b ∷ rest) ≡ has_loop rest
+loop_behind b rest h = loop_first b rest ∙ ap (λ x. x || has_loop rest) h
 
 pub loop_at : (bs : List Block1) (k : ℕ) (b : Block1) → slice_get bs k ≡ Some b → has_loop (blocked (drop k bs)) ≡ has_loop (block_of b ∷ blocked (drop (k + 1) bs))
 loop_at bs k b e =

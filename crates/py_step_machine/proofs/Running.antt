@@ -1,17 +1,18 @@
 -- A run told is the run of what is told.
 use Rattle.std.proofs.Common.{◌≡◌, ◌<◌, ◌-◌, arith, ℕ, zero, suc, List, [], length, Bool, true, false, Option, None, refl, sym, ap, ◌∙◌}
-use Rattle.std.specs.Prelude.{nat_le, Ok, Err}
+use Rattle.std.specs.Prelude.{nat_le, Result, Ok, Err}
 use Rattle.py_bytecode.specs.Objects.{Object, head}
-use Rattle.py_bytecode.specs.Values.{Value, Entry, It, Cells, World, Answer, Event, Outcome, Returned, RaisedOut, Stopped, Wrong, Leaked, Going, choose}
+use Rattle.py_bytecode.specs.Values.{Value, Entry, It, Cells, World, Answer, Event, Outcome, Returned, RaisedOut, Stopped, Wrong, Leaked, Going, choose, ran}
 use Rattle.py_bytecode.specs.Machine as m
 use Rattle.py_bytecode.specs.Machine.{Fetched, Found, Nothing, Block, Config, At, Over, act_at, step, limited, limited_steps, start, fuel}
 use Rattle.py_bytecode.specs.Units.{machine}
 use Rattle.py_script.specs.Told.{Known, short}
 use Rattle.py_step_machine.specs.declared.held.End.{End}
+use Rattle.py_step_machine.specs.Held.{ending_of}
 use Rattle.py_step_machine.specs.Short.{short_fetched, short_state}
-use Rattle.py_step_machine.specs.State.{State, state, Run, ◌>>=◌, fails, Fails}
+use Rattle.py_step_machine.specs.State.{State, state, Run, ◌>>=◌, fails, Fails, Runs}
 use Rattle.py_step_machine.specs.Leaving.{stepping, keeping}
-use Rattle.py_step_machine.specs.Running.{fetch, unit_step, running, told_run}
+use Rattle.py_step_machine.specs.Running.{fetch, unit_step, running, final, went_to, lacks_memory, told_run}
 use Rattle.py_step_machine.proofs.Popping.{told, length_short}
 use Rattle.py_step_machine.proofs.Acting.{act_short}
 use Rattle.py_step_machine.proofs.Failing.{fails_on, fails_same}
@@ -94,3 +95,17 @@ module _ (o : Object) where
   run_told answers n s e m =
       machine_told o answers
       ∙ ap told_run (ap (λ k. running o k 0 (state [] [] None (start answers))) (sym m) ∙ ap (running o n 0) (sym e))
+
+-- ---- how it is told
+
+told_fails : (e : End) (events : List (Event Known)) (d : Run ℕ) → lacks_memory (Err e) ≡ false → Fails e events d → told_run d ≡ ran events (final (ending_of e))
+told_fails (End.Returned x) events d n h = ap told_run h
+told_fails (End.Raised k) events d n h = ap told_run h
+told_fails End.Stopped events d n h = ap told_run h
+told_fails End.Wrong events d n h = ap told_run h
+told_fails End.Leaked events d n h = ap told_run h
+told_fails End.OutOfMemory events d n h = absurd (cc)
+
+pub told_as : (went : Result ℕ End) (s : State) (d : Run ℕ) → lacks_memory went ≡ false → Runs (λ (p : ℕ). p) went s d → told_run d ≡ ran s.world.events (went_to went)
+told_as (Ok place) s d n h = ap told_run h
+told_as (Err e) s d n h = told_fails e s.world.events d n h

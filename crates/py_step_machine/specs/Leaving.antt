@@ -1,6 +1,6 @@
 -- How blocks are left, and what a step does with an instruction that leaves them.
 use Rattle.std.specs.Prelude.{ℕ, ◌∷◌, ◌-◌, length, drop, Option, Some, None, Ok, Err, nat_le}
-use Rattle.py_bytecode.specs.Values.{Value, It, choose, Wrong}
+use Rattle.py_bytecode.specs.Values.{Value, It, choose, Outcome, Returned, RaisedOut, Wrong}
 use Rattle.py_bytecode.specs.Machine.{Fetched, Found, Nothing, Reason, BreakTo, ContinueTo, ReturnOf, RaiseOf, Block, Loop, Except, Finally, ExceptHandler, FinallyHandler, slot_for, unwind}
 use Rattle.py_script.specs.Told.{Known}
 use Rattle.py_step_machine.specs.State.{State, state, Did, Leaves, Ends, Run, Running, ◌>>=◌, fails, gone}
@@ -58,6 +58,13 @@ leaving_block (Except h q) r s = leaving_except h q r s
 leaving_block (Finally h q) r s = leaving_finally h q r s
 leaving_block (ExceptHandler h old) r s = leaving_handler h old s
 leaving_block (FinallyHandler h k old) r s = leaving_handler h old s
+
+-- how a run ends where no block takes the reason
+abbrev pub out_of : Reason Known ℕ → Outcome Known
+out_of (BreakTo p) = Wrong
+out_of (ContinueTo p) = Wrong
+out_of (ReturnOf e) = Returned e
+out_of (RaiseOf x) = RaisedOut x
 
 -- ---- a step
 

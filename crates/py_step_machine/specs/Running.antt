@@ -1,5 +1,5 @@
 -- The run of a code object: so many steps, each with the limit of height, and what the run is told as.
-use Rattle.std.specs.Prelude.{ℕ, zero, suc, Ok, Err, None}
+use Rattle.std.specs.Prelude.{ℕ, zero, suc, Bool, true, false, Result, Ok, Err}
 use Rattle.py_bytecode.specs.Objects as const
 use Rattle.py_bytecode.specs.Objects.{Object, head}
 use Rattle.py_bytecode.specs.Values.{Value, Constant, Entry, It, Cells, Outcome, Returned, RaisedOut, Stopped, Wrong, Leaked, Going, Ran, ran}
@@ -7,6 +7,8 @@ use Rattle.py_bytecode.specs.Decode.{tables}
 use Rattle.py_bytecode.specs.Machine.{Fetched}
 use Rattle.py_bytecode.specs.Units.{fetch_unit}
 use Rattle.py_script.specs.Told.{Known}
+use Rattle.py_step_machine.specs.declared.held.End.{End}
+use Rattle.py_step_machine.specs.Held.{ending_of}
 use Rattle.py_step_machine.specs.Short.{short_fetched}
 use Rattle.py_step_machine.specs.State.{Run, Running, ◌>>=◌}
 use Rattle.py_step_machine.specs.Leaving.{stepping, keeping}
@@ -40,6 +42,20 @@ final Stopped = Stopped
 final Wrong = Wrong
 final Leaked = Leaked
 final Going = Going
+
+-- how it is told that a run went so, unless it lacked memory
+abbrev pub went_to : Result ℕ End → Outcome Known
+went_to (Ok place) = Going
+went_to (Err e) = final (ending_of e)
+
+abbrev pub lacks_memory : Result ℕ End → Bool
+lacks_memory (Ok place) = false
+lacks_memory (Err (End.Returned e)) = false
+lacks_memory (Err (End.Raised n)) = false
+lacks_memory (Err End.Stopped) = false
+lacks_memory (Err End.Wrong) = false
+lacks_memory (Err End.Leaked) = false
+lacks_memory (Err End.OutOfMemory) = true
 
 -- what a run is told as
 abbrev pub told_run : Run ℕ → Ran Known

@@ -1,18 +1,17 @@
 //! Blocks set up and popped, and the last parts of `try` and `with`.
-ghost use Rattle.std.specs.Prelude.{◌≡◌, ◌∷◌, ℕ, true, false, List as Items};
-ghost use Rattle.py_bytecode.specs.Machine as machine;
+ghost use Rattle.std.specs.Prelude.{◌≡◌, ◌∷◌, []};
 ghost use Rattle.py_bytecode.specs.Machine.{exception, has_loop};
 ghost use Rattle.py_script.specs.Told as told;
-ghost use Rattle.py_script.specs.Told.{Known};
-ghost use Rattle.py_step_machine.specs.Does.{ending_finally, entering_finally, finishing_cleanup, last_block, leaving, pop_last, popping_block, popping_exception, reraising, resuming, returning, setting_except, setting_finally, setting_loop, setting_with, starting_cleanup, unless_dropped};
+ghost use Rattle.py_step_machine.specs.Does.{ending_finally, entering_finally, finishing_cleanup, last_block, leaving, pop_last, popping_block, popping_exception, reraising, returning, setting_except, setting_finally, setting_loop, setting_with, starting_cleanup, unless_dropped};
 ghost use Rattle.py_step_machine.specs.Held.{block_of, kept_of, reason_of};
 ghost use Rattle.py_step_machine.specs.State.{Does, blocked, state_of};
 
 use crate::held::{Block, Reason, Stop};
 use crate::machine::Machine;
-use crate::parts::{alone, joined, push_given};
+use crate::parts::{alone, joined};
 use py_bytecode::{ConstantData, Instruction};
 use py_script::{Operand, Operation, StepValue};
+use py_step_decode::{Entry, Value};
 
 impl<'c> Machine<'c> {
     #[tactic(auto, using(crate::proofs::Heights::stacked_height), unfolding(crate::specs::Does::setting_loop))]
@@ -192,9 +191,12 @@ impl<'c> Machine<'c> {
             operand: Operand::Bare,
         };
         let answer = self.ask_for(operation, operands, Some(2))?;
-        let height = self.stack.height() + 1;
+        self.stack
+            .push(Entry::It(Value::Given { answer, index: 0 }))?;
+        let height = self.stack.height();
         self.blocks.push(Block::Finally { height, handler })?;
-        push_given(&mut self.stack, answer, 2)?;
+        self.stack
+            .push(Entry::It(Value::Given { answer, index: 1 }))?;
         Ok(next)
     }
 
@@ -233,8 +235,7 @@ impl<'c> Machine<'c> {
 }
 
 fn is_loop(block: Block<'_>) -> bool
-    ensures yes { (rest : Items (machine.Block Known ℕ)) → result ≡ true → has_loop (block_of block.entry ∷ rest) ≡ true }
-    ensures no { (rest : Items (machine.Block Known ℕ)) → result ≡ false → has_loop (block_of block.entry ∷ rest) ≡ has_loop rest }
+    ensures { result ≡ has_loop (block_of block.entry ∷ []) }
 {
     matches!(block, Block::Loop { .. })
 }

@@ -1,11 +1,11 @@
 //! How blocks are left.
 ghost use Rattle.std.specs.Prelude.{◌≡◌, None, Ok};
-ghost use Rattle.py_bytecode.specs.Machine.{unwind_out};
+ghost use Rattle.py_bytecode.specs.Machine.{slot_for};
 ghost use Rattle.py_step_decode.specs.Instructions.{instr_of};
 ghost use Rattle.py_step_machine.specs.Does.{does};
-ghost use Rattle.py_step_machine.specs.Held.{block_of, reason_of, slot_of};
-ghost use Rattle.py_step_machine.specs.Leaving.{cutting, leaving_block, leaving_except, leaving_finally, leaving_handler, leaving_loop, settled, unwinding};
-ghost use Rattle.py_step_machine.specs.State.{Fails, Runs, State, gone, state_of};
+ghost use Rattle.py_step_machine.specs.Held.{block_of, ending_of, reason_of, slot_of};
+ghost use Rattle.py_step_machine.specs.Leaving.{cutting, leaving_block, leaving_except, leaving_finally, leaving_handler, leaving_loop, out_of, settled, unwinding};
+ghost use Rattle.py_step_machine.specs.State.{Runs, state_of};
 
 use crate::held::{Block, End, Reason, Stop};
 use crate::machine::Machine;
@@ -80,9 +80,7 @@ impl<'c> Machine<'c> {
             reason: Some(reason),
             old,
         })?;
-        if let Reason::Raise(answer) = reason {
-            self.slot = Some(answer);
-        }
+        self.slot = slot_for(reason, old);
         Ok(Some(handler))
     }
 
@@ -141,9 +139,19 @@ impl<'c> Machine<'c> {
     }
 }
 
+// The exception that a last part handles.
+fn slot_for(reason: Reason<'_>, old: Option<u32>) -> Option<u32>
+    ensures { slot_of result ≡ slot_for (reason_of reason.entry) (slot_of old) }
+{
+    match reason {
+        Reason::Raise(answer) => Some(answer),
+        Reason::Break(_) | Reason::Continue(_) | Reason::Return(_) => old,
+    }
+}
+
 // How a run ends where no block takes the reason.
 fn left_by<'c>(reason: Reason<'c>) -> End<'c>
-    ensures { (s : State) → Fails result s.world.events (gone (unwind_out (reason_of reason.entry) s.world)) }
+    ensures { ending_of result ≡ out_of (reason_of reason.entry) }
 {
     match reason {
         Reason::Break(_) | Reason::Continue(_) => End::Wrong,

@@ -1,9 +1,7 @@
 //! Operations on values of the stack.
-ghost use Rattle.std.specs.Prelude.{◌≡◌, ◌∷◌, ◌++◌, [], Ok, IfOk};
-ghost use Rattle.py_bytecode.specs.Machine.{builds_tuple, push, stack_of};
-ghost use Rattle.py_bytecode.specs.Values.{given};
+ghost use Rattle.std.specs.Prelude.{◌≡◌};
+ghost use Rattle.py_bytecode.specs.Machine.{builds_tuple};
 ghost use Rattle.py_script.specs.Log.{operation_of};
-ghost use Rattle.py_script.specs.Told as told;
 ghost use Rattle.py_step_machine.specs.Does.{appending, applying, cells_above, importing, joining, joins_cells, making, operating, unpacking};
 ghost use Rattle.py_step_machine.specs.State.{Does, stacked, state_of};
 
@@ -13,6 +11,12 @@ use crate::parts::{alone, joined, push_given, push_reversed};
 use py_bytecode::Instruction;
 use py_script::{Operand, Operation};
 use py_step_decode::Entry;
+
+fn builds_tuple(op: Instruction) -> bool
+    ensures { result ≡ builds_tuple op }
+{
+    matches!(op, Instruction::BuildTuple)
+}
 
 impl<'c> Machine<'c> {
     /// Does an operation on so many values, or joins a tuple of cells.
@@ -63,8 +67,7 @@ impl<'c> Machine<'c> {
     fn joins(&self, op: Instruction, takes: u32) -> bool
         ensures { result ≡ joins_cells (builds_tuple op) takes (stacked self.now.stack) }
     {
-        let is_tuple = matches!(op, Instruction::BuildTuple);
-        is_tuple && takes > 0 && self.has_cells_on_top()
+        builds_tuple(op) && takes > 0 && self.has_cells_on_top()
     }
 
     #[tactic(auto, using(crate::proofs::Seeing::cells_seen))]

@@ -1,17 +1,16 @@
 //! The run of a code object over a script.
-ghost use Rattle.std.specs.Prelude.{◌≡◌, ℕ, true, length, IfOk, None, []};
+ghost use Rattle.std.specs.Prelude.{◌≡◌, true, false, length, IfOk, OnOk, None, []};
 ghost use Rattle.py_bytecode.specs.Machine.{fuel, start};
 ghost use Rattle.py_bytecode.specs.Objects.{head};
 ghost use Rattle.py_bytecode.specs.Units.{machine};
-ghost use Rattle.py_bytecode.specs.Values.{ran};
 ghost use Rattle.py_bytecode.specs.View.{object};
 ghost use Rattle.py_script.specs.Scripts.{answers_of};
 ghost use Rattle.py_script.specs.Told.{all_told, outcome_of, short, trace_of};
 ghost use Rattle.py_step_machine.specs.Held.{fetched_as};
 ghost use Rattle.py_step_machine.specs.Leaving.{keeping};
-ghost use Rattle.py_step_machine.specs.Running.{fetch, running, told_run, unit_step};
+ghost use Rattle.py_step_machine.specs.Running.{fetch, lacks_memory, running, unit_step, went_to};
 ghost use Rattle.py_step_machine.specs.Short.{short_fetched};
-ghost use Rattle.py_step_machine.specs.State.{Run, Runs, State, state, state_of};
+ghost use Rattle.py_step_machine.specs.State.{Runs, state, state_of};
 ghost use Rattle.py_units.specs.Reading.{IsReading};
 
 use crate::held::End;
@@ -139,7 +138,8 @@ impl<'c> Machine<'c> {
 
 // How a run is told that went so; returned cells count as None.
 fn outcome(alloc: Global, went: Result<usize, End<'_>>) -> Result<Outcome, AllocError>
-    ensures { (s : State) (d : Run ℕ) → Runs (λ p. p) went.entry s d → IfOk result (λ o. told_run d ≡ ran s.world.events (outcome_of o)) }
+    ensures outcome { IfOk result (λ o. outcome_of o ≡ went_to went.entry) }
+    ensures memory { OnOk result (lacks_memory went.entry ≡ false) }
 {
     match went {
         Ok(_) => Ok(Outcome::Going),

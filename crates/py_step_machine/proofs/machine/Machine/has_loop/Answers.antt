@@ -1,7 +1,8 @@
 use Rattle.std.proofs.Common.{◌+◌, drop, sym, ◌∙◌}
 use Rattle.std.proofs.lemmas.Option.{slice_get_past}
+use Rattle.py_step_machine.specs.Held.{block_of}
 use Rattle.py_step_machine.specs.State.{blocked}
-use Rattle.py_step_machine.proofs.BlocksLeft.{loop_at, loop_past}
+use Rattle.py_step_machine.proofs.BlocksLeft.{loop_at, loop_behind, loop_here, loop_past}
 use Rattle.py_step_machine.proofs.machine.Machine.has_loop.Goals as goal
 
 pub returns-in_default : goal.returns-in_default
@@ -10,12 +11,16 @@ returns-in_default c = sym (loop_past c.args.self.now.blocks c.loop-depth.depth 
 pub returns-then-is_loop : goal.returns-then-is_loop
 returns-then-is_loop c =
     let rest = blocked (drop (c.loop-depth.depth + 1) c.args.self.now.blocks) in
-    sym (c.is_loop.ensures.yes rest c.if-is_loop.true) ∙ sym (loop_at c.args.self.now.blocks c.loop-depth.depth c.in-Some.block (sym c.in-Some.ensures)) ∙ c.loop-depth.invariant
+    sym (loop_here (block_of c.in-Some.block) rest (sym c.is_loop.ensures ∙ c.if-is_loop.true))
+    ∙ sym (loop_at c.args.self.now.blocks c.loop-depth.depth c.in-Some.block (sym c.in-Some.ensures))
+    ∙ c.loop-depth.invariant
 
 pub loop-depth-preserved : goal.loop-depth-preserved
 loop-depth-preserved c =
     let rest = blocked (drop (c.loop-depth.depth + 1) c.args.self.now.blocks) in
-    sym (c.is_loop.ensures.no rest c.if-is_loop.false) ∙ sym (loop_at c.args.self.now.blocks c.loop-depth.depth c.in-Some.block (sym c.in-Some.ensures)) ∙ c.loop-depth.invariant
+    sym (loop_behind (block_of c.in-Some.block) rest (sym c.is_loop.ensures ∙ c.if-is_loop.false))
+    ∙ sym (loop_at c.args.self.now.blocks c.loop-depth.depth c.in-Some.block (sym c.in-Some.ensures))
+    ∙ c.loop-depth.invariant
 
 pub returns : goal.returns
 returns c = sym (loop_past c.args.self.now.blocks c.loop-depth.depth (slice_get_past c.args.self.now.blocks c.loop-depth.depth c.loop-depth-test.false)) ∙ c.loop-depth.invariant

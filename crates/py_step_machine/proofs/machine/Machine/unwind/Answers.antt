@@ -29,5 +29,4 @@ loop-block-preserved c =
 pub returns : goal.returns
 returns c =
     let s = c.loop-block.self in
-    let none = sym c.loop-block.invariant ∙ nothing_left (reason_of c.args.reason) (stacked s.stack) (slot_of s.slot) (world_of s.log) s.blocks c.in-None.ensures.0 in
-    fails_same _ _ _ _ none (c.left_by.ensures (state_of s))
+    fails_same _ _ _ _ (sym c.loop-block.invariant) (nothing_left (reason_of c.args.reason) (stacked s.stack) (slot_of s.slot) (world_of s.log) s.blocks _ c.in-None.ensures.0 c.left_by.ensures)
