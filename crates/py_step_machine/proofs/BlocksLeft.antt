@@ -1,16 +1,16 @@
 -- Blocks are left one at a time.
-use Rattle.std.proofs.Common.{◌≡◌, ℕ, ◌+◌, ◌-◌, List, [], ◌∷◌, length, drop, slice_get, Bool, true, false, Option, Some, None, refl, inl, inr, sym, ap, ◌∙◌}
+use Rattle.std.proofs.Common.{◌≡◌, ◌<◌, ℕ, ◌+◌, ◌-◌, List, [], ◌∷◌, length, drop, slice_get, Bool, true, false, Option, Some, None, refl, inl, inr, sym, ap, subst, ◌∙◌, arith}
 use Rattle.std.specs.Prelude.{nat_le, Ok, Err, ◌||◌}
-use Rattle.std.proofs.lemmas.List.{drop_more, drop_all}
+use Rattle.std.proofs.lemmas.List.{drop_more, drop_all, length-map}
 use Rattle.std.proofs.lemmas.Option.{slice_get_within, slice_get_cases, get_or_from_slice_get}
-use Rattle.py_bytecode.specs.Values.{Value, Entry, Event, World, Outcome, Returned, RaisedOut, Stopped, Wrong, Leaked, choose, ran}
+use Rattle.py_bytecode.specs.Values.{Value, Entry, It, Event, World, Outcome, Returned, RaisedOut, Stopped, Wrong, Leaked, choose, ran}
 use Rattle.py_bytecode.specs.Machine.{Reason, BreakTo, ContinueTo, ReturnOf, RaiseOf, Block, Loop, Except, Finally, ExceptHandler, FinallyHandler, Config, has_loop, wrong, unwind, unwind_out, slot_for}
 use Rattle.py_script.specs.Told.{Known}
 use Rattle.py_step_machine.specs.declared.held.Block.{Block as Block1}
 use Rattle.py_step_machine.specs.declared.held.End.{End}
 use Rattle.py_step_machine.specs.Held.{block_of, ending_of}
-use Rattle.py_step_machine.specs.State.{State, state, Run, ◌>>=◌, Fails, gone, blocked}
-use Rattle.py_step_machine.specs.Leaving.{cutting, handled, leaving_loop, leaving_except, leaving_finally, leaving_handler, leaving_block, out_of, unwinding}
+use Rattle.py_step_machine.specs.State.{State, state, Run, ◌>>=◌, fails, Fails, gone, blocked}
+use Rattle.py_step_machine.specs.Leaving.{cutting, passing, handling, leaving_loop, leaving_except, leaving_finally, leaving_handler, leaving_block, out_of, unwinding}
 use Rattle.py_step_machine.proofs.Failing.{fails_on, fails_same}
 
 -- where a block takes the reason the run goes on, and else the next one is left
@@ -32,18 +32,18 @@ module _ (h : ℕ) (s : List (Entry Known)) (bs : List (Block Known ℕ)) (slot 
 
   -- a block that is only left
   loop_left : (r : Reason Known ℕ) → gone (unwind r s (Loop h ∷ bs) slot w) ≡ (leaving_loop h r Z >>= after_block r)
-  unfolding leaving_loop cutting unwinding
+  unfolding leaving_loop passing cutting unwinding
   loop_left (BreakTo p) = by_cut on _ w _ _ (λ d. (d >>= (λ u. Ok (Some p, u.1))) >>= after_block (BreakTo p)) refl refl
   loop_left (ContinueTo p) = refl
   loop_left (ReturnOf e) = by_cut on _ w _ _ (λ d. (d >>= (λ u. Ok (None, u.1))) >>= after_block (ReturnOf e)) refl refl
   loop_left (RaiseOf e) = by_cut on _ w _ _ (λ d. (d >>= (λ u. Ok (None, u.1))) >>= after_block (RaiseOf e)) refl refl
 
   except_left : (q : ℕ) (r : Reason Known ℕ) → gone (unwind r s (Except h q ∷ bs) slot w) ≡ (leaving_except h q r Z >>= after_block r)
-  unfolding leaving_except cutting unwinding
+  unfolding passing handling cutting unwinding
   except_left q (BreakTo p) = by_cut on _ w _ _ (λ d. (d >>= (λ u. Ok (None, u.1))) >>= after_block (BreakTo p)) refl refl
   except_left q (ContinueTo p) = by_cut on _ w _ _ (λ d. (d >>= (λ u. Ok (None, u.1))) >>= after_block (ContinueTo p)) refl refl
   except_left q (ReturnOf e) = by_cut on _ w _ _ (λ d. (d >>= (λ u. Ok (None, u.1))) >>= after_block (ReturnOf e)) refl refl
-  except_left q (RaiseOf e) = by_cut on _ w _ _ (λ d. (d >>= (λ u. handled h q e u.1)) >>= after_block (RaiseOf e)) refl refl
+  except_left q (RaiseOf e) = by_cut on _ w _ _ (λ d. (d >>= (λ u. Ok (Some q, state (It e ∷ u.1.stack) (ExceptHandler h u.1.slot ∷ u.1.blocks) (Some e) u.1.world))) >>= after_block (RaiseOf e)) refl refl
 
   finally_left : (q : ℕ) (r : Reason Known ℕ) → gone (unwind r s (Finally h q ∷ bs) slot w) ≡ (leaving_finally h q r Z >>= after_block r)
   unfolding leaving_finally cutting
@@ -65,6 +65,61 @@ left_at r (Except h q) s bs slot w = except_left h s bs slot w q r
 left_at r (Finally h q) s bs slot w = finally_left h s bs slot w q r
 left_at r (ExceptHandler h old) s bs slot w = handler_left h s bs slot w old r
 left_at r (FinallyHandler h k old) s bs slot w = last_left h s bs slot w k old r
+
+-- ---- a block that lets the reason go on leaves the other blocks as they are
+
+abbrev Keeps : State → Run (Option ℕ) → Type 0
+Keeps s (Ok (None, t)) = t.blocks ≡ s.blocks
+Keeps s (Ok (Some p, t)) = Unit {0}
+Keeps s (Err r) = Unit {0}
+
+keeps_after : (b : Bool) (s t : State) (k : Unit {0} × State → Run (Option ℕ)) → Keeps s (k (tt, t)) → Keeps s (choose b (Ok (tt, t)) (fails Wrong s) >>= k)
+keeps_after true s t k h = h
+keeps_after false s t k h = tt
+
+module _ (h : ℕ) (s : State) where
+  abbrev cut_off : State
+  cut_off = record s { stack = drop (length s.stack - h) s.stack }
+
+  pass_keeps : Keeps s (passing h s)
+  unfolding passing cutting
+  pass_keeps = keeps_after (nat_le h (length s.stack)) s cut_off (λ u. Ok (None, u.1)) refl
+
+  loop_keeps : (r : Reason Known ℕ) → Keeps s (leaving_loop h r s)
+  unfolding leaving_loop cutting
+  loop_keeps (BreakTo p) = keeps_after (nat_le h (length s.stack)) s cut_off (λ u. Ok (Some p, u.1)) tt
+  loop_keeps (ContinueTo p) = tt
+  loop_keeps (ReturnOf e) = pass_keeps
+  loop_keeps (RaiseOf e) = pass_keeps
+
+  handle_keeps : (q : ℕ) (e : Value Known) → Keeps s (handling h q e s)
+  unfolding handling cutting
+  handle_keeps q e = keeps_after (nat_le h (length s.stack)) s cut_off (λ u. Ok (Some q, state (It e ∷ u.1.stack) (ExceptHandler h u.1.slot ∷ u.1.blocks) (Some e) u.1.world)) tt
+
+  finally_keeps : (q : ℕ) (r : Reason Known ℕ) → Keeps s (leaving_finally h q r s)
+  unfolding leaving_finally cutting
+  finally_keeps q r = keeps_after (nat_le h (length s.stack)) s cut_off (λ u. Ok (Some q, record u.1 { blocks = FinallyHandler h (Some r) u.1.slot ∷ u.1.blocks; slot = slot_for r u.1.slot })) tt
+
+  handler_keeps : (old : Option (Value Known)) → Keeps s (leaving_handler h old s)
+  unfolding leaving_handler cutting
+  handler_keeps old = keeps_after (nat_le h (length s.stack)) s cut_off (λ u. Ok (None, record u.1 { slot = old })) refl
+
+block_keeps : (b : Block Known ℕ) (r : Reason Known ℕ) (s : State) → Keeps s (leaving_block b r s)
+block_keeps (Loop h) r s = loop_keeps h s r
+block_keeps (Except h q) (BreakTo p) s = pass_keeps h s
+block_keeps (Except h q) (ContinueTo p) s = pass_keeps h s
+block_keeps (Except h q) (ReturnOf e) s = pass_keeps h s
+block_keeps (Except h q) (RaiseOf e) s = handle_keeps h s q e
+block_keeps (Finally h q) r s = finally_keeps h s q r
+block_keeps (ExceptHandler h old) r s = handler_keeps h s old
+block_keeps (FinallyHandler h k old) r s = handler_keeps h s old
+
+-- so fewer are left
+pub fewer_left : (bs rest after : List Block1) (b : Block1) (r : Reason Known ℕ) (s t : State) → bs ≡ b ∷ rest → s.blocks ≡ blocked rest → t.blocks ≡ blocked after → leaving_block (block_of b) r s ≡ Ok (None, t) → length after < length bs
+fewer_left bs rest after b r s t top before behind none =
+    let kept : t.blocks ≡ s.blocks = subst (λ d. Keeps s d) none (block_keeps (block_of b) r s) in
+    let same : blocked after ≡ blocked rest = sym behind ∙ kept ∙ before in
+    omega (arith, length-map after block_of, length-map rest block_of, ap length same, ap length top)
 
 -- ---- no block takes the reason
 

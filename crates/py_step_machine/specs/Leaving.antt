@@ -13,34 +13,29 @@ unfoldable pub cutting : ℕ → Running (Unit {0})
 cutting h s = choose (nat_le h (length s.stack)) (Ok (tt, record s { stack = drop (length s.stack - h) s.stack })) (fails Wrong s)
 
 -- a block is left: the place where it takes the reason, or None where the next block is left
+unfoldable pub passing : ℕ → Running (Option ℕ)
+passing h s = do
+  u ← cutting h s
+  Ok (None, u.1)
+
 unfoldable pub leaving_loop : ℕ → Reason Known ℕ → Running (Option ℕ)
-leaving_loop h (ContinueTo p) s = Ok (Some p, record s { blocks = Loop h ∷ s.blocks })
 leaving_loop h (BreakTo p) s = do
   u ← cutting h s
   Ok (Some p, u.1)
-leaving_loop h (ReturnOf e) s = do
-  u ← cutting h s
-  Ok (None, u.1)
-leaving_loop h (RaiseOf e) s = do
-  u ← cutting h s
-  Ok (None, u.1)
+leaving_loop h (ContinueTo p) s = Ok (Some p, record s { blocks = Loop h ∷ s.blocks })
+leaving_loop h (ReturnOf e) s = passing h s
+leaving_loop h (RaiseOf e) s = passing h s
 
-abbrev pub handled : ℕ → ℕ → Value Known → Running (Option ℕ)
-handled h q e s = Ok (Some q, state (It e ∷ s.stack) (ExceptHandler h s.slot ∷ s.blocks) (Some e) s.world)
+unfoldable pub handling : ℕ → ℕ → Value Known → Running (Option ℕ)
+handling h q e s = do
+  u ← cutting h s
+  Ok (Some q, state (It e ∷ u.1.stack) (ExceptHandler h u.1.slot ∷ u.1.blocks) (Some e) u.1.world)
 
-unfoldable pub leaving_except : ℕ → ℕ → Reason Known ℕ → Running (Option ℕ)
-leaving_except h q (RaiseOf e) s = do
-  u ← cutting h s
-  handled h q e u.1
-leaving_except h q (BreakTo p) s = do
-  u ← cutting h s
-  Ok (None, u.1)
-leaving_except h q (ContinueTo p) s = do
-  u ← cutting h s
-  Ok (None, u.1)
-leaving_except h q (ReturnOf e) s = do
-  u ← cutting h s
-  Ok (None, u.1)
+abbrev pub leaving_except : ℕ → ℕ → Reason Known ℕ → Running (Option ℕ)
+leaving_except h q (BreakTo p) s = passing h s
+leaving_except h q (ContinueTo p) s = passing h s
+leaving_except h q (ReturnOf e) s = passing h s
+leaving_except h q (RaiseOf e) s = handling h q e s
 
 unfoldable pub leaving_finally : ℕ → ℕ → Reason Known ℕ → Running (Option ℕ)
 leaving_finally h q r s = do

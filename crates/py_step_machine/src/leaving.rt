@@ -1,10 +1,10 @@
 //! How blocks are left.
-ghost use Rattle.std.specs.Prelude.{◌≡◌, None, Ok};
+ghost use Rattle.std.specs.Prelude.{◌≡◌};
 ghost use Rattle.py_bytecode.specs.Machine.{slot_for};
 ghost use Rattle.py_step_decode.specs.Instructions.{instr_of};
 ghost use Rattle.py_step_machine.specs.Does.{does};
-ghost use Rattle.py_step_machine.specs.Held.{block_of, ending_of, reason_of, slot_of};
-ghost use Rattle.py_step_machine.specs.Leaving.{cutting, leaving_block, leaving_except, leaving_finally, leaving_handler, leaving_loop, out_of, settled, unwinding};
+ghost use Rattle.py_step_machine.specs.Held.{block_of, ending_of, raised, reason_of, slot_of};
+ghost use Rattle.py_step_machine.specs.Leaving.{cutting, handling, leaving_block, leaving_except, leaving_finally, leaving_handler, leaving_loop, out_of, passing, settled, unwinding};
 ghost use Rattle.py_step_machine.specs.State.{Runs, state_of};
 
 use crate::held::{Block, End, Reason, Stop};
@@ -15,8 +15,7 @@ impl<'c> Machine<'c> {
     // Cuts the stack to a height; one above the present one is wrong.
     #[tactic(auto, using(crate::proofs::Cutting::cut_above, crate::proofs::Cutting::cut_within))]
     fn cut(&mut self, height: usize) -> Result<(), End<'c>>
-        ensures does { Runs (λ u. u) result (state_of self.new) (cutting height (state_of self.old)) }
-        ensures kept { self.new.blocks ≡ self.old.blocks }
+        ensures { Runs (λ u. u) result (state_of self.new) (cutting height (state_of self.old)) }
     {
         if self.stack.height() < height {
             return Err(End::Wrong);
@@ -25,42 +24,66 @@ impl<'c> Machine<'c> {
         Ok(())
     }
 
+    // Cuts the stack at a block that does not take the reason.
+    #[tactic(auto, unfolding(crate::specs::Leaving::passing))]
+    fn pass(&mut self, height: usize) -> Result<Option<usize>, End<'c>>
+        ensures { Runs (λ p. p) result (state_of self.new) (passing height (state_of self.old)) }
+    {
+        self.cut(height)?;
+        Ok(None)
+    }
+
     #[tactic(auto, unfolding(crate::specs::Leaving::leaving_loop))]
     fn leave_loop(&mut self, height: usize, reason: Reason<'c>) -> Result<Option<usize>, End<'c>>
-        ensures does { Runs (λ p. p) result (state_of self.new) (leaving_loop height (reason_of reason.entry) (state_of self.old)) }
-        ensures kept { result ≡ Ok None → self.new.blocks ≡ self.old.blocks }
+        ensures { Runs (λ p. p) result (state_of self.new) (leaving_loop height (reason_of reason.entry) (state_of self.old)) }
     {
-        if let Reason::Continue(target) = reason {
-            self.blocks.push(Block::Loop { height })?;
-            return Ok(Some(target));
-        }
-        self.cut(height)?;
         match reason {
-            Reason::Break(target) => Ok(Some(target)),
-            Reason::Continue(_) | Reason::Return(_) | Reason::Raise(_) => Ok(None),
+            Reason::Break(target) => {
+                self.cut(height)?;
+                Ok(Some(target))
+            }
+            Reason::Continue(target) => {
+                self.blocks.push(Block::Loop { height })?;
+                Ok(Some(target))
+            }
+            Reason::Return(_) => self.pass(height),
+            Reason::Raise(_) => self.pass(height),
         }
     }
 
-    #[tactic(auto, unfolding(crate::specs::Leaving::leaving_except))]
-    fn leave_except(
+    // The exception of an answer goes to a handler.
+    #[tactic(auto, unfolding(crate::specs::Leaving::handling))]
+    fn handle(
         &mut self,
         height: usize,
         handler: usize,
-        reason: Reason<'c>,
+        answer: u32,
     ) -> Result<Option<usize>, End<'c>>
-        ensures does { Runs (λ p. p) result (state_of self.new) (leaving_except height handler (reason_of reason.entry) (state_of self.old)) }
-        ensures kept { result ≡ Ok None → self.new.blocks ≡ self.old.blocks }
+        ensures { Runs (λ p. p) result (state_of self.new) (handling height handler (raised answer) (state_of self.old)) }
     {
         self.cut(height)?;
-        let Reason::Raise(answer) = reason else {
-            return Ok(None);
-        };
         let old = self.slot;
         self.blocks.push(Block::ExceptHandler { height, old })?;
         self.stack
             .push(Entry::It(Value::Given { answer, index: 0 }))?;
         self.slot = Some(answer);
         Ok(Some(handler))
+    }
+
+    fn leave_except(
+        &mut self,
+        height: usize,
+        handler: usize,
+        reason: Reason<'c>,
+    ) -> Result<Option<usize>, End<'c>>
+        ensures { Runs (λ p. p) result (state_of self.new) (leaving_except height handler (reason_of reason.entry) (state_of self.old)) }
+    {
+        match reason {
+            Reason::Break(_) => self.pass(height),
+            Reason::Continue(_) => self.pass(height),
+            Reason::Return(_) => self.pass(height),
+            Reason::Raise(answer) => self.handle(height, handler, answer),
+        }
     }
 
     #[tactic(auto, unfolding(crate::specs::Leaving::leaving_finally))]
@@ -70,8 +93,7 @@ impl<'c> Machine<'c> {
         handler: usize,
         reason: Reason<'c>,
     ) -> Result<Option<usize>, End<'c>>
-        ensures does { Runs (λ p. p) result (state_of self.new) (leaving_finally height handler (reason_of reason.entry) (state_of self.old)) }
-        ensures kept { result ≡ Ok None → self.new.blocks ≡ self.old.blocks }
+        ensures { Runs (λ p. p) result (state_of self.new) (leaving_finally height handler (reason_of reason.entry) (state_of self.old)) }
     {
         self.cut(height)?;
         let old = self.slot;
@@ -86,8 +108,7 @@ impl<'c> Machine<'c> {
 
     #[tactic(auto, unfolding(crate::specs::Leaving::leaving_handler))]
     fn leave_handler(&mut self, height: usize, old: Option<u32>) -> Result<Option<usize>, End<'c>>
-        ensures does { Runs (λ p. p) result (state_of self.new) (leaving_handler height (slot_of old) (state_of self.old)) }
-        ensures kept { result ≡ Ok None → self.new.blocks ≡ self.old.blocks }
+        ensures { Runs (λ p. p) result (state_of self.new) (leaving_handler height (slot_of old) (state_of self.old)) }
     {
         self.cut(height)?;
         self.slot = old;
@@ -100,8 +121,7 @@ impl<'c> Machine<'c> {
         block: Block<'c>,
         reason: Reason<'c>,
     ) -> Result<Option<usize>, End<'c>>
-        ensures does { Runs (λ p. p) result (state_of self.new) (leaving_block (block_of block.entry) (reason_of reason.entry) (state_of self.old)) }
-        ensures kept { result ≡ Ok None → self.new.blocks ≡ self.old.blocks }
+        ensures { Runs (λ p. p) result (state_of self.new) (leaving_block (block_of block.entry) (reason_of reason.entry) (state_of self.old)) }
     {
         match block {
             Block::Loop { height } => self.leave_loop(height, reason),
