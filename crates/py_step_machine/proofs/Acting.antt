@@ -23,6 +23,16 @@ pub by_name_is : (b : Bool) → is_by_name (choose b ByName Unsaid) ≡ b
 by_name_is true = refl
 by_name_is false = refl
 
+settle_chosen : (b : Bool) (x y : Did ℕ) → settled (choose b x y) ≡ choose b (settled x) (settled y)
+settle_chosen true x y = refl
+settle_chosen false x y = refl
+
+settle_meets : (c t : Bool) (x y : Did ℕ) → settled (meets c t x y) ≡ meets c t (settled x) (settled y)
+settle_meets true true x y = refl
+settle_meets true false x y = refl
+settle_meets false true x y = refl
+settle_meets false false x y = refl
+
 module _ {K : Type 0} where
   abbrev Z : List (Entry K) → List (Block K ℕ) → Option (Value K) → World K → State
   Z = short_state
@@ -113,10 +123,6 @@ module _ {K : Type 0} where
   exception_short (Some (ReturnOf e)) = refl
   exception_short (Some (RaiseOf e)) = refl
 
-  settle_chosen : (b : Bool) (x y : Did ℕ) → settled (choose b x y) ≡ choose b (settled x) (settled y)
-  settle_chosen true x y = refl
-  settle_chosen false x y = refl
-
   leave_short : (r : Reason K ℕ) (s : List (Entry K)) (bs : List (Block K ℕ)) (slot : Option (Value K)) (w : World K) → told (choose (has_loop bs) (unwind r s bs slot w) (wrong w)) ≡ settled (leaving (short_reason r) (Z s bs slot w))
   unfolding leaving
   leave_short r s bs slot w =
@@ -153,12 +159,6 @@ module _ {K : Type 0} where
   unfolding popping pop_entry
   iterated_short target next x rest bs slot None w = refl
   iterated_short target next x rest bs slot (Some u) w = refl
-
-  settle_meets : (c t : Bool) (x y : Did ℕ) → settled (meets c t x y) ≡ meets c t (settled x) (settled y)
-  settle_meets true true x y = refl
-  settle_meets true false x y = refl
-  settle_meets false true x y = refl
-  settle_meets false false x y = refl
 
   jump_or_pop_short : (c t : Bool) (p next : ℕ) (x : Value K) (rest : List (Entry K)) (bs : List (Block K ℕ)) (slot : Option (Value K)) (w : World K) → told (meets c t (At p (It x ∷ rest) bs slot w) (At next rest bs slot w)) ≡ settled (meets c t (pushed (It (short_value x)) p (Z rest bs slot w)) (going next (Z rest bs slot w)))
   jump_or_pop_short c t p next x rest bs slot w = meets_told c t _ _ ∙ sym (settle_meets c t (pushed (It (short_value x)) p (Z rest bs slot w)) (going next (Z rest bs slot w)))

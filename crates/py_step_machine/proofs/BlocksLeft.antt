@@ -143,6 +143,11 @@ none_left r s slot w = refl
 
 -- ---- what a loop over the blocks knows
 
+-- what is not some is none
+pub none_of : {A : Type 0} (o : Option A) → ((x : A) → o ≡ Some x → ⊥) → o ≡ None
+none_of None h = refl
+none_of (Some x) h = absurd (h x refl)
+
 -- the top block is taken off
 pub popped_left : (r : Reason Known ℕ) (s : List (Entry Known)) (slot : Option (Value Known)) (w : World Known) (bs rest : List Block1) (b : Block1) → bs ≡ b ∷ rest → unwinding r (state s (blocked bs) slot w) ≡ (leaving_block (block_of b) r (state s (blocked rest) slot w) >>= after_block r)
 popped_left r s slot w bs rest b e = ap (λ l. unwinding r (state s (blocked l) slot w)) e ∙ left_at r (block_of b) s (blocked rest) slot w
@@ -186,6 +191,6 @@ loop_at bs k b e =
 
 pub loop_past : (bs : List Block1) (k : ℕ) → slice_get bs k ≡ None → has_loop (blocked (drop k bs)) ≡ false
 loop_past bs k e = elim (slice_get_cases bs k).1 [
-  | inl w ↦ let here = w.2.1 in cc
+  | inl w ↦ let here = w.2 in cc
   | inr w ↦ ap (λ l. has_loop (blocked l)) (drop_all k bs w.0)
 ]

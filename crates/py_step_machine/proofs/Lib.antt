@@ -7,9 +7,7 @@ pub mod Failing
 pub mod BlocksLeft
 pub mod Taking
 pub mod Giving
-pub mod Joining
 pub mod Cutting
 pub mod Seeing
 pub mod Heights
-pub mod Fuel
 pub mod Fetching

@@ -3,14 +3,14 @@ use Rattle.std.proofs.Common.{◌≡◌, ℕ, zero, suc, List, [], ◌∷◌, dr
 use Rattle.std.specs.Prelude.{Ok}
 use Rattle.std.proofs.lemmas.Option.{same_Some}
 use Rattle.py_bytecode.specs.Values.{Wrong}
-use Rattle.py_bytecode.specs.Machine.{Block, Loop, Except, Finally, ExceptHandler, FinallyHandler}
+use Rattle.py_bytecode.specs.Machine.{Block, Reason, Loop, Except, Finally, ExceptHandler, FinallyHandler}
 use Rattle.py_script.specs.Told.{Known}
 use Rattle.py_step_decode.specs.declared.instructions.Entry.{Entry as Entry1}
 use Rattle.py_step_decode.specs.declared.instructions.Entry.TheVariants as entry
 use Rattle.py_step_decode.specs.Instructions.{entry_of}
 use Rattle.py_step_machine.specs.declared.held.Block.{Block as Block1}
 use Rattle.py_step_machine.specs.Held.{block_of}
-use Rattle.py_step_machine.specs.State.{State, ends, stacked, blocked}
+use Rattle.py_step_machine.specs.State.{State, Did, ends, stacked, blocked}
 use Rattle.py_step_machine.specs.Does.{cells_above, seen, seen_last}
 
 pub seen_some : (es : List Entry1) (n : ℕ) (x : Entry1) (s : State) → slice_get es n ≡ Some x → seen (drop n (stacked es)) s ≡ Ok (entry_of x, s)
@@ -46,10 +46,14 @@ top_alone (Finally h q) rest s = refl
 top_alone (ExceptHandler h old) rest s = refl
 top_alone (FinallyHandler h r old) rest s = refl
 
-pub last_some : (bs : List Block1) (b : Block1) (s : State) → slice_get bs 0 ≡ Some b → seen_last (blocked bs) s ≡ seen_last (block_of b ∷ []) s
-last_some [] b s h = absurd (cc)
-last_some (d ∷ bs) b s h = top_alone (block_of d) (blocked bs) s ∙ ap (λ x. seen_last (block_of x ∷ []) s) (same_Some d b h)
+-- the handler of a last part that is seen
+abbrev pub last_at : Option Block1 → State → Did (Option (Reason Known ℕ))
+last_at None s = ends Wrong s
+last_at (Some b) s = seen_last (block_of b ∷ []) s
 
-pub last_none : (bs : List Block1) (s : State) → slice_get bs 0 ≡ None → seen_last (blocked bs) s ≡ ends Wrong s
-last_none [] s h = refl
-last_none (d ∷ bs) s h = absurd (cc)
+last_first : (bs : List Block1) (s : State) → seen_last (blocked bs) s ≡ last_at (slice_get bs 0) s
+last_first [] s = refl
+last_first (b ∷ bs) s = top_alone (block_of b) (blocked bs) s
+
+pub last_seen : (bs : List Block1) (o : Option Block1) (s : State) → o ≡ slice_get bs 0 → seen_last (blocked bs) s ≡ last_at o s
+last_seen bs o s e = last_first bs s ∙ ap (λ x. last_at x s) (sym e)

@@ -14,6 +14,10 @@ use Rattle.py_step_machine.proofs.Failing.{halts_on, halts_same}
 pub turned : (xs : List StepValue) (x : StepValue) → values_of (reverse (xs ++ x ∷ [])) ≡ value_of x ∷ values_of (reverse xs)
 turned xs x = ap values_of (reverse-append xs (x ∷ []))
 
+pub values_joined : (a b : List StepValue) → values_of (a ++ b) ≡ values_of a ++ values_of b
+values_joined [] b = refl
+values_joined (x ∷ a) b = ap (λ l. value_of x ∷ l) (values_joined a b)
+
 one_less : (n : ℕ) → 0 < n → n ≡ suc (n - 1)
 one_less n h = omega (arith, h)
 

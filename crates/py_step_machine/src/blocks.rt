@@ -123,7 +123,7 @@ impl<'c> Machine<'c> {
     }
 
     // The reason that the handler of a last part on top keeps.
-    #[tactic(auto, using(crate::proofs::Seeing::last_some, crate::proofs::Seeing::last_none), unfolding(crate::specs::Does::last_block))]
+    #[tactic(auto, using(crate::proofs::Seeing::last_seen), unfolding(crate::specs::Does::last_block))]
     fn last_reason(&mut self) -> Result<Option<Reason<'c>>, Stop<'c>>
         ensures { Does kept_of result (state_of self.new) (last_block (state_of self.old)) }
     {

@@ -63,7 +63,6 @@ impl<'c> Machine<'c> {
     }
 
     // Whether an operation on so many entries builds a tuple of cells.
-    #[tactic(auto, using(crate::proofs::Joining::joins_is))]
     fn joins(&self, op: Instruction, takes: u32) -> bool
         ensures { result ≡ joins_cells (builds_tuple op) takes (stacked self.now.stack) }
     {

@@ -12,6 +12,7 @@ use py_step_decode::{Entry, Value};
 use std::alloc::{AllocError, Global};
 
 /// These operands, and then those.
+#[tactic(auto, using(crate::proofs::Taking::values_joined))]
 pub fn joined(
     first: List<StepValue>,
     second: List<StepValue>,

@@ -1,4 +1,4 @@
-use Rattle.std.proofs.Common.{◌≡◌, ◌∷◌, sym, ap, ◌∙◌, arith}
+use Rattle.std.proofs.Common.{◌≡◌, ◌∷◌, ◌-◌, sym, ap, ◌∙◌, arith}
 use Rattle.py_bytecode.specs.Values.{Given, It}
 use Rattle.py_bytecode.specs.Machine.{stack_of}
 use Rattle.py_step_machine.specs.State.{stacked}

@@ -10,7 +10,7 @@ returns-in_err-read c = rw c.from_residual.ensures (nothing_read (object c.args.
 
 pub returns-in_err-instr : goal.returns-in_err-instr
 returns-in_err-instr c =
-    rw c.from_residual.ensures (nothing_made (object c.args.code.now) c.args.place (read_of c.in_ok-read.read) (c.in_ok-read.ensures ∙ c.requires c.args.place) c.in_err-instr.ensures)
+    rw c.from_residual-in_err-instr.ensures (nothing_made (object c.args.code.now) c.args.place (read_of c.in_ok-read.read) (c.in_ok-read.ensures ∙ c.requires c.args.place) c.in_err-instr.ensures)
 
 pub returns : goal.returns
 returns c = one_made (object c.args.code.now) c.args.place (read_of c.in_ok-read.read) (instr_of c.in_ok-instr.instr) (c.in_ok-read.ensures ∙ c.requires c.args.place) c.in_ok-instr.ensures

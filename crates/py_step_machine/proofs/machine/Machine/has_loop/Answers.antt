@@ -1,4 +1,4 @@
-use Rattle.std.proofs.Common.{◌+◌, drop, sym, ◌∙◌}
+use Rattle.std.proofs.Common.{◌+◌, ◌≤◌, length, drop, sym, ◌∙◌, arith}
 use Rattle.std.proofs.lemmas.Option.{slice_get_past}
 use Rattle.py_step_machine.specs.Held.{block_of}
 use Rattle.py_step_machine.specs.State.{blocked}
@@ -23,4 +23,6 @@ loop-depth-preserved c =
     ∙ c.loop-depth.invariant
 
 pub returns : goal.returns
-returns c = sym (loop_past c.args.self.now.blocks c.loop-depth.depth (slice_get_past c.args.self.now.blocks c.loop-depth.depth c.loop-depth-test.false)) ∙ c.loop-depth.invariant
+returns c =
+    let past : length c.args.self.now.blocks ≤ c.loop-depth.depth = omega (arith, c.height-depth-end.ensures) in
+    sym (loop_past c.args.self.now.blocks c.loop-depth.depth (slice_get_past c.args.self.now.blocks c.loop-depth.depth past)) ∙ c.loop-depth.invariant

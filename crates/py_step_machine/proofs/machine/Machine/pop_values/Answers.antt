@@ -24,4 +24,4 @@ pub returns : goal.returns
 returns c =
     let none : c.loop-left.left ≡ 0 = omega arith in
     let done = sym c.loop-left.invariant ∙ all_taken c.loop-left.left none (values_of (reverse c.loop-left.operands.items)) (state_of c.loop-left.self) in
-    rw (c.from_vec.ensures, c.reverse.ensures.after) done
+    rw (c.from_vec.ensures, c.reverse.ensures.items) done

@@ -6,13 +6,13 @@ use Rattle.py_step_machine.proofs.Failing.{fails_same}
 use Rattle.py_step_machine.proofs.Running.{run_ends, run_fails, run_on}
 use Rattle.py_step_machine.proofs.machine.Machine.run.Goals as goal
 
-pub returns-in_err-step : goal.returns-in_err-step
-returns-in_err-step c =
+pub returns-in_err-place : goal.returns-in_err-place
+returns-in_err-place c =
     let p = err_from_is_err_and c.from_residual.result c.from_residual.ensures.1 in
-    rw (p.1, p.2) (fails_same _ _ _ _ (sym c.loop-left.invariant) (run_fails (object c.args.code.now) c.loop-left.left c.loop-left-test.true c.loop-left.place (state_of c.loop-left.self) _ _ c.in_err-step.ensures))
+    rw (p.1, p.2) (fails_same _ _ _ _ (sym c.loop-left.invariant) (run_fails (object c.args.code.now) c.loop-left.left c.loop-left-test.true c.loop-left.place (state_of c.loop-left.self) _ _ c.in_err-place.ensures))
 
 pub loop-left-preserved : goal.loop-left-preserved
-loop-left-preserved c = sym (run_on (object c.args.code.now) c.loop-left.left c.loop-left-test.true c.loop-left.place _ _ _ c.in_ok-step.ensures) ∙ c.loop-left.invariant
+loop-left-preserved c = sym (run_on (object c.args.code.now) c.loop-left.left c.loop-left-test.true c.loop-left.place _ _ _ c.in_ok-place.ensures) ∙ c.loop-left.invariant
 
 pub returns : goal.returns
 returns c =
