@@ -9,7 +9,7 @@ use Rattle.py_script.specs.Told.{short_value, short_values, short_events}
 use Rattle.py_step_decode.specs.Short.{short_instr}
 use Rattle.py_step_machine.specs.Short.{short_stack, short_slot, short_kept, short_reason, short_blocks, short_world, short_state}
 use Rattle.py_step_machine.specs.State.{State, state, Did, ◌>>=◌, ends, leaves}
-use Rattle.py_step_machine.specs.Does.{pop_entry, entry_below, value_below, pop_cells, going, pushed, asks_load, asks_store, asks_delete, asks_for, asks_for_one, asks_for_none, asks_raise, asks_truth, asks_next, loading, deleting, storing_value, stored, storing, joins_cells, joining, applying, operating, making, importing, appending, unpacking, popping, rotating2, rotating3, doubling, doubling2, jumping_if, jumping_if_or_pop, setting_loop, setting_except, setting_finally, entering_finally, popping_block, popping_exception, leaving, returning, resuming, ending_finally, reraising, iterated, iterating, setting_with, starting_cleanup, unless_dropped, finishing_cleanup, is_by_name, does}
+use Rattle.py_step_machine.specs.Does.{pop_entry, entry_below, value_below, going, pushed, asks_load, asks_store, asks_delete, asks_for, asks_for_one, asks_for_none, asks_raise, asks_truth, asks_next, loading, deleting, storing_value, stored, storing, joins_cells, joining, applying, operating, making, importing, appending, unpacking, popping, rotating2, rotating3, doubling, doubling2, jumping_if, jumping_if_or_pop, setting_loop, setting_except, setting_finally, entering_finally, popping_block, popping_exception, leaving, returning, resuming, ending_finally, reraising, iterated, iterating, setting_with, starting_cleanup, unless_dropped, finishing_cleanup, is_by_name, does}
 use Rattle.py_step_machine.specs.Leaving.{settled}
 use Rattle.py_step_machine.proofs.Asking.{short_append, values_append, ask_for_short, truth_short, next_short, for_one_short, for_none_short}
 use Rattle.py_step_machine.proofs.Popping.{told, length_short, has_loop_short, push_short, stack_of_short, entry_short, top_short, seen_short, below_short, pops_short, cells_short, closure_short, last_short, pop_last_short}

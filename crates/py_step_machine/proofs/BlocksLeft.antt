@@ -3,7 +3,7 @@ use Rattle.std.proofs.Common.{◌≡◌, ◌<◌, ℕ, ◌+◌, ◌-◌, List, [
 use Rattle.std.specs.Prelude.{nat_le, Ok, Err, ◌||◌}
 use Rattle.std.proofs.lemmas.List.{drop_more, drop_all, length-map}
 use Rattle.std.proofs.lemmas.Option.{slice_get_within, slice_get_cases, get_or_from_slice_get}
-use Rattle.py_bytecode.specs.Values.{Value, Entry, It, Event, World, Outcome, Returned, RaisedOut, Stopped, Wrong, Leaked, choose, ran}
+use Rattle.py_bytecode.specs.Values.{Value, Entry, It, Event, World, Outcome, Wrong, choose, ran}
 use Rattle.py_bytecode.specs.Machine.{Reason, BreakTo, ContinueTo, ReturnOf, RaiseOf, Block, Loop, Except, Finally, ExceptHandler, FinallyHandler, Config, has_loop, wrong, unwind, unwind_out, slot_for}
 use Rattle.py_script.specs.Told.{Known}
 use Rattle.py_step_machine.specs.declared.held.Block.{Block as Block1}

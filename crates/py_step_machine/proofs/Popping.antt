@@ -1,5 +1,5 @@
 -- Taking values from a stack, and from the same stack shortened.
-use Rattle.std.proofs.Common.{◌≡◌, ℕ, zero, suc, ◌-◌, List, [], ◌∷◌, ◌++◌, length, drop, Bool, true, false, Option, refl, ap}
+use Rattle.std.proofs.Common.{◌≡◌, ℕ, zero, suc, List, [], ◌∷◌, ◌++◌, length, drop, Bool, true, false, Option, refl, ap}
 use Rattle.py_bytecode.specs.Values.{Value, Cell, Entry, It, Cells, World}
 use Rattle.py_bytecode.specs.Machine as m
 use Rattle.py_bytecode.specs.Machine.{Block, Loop, Except, Finally, ExceptHandler, FinallyHandler, Config, Reason, wrong, leaked, has_loop, on_entry, on_top, below, on_last, push, stack_of}
@@ -7,7 +7,7 @@ use Rattle.py_script.specs.Told.{Known, short_value, short_values}
 use Rattle.py_step_decode.specs.Short.{short_entry}
 use Rattle.py_step_machine.specs.Short.{short_stack, short_kept, short_blocks, short_config, short_state}
 use Rattle.py_step_machine.specs.State.{State, Did, Run, ◌>>=◌, gone}
-use Rattle.py_step_machine.specs.Does.{pop_entry, popped, pop_value, as_value, pop_values, pop_cell_tuple, pop_cells, pop_closure, seen, entry_below, value_below, last_block, pop_last}
+use Rattle.py_step_machine.specs.Does.{pop_entry, pop_value, as_value, pop_values, pop_cell_tuple, pop_cells, pop_closure, seen, entry_below, value_below, last_block, pop_last}
 use Rattle.py_step_machine.specs.Leaving.{settled}
 
 module _ {K : Type 0} where

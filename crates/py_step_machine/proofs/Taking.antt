@@ -1,6 +1,6 @@
 -- Values and cells taken one at a time.
-use Rattle.std.proofs.Common.{◌≡◌, ◌<◌, ◌-◌, ℕ, suc, List, [], ◌∷◌, ◌++◌, refl, sym, ap, ◌∙◌, arith}
-use Rattle.std.specs.Prelude.{Ok, Err, reverse}
+use Rattle.std.proofs.Common.{◌≡◌, ◌<◌, ◌-◌, ℕ, suc, List, [], ◌∷◌, ◌++◌, refl, ap, ◌∙◌, arith}
+use Rattle.std.specs.Prelude.{Ok, reverse}
 use Rattle.std.proofs.lemmas.List.{reverse-append}
 use Rattle.py_bytecode.specs.Values.{Value}
 use Rattle.py_script.specs.declared.trace.StepValue.{StepValue}

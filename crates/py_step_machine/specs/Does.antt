@@ -5,7 +5,7 @@ use Rattle.py_bytecode.specs.Values.{Operation, operation, Number, raise_again, 
 use Rattle.py_bytecode.specs.Machine as m
 use Rattle.py_bytecode.specs.Machine.{Instr, Reason, BreakTo, ContinueTo, ReturnOf, RaiseOf, Block, Loop, Except, Finally, ExceptHandler, FinallyHandler, has_loop, is_tuple, exception, push, stack_of}
 use Rattle.py_script.specs.Told.{Known}
-use Rattle.py_step_machine.specs.State.{State, Did, Doing, Leaves, Ends, ◌>>=◌, ends, leaves}
+use Rattle.py_step_machine.specs.State.{Doing, Leaves, Ends, ◌>>=◌, ends, leaves}
 
 -- ---- the stack
 

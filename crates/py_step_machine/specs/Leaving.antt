@@ -3,7 +3,7 @@ use Rattle.std.specs.Prelude.{ℕ, ◌∷◌, ◌-◌, length, drop, Option, Som
 use Rattle.py_bytecode.specs.Values.{Value, It, choose, Outcome, Returned, RaisedOut, Wrong}
 use Rattle.py_bytecode.specs.Machine.{Fetched, Found, Nothing, Reason, BreakTo, ContinueTo, ReturnOf, RaiseOf, Block, Loop, Except, Finally, ExceptHandler, FinallyHandler, slot_for, unwind}
 use Rattle.py_script.specs.Told.{Known}
-use Rattle.py_step_machine.specs.State.{State, state, Did, Leaves, Ends, Run, Running, ◌>>=◌, fails, gone}
+use Rattle.py_step_machine.specs.State.{state, Did, Leaves, Ends, Run, Running, ◌>>=◌, fails, gone}
 use Rattle.py_step_machine.specs.Does.{does}
 
 unfoldable pub unwinding : Reason Known ℕ → Running ℕ
