@@ -1,0 +1,9 @@
+-- A stack as definitions see it is as high as the machine's.
+use Rattle.std.proofs.Common.{◌≡◌, List, length}
+use Rattle.std.proofs.lemmas.List.{length-map}
+use Rattle.py_step_decode.specs.declared.instructions.Entry.{Entry as Entry1}
+use Rattle.py_step_decode.specs.Instructions.{entry_of}
+use Rattle.py_step_machine.specs.State.{stacked}
+
+pub stacked_height : (es : List Entry1) → length (stacked es) ≡ length es
+stacked_height es = length-map es entry_of

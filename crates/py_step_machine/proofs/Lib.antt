@@ -1,0 +1,13 @@
+pub mod Asking
+pub mod Popping
+pub mod Unwinding
+pub mod Acting
+pub mod Running
+pub mod Failing
+pub mod BlocksLeft
+pub mod Taking
+pub mod Giving
+pub mod Cutting
+pub mod Seeing
+pub mod Heights
+pub mod Fetching

@@ -1,0 +1,15 @@
+use Rattle.std.proofs.Common.{◌≡◌, ◌≤◌}
+use Rattle.py_bytecode.specs.Machine.{stack_of}
+use Rattle.py_step_machine.specs.State.{stacked}
+use Rattle.py_step_machine.proofs.Giving.{rest_given}
+use Rattle.py_step_machine.proofs.parts.push_reversed.Given as goal
+
+-- the values from one on are on top
+abbrev pub invariant-loop-index : goal.invariant-loop-index
+invariant-loop-index l = record {
+  within : l.index ≤ l.count;
+  given : stacked l.stack ≡ stack_of (rest_given l.count l.answer l.index) (stacked l.initial.stack);
+}
+
+abbrev pub decreases-loop-index : goal.decreases-loop-index
+decreases-loop-index l = l.index

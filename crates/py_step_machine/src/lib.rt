@@ -1,0 +1,16 @@
+//! The machine on a code object, run over a script of answers.
+#![tactic(auto)]
+
+mod acts;
+mod blocks;
+pub mod held;
+mod leaving;
+pub mod machine;
+mod moves;
+mod names;
+mod operations;
+mod parts;
+mod questions;
+mod run;
+
+pub use run::run_code;

@@ -1,0 +1,127 @@
+#!/usr/bin/env python3
+"""Writes crates/step_vectors/stdout: what the machine of tools/model does on the codes of crates/step_vectors/stdin,
+each over its script of answers.
+
+usage: step_rows.py
+
+A line of stdin is a code as py_codefile spells it, in hexadecimal digits, and, after a space, a script, as
+`Script::parse` of py_script reads it; without a script there is no space. Each run gives its lines, as `push_trace` of
+py_script writes them, and an empty line. Standard output gets the text.
+"""
+import argparse
+import pathlib
+import re
+import sys
+
+TOP = pathlib.Path(__file__).resolve().parent.parent
+sys.path.insert(0, str(TOP / "tools"))
+sys.path.insert(0, str(TOP / "tools" / "model"))
+import code_files
+import code_objects
+import machine
+
+USAGES = {"Load": "load ", "Store": "store ", "Delete": "delete "}
+SINGLE = {None: ("none",), False: ("false",), True: ("true",), ...: ("ellipsis",)}
+
+
+def instruction_names():
+    """The names of the instructions by number."""
+    source = (TOP / "crates/py_bytecode/src/instruction.rt").read_text(encoding="utf-8")
+    body = re.search(r"pub enum Instruction \{(.*?)\n\}", source, re.S)[1]
+    return re.findall(r"^\s*(\w+),$", body, re.M)
+
+
+def constant(c, make):
+    """A constant as the model has it."""
+    kind, value = c if isinstance(c, tuple) else (None, c)
+    if kind == "tuple":
+        return "tuple", tuple(constant(x, make) for x in value)
+    if kind == "code":
+        return "code", make(value)
+    if kind == "bytes":
+        return "bytes", bytes(value)
+    return SINGLE[value] if kind is None else (kind, value)
+
+
+def maker(model_code, names):
+    """What makes a code of the model from the fields of a file."""
+    def make(fields):
+        flags, positional_only, positional, keyword_only, path, line, name, depth, units, locations, constants, *tables, cells = fields
+        return model_code(
+            flags, positional_only, positional, keyword_only, path, line, name, depth,
+            tuple((names[op], byte) for op, byte in units), tuple(locations), tuple(constant(c, make) for c in constants),
+            *map(tuple, tables), cells)
+    return make
+
+
+def quoted(t):
+    return "'" + "".join("\\" + c if c in "'\\" else c for c in t) + "'"
+
+
+def constant_text(c):
+    kind = c[0]
+    if kind in ("none", "true", "false", "ellipsis"):
+        return kind.capitalize()
+    if kind == "int":
+        return str(c[1])
+    if kind == "str":
+        return quoted(c[1])
+    if kind == "tuple":
+        return "(" + ", ".join(map(constant_text, c[1])) + (",)" if len(c[1]) == 1 else ")")
+    if kind == "code":
+        return "<code " + quoted(c[1].obj_name) + ">"
+    return "b'" + "".join("\\" + chr(b) if b in b"'\\" else chr(b) if 32 <= b < 127 else "\\x%02x" % b for b in c[1]) + "'"
+
+
+def value_text(v):
+    if v[0] == "c":
+        return constant_text(v[1])
+    return "#%d.%d" % (v[1], v[2]) if v[0] == "g" else "child" if v[0] == "child" else "None"
+
+
+def operation_text(event, kinds):
+    _, name, detail, operands = event[:4]
+    if name == "MakeFunction":
+        # the closure is not told
+        cells = detail & 1
+        detail, operands = detail - cells, operands[:-3] + operands[-2:] if cells else operands
+    told = "" if detail is None or kinds[name] == "Label" else " " + (quoted(detail) if kinds[name] == "Name" else str(detail))
+    return "op " + name + told + (": " + ", ".join(map(value_text, operands)) if operands else "")
+
+
+def event_text(event, kinds):
+    if event[0] == "access":
+        return USAGES[event[1]] + quoted(event[2]) + (" " + value_text(event[3]) if event[3] is not None else "")
+    if event[0] == "op":
+        return operation_text(event, kinds)
+    return event[0] + " " + value_text(event[1])
+
+
+def lines(run, kinds):
+    """The lines of a run: what is silent is not told."""
+    for i, event in enumerate(run.w.events):
+        if i not in run.silent:
+            yield event_text(event, kinds)
+    outcome = run.outcome
+    name = outcome[0].lower()
+    yield name + (" " + value_text(outcome[1]) if name in ("returned", "raised") else "")
+
+
+def answer(word):
+    if word[0] == "g":
+        return "G", int(word[1:])
+    return {"d": ("D",), "e": ("E",), "r": ("R",), "t": ("T", True), "f": ("T", False)}[word]
+
+
+def main():
+    argparse.ArgumentParser(description=__doc__, formatter_class=argparse.RawDescriptionHelpFormatter).parse_args()
+    make = maker(code_objects.Code, instruction_names())
+    for line in (TOP / "crates/step_vectors/stdin").read_text(encoding="ascii").splitlines():
+        digits, _, script = line.partition(" ")
+        code = make(code_files.Reader(bytes.fromhex(digits)).file())
+        run = machine.machine(code, [answer(word) for word in script.split(",")] if script else [])
+        sys.stdout.write("\n".join(lines(run, machine.KIND)) + "\n\n")
+
+
+if __name__ == "__main__":
+    main()
