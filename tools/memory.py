@@ -18,6 +18,8 @@ import pathlib
 import re
 import sys
 
+import build
+
 TOP = pathlib.Path(__file__).resolve().parent.parent
 DOCUMENT = TOP / "docs" / "DECISIONS.md"
 BEGIN = "<!-- want of memory: tools/memory.py compares these lines -->"
@@ -254,23 +256,10 @@ def function_at(text, at):
 
 
 def standing(top):
-    """Each crate of crates.txt with itself and those that it stands on; no crate where there is no such list."""
-    try:
-        rows = (top / "crates.txt").read_text(encoding="utf-8").splitlines()
-    except FileNotFoundError:
-        return {}
-    below = {}
-    for row in rows:
-        name, _, others = row.partition("#")[0].partition(":")
-        if name.strip():
-            below[name.split()[0]] = set(others.split())
-    for name in below:
-        left = [*below[name]]
-        while left:
-            more = below.get(left.pop(), set()) - below[name]
-            below[name] |= more
-            left += more
-    return {name: {name, *others} for name, others in below.items()}
+    """Each crate of crates.txt with those that it stands on and itself; no crate where there is no such list."""
+    file = top / "crates.txt"
+    crates = build.read_crates(file.read_text(encoding="utf-8")) if file.exists() else {}
+    return {name: set(build.below(name, crates)) for name in crates}
 
 
 def places(top):
