@@ -1,3 +1,4 @@
+//! The limits of trees.
 /// The nesting that no accepted tree reaches, as `depth_of_tree` of py_limits gives it.
 pub const NESTING_LIMIT: u32 = 1024;
 /// The size that no accepted tree reaches, as `size_of_tree` of py_limits gives it.

@@ -1,3 +1,4 @@
+//! Lists, seen as their items in order.
 ghost use Rattle.std.specs.Prelude.{◌≡◌, [], ◌∷◌, ◌++◌, ◌↔◌, length, slice_get, IsTrue, IfErr, OnOk, OnErr, OnSome, MatchOption, ◌<◌};
 ghost use Rattle.std.specs.Option.{option_copied};
 
@@ -85,6 +86,9 @@ impl<T> List<T> {
     }
 
     /// Puts `x` last. For want of memory alone the value comes back, and nothing has changed.
+    ///
+    /// # Errors
+    /// There is no memory for it: the value comes back, and nothing has changed.
     pub fn push(&mut self, x: T) -> Result<(), T>
         ensures ok { OnOk result (self.new ≡ self.old ++ x ∷ []) }
         ensures back { IfErr result (λ y. y ≡ x) }

@@ -1,3 +1,4 @@
+//! Rows and columns of a source, counted from 1.
 ghost use Rattle.std.specs.Prelude.{◌≡◌, ◌<◌, ◌≤◌, ◌↔◌, ◌^◌, IsNone, IfSome};
 
 use crate::Text;

@@ -1,3 +1,4 @@
+//! What makes a tree malformed.
 ghost use Rattle.std.specs.Prelude.{◌≡◌};
 ghost use Rattle.py_base.specs.Shapes.{shape_name};
 

@@ -1,3 +1,4 @@
+//! Code objects, their constants and their units.
 use crate::{CodeFlags, CodeUnit};
 use py_base::{List, OneIndexed, SourceLocation, Text};
 

@@ -1,3 +1,4 @@
+//! The flags of a code object and of a function that is made.
 ghost use Rattle.std.specs.Prelude.{⊤, ◌≡◌, [], ◌∷◌, codes};
 ghost use Rattle.std.specs.Int.RustNames.{bit_or};
 

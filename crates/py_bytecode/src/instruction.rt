@@ -1,3 +1,4 @@
+//! The instructions, with what the table of them says of each.
 ghost use Rattle.std.specs.Prelude.{◌≡◌, ◌<◌, pos};
 ghost use Rattle.py_bytecode.specs.Table.{row_of, is_label, effect_of, bits_of, raise_of, InKind};
 

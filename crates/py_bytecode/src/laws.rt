@@ -1,3 +1,4 @@
+//! Laws of code objects. The bodies do nothing.
 ghost use Rattle.std.specs.Prelude.{ℕ};
 ghost use Rattle.py_bytecode.specs.Effects.{EffectsFit};
 ghost use Rattle.py_bytecode.specs.Laws.{ConstantsKeepPlaces, EqualIsSame};

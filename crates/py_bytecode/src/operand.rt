@@ -1,3 +1,4 @@
+//! Operands: their bytes, and the kinds of them.
 ghost use Rattle.std.specs.Prelude.{◌≡◌, ◌<◌, ◌+◌, ◌*◌};
 ghost use Rattle.py_bytecode.specs.Operands.{byte_of, units_for};
 

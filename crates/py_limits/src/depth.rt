@@ -1,3 +1,4 @@
+//! How deep a tree nests.
 ghost use Rattle.std.specs.Prelude.{◌+◌};
 ghost use Rattle.py_limits.specs.Limits.{IsBelow};
 ghost use Rattle.py_limits.specs.Nesting.{expr_nesting, nesting};

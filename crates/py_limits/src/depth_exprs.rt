@@ -1,3 +1,4 @@
+//! How deep expressions nest.
 ghost use Rattle.std.specs.Prelude.{◌+◌, max};
 ghost use Rattle.py_limits.specs.Limits.{IsAtMost};
 ghost use Rattle.py_limits.specs.Nesting.{arg_nesting, args_nesting, arguments_nesting, exprs_nesting, expr_nesting, generators_nesting, keywords_nesting, literals_nesting, literal_nesting, opt_arg_nesting, opt_exprs_nesting, opt_expr_nesting};
@@ -7,6 +8,7 @@ use py_tree::{
     Arg, ArgWithDefault, Arguments, Comprehension, Constant, Expr, ExprCall, ExprSlice, Keyword,
 };
 
+/// How deep the expression nests, or none where that is more than `most`.
 #[cycle(depth)]
 #[tactic(auto, using(py_tree::proofs::View::trees))]
 pub fn expr_depth(expr: &Expr, most: u32) -> Option<u32>

@@ -1,3 +1,4 @@
+//! How deep the parts of statements and expressions nest.
 ghost use Rattle.std.specs.Prelude.{◌+◌, max};
 ghost use Rattle.py_limits.specs.Limits.{IsAtMost};
 ghost use Rattle.py_limits.specs.Nesting.{aliases_nesting, class_head_nesting, expr_nesting, head_nesting, opt_expr_nesting, type_params_nesting, type_param_nesting, with_items_nesting};

@@ -1,3 +1,4 @@
+//! How deep statements nest.
 ghost use Rattle.std.specs.Prelude.{◌+◌, max};
 ghost use Rattle.py_limits.specs.Limits.{IsAtMost};
 ghost use Rattle.py_limits.specs.Nesting.{cases_nesting, handlers_nesting, opt_expr_nesting, stmts_nesting, stmt_nesting, with_items_nesting, with_levels};

@@ -1,3 +1,4 @@
+//! The size of a tree.
 ghost use Rattle.std.specs.Prelude.{◌+◌, ◌^◌, ◌<◌};
 ghost use Rattle.py_limits.specs.Limits.{IsBelow};
 ghost use Rattle.py_limits.specs.Nesting.{expr_nesting, nesting};

@@ -1,3 +1,4 @@
+//! The size of expressions, as what it leaves of the room there is.
 ghost use Rattle.std.specs.Prelude.{◌+◌};
 ghost use Rattle.py_limits.specs.Limits.{IsLeft};
 ghost use Rattle.py_limits.specs.Size.{args_size, arguments_size, arg_size, exprs_size, expr_size, generators_size, keys_size, keywords_size, key_size, literals_size, literal_size, opt_arg_size, opt_expr_size, opt_name_size};
@@ -72,6 +73,7 @@ fn after_call(e: &ExprCall, room: u32) -> Option<u32>
     after_keywords(e.keywords.as_slice(), left)
 }
 
+/// The room that is left after the keywords, or none where there is too little.
 #[cycle(size)]
 pub fn after_keywords(items: &[Keyword], room: u32) -> Option<u32>
     ensures { IsLeft result room (keywords_size (view.keywords view.expr_tree items.now)) }
@@ -101,6 +103,7 @@ fn after_slice(e: &ExprSlice, room: u32) -> Option<u32>
     after_optional(&e.step, left)
 }
 
+/// The room that is left after the expressions, or none where there is too little.
 #[cycle(size)]
 pub fn after_exprs(items: &[Expr], room: u32) -> Option<u32>
     ensures { IsLeft result room (exprs_size (view.exprs view.expr_tree items.now)) }

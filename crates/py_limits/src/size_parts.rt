@@ -1,3 +1,4 @@
+//! The size of the parts of statements and expressions.
 ghost use Rattle.std.specs.Prelude.{◌+◌, ◌≡◌};
 ghost use Rattle.py_limits.specs.Limits.{IsLeft};
 ghost use Rattle.py_limits.specs.Size.{aliases_size, class_head_size, dots, expr_size, head_size, opt_expr_size, opt_name_size, paths_size, path_size, type_params_size, type_param_size, with_items_size};

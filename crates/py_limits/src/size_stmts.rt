@@ -1,3 +1,4 @@
+//! The size of statements.
 ghost use Rattle.std.specs.Prelude.{◌+◌};
 ghost use Rattle.py_limits.specs.Limits.{IsLeft};
 ghost use Rattle.py_limits.specs.Size.{cases_size, handlers_size, opt_expr_size, opt_name_size, stmts_size, stmt_size};

@@ -1,3 +1,4 @@
+//! Which code points a quoted text writes as they are.
 ghost use Rattle.std.specs.Prelude.{◌≡◌, ◌++◌, string_bytes, OnOk};
 ghost use Rattle.std.specs.Fmt.{signed_decimal};
 ghost use Rattle.py_quote.specs.Plain.{bool_text};

@@ -1,3 +1,4 @@
+//! The shapes of expressions.
 ghost use Rattle.std.specs.Prelude.{◌≡◌, ◌++◌};
 ghost use Rattle.std.specs.Option.{option_copied};
 ghost use Rattle.py_shapes.specs.Valid.{args_shapes, arguments_shapes, arg_shapes, checked, exprs_shapes, expr_shapes, generators_shapes, keywords_shapes, opt_arg_shapes, opt_exprs_shapes, opt_expr_shapes, opt_name_shapes};
@@ -13,6 +14,9 @@ use py_tree::{
 };
 
 /// The first wrong shape of the expression, in a class or in none.
+///
+/// # Errors
+/// The first of the shapes that the definition of the same name asks for and that is not there.
 #[cycle(shapes)]
 #[tactic(auto, using(crate::proofs::Checks::checks))]
 pub fn check_expr(class: Option<&str>, expr: &Expr) -> Result<(), Malformed>
@@ -70,6 +74,10 @@ pub fn check_expr(class: Option<&str>, expr: &Expr) -> Result<(), Malformed>
     }
 }
 
+/// Checks expressions in order.
+///
+/// # Errors
+/// The first of the shapes that the definition of the same name asks for and that is not there.
 #[cycle(shapes)]
 #[tactic(auto, using(crate::proofs::Checks::checks))]
 pub fn check_exprs(class: Option<&str>, items: &[Expr]) -> Result<(), Malformed>
@@ -81,6 +89,10 @@ pub fn check_exprs(class: Option<&str>, items: &[Expr]) -> Result<(), Malformed>
     Ok(())
 }
 
+/// Checks an expression, where there is one.
+///
+/// # Errors
+/// The first of the shapes that the definition of the same name asks for and that is not there.
 #[cycle(shapes)]
 #[tactic(auto, using(crate::proofs::Checks::checks))]
 pub fn check_optional(class: Option<&str>, value: &Option<Box<Expr>>) -> Result<(), Malformed>
@@ -206,6 +218,10 @@ fn check_key(class: Option<&str>, key: &Option<Expr>) -> Result<(), Malformed>
     }
 }
 
+/// Checks the keywords of a call or a class, in order.
+///
+/// # Errors
+/// The first of the shapes that the definition of the same name asks for and that is not there.
 #[cycle(shapes)]
 #[tactic(auto, using(crate::proofs::Checks::checks))]
 pub fn check_keywords(class: Option<&str>, items: &[Keyword]) -> Result<(), Malformed>
@@ -248,6 +264,9 @@ fn check_generator(class: Option<&str>, clause: &Comprehension) -> Result<(), Ma
 }
 
 /// The parameters of a function: what is wrong of all of them, and then of each.
+///
+/// # Errors
+/// The first of the shapes that the definition of the same name asks for and that is not there.
 #[cycle(shapes)]
 #[tactic(auto, using(crate::proofs::Checks::checks))]
 pub fn check_arguments(class: Option<&str>, params: &Arguments) -> Result<(), Malformed>

@@ -1,3 +1,4 @@
+//! The shapes of the parts of statements.
 ghost use Rattle.std.specs.Prelude.{◌≡◌, ◌++◌};
 ghost use Rattle.std.specs.Option.{option_copied};
 ghost use Rattle.py_shapes.specs.Valid.{checked, expr_shapes, opt_expr_shapes, type_params_shapes, type_param_shapes, with_items_shapes};
@@ -7,6 +8,10 @@ use crate::checks_exprs::{check_expr, check_optional};
 use crate::names::check_name;
 use py_tree::{Malformed, TypeParam, WithItem};
 
+/// Checks type parameters in order.
+///
+/// # Errors
+/// The first of the shapes that the definition of the same name asks for and that is not there.
 #[tactic(auto, using(crate::proofs::Steps::type_params_step))]
 pub fn check_type_params(class: Option<&str>, items: &[TypeParam]) -> Result<(), Malformed>
     ensures { result ≡ checked (type_params_shapes (option_copied class.entry) (view.type_params items.now)) }
@@ -32,6 +37,9 @@ fn check_type_param(class: Option<&str>, item: &TypeParam) -> Result<(), Malform
 }
 
 /// What a `with` enters.
+///
+/// # Errors
+/// The first of the shapes that the definition of the same name asks for and that is not there.
 #[tactic(auto, using(crate::proofs::Steps::items_step))]
 pub fn check_items(class: Option<&str>, items: &[WithItem]) -> Result<(), Malformed>
     ensures { result ≡ checked (with_items_shapes (option_copied class.entry) (view.with_items items.now)) }

@@ -1,3 +1,4 @@
+//! The shapes of statements.
 ghost use Rattle.std.specs.Prelude.{◌≡◌, ◌++◌};
 ghost use Rattle.std.specs.Option.{option_copied};
 ghost use Rattle.py_shapes.specs.Valid.{cases_shapes, checked, handlers_shapes, handler_own_shapes, opt_expr_shapes, stmts_shapes, stmt_shapes};
@@ -17,6 +18,9 @@ use py_tree::{
 };
 
 /// The first wrong shape of the statements, in a class or in none.
+///
+/// # Errors
+/// The first of the shapes that the definition of the same name asks for and that is not there.
 #[cycle(body)]
 #[tactic(auto, using(crate::proofs::Checks::checks))]
 pub fn check_stmts(class: Option<&str>, body: &[Stmt]) -> Result<(), Malformed>

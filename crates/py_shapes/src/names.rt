@@ -34,6 +34,10 @@ fn has_empty_segment(path: &Text) -> bool
     fresh
 }
 
+/// A name is not empty.
+///
+/// # Errors
+/// The first of the shapes that the definition of the same name asks for and that is not there.
 pub fn check_name(id: &Text) -> Result<(), Malformed>
     ensures { result ≡ checked (name_shapes id.now) }
 {
@@ -46,6 +50,10 @@ pub fn check_name(id: &Text) -> Result<(), Malformed>
     Ok(())
 }
 
+/// A name, where there is one, is not empty.
+///
+/// # Errors
+/// The first of the shapes that the definition of the same name asks for and that is not there.
 pub fn check_optional_name(name: &Option<Text>) -> Result<(), Malformed>
     ensures { result ≡ checked (opt_name_shapes name.now) }
 {
@@ -56,6 +64,9 @@ pub fn check_optional_name(name: &Option<Text>) -> Result<(), Malformed>
 }
 
 /// The names of one node: an empty one counts before a dot in another.
+///
+/// # Errors
+/// The first of the shapes that the definition of the same name asks for and that is not there.
 pub fn check_names(names: &[Text]) -> Result<(), Malformed>
     ensures { result ≡ checked (names_shapes names.now) }
 {
@@ -81,6 +92,9 @@ fn some_have_dots(names: &[Text]) -> bool
 }
 
 /// The module that names are taken from.
+///
+/// # Errors
+/// The first of the shapes that the definition of the same name asks for and that is not there.
 pub fn check_module(path: &Option<Text>) -> Result<(), Malformed>
     ensures { result ≡ checked (path_shapes path.now) }
 {
@@ -91,6 +105,9 @@ pub fn check_module(path: &Option<Text>) -> Result<(), Malformed>
 }
 
 /// Names that are taken from a module.
+///
+/// # Errors
+/// The first of the shapes that the definition of the same name asks for and that is not there.
 #[tactic(auto, using(crate::proofs::Checks::checks))]
 pub fn check_aliases(names: &[Alias]) -> Result<(), Malformed>
     ensures { result ≡ checked (aliases_shapes names.now) }
@@ -114,6 +131,9 @@ fn check_alias(alias: &Alias) -> Result<(), Malformed>
 }
 
 /// Modules that are imported by their paths.
+///
+/// # Errors
+/// The first of the shapes that the definition of the same name asks for and that is not there.
 #[tactic(auto, using(crate::proofs::Checks::checks))]
 pub fn check_imports(names: &[Alias]) -> Result<(), Malformed>
     ensures { result ≡ checked (imports_shapes names.now) }

@@ -9,6 +9,9 @@ ghost use Rattle.py_tree.specs.View as view;
 use py_tree::{Comprehension, Expr, Malformed, Text};
 
 /// There are some operands or operators.
+///
+/// # Errors
+/// The first of the shapes that the definition of the same name asks for and that is not there.
 pub fn check_operands(count: usize) -> Result<(), Malformed>
     ensures { result ≡ checked (when (nat_eq count 0) NoOperand) }
 {
@@ -19,6 +22,9 @@ pub fn check_operands(count: usize) -> Result<(), Malformed>
 }
 
 /// There are some targets.
+///
+/// # Errors
+/// The first of the shapes that the definition of the same name asks for and that is not there.
 pub fn check_targets(count: usize) -> Result<(), Malformed>
     ensures { result ≡ checked (when (nat_eq count 0) NoTarget) }
 {
@@ -29,6 +35,9 @@ pub fn check_targets(count: usize) -> Result<(), Malformed>
 }
 
 /// There are some clauses of a comprehension.
+///
+/// # Errors
+/// The first of the shapes that the definition of the same name asks for and that is not there.
 #[tactic(auto, using(crate::proofs::Checks::generators_given))]
 pub fn check_generators_given(clauses: &[Comprehension]) -> Result<(), Malformed>
     ensures { result ≡ checked (when (not (has_generator (view.generators view.expr_tree clauses.now))) NoGenerator) }
@@ -40,6 +49,9 @@ pub fn check_generators_given(clauses: &[Comprehension]) -> Result<(), Malformed
 }
 
 /// Two lists are of one length.
+///
+/// # Errors
+/// The first of the shapes that the definition of the same name asks for and that is not there.
 pub fn check_even(left: usize, right: usize) -> Result<(), Malformed>
     ensures { result ≡ checked (when (not (nat_eq left right)) UnevenLists) }
 {
@@ -50,6 +62,9 @@ pub fn check_even(left: usize, right: usize) -> Result<(), Malformed>
 }
 
 /// A cause has an exception.
+///
+/// # Errors
+/// The first of the shapes that the definition of the same name asks for and that is not there.
 pub fn check_cause(exc: &Option<Box<Expr>>, cause: &Option<Box<Expr>>) -> Result<(), Malformed>
     ensures { result ≡ checked (when (is_given (view.opt_box view.expr_tree cause.now) && not (is_given (view.opt_box view.expr_tree exc.now))) CauseAlone) }
 {
@@ -60,6 +75,9 @@ pub fn check_cause(exc: &Option<Box<Expr>>, cause: &Option<Box<Expr>>) -> Result
 }
 
 /// A handler with a name has a type.
+///
+/// # Errors
+/// The first of the shapes that the definition of the same name asks for and that is not there.
 pub fn check_handler_type(type_: &Option<Box<Expr>>, name: &Option<Text>) -> Result<(), Malformed>
     ensures { result ≡ checked (when (opt_any (λ id. true) name.now && not (is_given (view.opt_box view.expr_tree type_.now))) NameWithoutType) }
 {

@@ -171,6 +171,9 @@ fn wrong_order(params: &Arguments) -> bool
 }
 
 /// What is wrong of the parameters together.
+///
+/// # Errors
+/// The first of the shapes that the definition of the same name asks for and that is not there.
 pub fn check_parameters(class: Option<&str>, params: &Arguments) -> Result<(), Malformed>
     ensures { result ≡ checked (parameters_shapes (option_copied class.entry) (view.arguments view.expr_tree params.now)) }
 {

@@ -1,3 +1,4 @@
+//! Whether a tree has the shapes that a parser gives.
 ghost use Rattle.std.specs.Prelude.{◌≡◌, ◌+◌, ◌<◌, ◌^◌, None};
 ghost use Rattle.py_limits.specs.Nesting.{expr_nesting, nesting};
 ghost use Rattle.py_tree.specs.Tree as tree;

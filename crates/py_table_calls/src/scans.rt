@@ -1,9 +1,9 @@
 //! The scans as calls of the table that they answer.
 ghost use Rattle.std.specs.Prelude.{◌≡◌, [], IfErr, IfOk, OnOk, Some};
 ghost use Rattle.py_tree.specs.View.{expr_tree, stmt_tree, stmts};
-ghost use Rattle.py_uses.specs.Goes.{IsPlaced};
+ghost use Rattle.py_uses.specs.Goes.{IsTextOrMemory};
 ghost use Rattle.py_scan.specs.Scan as scanned;
-ghost use Rattle.py_tables.specs.Tables.{IsFirst, body_faults, expr_faults, program_faults, table_of, value_faults};
+ghost use Rattle.py_tables.specs.Tables.{IsFirst, IsPlaced, body_faults, expr_faults, program_faults, table_of, value_faults};
 ghost use Rattle.py_tables.specs.Following.{Follows};
 
 use py_scope::{SymbolTable, SymbolTableError};
@@ -64,7 +64,7 @@ impl Scan for SymbolTable {
         ensures follows { IfOk result (λ table. Follows (scanned.scan_program (stmts stmt_tree program.now)) table) }
         ensures clean { OnOk result (body_faults (stmts stmt_tree program.now) ≡ []) }
         ensures first { IfErr result (λ e. IsFirst e (body_faults (stmts stmt_tree program.now))) }
-        ensures placed { IfErr result IsPlaced }
+        ensures told { IfErr result IsTextOrMemory }
     {
         symboltable::scan_body(alloc, program)
     }
@@ -74,7 +74,7 @@ impl Scan for SymbolTable {
         ensures follows { IfOk result (λ table. Follows (scanned.scan_value (expr_tree expr.now)) table) }
         ensures clean { OnOk result (value_faults (expr_tree expr.now) ≡ []) }
         ensures first { IfErr result (λ e. IsFirst e (value_faults (expr_tree expr.now))) }
-        ensures placed { IfErr result IsPlaced }
+        ensures told { IfErr result IsTextOrMemory }
     {
         symboltable::scan_value(alloc, expr)
     }

@@ -1,3 +1,4 @@
+//! Why an annotation has no text.
 use std::alloc::AllocError;
 use thiserror::Error;
 

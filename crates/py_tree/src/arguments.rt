@@ -1,3 +1,4 @@
+//! Parameters of functions and lambdas.
 ghost use Rattle.std.specs.Prelude.{◌≡◌, ◌++◌, slice_get, length};
 ghost use Rattle.std.specs.Option.{option_copied, is_some};
 ghost use Rattle.py_tree.specs.Parameters.{defaults_of, has_default, parted};

@@ -1,3 +1,4 @@
+//! What Python calls an expression that is no target.
 ghost use Rattle.std.specs.Prelude.{◌≡◌};
 ghost use Rattle.py_tree.specs.PythonName.{is_joined, literal_name, python_name, some_joined};
 ghost use Rattle.py_tree.specs.View.{exprs, expr_tree, literal_of};

@@ -1,3 +1,4 @@
+//! Statements.
 ghost use Rattle.std.specs.Prelude.{◌≡◌};
 ghost use Rattle.py_tree.specs.Tree.{stmt_location, type_param_location};
 ghost use Rattle.py_tree.specs.View.{stmt_tree, type_param_tree};
@@ -52,6 +53,7 @@ pub struct StmtFunctionDefOf<S> {
     pub type_params: List<TypeParam>,
 }
 
+/// `StmtFunctionDefOf` of a tree: what stands in it is a `Stmt`.
 pub type StmtFunctionDef = StmtFunctionDefOf<Stmt>;
 
 /// `async def name(args): body`.
@@ -66,6 +68,7 @@ pub struct StmtAsyncFunctionDefOf<S> {
     pub type_params: List<TypeParam>,
 }
 
+/// `StmtAsyncFunctionDefOf` of a tree: what stands in it is a `Stmt`.
 pub type StmtAsyncFunctionDef = StmtAsyncFunctionDefOf<Stmt>;
 
 /// `class name(bases, keywords): body`.
@@ -80,6 +83,7 @@ pub struct StmtClassDefOf<S> {
     pub type_params: List<TypeParam>,
 }
 
+/// `StmtClassDefOf` of a tree: what stands in it is a `Stmt`.
 pub type StmtClassDef = StmtClassDefOf<Stmt>;
 
 /// `return value`.
@@ -89,6 +93,7 @@ pub struct StmtReturnOf<E> {
     pub value: Option<Box<E>>,
 }
 
+/// `StmtReturnOf` of a tree: what stands in it is an `Expr`.
 pub type StmtReturn = StmtReturnOf<Expr>;
 
 /// `del targets`.
@@ -98,6 +103,7 @@ pub struct StmtDeleteOf<E> {
     pub targets: List<E>,
 }
 
+/// `StmtDeleteOf` of a tree: what stands in it is an `Expr`.
 pub type StmtDelete = StmtDeleteOf<Expr>;
 
 /// `target = value`, for each of the targets.
@@ -108,6 +114,7 @@ pub struct StmtAssignOf<E> {
     pub value: Box<E>,
 }
 
+/// `StmtAssignOf` of a tree: what stands in it is an `Expr`.
 pub type StmtAssign = StmtAssignOf<Expr>;
 
 /// `type name = value`.
@@ -119,6 +126,7 @@ pub struct StmtTypeAliasOf<E> {
     pub value: Box<E>,
 }
 
+/// `StmtTypeAliasOf` of a tree: what stands in it is an `Expr`.
 pub type StmtTypeAlias = StmtTypeAliasOf<Expr>;
 
 /// `target op= value`.
@@ -130,6 +138,7 @@ pub struct StmtAugAssignOf<E> {
     pub value: Box<E>,
 }
 
+/// `StmtAugAssignOf` of a tree: what stands in it is an `Expr`.
 pub type StmtAugAssign = StmtAugAssignOf<Expr>;
 
 /// `target: annotation = value`. It is simple where the target is a name without parentheses.
@@ -142,6 +151,7 @@ pub struct StmtAnnAssignOf<E> {
     pub simple: bool,
 }
 
+/// `StmtAnnAssignOf` of a tree: what stands in it is an `Expr`.
 pub type StmtAnnAssign = StmtAnnAssignOf<Expr>;
 
 /// `for target in iter: body`, with an else part.
@@ -154,6 +164,7 @@ pub struct StmtForOf<S> {
     pub orelse: List<S>,
 }
 
+/// `StmtForOf` of a tree: what stands in it is a `Stmt`.
 pub type StmtFor = StmtForOf<Stmt>;
 
 /// `async for target in iter: body`, with an else part.
@@ -166,6 +177,7 @@ pub struct StmtAsyncForOf<S> {
     pub orelse: List<S>,
 }
 
+/// `StmtAsyncForOf` of a tree: what stands in it is a `Stmt`.
 pub type StmtAsyncFor = StmtAsyncForOf<Stmt>;
 
 /// `while test: body`, with an else part.
@@ -177,6 +189,7 @@ pub struct StmtWhileOf<S> {
     pub orelse: List<S>,
 }
 
+/// `StmtWhileOf` of a tree: what stands in it is a `Stmt`.
 pub type StmtWhile = StmtWhileOf<Stmt>;
 
 /// `if test: body`, with an else part.
@@ -188,6 +201,7 @@ pub struct StmtIfOf<S> {
     pub orelse: List<S>,
 }
 
+/// `StmtIfOf` of a tree: what stands in it is a `Stmt`.
 pub type StmtIf = StmtIfOf<Stmt>;
 
 /// `with items: body`.
@@ -198,6 +212,7 @@ pub struct StmtWithOf<S> {
     pub body: List<S>,
 }
 
+/// `StmtWithOf` of a tree: what stands in it is a `Stmt`.
 pub type StmtWith = StmtWithOf<Stmt>;
 
 /// `async with items: body`.
@@ -208,6 +223,7 @@ pub struct StmtAsyncWithOf<S> {
     pub body: List<S>,
 }
 
+/// `StmtAsyncWithOf` of a tree: what stands in it is a `Stmt`.
 pub type StmtAsyncWith = StmtAsyncWithOf<Stmt>;
 
 /// `match subject: cases`.
@@ -218,6 +234,7 @@ pub struct StmtMatchOf<S> {
     pub cases: List<MatchCaseOf<S>>,
 }
 
+/// `StmtMatchOf` of a tree: what stands in it is a `Stmt`.
 pub type StmtMatch = StmtMatchOf<Stmt>;
 
 /// `raise exc from cause`.
@@ -228,6 +245,7 @@ pub struct StmtRaiseOf<E> {
     pub cause: Option<Box<E>>,
 }
 
+/// `StmtRaiseOf` of a tree: what stands in it is an `Expr`.
 pub type StmtRaise = StmtRaiseOf<Expr>;
 
 /// `try: body`, with its handlers, an else part and a `finally` part.
@@ -240,6 +258,7 @@ pub struct StmtTryOf<S> {
     pub finalbody: List<S>,
 }
 
+/// `StmtTryOf` of a tree: what stands in it is a `Stmt`.
 pub type StmtTry = StmtTryOf<Stmt>;
 
 /// `try: body`, with handlers `except*`.
@@ -252,6 +271,7 @@ pub struct StmtTryStarOf<S> {
     pub finalbody: List<S>,
 }
 
+/// `StmtTryStarOf` of a tree: what stands in it is a `Stmt`.
 pub type StmtTryStar = StmtTryStarOf<Stmt>;
 
 /// `assert test, msg`.
@@ -262,6 +282,7 @@ pub struct StmtAssertOf<E> {
     pub msg: Option<Box<E>>,
 }
 
+/// `StmtAssertOf` of a tree: what stands in it is an `Expr`.
 pub type StmtAssert = StmtAssertOf<Expr>;
 
 /// `import names`.
@@ -301,6 +322,7 @@ pub struct StmtExprOf<E> {
     pub value: Box<E>,
 }
 
+/// `StmtExprOf` of a tree: what stands in it is an `Expr`.
 pub type StmtExpr = StmtExprOf<Expr>;
 
 /// A statement that does nothing.
@@ -328,6 +350,7 @@ pub struct WithItemOf<E> {
     pub optional_vars: Option<Box<E>>,
 }
 
+/// `WithItemOf` of a tree: what stands in it is an `Expr`.
 pub type WithItem = WithItemOf<Expr>;
 
 /// `except type_ as name: body`.
@@ -338,6 +361,7 @@ pub struct ExceptHandlerOf<S> {
     pub body: List<S>,
 }
 
+/// `ExceptHandlerOf` of a tree: what stands in it is a `Stmt`.
 pub type ExceptHandler = ExceptHandlerOf<Stmt>;
 
 /// A `case` of a `match`, without its pattern.
@@ -346,6 +370,7 @@ pub struct MatchCaseOf<S> {
     pub body: List<S>,
 }
 
+/// `MatchCaseOf` of a tree: what stands in it is a `Stmt`.
 pub type MatchCase = MatchCaseOf<Stmt>;
 
 /// A module or a name that is imported, as `name as asname`.

@@ -1,5 +1,5 @@
 //! The calls of py_scope on values with known answers.
-ghost use Rattle.std.specs.Prelude.{◌≡◌, ◌<◌, length};
+ghost use Rattle.std.specs.Prelude.{◌≡◌, ◌<◌, length, slice_set};
 
 use crate::programs::PROGRAMS;
 use crate::scans::table_of;
@@ -55,11 +55,20 @@ fn count(stack: &mut StackStack<u32>) -> usize
     stack.len()
 }
 
+/// Writes 9 in the place of the first value.
+fn write_nine(stack: &mut StackStack<u32>)
+    requires { 0 < length stack.old }
+    ensures { stack.new ≡ slice_set stack.old 0 9 }
+{
+    stack.as_mut()[0] = 9;
+}
+
 #[test]
 fn lent_stack(rt: HostRuntime) -> Result<(), Fail> {
     let mut stack = StackStack::new(rt.alloc());
     assert_eq!(rt; stack.with_append(7u32, count), Ok((1, 7)));
     assert_eq!(rt; stack.len(), 0);
+    assert_eq!(rt; stack.with_append(7u32, write_nine), Ok(((), 9)));
     Ok(())
 }
 
