@@ -3,7 +3,7 @@ ghost use Rattle.std.specs.Prelude.{◌≡◌, IfErr, OnOk};
 ghost use Rattle.py_tree.specs.View.{arg, args, arguments, attribute_tree, await_tree, bin_op_tree, bool_op_tree, call_tree, compare_tree, dict_comp_tree, dict_tree, expr_tree, exprs, formatted_value_tree, generator_exp_tree, generators, if_exp_tree, joined_str_tree, keywords, lambda_tree, list_comp_tree, list_tree, name_tree, named_expr_tree, opt_arg, opt_box, opt_expr, opt_exprs, set_comp_tree, set_tree, slice_tree, starred_tree, subscript_tree, tuple_tree, unary_op_tree, yield_from_tree, yield_tree};
 ghost use Rattle.py_uses.specs.declared.usage.Usage.TheVariants.{Load, Iterable, Target, Walrus};
 ghost use Rattle.py_scope.specs.Scanned.{IsWithin};
-ghost use Rattle.py_uses.specs.Goes.{Goes, IsPlaced, state};
+ghost use Rattle.py_uses.specs.Goes.{Goes, IsTextOrMemory, state};
 ghost use Rattle.py_uses.specs.Steps.{◌▸◌, unless_postponed};
 ghost use Rattle.py_uses.specs.Parts.{passed_on, plain_name, use_parameter, use_opt_parameter, use_parameters, use_parameters_in, walrus_target};
 ghost use Rattle.py_scan.specs.Scan.{all_steps, begin_comprehension, comprehension, key_steps, pairwise, scan_annotation, scan_annotations, scan_annotations_in, scan_clauses, scan_defaults, scan_defaults_in, scan_expr, scan_exprs, scan_inner_clauses, scan_keywords, scan_opt, scan_opt_annotation, scan_outermost};
@@ -27,7 +27,7 @@ use py_uses::{Scan, Usage};
 #[tactic(auto, using(py_tree::proofs::View::trees))]
 pub fn scan_expr(scan: &mut Scan, usage: Usage, expr: &Expr) -> Result<(), SymbolTableError>
     ensures goes { Goes result (state scan.new) (scan_expr usage (expr_tree expr.now) (state scan.old)) }
-    ensures placed { IfErr result IsPlaced }
+    ensures told { IfErr result IsTextOrMemory }
 {
     match expr {
         Expr::BoolOp(e) => scan_exprs(scan, usage, e.values.as_slice()),
@@ -61,10 +61,13 @@ pub fn scan_expr(scan: &mut Scan, usage: Usage, expr: &Expr) -> Result<(), Symbo
 }
 
 /// Scans expressions one after the other.
+///
+/// # Errors
+/// The first fault of the scan, at its place; or OutOfMemory.
 #[cycle(scan)]
 pub fn scan_exprs(scan: &mut Scan, usage: Usage, items: &[Expr]) -> Result<(), SymbolTableError>
     ensures goes { Goes result (state scan.new) (scan_exprs usage (exprs expr_tree items.now) (state scan.old)) }
-    ensures placed { IfErr result IsPlaced }
+    ensures told { IfErr result IsTextOrMemory }
 {
     for item in items {
         scan_expr(scan, usage, item)?;
@@ -73,6 +76,9 @@ pub fn scan_exprs(scan: &mut Scan, usage: Usage, items: &[Expr]) -> Result<(), S
 }
 
 /// Scans an expression that may be missing.
+///
+/// # Errors
+/// The first fault of the scan, at its place; or OutOfMemory.
 #[cycle(scan)]
 pub fn scan_opt(
     scan: &mut Scan,
@@ -80,7 +86,7 @@ pub fn scan_opt(
     value: &Option<Box<Expr>>,
 ) -> Result<(), SymbolTableError>
     ensures goes { Goes result (state scan.new) (scan_opt usage (opt_box expr_tree value.now) (state scan.old)) }
-    ensures placed { IfErr result IsPlaced }
+    ensures told { IfErr result IsTextOrMemory }
 {
     match value {
         Some(e) => scan_expr(scan, usage, e),
@@ -92,7 +98,7 @@ pub fn scan_opt(
 #[cycle(scan)]
 fn scan_named_expr(scan: &mut Scan, usage: Usage, e: &ExprNamedExpr) -> Result<(), SymbolTableError>
     ensures goes { Goes result (state scan.new) (scan_expr usage (named_expr_tree e.now) (state scan.old)) }
-    ensures placed { IfErr result IsPlaced }
+    ensures told { IfErr result IsTextOrMemory }
 {
     scan.check_iterable(usage, e.target.location())?;
     scan.check_holder(e.location)?;
@@ -105,7 +111,7 @@ fn scan_named_expr(scan: &mut Scan, usage: Usage, e: &ExprNamedExpr) -> Result<(
 #[tactic(auto, using(py_tree::proofs::View::trees))]
 fn scan_walrus_target(scan: &mut Scan, e: &ExprNamedExpr) -> Result<(), SymbolTableError>
     ensures goes { Goes result (state scan.new) (walrus_target (plain_name (expr_tree e.now.target.value)) e.now.location (scan_expr Walrus (expr_tree e.now.target.value)) (state scan.old)) }
-    ensures placed { IfErr result IsPlaced }
+    ensures told { IfErr result IsTextOrMemory }
 {
     match &*e.target {
         Expr::Name(name) => scan.use_name(Role::Walrus, &name.id, e.location),
@@ -116,7 +122,7 @@ fn scan_walrus_target(scan: &mut Scan, e: &ExprNamedExpr) -> Result<(), SymbolTa
 #[cycle(scan)]
 fn scan_bin_op(scan: &mut Scan, usage: Usage, e: &ExprBinOp) -> Result<(), SymbolTableError>
     ensures goes { Goes result (state scan.new) (scan_expr usage (bin_op_tree e.now) (state scan.old)) }
-    ensures placed { IfErr result IsPlaced }
+    ensures told { IfErr result IsTextOrMemory }
 {
     scan_expr(scan, usage, &e.left)?;
     scan_expr(scan, usage, &e.right)
@@ -136,7 +142,7 @@ fn passed_on(usage: Usage) -> Usage
 #[cycle(scan)]
 fn scan_lambda(scan: &mut Scan, usage: Usage, e: &ExprLambda) -> Result<(), SymbolTableError>
     ensures goes { Goes result (state scan.new) (scan_expr usage (lambda_tree e.now) (state scan.old)) }
-    ensures placed { IfErr result IsPlaced }
+    ensures told { IfErr result IsTextOrMemory }
 {
     scan_defaults(scan, &e.args)?;
     scan.enter(SymbolTableType::Function, "lambda", e.location)?;
@@ -149,7 +155,7 @@ fn scan_lambda(scan: &mut Scan, usage: Usage, e: &ExprLambda) -> Result<(), Symb
 #[cycle(scan)]
 fn scan_if_exp(scan: &mut Scan, e: &ExprIfExp) -> Result<(), SymbolTableError>
     ensures goes { Goes result (state scan.new) (scan_expr Load (if_exp_tree e.now) (state scan.old)) }
-    ensures placed { IfErr result IsPlaced }
+    ensures told { IfErr result IsTextOrMemory }
 {
     scan_expr(scan, Usage::Load, &e.test)?;
     scan_expr(scan, Usage::Load, &e.body)?;
@@ -160,7 +166,7 @@ fn scan_if_exp(scan: &mut Scan, e: &ExprIfExp) -> Result<(), SymbolTableError>
 #[cycle(scan)]
 fn scan_dict(scan: &mut Scan, usage: Usage, e: &ExprDict) -> Result<(), SymbolTableError>
     ensures goes { Goes result (state scan.new) (scan_expr usage (dict_tree e.now) (state scan.old)) }
-    ensures placed { IfErr result IsPlaced }
+    ensures told { IfErr result IsTextOrMemory }
 {
     let keys = e.keys.as_slice();
     let values = e.values.as_slice();
@@ -176,7 +182,7 @@ fn scan_dict(scan: &mut Scan, usage: Usage, e: &ExprDict) -> Result<(), SymbolTa
 #[cycle(scan)]
 fn scan_key(scan: &mut Scan, usage: Usage, key: &Option<Expr>) -> Result<(), SymbolTableError>
     ensures goes { Goes result (state scan.new) (scan_opt usage (opt_expr expr_tree key.now) (state scan.old)) }
-    ensures placed { IfErr result IsPlaced }
+    ensures told { IfErr result IsTextOrMemory }
 {
     match key {
         Some(e) => scan_expr(scan, usage, e),
@@ -187,7 +193,7 @@ fn scan_key(scan: &mut Scan, usage: Usage, key: &Option<Expr>) -> Result<(), Sym
 #[cycle(scan)]
 fn scan_list_comp(scan: &mut Scan, e: &ExprListComp) -> Result<(), SymbolTableError>
     ensures goes { Goes result (state scan.new) (scan_expr Load (list_comp_tree e.now) (state scan.old)) }
-    ensures placed { IfErr result IsPlaced }
+    ensures told { IfErr result IsTextOrMemory }
 {
     begin_comprehension(scan, e.location)?;
     scan_clauses(scan, e.generators.as_slice())?;
@@ -199,7 +205,7 @@ fn scan_list_comp(scan: &mut Scan, e: &ExprListComp) -> Result<(), SymbolTableEr
 #[cycle(scan)]
 fn scan_set_comp(scan: &mut Scan, e: &ExprSetComp) -> Result<(), SymbolTableError>
     ensures goes { Goes result (state scan.new) (scan_expr Load (set_comp_tree e.now) (state scan.old)) }
-    ensures placed { IfErr result IsPlaced }
+    ensures told { IfErr result IsTextOrMemory }
 {
     begin_comprehension(scan, e.location)?;
     scan_clauses(scan, e.generators.as_slice())?;
@@ -211,7 +217,7 @@ fn scan_set_comp(scan: &mut Scan, e: &ExprSetComp) -> Result<(), SymbolTableErro
 #[cycle(scan)]
 fn scan_generator_exp(scan: &mut Scan, e: &ExprGeneratorExp) -> Result<(), SymbolTableError>
     ensures goes { Goes result (state scan.new) (scan_expr Load (generator_exp_tree e.now) (state scan.old)) }
-    ensures placed { IfErr result IsPlaced }
+    ensures told { IfErr result IsTextOrMemory }
 {
     begin_comprehension(scan, e.location)?;
     scan_clauses(scan, e.generators.as_slice())?;
@@ -223,7 +229,7 @@ fn scan_generator_exp(scan: &mut Scan, e: &ExprGeneratorExp) -> Result<(), Symbo
 #[cycle(scan)]
 fn scan_dict_comp(scan: &mut Scan, e: &ExprDictComp) -> Result<(), SymbolTableError>
     ensures goes { Goes result (state scan.new) (scan_expr Load (dict_comp_tree e.now) (state scan.old)) }
-    ensures placed { IfErr result IsPlaced }
+    ensures told { IfErr result IsTextOrMemory }
 {
     begin_comprehension(scan, e.location)?;
     scan_clauses(scan, e.generators.as_slice())?;
@@ -237,7 +243,7 @@ fn scan_dict_comp(scan: &mut Scan, e: &ExprDictComp) -> Result<(), SymbolTableEr
 fn begin_comprehension(scan: &mut Scan, at: SourceLocation) -> Result<(), SymbolTableError>
     ensures goes { Goes result (state scan.new) (begin_comprehension at (state scan.old)) }
     ensures within { OnOk result (IsWithin (state scan.new).scopes) }
-    ensures placed { IfErr result IsPlaced }
+    ensures told { IfErr result IsTextOrMemory }
 {
     let again = at;
     scan.enter(SymbolTableType::Comprehension, "genexpr", at)?;
@@ -249,7 +255,7 @@ fn begin_comprehension(scan: &mut Scan, at: SourceLocation) -> Result<(), Symbol
 #[cycle(scan)]
 fn scan_outermost(scan: &mut Scan, clauses: &[Comprehension]) -> Result<(), SymbolTableError>
     ensures goes { Goes result (state scan.new) (scan_outermost (generators expr_tree clauses.now) (state scan.old)) }
-    ensures placed { IfErr result IsPlaced }
+    ensures told { IfErr result IsTextOrMemory }
 {
     match clauses {
         [] => Ok(()),
@@ -261,7 +267,7 @@ fn scan_outermost(scan: &mut Scan, clauses: &[Comprehension]) -> Result<(), Symb
 #[cycle(scan)]
 fn scan_clauses(scan: &mut Scan, clauses: &[Comprehension]) -> Result<(), SymbolTableError>
     ensures goes { Goes result (state scan.new) (scan_clauses (generators expr_tree clauses.now) (state scan.old)) }
-    ensures placed { IfErr result IsPlaced }
+    ensures told { IfErr result IsTextOrMemory }
 {
     match clauses {
         [] => Ok(()),
@@ -276,7 +282,7 @@ fn scan_clauses(scan: &mut Scan, clauses: &[Comprehension]) -> Result<(), Symbol
 #[cycle(scan)]
 fn scan_clause(scan: &mut Scan, clause: &Comprehension) -> Result<(), SymbolTableError>
     ensures goes { Goes result (state scan.new) ((scan_expr Target (expr_tree clause.now.target.value) ▸ scan_exprs Load (exprs expr_tree clause.now.ifs)) (state scan.old)) }
-    ensures placed { IfErr result IsPlaced }
+    ensures told { IfErr result IsTextOrMemory }
 {
     scan_expr(scan, Usage::Target, &clause.target)?;
     scan_exprs(scan, Usage::Load, clause.ifs.as_slice())
@@ -285,7 +291,7 @@ fn scan_clause(scan: &mut Scan, clause: &Comprehension) -> Result<(), SymbolTabl
 #[cycle(scan)]
 fn scan_inner_clauses(scan: &mut Scan, clauses: &[Comprehension]) -> Result<(), SymbolTableError>
     ensures goes { Goes result (state scan.new) (scan_inner_clauses (generators expr_tree clauses.now) (state scan.old)) }
-    ensures placed { IfErr result IsPlaced }
+    ensures told { IfErr result IsTextOrMemory }
 {
     for clause in clauses {
         scan_expr(scan, Usage::Iterable, &clause.iter)?;
@@ -297,7 +303,7 @@ fn scan_inner_clauses(scan: &mut Scan, clauses: &[Comprehension]) -> Result<(), 
 #[cycle(scan)]
 fn scan_yield(scan: &mut Scan, usage: Usage, e: &ExprYield) -> Result<(), SymbolTableError>
     ensures goes { Goes result (state scan.new) (scan_expr usage (yield_tree e.now) (state scan.old)) }
-    ensures placed { IfErr result IsPlaced }
+    ensures told { IfErr result IsTextOrMemory }
 {
     scan.check_yield(e.location)?;
     scan_opt(scan, usage, &e.value)
@@ -306,7 +312,7 @@ fn scan_yield(scan: &mut Scan, usage: Usage, e: &ExprYield) -> Result<(), Symbol
 #[cycle(scan)]
 fn scan_yield_from(scan: &mut Scan, usage: Usage, e: &ExprYieldFrom) -> Result<(), SymbolTableError>
     ensures goes { Goes result (state scan.new) (scan_expr usage (yield_from_tree e.now) (state scan.old)) }
-    ensures placed { IfErr result IsPlaced }
+    ensures told { IfErr result IsTextOrMemory }
 {
     scan.check_yield(e.location)?;
     scan_expr(scan, usage, &e.value)
@@ -315,7 +321,7 @@ fn scan_yield_from(scan: &mut Scan, usage: Usage, e: &ExprYieldFrom) -> Result<(
 #[cycle(scan)]
 fn scan_compare(scan: &mut Scan, usage: Usage, e: &ExprCompare) -> Result<(), SymbolTableError>
     ensures goes { Goes result (state scan.new) (scan_expr usage (compare_tree e.now) (state scan.old)) }
-    ensures placed { IfErr result IsPlaced }
+    ensures told { IfErr result IsTextOrMemory }
 {
     scan_expr(scan, usage, &e.left)?;
     scan_exprs(scan, usage, e.comparators.as_slice())
@@ -324,7 +330,7 @@ fn scan_compare(scan: &mut Scan, usage: Usage, e: &ExprCompare) -> Result<(), Sy
 #[cycle(scan)]
 fn scan_call(scan: &mut Scan, usage: Usage, e: &ExprCall) -> Result<(), SymbolTableError>
     ensures goes { Goes result (state scan.new) (scan_expr usage (call_tree e.now) (state scan.old)) }
-    ensures placed { IfErr result IsPlaced }
+    ensures told { IfErr result IsTextOrMemory }
 {
     scan_expr(scan, passed_on(usage), &e.func)?;
     scan_exprs(scan, Usage::Load, e.args.as_slice())?;
@@ -332,10 +338,13 @@ fn scan_call(scan: &mut Scan, usage: Usage, e: &ExprCall) -> Result<(), SymbolTa
 }
 
 /// Scans the values of keywords.
+///
+/// # Errors
+/// The first fault of the scan, at its place; or OutOfMemory.
 #[cycle(scan)]
 pub fn scan_keywords(scan: &mut Scan, items: &[Keyword]) -> Result<(), SymbolTableError>
     ensures goes { Goes result (state scan.new) (scan_keywords (keywords expr_tree items.now) (state scan.old)) }
-    ensures placed { IfErr result IsPlaced }
+    ensures told { IfErr result IsTextOrMemory }
 {
     for keyword in items {
         scan_expr(scan, Usage::Load, &keyword.value)?;
@@ -346,7 +355,7 @@ pub fn scan_keywords(scan: &mut Scan, items: &[Keyword]) -> Result<(), SymbolTab
 #[cycle(scan)]
 fn scan_formatted_value(scan: &mut Scan, e: &ExprFormattedValue) -> Result<(), SymbolTableError>
     ensures goes { Goes result (state scan.new) (scan_expr Load (formatted_value_tree e.now) (state scan.old)) }
-    ensures placed { IfErr result IsPlaced }
+    ensures told { IfErr result IsTextOrMemory }
 {
     scan_expr(scan, Usage::Load, &e.value)?;
     scan_opt(scan, Usage::Load, &e.format_spec)
@@ -355,7 +364,7 @@ fn scan_formatted_value(scan: &mut Scan, e: &ExprFormattedValue) -> Result<(), S
 #[cycle(scan)]
 fn scan_subscript(scan: &mut Scan, e: &ExprSubscript) -> Result<(), SymbolTableError>
     ensures goes { Goes result (state scan.new) (scan_expr Load (subscript_tree e.now) (state scan.old)) }
-    ensures placed { IfErr result IsPlaced }
+    ensures told { IfErr result IsTextOrMemory }
 {
     scan_expr(scan, Usage::Load, &e.value)?;
     scan_expr(scan, Usage::Load, &e.slice)
@@ -364,7 +373,7 @@ fn scan_subscript(scan: &mut Scan, e: &ExprSubscript) -> Result<(), SymbolTableE
 #[cycle(scan)]
 fn scan_slice(scan: &mut Scan, usage: Usage, e: &ExprSlice) -> Result<(), SymbolTableError>
     ensures goes { Goes result (state scan.new) (scan_expr usage (slice_tree e.now) (state scan.old)) }
-    ensures placed { IfErr result IsPlaced }
+    ensures told { IfErr result IsTextOrMemory }
 {
     scan_opt(scan, usage, &e.lower)?;
     scan_opt(scan, usage, &e.upper)?;
@@ -372,10 +381,13 @@ fn scan_slice(scan: &mut Scan, usage: Usage, e: &ExprSlice) -> Result<(), Symbol
 }
 
 /// Scans the defaults of parameters, in their order.
+///
+/// # Errors
+/// The first fault of the scan, at its place; or OutOfMemory.
 #[cycle(scan)]
 pub fn scan_defaults(scan: &mut Scan, params: &Arguments) -> Result<(), SymbolTableError>
     ensures goes { Goes result (state scan.new) (scan_defaults (arguments expr_tree params.now) (state scan.old)) }
-    ensures placed { IfErr result IsPlaced }
+    ensures told { IfErr result IsTextOrMemory }
 {
     scan_defaults_in(scan, params.posonlyargs.as_slice())?;
     scan_defaults_in(scan, params.args.as_slice())?;
@@ -385,7 +397,7 @@ pub fn scan_defaults(scan: &mut Scan, params: &Arguments) -> Result<(), SymbolTa
 #[cycle(scan)]
 fn scan_defaults_in(scan: &mut Scan, params: &[ArgWithDefault]) -> Result<(), SymbolTableError>
     ensures goes { Goes result (state scan.new) (scan_defaults_in (args expr_tree params.now) (state scan.old)) }
-    ensures placed { IfErr result IsPlaced }
+    ensures told { IfErr result IsTextOrMemory }
 {
     for param in params {
         scan_opt(scan, Usage::Load, &param.default)?;
@@ -394,10 +406,13 @@ fn scan_defaults_in(scan: &mut Scan, params: &[ArgWithDefault]) -> Result<(), Sy
 }
 
 /// Scans the annotations of parameters, in the order of the parameters, unless they are postponed.
+///
+/// # Errors
+/// The first fault of the scan, at its place; or OutOfMemory.
 #[cycle(scan)]
 pub fn scan_annotations(scan: &mut Scan, params: &Arguments) -> Result<(), SymbolTableError>
     ensures goes { Goes result (state scan.new) (scan_annotations (arguments expr_tree params.now) (state scan.old)) }
-    ensures placed { IfErr result IsPlaced }
+    ensures told { IfErr result IsTextOrMemory }
 {
     if scan.postponed {
         return Ok(());
@@ -412,7 +427,7 @@ pub fn scan_annotations(scan: &mut Scan, params: &Arguments) -> Result<(), Symbo
 #[cycle(scan)]
 fn scan_annotations_in(scan: &mut Scan, params: &[ArgWithDefault]) -> Result<(), SymbolTableError>
     ensures goes { Goes result (state scan.new) (scan_annotations_in (args expr_tree params.now) (state scan.old)) }
-    ensures placed { IfErr result IsPlaced }
+    ensures told { IfErr result IsTextOrMemory }
 {
     for param in params {
         scan_opt(scan, Usage::Load, &param.def.annotation)?;
@@ -423,7 +438,7 @@ fn scan_annotations_in(scan: &mut Scan, params: &[ArgWithDefault]) -> Result<(),
 #[cycle(scan)]
 fn scan_opt_annotation(scan: &mut Scan, param: &Option<Box<Arg>>) -> Result<(), SymbolTableError>
     ensures goes { Goes result (state scan.new) (scan_opt_annotation (opt_arg expr_tree param.now) (state scan.old)) }
-    ensures placed { IfErr result IsPlaced }
+    ensures told { IfErr result IsTextOrMemory }
 {
     match param {
         Some(param) => scan_opt(scan, Usage::Load, &param.annotation),

@@ -3,7 +3,7 @@ ghost use Rattle.std.specs.Prelude.{◌≡◌, IfErr};
 ghost use Rattle.py_tree.specs.View.{arguments, async_for_tree, async_function_def_tree, async_with_tree, class_def_tree, expr_tree, exprs, for_tree, function_def_tree, handlers, if_tree, keywords, opt_box, stmt_tree, stmts, try_star_tree, try_tree, type_params, while_tree, with_tree};
 ghost use Rattle.py_scope.specs.declared.table_type.SymbolTableType.TheVariants as scope;
 ghost use Rattle.py_uses.specs.declared.usage.Usage.TheVariants.{Load};
-ghost use Rattle.py_uses.specs.Goes.{Goes, IsPlaced, state};
+ghost use Rattle.py_uses.specs.Goes.{Goes, IsTextOrMemory, state};
 ghost use Rattle.py_uses.specs.Steps.{◌▸◌, inside};
 ghost use Rattle.py_uses.specs.Parts.{in_type_params, use_first_names, use_opt_name, use_parameters};
 ghost use Rattle.py_scan.specs.Scan.{scan_class_scope, scan_class_parts, scan_function_scope, scan_handed_function, scan_handlers, scan_opt, scan_stmt, scan_stmts};
@@ -35,7 +35,7 @@ use py_uses::{Scan, Usage};
 #[tactic(auto, using(py_tree::proofs::View::trees))]
 fn scan_stmt(scan: &mut Scan, stmt: &Stmt) -> Result<(), SymbolTableError>
     ensures goes { Goes result (state scan.new) (scan_stmt (stmt_tree stmt.now) (state scan.old)) }
-    ensures placed { IfErr result IsPlaced }
+    ensures told { IfErr result IsTextOrMemory }
 {
     match stmt {
         Stmt::FunctionDef(s) => scan_function_def(scan, s),
@@ -68,10 +68,13 @@ fn scan_stmt(scan: &mut Scan, stmt: &Stmt) -> Result<(), SymbolTableError>
 }
 
 /// Scans statements one after the other.
+///
+/// # Errors
+/// The first fault of the scan, at its place; or OutOfMemory.
 #[cycle(scan)]
 pub fn scan_stmts(scan: &mut Scan, body: &[Stmt]) -> Result<(), SymbolTableError>
     ensures goes { Goes result (state scan.new) (scan_stmts (stmts stmt_tree body.now) (state scan.old)) }
-    ensures placed { IfErr result IsPlaced }
+    ensures told { IfErr result IsTextOrMemory }
 {
     for stmt in body {
         scan_stmt(scan, stmt)?;
@@ -82,7 +85,7 @@ pub fn scan_stmts(scan: &mut Scan, body: &[Stmt]) -> Result<(), SymbolTableError
 #[cycle(scan)]
 fn scan_function_def(scan: &mut Scan, s: &StmtFunctionDef) -> Result<(), SymbolTableError>
     ensures goes { Goes result (state scan.new) (scan_stmt (function_def_tree s.now) (state scan.old)) }
-    ensures placed { IfErr result IsPlaced }
+    ensures told { IfErr result IsTextOrMemory }
 {
     check_type_params(scan, s.type_params.as_slice())?;
     scan_exprs(scan, Usage::Load, s.decorator_list.as_slice())?;
@@ -101,7 +104,7 @@ fn scan_generic_function(
     s: &StmtFunctionDef,
 ) -> Result<(), SymbolTableError>
     ensures goes { Goes result (state scan.new) (in_type_params generic s.now.name s.now.location (scan_handed_function generic s.now.location s.now.name (arguments expr_tree s.now.args.value) (scan_stmts (stmts stmt_tree s.now.body)) (opt_box expr_tree s.now.returns) (type_params s.now.type_params)) (state scan.old)) }
-    ensures placed { IfErr result IsPlaced }
+    ensures told { IfErr result IsTextOrMemory }
 {
     enter_type_params(scan, generic, s.name.as_str(), s.location)?;
     scan_handed_function(scan, generic, s)?;
@@ -115,7 +118,7 @@ fn scan_handed_function(
     s: &StmtFunctionDef,
 ) -> Result<(), SymbolTableError>
     ensures goes { Goes result (state scan.new) (scan_handed_function generic s.now.location s.now.name (arguments expr_tree s.now.args.value) (scan_stmts (stmts stmt_tree s.now.body)) (opt_box expr_tree s.now.returns) (type_params s.now.type_params) (state scan.old)) }
-    ensures placed { IfErr result IsPlaced }
+    ensures told { IfErr result IsTextOrMemory }
 {
     use_handed_defaults(scan, generic, &s.args, &s.location)?;
     scan_type_params(scan, s.type_params.as_slice())?;
@@ -125,7 +128,7 @@ fn scan_handed_function(
 #[cycle(scan)]
 fn scan_function_scope(scan: &mut Scan, s: &StmtFunctionDef) -> Result<(), SymbolTableError>
     ensures goes { Goes result (state scan.new) (scan_function_scope s.now.location s.now.name (arguments expr_tree s.now.args.value) (scan_stmts (stmts stmt_tree s.now.body)) (opt_box expr_tree s.now.returns) (state scan.old)) }
-    ensures placed { IfErr result IsPlaced }
+    ensures told { IfErr result IsTextOrMemory }
 {
     scan_function_body(scan, s)?;
     scan_returns(scan, &s.returns)?;
@@ -136,7 +139,7 @@ fn scan_function_scope(scan: &mut Scan, s: &StmtFunctionDef) -> Result<(), Symbo
 #[cycle(scan)]
 fn scan_function_body(scan: &mut Scan, s: &StmtFunctionDef) -> Result<(), SymbolTableError>
     ensures goes { Goes result (state scan.new) (inside scope.Function s.now.name s.now.location (use_parameters (arguments expr_tree s.now.args.value) ▸ scan_stmts (stmts stmt_tree s.now.body)) (state scan.old)) }
-    ensures placed { IfErr result IsPlaced }
+    ensures told { IfErr result IsTextOrMemory }
 {
     scan.enter(SymbolTableType::Function, s.name.as_str(), s.location)?;
     use_parameters(scan, &s.args)?;
@@ -150,7 +153,7 @@ fn scan_async_function_def(
     s: &StmtAsyncFunctionDef,
 ) -> Result<(), SymbolTableError>
     ensures goes { Goes result (state scan.new) (scan_stmt (async_function_def_tree s.now) (state scan.old)) }
-    ensures placed { IfErr result IsPlaced }
+    ensures told { IfErr result IsTextOrMemory }
 {
     check_type_params(scan, s.type_params.as_slice())?;
     scan_exprs(scan, Usage::Load, s.decorator_list.as_slice())?;
@@ -169,7 +172,7 @@ fn scan_generic_async_function(
     s: &StmtAsyncFunctionDef,
 ) -> Result<(), SymbolTableError>
     ensures goes { Goes result (state scan.new) (in_type_params generic s.now.name s.now.location (scan_handed_function generic s.now.location s.now.name (arguments expr_tree s.now.args.value) (scan_stmts (stmts stmt_tree s.now.body)) (opt_box expr_tree s.now.returns) (type_params s.now.type_params)) (state scan.old)) }
-    ensures placed { IfErr result IsPlaced }
+    ensures told { IfErr result IsTextOrMemory }
 {
     enter_type_params(scan, generic, s.name.as_str(), s.location)?;
     scan_handed_async_function(scan, generic, s)?;
@@ -183,7 +186,7 @@ fn scan_handed_async_function(
     s: &StmtAsyncFunctionDef,
 ) -> Result<(), SymbolTableError>
     ensures goes { Goes result (state scan.new) (scan_handed_function generic s.now.location s.now.name (arguments expr_tree s.now.args.value) (scan_stmts (stmts stmt_tree s.now.body)) (opt_box expr_tree s.now.returns) (type_params s.now.type_params) (state scan.old)) }
-    ensures placed { IfErr result IsPlaced }
+    ensures told { IfErr result IsTextOrMemory }
 {
     use_handed_defaults(scan, generic, &s.args, &s.location)?;
     scan_type_params(scan, s.type_params.as_slice())?;
@@ -196,7 +199,7 @@ fn scan_async_function_scope(
     s: &StmtAsyncFunctionDef,
 ) -> Result<(), SymbolTableError>
     ensures goes { Goes result (state scan.new) (scan_function_scope s.now.location s.now.name (arguments expr_tree s.now.args.value) (scan_stmts (stmts stmt_tree s.now.body)) (opt_box expr_tree s.now.returns) (state scan.old)) }
-    ensures placed { IfErr result IsPlaced }
+    ensures told { IfErr result IsTextOrMemory }
 {
     scan_async_function_body(scan, s)?;
     scan_returns(scan, &s.returns)?;
@@ -210,7 +213,7 @@ fn scan_async_function_body(
     s: &StmtAsyncFunctionDef,
 ) -> Result<(), SymbolTableError>
     ensures goes { Goes result (state scan.new) (inside scope.Function s.now.name s.now.location (use_parameters (arguments expr_tree s.now.args.value) ▸ scan_stmts (stmts stmt_tree s.now.body)) (state scan.old)) }
-    ensures placed { IfErr result IsPlaced }
+    ensures told { IfErr result IsTextOrMemory }
 {
     scan.enter(SymbolTableType::Function, s.name.as_str(), s.location)?;
     use_parameters(scan, &s.args)?;
@@ -221,7 +224,7 @@ fn scan_async_function_body(
 #[cycle(scan)]
 fn scan_class_def(scan: &mut Scan, s: &StmtClassDef) -> Result<(), SymbolTableError>
     ensures goes { Goes result (state scan.new) (scan_stmt (class_def_tree s.now) (state scan.old)) }
-    ensures placed { IfErr result IsPlaced }
+    ensures told { IfErr result IsTextOrMemory }
 {
     let decorators = s.decorator_list.as_slice();
     check_type_params(scan, s.type_params.as_slice())?;
@@ -239,7 +242,7 @@ fn scan_generic_class(
     s: &StmtClassDef,
 ) -> Result<(), SymbolTableError>
     ensures goes { Goes result (state scan.new) (in_type_params generic s.now.name s.now.location (scan_class_parts s.now.location s.now.name (exprs expr_tree s.now.bases) (keywords expr_tree s.now.keywords) (scan_stmts (stmts stmt_tree s.now.body)) (type_params s.now.type_params)) (state scan.old)) }
-    ensures placed { IfErr result IsPlaced }
+    ensures told { IfErr result IsTextOrMemory }
 {
     enter_type_params(scan, generic, s.name.as_str(), s.location)?;
     scan_class_parts(scan, s)?;
@@ -250,7 +253,7 @@ fn scan_generic_class(
 #[cycle(scan)]
 fn scan_class_parts(scan: &mut Scan, s: &StmtClassDef) -> Result<(), SymbolTableError>
     ensures goes { Goes result (state scan.new) (scan_class_parts s.now.location s.now.name (exprs expr_tree s.now.bases) (keywords expr_tree s.now.keywords) (scan_stmts (stmts stmt_tree s.now.body)) (type_params s.now.type_params) (state scan.old)) }
-    ensures placed { IfErr result IsPlaced }
+    ensures told { IfErr result IsTextOrMemory }
 {
     scan_type_params(scan, s.type_params.as_slice())?;
     scan_class_scope(scan, s)?;
@@ -262,7 +265,7 @@ fn scan_class_parts(scan: &mut Scan, s: &StmtClassDef) -> Result<(), SymbolTable
 #[cycle(scan)]
 fn scan_class_scope(scan: &mut Scan, s: &StmtClassDef) -> Result<(), SymbolTableError>
     ensures goes { Goes result (state scan.new) (scan_class_scope s.now.location s.now.name (scan_stmts (stmts stmt_tree s.now.body)) (state scan.old)) }
-    ensures placed { IfErr result IsPlaced }
+    ensures told { IfErr result IsTextOrMemory }
 {
     let around = scan.enter_class(&s.name)?;
     scan_class_body(scan, s)?;
@@ -273,7 +276,7 @@ fn scan_class_scope(scan: &mut Scan, s: &StmtClassDef) -> Result<(), SymbolTable
 #[cycle(scan)]
 fn scan_class_body(scan: &mut Scan, s: &StmtClassDef) -> Result<(), SymbolTableError>
     ensures goes { Goes result (state scan.new) (inside scope.Class s.now.name s.now.location (use_first_names s.now.location ▸ scan_stmts (stmts stmt_tree s.now.body)) (state scan.old)) }
-    ensures placed { IfErr result IsPlaced }
+    ensures told { IfErr result IsTextOrMemory }
 {
     scan.enter(SymbolTableType::Class, s.name.as_str(), s.location)?;
     use_first_names(scan, &s.location)?;
@@ -284,7 +287,7 @@ fn scan_class_body(scan: &mut Scan, s: &StmtClassDef) -> Result<(), SymbolTableE
 #[cycle(scan)]
 fn scan_for(scan: &mut Scan, s: &StmtFor) -> Result<(), SymbolTableError>
     ensures goes { Goes result (state scan.new) (scan_stmt (for_tree s.now) (state scan.old)) }
-    ensures placed { IfErr result IsPlaced }
+    ensures told { IfErr result IsTextOrMemory }
 {
     scan_expr(scan, Usage::Load, &s.iter)?;
     scan_expr(scan, Usage::Store, &s.target)?;
@@ -295,7 +298,7 @@ fn scan_for(scan: &mut Scan, s: &StmtFor) -> Result<(), SymbolTableError>
 #[cycle(scan)]
 fn scan_async_for(scan: &mut Scan, s: &StmtAsyncFor) -> Result<(), SymbolTableError>
     ensures goes { Goes result (state scan.new) (scan_stmt (async_for_tree s.now) (state scan.old)) }
-    ensures placed { IfErr result IsPlaced }
+    ensures told { IfErr result IsTextOrMemory }
 {
     scan_expr(scan, Usage::Load, &s.iter)?;
     scan_expr(scan, Usage::Store, &s.target)?;
@@ -306,7 +309,7 @@ fn scan_async_for(scan: &mut Scan, s: &StmtAsyncFor) -> Result<(), SymbolTableEr
 #[cycle(scan)]
 fn scan_while(scan: &mut Scan, s: &StmtWhile) -> Result<(), SymbolTableError>
     ensures goes { Goes result (state scan.new) (scan_stmt (while_tree s.now) (state scan.old)) }
-    ensures placed { IfErr result IsPlaced }
+    ensures told { IfErr result IsTextOrMemory }
 {
     scan_expr(scan, Usage::Load, &s.test)?;
     scan_stmts(scan, s.body.as_slice())?;
@@ -316,7 +319,7 @@ fn scan_while(scan: &mut Scan, s: &StmtWhile) -> Result<(), SymbolTableError>
 #[cycle(scan)]
 fn scan_if(scan: &mut Scan, s: &StmtIf) -> Result<(), SymbolTableError>
     ensures goes { Goes result (state scan.new) (scan_stmt (if_tree s.now) (state scan.old)) }
-    ensures placed { IfErr result IsPlaced }
+    ensures told { IfErr result IsTextOrMemory }
 {
     scan_expr(scan, Usage::Load, &s.test)?;
     scan_stmts(scan, s.body.as_slice())?;
@@ -326,7 +329,7 @@ fn scan_if(scan: &mut Scan, s: &StmtIf) -> Result<(), SymbolTableError>
 #[cycle(scan)]
 fn scan_with(scan: &mut Scan, s: &StmtWith) -> Result<(), SymbolTableError>
     ensures goes { Goes result (state scan.new) (scan_stmt (with_tree s.now) (state scan.old)) }
-    ensures placed { IfErr result IsPlaced }
+    ensures told { IfErr result IsTextOrMemory }
 {
     scan_items(scan, s.items.as_slice())?;
     scan_stmts(scan, s.body.as_slice())
@@ -335,7 +338,7 @@ fn scan_with(scan: &mut Scan, s: &StmtWith) -> Result<(), SymbolTableError>
 #[cycle(scan)]
 fn scan_async_with(scan: &mut Scan, s: &StmtAsyncWith) -> Result<(), SymbolTableError>
     ensures goes { Goes result (state scan.new) (scan_stmt (async_with_tree s.now) (state scan.old)) }
-    ensures placed { IfErr result IsPlaced }
+    ensures told { IfErr result IsTextOrMemory }
 {
     scan_items(scan, s.items.as_slice())?;
     scan_stmts(scan, s.body.as_slice())
@@ -344,7 +347,7 @@ fn scan_async_with(scan: &mut Scan, s: &StmtAsyncWith) -> Result<(), SymbolTable
 #[cycle(scan)]
 fn scan_try(scan: &mut Scan, s: &StmtTry) -> Result<(), SymbolTableError>
     ensures goes { Goes result (state scan.new) (scan_stmt (try_tree s.now) (state scan.old)) }
-    ensures placed { IfErr result IsPlaced }
+    ensures told { IfErr result IsTextOrMemory }
 {
     scan_stmts(scan, s.body.as_slice())?;
     scan_handlers(scan, &s.location, s.handlers.as_slice())?;
@@ -355,7 +358,7 @@ fn scan_try(scan: &mut Scan, s: &StmtTry) -> Result<(), SymbolTableError>
 #[cycle(scan)]
 fn scan_try_star(scan: &mut Scan, s: &StmtTryStar) -> Result<(), SymbolTableError>
     ensures goes { Goes result (state scan.new) (scan_stmt (try_star_tree s.now) (state scan.old)) }
-    ensures placed { IfErr result IsPlaced }
+    ensures told { IfErr result IsTextOrMemory }
 {
     scan_stmts(scan, s.body.as_slice())?;
     scan_handlers(scan, &s.location, s.handlers.as_slice())?;
@@ -371,7 +374,7 @@ fn scan_handlers(
     items: &[ExceptHandler],
 ) -> Result<(), SymbolTableError>
     ensures goes { Goes result (state scan.new) (scan_handlers at.now (handlers stmt_tree items.now) (state scan.old)) }
-    ensures placed { IfErr result IsPlaced }
+    ensures told { IfErr result IsTextOrMemory }
 {
     for handler in items {
         scan_handler(scan, at, handler)?;
@@ -386,7 +389,7 @@ fn scan_handler(
     handler: &ExceptHandler,
 ) -> Result<(), SymbolTableError>
     ensures goes { Goes result (state scan.new) ((scan_opt Load (opt_box expr_tree handler.now.type_) ▸ use_opt_name handler.now.name at.now ▸ scan_stmts (stmts stmt_tree handler.now.body)) (state scan.old)) }
-    ensures placed { IfErr result IsPlaced }
+    ensures told { IfErr result IsTextOrMemory }
 {
     scan_opt(scan, Usage::Load, &handler.type_)?;
     use_opt_name(scan, &handler.name, at)?;

@@ -1,7 +1,7 @@
 //! Type parameters in the scope that holds them.
 ghost use Rattle.std.specs.Prelude.{◌≡◌, IfErr, []};
 ghost use Rattle.py_tree.specs.View.{type_param_tree, type_params, type_var_tree};
-ghost use Rattle.py_uses.specs.Goes.{Goes, IsPlaced, state};
+ghost use Rattle.py_uses.specs.Goes.{Goes, IsTextOrMemory, state};
 ghost use Rattle.py_uses.specs.Parts.{type_names};
 ghost use Rattle.py_scan.specs.Scan.{scan_type_param, scan_type_params};
 
@@ -17,7 +17,7 @@ pub(crate) fn scan_type_params(
     params: &[TypeParam],
 ) -> Result<(), SymbolTableError>
     ensures goes { Goes result (state scan.new) (scan_type_params [] (type_params params.now) (state scan.old)) }
-    ensures placed { IfErr result IsPlaced }
+    ensures told { IfErr result IsTextOrMemory }
 {
     for i in 0..params.len() {
         scan_type_param(scan, &params[..i], &params[i])?;
@@ -31,7 +31,7 @@ fn scan_type_param(
     param: &TypeParam,
 ) -> Result<(), SymbolTableError>
     ensures goes { Goes result (state scan.new) (scan_type_param (type_names (type_params earlier.now)) (type_param_tree param.now) (state scan.old)) }
-    ensures placed { IfErr result IsPlaced }
+    ensures told { IfErr result IsTextOrMemory }
 {
     match param {
         TypeParam::TypeVar(param) => scan_type_var(scan, earlier, param),
@@ -45,7 +45,7 @@ fn scan_type_var(
     param: &TypeParamTypeVar,
 ) -> Result<(), SymbolTableError>
     ensures goes { Goes result (state scan.new) (scan_type_param (type_names (type_params earlier.now)) (type_var_tree param.now) (state scan.old)) }
-    ensures placed { IfErr result IsPlaced }
+    ensures told { IfErr result IsTextOrMemory }
 {
     scan_opt(scan, Usage::Load, &param.bound)?;
     check_new(scan, earlier, &param.name, &param.location)?;

@@ -167,6 +167,9 @@ fn check_scope(alloc: Global, rows: &[Row], scope: usize) -> Result<(), Fault>
 }
 
 /// Checks the names of each scope, the scopes in this order.
+///
+/// # Errors
+/// The first fault of the names, by the order in which scopes are checked; there may be no memory.
 pub fn check_all(alloc: Global, rows: &[Row], order: &[usize]) -> Result<(), Fault>
     requires numbered { IsNumbered rows.now }
     requires within { All (λ s. s < length rows.now) order.now }

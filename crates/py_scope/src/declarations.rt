@@ -115,6 +115,9 @@ fn refused_plain(roles: SymbolFlags) -> Option<Refusal>
 
 /// Why a use of the name in this role is refused, in a scope of this kind, which holds this of the name. None exactly
 /// where it is allowed.
+///
+/// # Errors
+/// There is no memory for the refusal.
 pub fn refused_use(
     alloc: Global,
     kind: SymbolTableType,

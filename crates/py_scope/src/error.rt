@@ -1,3 +1,4 @@
+//! Why scopes are refused.
 ghost use Rattle.std.specs.Prelude.{◌≡◌};
 ghost use Rattle.py_scope.specs.Faults.{TellsRefusal, TellsNone};
 

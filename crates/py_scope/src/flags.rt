@@ -1,3 +1,4 @@
+//! The flags of a symbol.
 ghost use Rattle.std.specs.Prelude.{⊤, ◌≡◌, ◌==◌, [], ◌∷◌, codes, not};
 ghost use Rattle.std.specs.Int.RustNames.{bit_and, bit_or};
 
@@ -12,16 +13,22 @@ impl SymbolFlags {
     /// No flag.
     pub const NONE: SymbolFlags = SymbolFlags(0);
 
+    /// The name is used.
     pub const REFERENCED: SymbolFlags = SymbolFlags(0x001);
 
+    /// The name is assigned.
     pub const ASSIGNED: SymbolFlags = SymbolFlags(0x002);
 
+    /// The name is a parameter.
     pub const PARAMETER: SymbolFlags = SymbolFlags(0x004);
 
+    /// The name is annotated.
     pub const ANNOTATED: SymbolFlags = SymbolFlags(0x008);
 
+    /// The name is imported.
     pub const IMPORTED: SymbolFlags = SymbolFlags(0x010);
 
+    /// The name is declared nonlocal.
     pub const NONLOCAL: SymbolFlags = SymbolFlags(0x020);
 
     /// Stored by a walrus in this comprehension.

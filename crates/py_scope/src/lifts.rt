@@ -239,6 +239,9 @@ fn lift_scope(alloc: Global, rows: &mut Vec<Row>, scope: usize) -> Result<(), Fa
 }
 
 /// Lifts each name that a walrus stores, the scopes in this order.
+///
+/// # Errors
+/// The first refusal of a name that a walrus lifts; there may be no memory.
 pub fn lift_all(alloc: Global, rows: &mut Vec<Row>, order: &[usize]) -> Result<(), Fault>
     requires numbered { IsNumbered rows.old.items }
     requires within { All (λ s. s < length rows.old.items) order.now }

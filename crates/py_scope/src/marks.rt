@@ -151,6 +151,9 @@ fn mark_scope(alloc: Global, rows: &mut Vec<Row>, scope: usize) -> Result<(), Al
 }
 
 /// Looks outward for each name for which a scope asks, the scopes in this order.
+///
+/// # Errors
+/// There is no memory for the marks.
 pub fn mark_all(alloc: Global, rows: &mut Vec<Row>, order: &[usize]) -> Result<(), AllocError>
     requires numbered { IsNumbered rows.old.items }
     requires within { All (λ s. s < length rows.old.items) order.now }

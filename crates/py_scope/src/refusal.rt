@@ -103,6 +103,9 @@ fn alone(alloc: Global, text: &str) -> Result<Text, AllocError>
 
 impl Refusal {
     /// The text of the refusal, as Python writes it.
+    ///
+    /// # Errors
+    /// There is no memory for the text.
     pub fn text(&self, alloc: Global) -> Result<Text, AllocError>
         ensures { IfOk result (λ text. text ≡ text_of self.now) }
     {

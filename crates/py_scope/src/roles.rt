@@ -57,6 +57,9 @@ fn declares(role: Role, holds: Holds) -> Holds
 }
 
 /// Notes one use of the name.
+///
+/// # Errors
+/// There is no memory for it; nothing has changed.
 pub fn register(
     alloc: Global,
     entries: &mut Entries,

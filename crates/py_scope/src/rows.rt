@@ -103,6 +103,7 @@ fn write(map: &mut IndexMap<Text, Entry>, name: &Text, entry: Entry) -> bool
 }
 
 impl Entries {
+    /// No names. It takes no memory.
     pub fn new(alloc: Global) -> Entries
         ensures { result ≡ [] }
     {
@@ -111,18 +112,21 @@ impl Entries {
         }
     }
 
+    /// How many names there are.
     pub fn len(&self) -> usize
         ensures { result ≡ length self.now }
     {
         self.map.len()
     }
 
+    /// The entry of a name, if it is there.
     pub fn get(&self, name: &Text) -> Option<Entry>
         ensures { result ≡ lookup name.now self.now }
     {
         self.map.get(name).copied()
     }
 
+    /// The name at a place and its entry, if the place is taken.
     pub fn at(&self, i: usize) -> Option<(&Text, &Entry)>
         ensures { option_map deref_pair result ≡ slice_get self.now i }
     {
@@ -130,6 +134,9 @@ impl Entries {
     }
 
     /// Gives the name this entry, in the place that it has or at the end.
+    ///
+    /// # Errors
+    /// There is no memory for it; nothing has changed.
     pub fn put(&mut self, alloc: Global, name: &Text, entry: Entry) -> Result<(), AllocError>
         ensures ok { OnOk result (self.new ≡ put self.old name.now entry) }
         ensures err { OnErr result (self.new ≡ self.old) }

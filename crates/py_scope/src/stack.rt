@@ -1,6 +1,11 @@
+//! A stack of scopes.
 ghost use Rattle.std.specs.Prelude.{◌≡◌, ◌++◌, ◌∷◌, [], ◌+◌, ◌↔◌, List, length, IsTrue, IfOk, IfErr, OnOk, OnErr};
-ghost use Rattle.std.specs.Slice.Iter.{iter_rest};
+ghost use Rattle.std.specs.Borrow.{Array, Lends, follows, sem};
+ghost use Rattle.std.specs.Iterator.Adapters.{IterMutYieldsInOrder};
+ghost use Rattle.std.specs.List.{refill};
+ghost use Rattle.std.specs.Slice.Iter.{iter_mut_name, iter_mut_rest, iter_rest};
 ghost use Rattle.std.specs.Fn.{FnOnceTakesAtMut, FnOnceReturnsAtMut};
+ghost use Rattle.py_scope.specs.contracts.stack.StackStack.{the_row};
 
 use std::alloc::{AllocFailed, Global};
 use std::marker::Model;
@@ -95,9 +100,10 @@ impl<T> StackStack<T> {
         self.items.as_slice()
     }
 
-    /// The values to write, the first appended first.
+    /// The values to write, the first appended first. The stack ends as what is written.
     pub fn as_mut(&mut self) -> &mut [T]
-        ensures { result.now ≡ self.old }
+        ensures* writes_back { sem 𝓛 (Lends (the_row T.row) (Array T.row 0) self.entry result (refill (length self.old) self.old)) }
+        ensures value { result.now ≡ self.old }
     {
         self.items.as_mut_slice()
     }
@@ -109,8 +115,12 @@ impl<T> StackStack<T> {
         self.items.as_slice().iter()
     }
 
-    /// The values in turn, to write, the first appended first.
-    pub fn iter_mut(&mut self) -> IterMut<'_, T> {
+    /// The values in turn, to write, the first appended first. The stack ends as what is written.
+    pub fn iter_mut(&mut self) -> IterMut<'_, T>
+        ensures* writes_back { sem 𝓛 (follows (the_row T.row) (Array T.row 0) self.entry.ghost_name (iter_mut_name result) (refill (length self.old) self.old)) }
+        ensures rest { iter_mut_rest result ≡ self.old }
+        ensures runs { IterMutYieldsInOrder T }
+    {
         self.items.as_mut_slice().iter_mut()
     }
 }

@@ -1,3 +1,4 @@
+//! The kinds of scopes.
 use std::fmt;
 
 /// What a scope is.

@@ -28,8 +28,9 @@ use Rattle.py_uses.specs.declared.usage.Usage.TheVariants.{Load}
 use Rattle.py_scan.specs.Scan.{scan_expr, scan_stmts}
 use Rattle.py_tables.specs.Laws.{ScansStand, Stands, ValuesStand, WalksEnd, has_cell, is_cell_kind, symbols_or_none, walk_to_cell}
 use Rattle.py_tables.specs.Tables.{fault_of}
-use Rattle.py_tables.proofs.Ordering.{EndsOrderly, Orders, expr_orders}
-use Rattle.py_tables.proofs.OrderingStatements.{stmts_order}
+use Rattle.py_scan.proofs.Induction.{expr_closed}
+use Rattle.py_scan.proofs.InductionStatements.{stmts_closed}
+use Rattle.py_tables.proofs.Ordering.{EndsOrderly, Orders, orders}
 use Rattle.py_tables.proofs.Preorder.{IsOrderly, orderly_begun}
 
 -- the scopes of a scan that is done are in order
@@ -40,10 +41,10 @@ scan_orderly f a s e = go (subst (EndsOrderly begun_state.scopes) e (a begun_sta
     go h = h.ordered
 
 pub program_orderly : (body : tree.Stmts) (s : State) → scan_stmts body begun_state ≡ Done s → IsOrderly s.scopes
-program_orderly body s e = scan_orderly (scan_stmts body) (stmts_order body) s e
+program_orderly body s e = scan_orderly (scan_stmts body) (stmts_closed orders body) s e
 
 pub value_orderly : (value : tree.Expr) (s : State) → scan_expr Load value begun_state ≡ Done s → IsOrderly s.scopes
-value_orderly value s e = scan_orderly (scan_expr Load value) (expr_orders Load value) s e
+value_orderly value s e = scan_orderly (scan_expr Load value) (expr_closed orders Load value) s e
 
 pub none_refused : (o : Option Refusal) → fault_of o ≡ [] → o ≡ None
 none_refused None h = refl

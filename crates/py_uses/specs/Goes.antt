@@ -1,6 +1,8 @@
 -- What a call of the scan did.
-use Rattle.std.specs.Prelude.{◌≡◌, ◌≢◌, Bool, IsTrue, Result, Ok, Err, None}
-use Rattle.py_scope.specs.declared.error.ScanFault.TheVariants.{OutOfMemory}
+use Rattle.std.specs.Prelude.{◌≡◌, ◌≢◌, Bool, IsTrue, Option, Result, Ok, Err, None}
+use Rattle.py_base.specs.declared.location.SourceLocation.{SourceLocation}
+use Rattle.py_scope.specs.declared.error.ScanFault.{ScanFault}
+use Rattle.py_scope.specs.declared.error.ScanFault.TheVariants.{Text, Malformed, TooLarge, OutOfMemory}
 use Rattle.py_scope.specs.declared.error.SymbolTableError.{SymbolTableError}
 use Rattle.py_scope.specs.Scanned.{Scanned, IsWithin}
 use Rattle.py_uses.specs.declared.scan.Scan.{Scan}
@@ -15,9 +17,15 @@ abbrev pub Goes : {A : Type 0} → Result A SymbolTableError → State → Outco
 Goes (Ok a) s o = o ≡ Done s
 Goes (Err e) s o = e.error ≢ OutOfMemory → o ≡ Refused e.error e.location
 
--- want of memory has no place
-abbrev pub IsPlaced : SymbolTableError → Type 0
-IsPlaced e = e.error ≡ OutOfMemory → e.location ≡ None
+-- a text, or want of memory, which has no place
+abbrev pub TextOrMemory : ScanFault → Option SourceLocation → Type 0
+TextOrMemory (Text t) at = Unit {0}
+TextOrMemory (Malformed m) at = ⊥
+TextOrMemory (TooLarge l) at = ⊥
+TextOrMemory OutOfMemory at = at ≡ None
+
+abbrev pub IsTextOrMemory : SymbolTableError → Type 0
+IsTextOrMemory e = TextOrMemory e.error e.location
 
 abbrev pub IsMemory : SymbolTableError → Type 0
 IsMemory e = (e.error ≡ OutOfMemory) × (e.location ≡ None)

@@ -1,7 +1,7 @@
 //! Names that statements register.
 ghost use Rattle.std.specs.Prelude.{◌≡◌, IfErr, codes};
 ghost use Rattle.py_scope.specs.Names.{class_cell};
-ghost use Rattle.py_uses.specs.Goes.{Goes, IsPlaced, state};
+ghost use Rattle.py_uses.specs.Goes.{Goes, IsTextOrMemory, state};
 ghost use Rattle.py_uses.specs.Parts.{bound_name, check_future, first_segment, is_annotations, is_future, names_annotations, use_aliases, use_each, use_first_names, use_opt_name};
 ghost use Rattle.py_scope.specs.declared.roles.Role.TheVariants as role;
 ghost use Rattle.py_uses.specs.Steps.{◌▸◌, Done, use_name};
@@ -12,6 +12,9 @@ use py_scope::{Role, SymbolTableError};
 use py_tree::Alias;
 
 /// Registers names one after the other.
+///
+/// # Errors
+/// The first fault of the scan, at its place; or OutOfMemory.
 pub fn use_each(
     scan: &mut Scan,
     role: Role,
@@ -19,7 +22,7 @@ pub fn use_each(
     at: &SourceLocation,
 ) -> Result<(), SymbolTableError>
     ensures goes { Goes result (state scan.new) (use_each role names.now at.now (state scan.old)) }
-    ensures placed { IfErr result IsPlaced }
+    ensures told { IfErr result IsTextOrMemory }
 {
     for name in names {
         scan.use_name(role, name, *at)?;
@@ -28,9 +31,12 @@ pub fn use_each(
 }
 
 /// Registers the names that each class has.
+///
+/// # Errors
+/// The first fault of the scan, at its place; or OutOfMemory.
 pub fn use_first_names(scan: &mut Scan, at: &SourceLocation) -> Result<(), SymbolTableError>
     ensures goes { Goes result (state scan.new) (use_first_names at.now (state scan.old)) }
-    ensures placed { IfErr result IsPlaced }
+    ensures told { IfErr result IsTextOrMemory }
 {
     scan.use_own(Role::Assigned, "__module__", *at)?;
     scan.use_own(Role::Assigned, "__qualname__", *at)?;
@@ -39,20 +45,23 @@ pub fn use_first_names(scan: &mut Scan, at: &SourceLocation) -> Result<(), Symbo
 
 fn use_last_names(scan: &mut Scan, at: &SourceLocation) -> Result<(), SymbolTableError>
     ensures goes { Goes result (state scan.new) ((use_name role.Assigned (codes "__doc__") at.now ▸ use_name role.Assigned class_cell at.now) (state scan.old)) }
-    ensures placed { IfErr result IsPlaced }
+    ensures told { IfErr result IsTextOrMemory }
 {
     scan.use_own(Role::Assigned, "__doc__", *at)?;
     scan.use_own(Role::Assigned, "__class__", *at)
 }
 
 /// Registers a name that may be missing.
+///
+/// # Errors
+/// The first fault of the scan, at its place; or OutOfMemory.
 pub fn use_opt_name(
     scan: &mut Scan,
     name: &Option<Text>,
     at: &SourceLocation,
 ) -> Result<(), SymbolTableError>
     ensures goes { Goes result (state scan.new) (use_opt_name name.now at.now (state scan.old)) }
-    ensures placed { IfErr result IsPlaced }
+    ensures told { IfErr result IsTextOrMemory }
 {
     match name {
         Some(name) => scan.use_name(Role::Assigned, name, *at),
@@ -61,13 +70,16 @@ pub fn use_opt_name(
 }
 
 /// Registers the names that an import binds.
+///
+/// # Errors
+/// The first fault of the scan, at its place; or OutOfMemory.
 pub fn use_aliases(
     scan: &mut Scan,
     names: &[Alias],
     at: &SourceLocation,
 ) -> Result<(), SymbolTableError>
     ensures goes { Goes result (state scan.new) (use_aliases names.now at.now (state scan.old)) }
-    ensures placed { IfErr result IsPlaced }
+    ensures told { IfErr result IsTextOrMemory }
 {
     for alias in names {
         use_alias(scan, alias, at)?;
@@ -77,7 +89,7 @@ pub fn use_aliases(
 
 fn use_alias(scan: &mut Scan, alias: &Alias, at: &SourceLocation) -> Result<(), SymbolTableError>
     ensures goes { Goes result (state scan.new) (use_name role.Imported (bound_name alias.now.asname alias.now.name) at.now (state scan.old)) }
-    ensures placed { IfErr result IsPlaced }
+    ensures told { IfErr result IsTextOrMemory }
 {
     match &alias.asname {
         Some(name) => scan.use_name(Role::Imported, name, *at),
@@ -92,7 +104,7 @@ fn use_first_segment(
     at: &SourceLocation,
 ) -> Result<(), SymbolTableError>
     ensures goes { Goes result (state scan.new) (use_name role.Imported (first_segment path.now) at.now (state scan.old)) }
-    ensures placed { IfErr result IsPlaced }
+    ensures told { IfErr result IsTextOrMemory }
 {
     match path.as_str().split_once('.') {
         Some((first, _)) => scan.use_own(Role::Imported, first, *at),

@@ -3,7 +3,7 @@ ghost use Rattle.std.specs.Prelude.{◌≡◌, IfErr, IfOk, OnOk, Some};
 ghost use Rattle.py_base.specs.Mangle.{mangled};
 ghost use Rattle.py_scope.specs.Names.{same_name};
 ghost use Rattle.py_scope.specs.Scanned.{IsWithin};
-ghost use Rattle.py_uses.specs.Goes.{Goes, IsMemory, IsPlaced, state};
+ghost use Rattle.py_uses.specs.Goes.{Goes, IsMemory, IsTextOrMemory, state};
 ghost use Rattle.py_uses.specs.declared.usage.Usage.TheVariants.{Load, Delete};
 ghost use Rattle.py_uses.specs.Steps.{check_holder, check_iterable, check_yield, enter, leave, noted, set_class, super_cell, use_as, use_name, written};
 
@@ -35,6 +35,9 @@ fn copy(alloc: Global, text: &str) -> Result<Text, SymbolTableError>
 
 impl Scan {
     /// A use of a name in the open scope, where it is not refused.
+    ///
+    /// # Errors
+    /// The first fault of the scan, at its place; or OutOfMemory.
     pub fn note(
         &mut self,
         role: Role,
@@ -42,7 +45,7 @@ impl Scan {
         at: SourceLocation,
     ) -> Result<(), SymbolTableError>
         ensures goes { Goes result (state self.new) (noted role name.now at (state self.old)) }
-        ensures placed { IfErr result IsPlaced }
+        ensures told { IfErr result IsTextOrMemory }
     {
         self.scopes.register(name, role, at)
     }
@@ -102,7 +105,7 @@ impl Scan {
         at: SourceLocation,
     ) -> Result<(), SymbolTableError>
         ensures goes { Goes result (state self.new) (use_name role name.now at (state self.old)) }
-        ensures placed { IfErr result IsPlaced }
+        ensures told { IfErr result IsTextOrMemory }
     {
         match self.mangled(name)? {
             Some(mangled) => self.note(role, &mangled, at),
@@ -111,6 +114,9 @@ impl Scan {
     }
 
     /// A use of a name that every program has.
+    ///
+    /// # Errors
+    /// The first fault of the scan, at its place; or OutOfMemory.
     pub fn use_own(
         &mut self,
         role: Role,
@@ -118,13 +124,16 @@ impl Scan {
         at: SourceLocation,
     ) -> Result<(), SymbolTableError>
         ensures goes { Goes result (state self.new) (use_name role name.now at (state self.old)) }
-        ensures placed { IfErr result IsPlaced }
+        ensures told { IfErr result IsTextOrMemory }
     {
         let name = copy(self.alloc, name)?;
         self.use_name(role, &name, at)
     }
 
     /// Names are mangled by this class from here on. Answers the class around.
+    ///
+    /// # Errors
+    /// OutOfMemory alone.
     pub fn enter_class(&mut self, name: &Text) -> Result<Option<Text>, SymbolTableError>
         ensures goes { Goes result (state self.new) (set_class (Some name.now) (state self.old)) }
         ensures around { IfOk result (λ around. around ≡ (state self.old).class) }
@@ -137,6 +146,9 @@ impl Scan {
     }
 
     /// Enters a scope.
+    ///
+    /// # Errors
+    /// The first fault of the scan, at its place; or OutOfMemory.
     pub fn enter(
         &mut self,
         kind: SymbolTableType,
@@ -145,7 +157,7 @@ impl Scan {
     ) -> Result<(), SymbolTableError>
         ensures goes { Goes result (state self.new) (enter kind name.now at (state self.old)) }
         ensures within { OnOk result (IsWithin (state self.new).scopes) }
-        ensures placed { IfErr result IsPlaced }
+        ensures told { IfErr result IsTextOrMemory }
     {
         let name = copy(self.alloc, name)?;
         match self.scopes.enter(kind, name, at.row.get()) {
@@ -155,10 +167,13 @@ impl Scan {
     }
 
     /// Leaves the open scope.
+    ///
+    /// # Errors
+    /// OutOfMemory alone.
     pub fn leave(&mut self) -> Result<(), SymbolTableError>
         requires { IsWithin (state self.old).scopes }
         ensures goes { Goes result (state self.new) (leave (state self.old)) }
-        ensures placed { IfErr result IsPlaced }
+        ensures told { IfErr result IsTextOrMemory }
     {
         match self.scopes.leave() {
             Ok(()) => Ok(()),
@@ -169,7 +184,7 @@ impl Scan {
     /// `super` that is loaded directly in a function needs the class.
     fn super_cell(&mut self, name: &Text, at: SourceLocation) -> Result<(), SymbolTableError>
         ensures goes { Goes result (state self.new) (super_cell name.now at (state self.old)) }
-        ensures placed { IfErr result IsPlaced }
+        ensures told { IfErr result IsTextOrMemory }
     {
         if name.as_str() == "super" && matches!(self.scopes.kind(), SymbolTableType::Function) {
             self.use_own(Role::Used, "__class__", at)
@@ -181,7 +196,7 @@ impl Scan {
     /// A name that is loaded.
     fn load(&mut self, name: &Text, at: &SourceLocation) -> Result<(), SymbolTableError>
         ensures goes { Goes result (state self.new) (use_as Load name.now at.now (state self.old)) }
-        ensures placed { IfErr result IsPlaced }
+        ensures told { IfErr result IsTextOrMemory }
     {
         self.use_name(Role::Used, name, *at)?;
         self.super_cell(name, *at)
@@ -190,7 +205,7 @@ impl Scan {
     /// A name that is deleted counts as stored before.
     fn delete(&mut self, name: &Text, at: SourceLocation) -> Result<(), SymbolTableError>
         ensures goes { Goes result (state self.new) (use_as Delete name.now at (state self.old)) }
-        ensures placed { IfErr result IsPlaced }
+        ensures told { IfErr result IsTextOrMemory }
     {
         let again = at;
         self.use_name(Role::Assigned, name, at)?;
@@ -198,6 +213,9 @@ impl Scan {
     }
 
     /// A name as a target or a value.
+    ///
+    /// # Errors
+    /// The first fault of the scan, at its place; or OutOfMemory.
     pub fn use_as(
         &mut self,
         usage: Usage,
@@ -205,7 +223,7 @@ impl Scan {
         at: SourceLocation,
     ) -> Result<(), SymbolTableError>
         ensures goes { Goes result (state self.new) (use_as usage name.now at (state self.old)) }
-        ensures placed { IfErr result IsPlaced }
+        ensures told { IfErr result IsTextOrMemory }
     {
         match usage {
             Usage::Load => self.load(name, &at),
@@ -218,9 +236,12 @@ impl Scan {
     }
 
     /// Refuses a walrus in the iterable of a comprehension.
+    ///
+    /// # Errors
+    /// The first fault of the scan, at its place; or OutOfMemory.
     pub fn check_iterable(&self, usage: Usage, at: SourceLocation) -> Result<(), SymbolTableError>
         ensures goes { Goes result (state self.now) (check_iterable usage at (state self.now)) }
-        ensures placed { IfErr result IsPlaced }
+        ensures told { IfErr result IsTextOrMemory }
     {
         match usage {
             Usage::Iterable => Err(SymbolTableError::refused(
@@ -233,9 +254,12 @@ impl Scan {
     }
 
     /// Refuses a walrus that would bind in a scope of type parameters.
+    ///
+    /// # Errors
+    /// The first fault of the scan, at its place; or OutOfMemory.
     pub fn check_holder(&self, at: SourceLocation) -> Result<(), SymbolTableError>
         ensures goes { Goes result (state self.now) (check_holder at (state self.now)) }
-        ensures placed { IfErr result IsPlaced }
+        ensures told { IfErr result IsTextOrMemory }
     {
         match self.scopes.holder_kind() {
             SymbolTableType::TypeParams => Err(SymbolTableError::refused(
@@ -248,9 +272,12 @@ impl Scan {
     }
 
     /// Refuses a `yield` directly in a scope of type parameters.
+    ///
+    /// # Errors
+    /// The first fault of the scan, at its place; or OutOfMemory.
     pub fn check_yield(&self, at: SourceLocation) -> Result<(), SymbolTableError>
         ensures goes { Goes result (state self.now) (check_yield at (state self.now)) }
-        ensures placed { IfErr result IsPlaced }
+        ensures told { IfErr result IsTextOrMemory }
     {
         match self.scopes.kind() {
             SymbolTableType::TypeParams => Err(SymbolTableError::refused(

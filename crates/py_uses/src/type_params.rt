@@ -5,7 +5,7 @@ ghost use Rattle.py_scope.specs.declared.table_type.SymbolTableType.TheVariants 
 ghost use Rattle.py_scope.specs.declared.roles.Role.TheVariants as role;
 ghost use Rattle.py_scope.specs.declared.refusal.Refusal.TheVariants.{TypeParamKind};
 ghost use Rattle.py_scope.specs.Faults.{TellsRefusal};
-ghost use Rattle.py_uses.specs.Goes.{Goes, IsMemory, IsOpen, IsPlaced, state};
+ghost use Rattle.py_uses.specs.Goes.{Goes, IsMemory, IsOpen, IsTextOrMemory, state};
 ghost use Rattle.py_uses.specs.Steps.{enter, leave, use_name, when};
 ghost use Rattle.py_uses.specs.Parts.{check_new, check_type_params, generic_name, has_default, is_among, is_generic, type_name, type_names, use_handed_defaults};
 
@@ -17,9 +17,12 @@ use py_tree::{ArgWithDefault, Arguments, TypeParam};
 use std::alloc::{AllocError, Global};
 
 /// Refuses type parameters other than plain ones.
+///
+/// # Errors
+/// The first fault of the scan, at its place; or OutOfMemory.
 pub fn check_type_params(scan: &Scan, params: &[TypeParam]) -> Result<(), SymbolTableError>
     ensures goes { Goes result (state scan.now) (check_type_params (type_params params.now) (state scan.now)) }
-    ensures placed { IfErr result IsPlaced }
+    ensures told { IfErr result IsTextOrMemory }
 {
     for param in params {
         check_type_param(scan, param)?;
@@ -29,7 +32,7 @@ pub fn check_type_params(scan: &Scan, params: &[TypeParam]) -> Result<(), Symbol
 
 fn check_type_param(scan: &Scan, param: &TypeParam) -> Result<(), SymbolTableError>
     ensures goes { Goes result (state scan.now) (check_type_params (type_params (param.now ∷ [])) (state scan.now)) }
-    ensures placed { IfErr result IsPlaced }
+    ensures told { IfErr result IsTextOrMemory }
 {
     match param {
         TypeParam::TypeVar(_) => Ok(()),
@@ -74,6 +77,9 @@ pub fn is_generic(params: &[TypeParam]) -> bool
 }
 
 /// Enters the scope of type parameters, where there are any.
+///
+/// # Errors
+/// The first fault of the scan, at its place; or OutOfMemory.
 pub fn enter_type_params(
     scan: &mut Scan,
     generic: bool,
@@ -82,7 +88,7 @@ pub fn enter_type_params(
 ) -> Result<(), SymbolTableError>
     ensures goes { Goes result (state scan.new) (when generic (enter scope.TypeParams (generic_name name.now) at) (state scan.old)) }
     ensures open { OnOk result (IsOpen generic (state scan.new).scopes) }
-    ensures placed { IfErr result IsPlaced }
+    ensures told { IfErr result IsTextOrMemory }
 {
     if !generic {
         return Ok(());
@@ -92,10 +98,13 @@ pub fn enter_type_params(
 }
 
 /// Leaves the scope of type parameters, where there are any.
+///
+/// # Errors
+/// OutOfMemory alone.
 pub fn leave_type_params(scan: &mut Scan, generic: bool) -> Result<(), SymbolTableError>
     requires { IsOpen generic (state scan.old).scopes }
     ensures goes { Goes result (state scan.new) (when generic leave (state scan.old)) }
-    ensures placed { IfErr result IsPlaced }
+    ensures told { IfErr result IsTextOrMemory }
 {
     if !generic {
         return Ok(());
@@ -116,6 +125,9 @@ pub fn has_default(params: &[ArgWithDefault]) -> bool
 }
 
 /// Registers the defaults that the scope of type parameters is handed, where there is one.
+///
+/// # Errors
+/// The first fault of the scan, at its place; or OutOfMemory.
 pub fn use_handed_defaults(
     scan: &mut Scan,
     generic: bool,
@@ -123,7 +135,7 @@ pub fn use_handed_defaults(
     at: &SourceLocation,
 ) -> Result<(), SymbolTableError>
     ensures goes { Goes result (state scan.new) (when generic (use_handed_defaults (arguments expr_tree handed.now) at.now) (state scan.old)) }
-    ensures placed { IfErr result IsPlaced }
+    ensures told { IfErr result IsTextOrMemory }
 {
     if !generic {
         return Ok(());
@@ -146,7 +158,7 @@ fn use_if(
     at: &SourceLocation,
 ) -> Result<(), SymbolTableError>
     ensures goes { Goes result (state scan.new) (when there (use_name role.Parameter name.now at.now) (state scan.old)) }
-    ensures placed { IfErr result IsPlaced }
+    ensures told { IfErr result IsTextOrMemory }
 {
     if there {
         scan.use_own(Role::Parameter, name, *at)
@@ -189,7 +201,7 @@ pub fn check_new(
     at: &SourceLocation,
 ) -> Result<(), SymbolTableError>
     ensures goes { Goes result (state scan.now) (check_new (type_names (type_params earlier.now)) name.now at.now (state scan.now)) }
-    ensures placed { IfErr result IsPlaced }
+    ensures told { IfErr result IsTextOrMemory }
 {
     if !is_among(scan, earlier, name) {
         return Ok(());

@@ -1,3 +1,4 @@
+//! How a name is used as a target or a value.
 /// How an expression is used.
 #[derive(Clone, Copy, Debug, PartialEq, Eq)]
 pub enum Usage {
