@@ -16,7 +16,7 @@ use crate::reading::{UnitRead, begins_in, read_all, read_in};
 use crate::verdict::{FlawKind, Spot};
 use py_base::SourceLocation;
 use py_bytecode::CodeObject;
-use py_walks::known::{Change, KnownState, arrive, combine, nexts_of};
+use py_walks::known::{Change, KnownState, arrive, combine, first_known, nexts_of, unknown_states};
 use py_walks::{BlockIdx, InstructionInfo, Refused};
 use std::alloc::{AllocError, Global};
 
@@ -296,26 +296,6 @@ fn spread_all(
         if !spread(alloc, code, reads, progress)? {
             return Ok(());
         }
-    }
-}
-
-// No unit is known.
-fn unknown_states(alloc: Global, count: usize) -> Result<Vec<Option<KnownState>>, AllocError>
-    ensures { IfOk result (λ states. states.items ≡ replicate count None) }
-{
-    let mut states = Vec::with_capacity(alloc, count)?;
-    for _ in 0..count {
-        states.push(None)?;
-    }
-    Ok(states)
-}
-
-fn first_known(alloc: Global) -> KnownState
-    ensures { state_of result ≡ state 0 [] }
-{
-    KnownState {
-        height: 0,
-        shape: Vec::new(alloc),
     }
 }
 

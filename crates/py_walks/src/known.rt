@@ -1,5 +1,5 @@
 //! What is known of a place on all walks that reach it, and how it grows when one more walk arrives.
-ghost use Rattle.std.specs.Prelude.{ℕ, ◌≡◌, ◌≢◌, ◌+◌, ◌-◌, ◌^◌, ◌<◌, ◌≤◌, true, false, nat_lt, Some, IfErr, IfOk, length};
+ghost use Rattle.std.specs.Prelude.{ℕ, ◌≡◌, ◌≢◌, ◌+◌, ◌-◌, ◌^◌, ◌<◌, ◌≤◌, [], true, false, nat_lt, None, Some, IfErr, IfOk, length, replicate};
 ghost use Rattle.std.specs.Option.{IfNone, IfSome};
 ghost use Rattle.py_walks.specs.Walks.{Shape, enough, falls_to, jumps_to, opened, state};
 ghost use Rattle.py_walks.specs.Known.{Arrives, FailsAs, FallIs, Fits, IsUneven, IsWhole, JumpIs, Moves, Passes, Torn, Unfit, branch_base, combined, falls_within, flow_in, join, jumps_within, missing_in, state_at, state_of};
@@ -16,6 +16,30 @@ use std::alloc::{AllocError, Global};
 pub struct KnownState {
     pub height: u32,
     pub shape: Vec<Mark>,
+}
+
+/// So many places of which nothing is known.
+///
+/// # Errors
+/// There is no memory for them.
+pub fn unknown_states(alloc: Global, count: usize) -> Result<Vec<Option<KnownState>>, AllocError>
+    ensures { IfOk result (λ states. states.items ≡ replicate count None) }
+{
+    let mut states = Vec::with_capacity(alloc, count)?;
+    for _ in 0..count {
+        states.push(None)?;
+    }
+    Ok(states)
+}
+
+/// What is known before the first instruction: the stack is empty, and no block is open. It takes no memory.
+pub fn first_known(alloc: Global) -> KnownState
+    ensures { state_of result ≡ state 0 [] }
+{
+    KnownState {
+        height: 0,
+        shape: Vec::new(alloc),
+    }
 }
 
 /// Why walks are refused.

@@ -7,7 +7,9 @@ ghost use Rattle.py_walks.specs.Known.{combined, height_known, state_at, state_o
 ghost use Rattle.py_walks.specs.Shown.{AllShown, Covered, Grows, RefusalAt, SameBut, SameTo, Settled, Shown, Steps};
 
 use crate::InstructionInfo;
-use crate::known::{Change, KnownState, Refused, arrive, combine, nexts_of};
+use crate::known::{
+    Change, KnownState, Refused, arrive, combine, first_known, nexts_of, unknown_states,
+};
 use std::alloc::{AllocError, Global};
 
 /// A refusal, and the place of the instruction.
@@ -218,26 +220,6 @@ fn spread_all(
         if !spread(alloc, starts, items, states)? {
             return Ok(());
         }
-    }
-}
-
-// No place is known.
-fn unknown_states(alloc: Global, count: usize) -> Result<Vec<Option<KnownState>>, AllocError>
-    ensures { IfOk result (λ states. states.items ≡ replicate count None) }
-{
-    let mut states = Vec::with_capacity(alloc, count)?;
-    for _ in 0..count {
-        states.push(None)?;
-    }
-    Ok(states)
-}
-
-fn first_known(alloc: Global) -> KnownState
-    ensures { state_of result ≡ state 0 [] }
-{
-    KnownState {
-        height: 0,
-        shape: Vec::new(alloc),
     }
 }
 
