@@ -70,7 +70,7 @@ file_takes bytes o fits e =
     let all : Spells bytes c.0.0 = record { fits = two.fits.0; nests = omega (arith, two.fits.1); spelled = whole } in
     subst (Spells bytes) g.1 all
 
-file_again : (bytes : List ℕ) (o : Object) → Spells bytes o → file_at bytes ≡ Ok o
+pub file_again : (bytes : List ℕ) (o : Object) → Spells bytes o → file_at bytes ≡ Ok o
 unfolding file_at
 file_again bytes o h =
     let deep : nesting o ≤ 2047 = omega (arith, h.nests) in

@@ -13,6 +13,10 @@ use std::alloc::Global;
 
 /// A list of bytes: a count, and then the bytes. What is taken of memory grows with the bytes that are there, and
 /// not with the count; so in each list below.
+///
+/// # Errors
+/// `Truncated` where the bytes end within it, or what is wrong with it, at the offset of the first byte of the field;
+/// there may be no memory.
 #[tactic(auto, unfolding(crate::specs::Reading::list_at))]
 pub fn byte_list(alloc: Global, reader: &mut Reader<'_>) -> Result<List<u8>, ReadCodeError>
     ensures { Gives (λ xs. (xs, reader.new)) result (list_at byte_at reader.old) }
@@ -32,6 +36,10 @@ fn bytes(alloc: Global, reader: &mut Reader<'_>, count: u32) -> Result<List<u8>,
 }
 
 /// A list of texts.
+///
+/// # Errors
+/// `Truncated` where the bytes end within it, or what is wrong with it, at the offset of the first byte of the field;
+/// there may be no memory.
 #[tactic(auto, unfolding(crate::specs::Reading::names_at, crate::specs::Reading::list_at))]
 pub fn names(alloc: Global, reader: &mut Reader<'_>) -> Result<List<Text>, ReadCodeError>
     ensures { Gives (λ xs. (xs, reader.new)) result (names_at reader.old) }
@@ -51,6 +59,10 @@ fn texts(alloc: Global, reader: &mut Reader<'_>, count: u32) -> Result<List<Text
 }
 
 /// A list of units, each an instruction's number and a byte.
+///
+/// # Errors
+/// `Truncated` where the bytes end within it, or what is wrong with it, at the offset of the first byte of the field;
+/// there may be no memory.
 #[inline(never)]
 #[tactic(auto, unfolding(crate::specs::Reading::list_at))]
 pub fn unit_list(alloc: Global, reader: &mut Reader<'_>) -> Result<List<CodeUnit>, ReadCodeError>
@@ -96,6 +108,10 @@ fn opcode(reader: &mut Reader<'_>) -> Result<Instruction, ReadCodeError>
 }
 
 /// A list of locations, each a row and a column.
+///
+/// # Errors
+/// `Truncated` where the bytes end within it, or what is wrong with it, at the offset of the first byte of the field;
+/// there may be no memory.
 #[inline(never)]
 #[tactic(auto, unfolding(crate::specs::Reading::list_at))]
 pub fn location_list(
@@ -145,6 +161,10 @@ fn positive(reader: &mut Reader<'_>) -> Result<OneIndexed, ReadCodeError>
 }
 
 /// The row in which a scope begins; 0 stands for none.
+///
+/// # Errors
+/// `Truncated` where the bytes end within it, or what is wrong with it, at the offset of the first byte of the field;
+/// there may be no memory.
 #[tactic(auto, unfolding(crate::specs::Reading::line_at))]
 pub fn line(reader: &mut Reader<'_>) -> Result<Option<OneIndexed>, ReadCodeError>
     ensures { Gives (λ n. (n, reader.new)) result (line_at reader.old) }
@@ -154,6 +174,10 @@ pub fn line(reader: &mut Reader<'_>) -> Result<Option<OneIndexed>, ReadCodeError
 }
 
 /// Which parameters the cells are: a byte 0, or a byte 1 and the list of their places.
+///
+/// # Errors
+/// `Truncated` where the bytes end within it, or what is wrong with it, at the offset of the first byte of the field;
+/// there may be no memory.
 #[tactic(auto, unfolding(crate::specs::Reading::cells_at, crate::specs::Reading::after_cells_byte))]
 pub fn cells(alloc: Global, reader: &mut Reader<'_>) -> Result<Option<List<i32>>, ReadCodeError>
     ensures { Gives (λ xs. (xs, reader.new)) result (cells_at reader.old) }

@@ -54,6 +54,10 @@ impl<'a> Reader<'a> {
     }
 
     /// A field of `count` bytes.
+    ///
+    /// # Errors
+    /// `Truncated` where the bytes end within it, or what is wrong with it, at the offset of the first byte of the
+    /// field; there may be no memory.
     #[tactic(auto, unfolding(crate::specs::Reading::block_at))]
     pub fn block(&mut self, count: usize) -> Result<&'a [u8], ReadCodeError>
         ensures block { Gives (λ block. (block.now, self.new)) result (block_at count self.old) }
@@ -69,6 +73,10 @@ impl<'a> Reader<'a> {
     }
 
     /// A byte.
+    ///
+    /// # Errors
+    /// `Truncated` where the bytes end within it, or what is wrong with it, at the offset of the first byte of the
+    /// field; there may be no memory.
     #[tactic(auto, unfolding(crate::specs::Reading::byte_at))]
     pub fn byte(&mut self) -> Result<u8, ReadCodeError>
         ensures { Gives (λ byte. (byte, self.new)) result (byte_at self.old) }
@@ -82,6 +90,10 @@ impl<'a> Reader<'a> {
     }
 
     /// A number of two bytes.
+    ///
+    /// # Errors
+    /// `Truncated` where the bytes end within it, or what is wrong with it, at the offset of the first byte of the
+    /// field; there may be no memory.
     #[tactic(auto, unfolding(crate::specs::Reading::number_at))]
     pub fn u16(&mut self) -> Result<u16, ReadCodeError>
         ensures { Gives (λ n. (n, self.new)) result (number_at w16 self.old) }
@@ -91,6 +103,10 @@ impl<'a> Reader<'a> {
     }
 
     /// A number of four bytes.
+    ///
+    /// # Errors
+    /// `Truncated` where the bytes end within it, or what is wrong with it, at the offset of the first byte of the
+    /// field; there may be no memory.
     #[tactic(auto, unfolding(crate::specs::Reading::number_at))]
     pub fn u32(&mut self) -> Result<u32, ReadCodeError>
         ensures { Gives (λ n. (n, self.new)) result (number_at w32 self.old) }
@@ -100,6 +116,10 @@ impl<'a> Reader<'a> {
     }
 
     /// A number with a sign, of four bytes.
+    ///
+    /// # Errors
+    /// `Truncated` where the bytes end within it, or what is wrong with it, at the offset of the first byte of the
+    /// field; there may be no memory.
     #[tactic(auto, unfolding(crate::specs::Reading::signed_at))]
     pub fn i32(&mut self) -> Result<i32, ReadCodeError>
         ensures { Gives (λ z. (z, self.new)) result (signed_at w32 self.old) }
@@ -108,6 +128,10 @@ impl<'a> Reader<'a> {
     }
 
     /// A number with a sign, of 16 bytes.
+    ///
+    /// # Errors
+    /// `Truncated` where the bytes end within it, or what is wrong with it, at the offset of the first byte of the
+    /// field; there may be no memory.
     #[tactic(auto, unfolding(crate::specs::Reading::signed_at, crate::specs::Reading::number_at))]
     pub fn i128(&mut self) -> Result<i128, ReadCodeError>
         ensures { Gives (λ z. (z, self.new)) result (signed_at w128 self.old) }
@@ -120,6 +144,10 @@ impl<'a> Reader<'a> {
     }
 
     /// A text: its length in bytes, and then the bytes.
+    ///
+    /// # Errors
+    /// `Truncated` where the bytes end within it, or what is wrong with it, at the offset of the first byte of the
+    /// field; there may be no memory.
     #[tactic(auto, unfolding(crate::specs::Reading::text_at))]
     pub fn text(&mut self, alloc: Global) -> Result<Text, ReadCodeError>
         ensures { Gives (λ text. (text, self.new)) result (text_at self.old) }

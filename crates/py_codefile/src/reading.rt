@@ -19,6 +19,10 @@ use std::alloc::{AllocError, Global};
 
 /// The code object that is spelled next. Codes and tuples may nest `room` deep within it, and recursion goes no deeper.
 /// What is read of it stands on the heap while its constants are read, so that a level takes little of the stack.
+///
+/// # Errors
+/// `Truncated` where the bytes end within it, or what is wrong with it, at the offset of the first byte of the field;
+/// there may be no memory.
 #[cycle(code)]
 #[tactic(auto, using(py_bytecode::proofs::View::views), unfolding(crate::specs::Reading::code_at))]
 pub fn code(

@@ -20,6 +20,9 @@ use bitflags::Flags;
 use py_bytecode::{CodeFlags, CodeObject, ConstantData};
 
 /// Appends a code.
+///
+/// # Errors
+/// `TooLong` where a list or a text has 2^32 entries or bytes or more; there may be no memory.
 #[cycle(writing)]
 #[tactic(auto, using(py_bytecode::proofs::View::views))]
 pub fn put_code(out: &mut Vec<u8>, code: &CodeObject) -> Result<(), WriteCodeError>

@@ -14,6 +14,9 @@ use py_base::{List, OneIndexed, SourceLocation, Text};
 use py_bytecode::CodeUnit;
 
 /// Appends the count of a list or the length of a text.
+///
+/// # Errors
+/// `TooLong` where it has 2^32 entries or bytes or more; there may be no memory.
 pub fn put_count(out: &mut Vec<u8>, count: usize) -> Result<(), WriteCodeError>
     ensures { Writes result (count < 2 ^ 32) (to_be_bytes w32 count) count out.old.items out.new.items }
 {
@@ -24,6 +27,9 @@ pub fn put_count(out: &mut Vec<u8>, count: usize) -> Result<(), WriteCodeError>
 }
 
 /// Appends a number, as four bytes.
+///
+/// # Errors
+/// `TooLong` where it has 2^32 entries or bytes or more; there may be no memory.
 pub fn put_number(out: &mut Vec<u8>, number: u32) -> Result<(), WriteCodeError>
     ensures { Writes result (number < 2 ^ 32) (to_be_bytes w32 number) 0 out.old.items out.new.items }
 {
@@ -32,6 +38,9 @@ pub fn put_number(out: &mut Vec<u8>, number: u32) -> Result<(), WriteCodeError>
 }
 
 /// Appends a byte.
+///
+/// # Errors
+/// `TooLong` where it has 2^32 entries or bytes or more; there may be no memory.
 pub fn put_byte(out: &mut Vec<u8>, byte: u8) -> Result<(), WriteCodeError>
     ensures { Writes result (IsByte byte) (byte_spelling byte) 0 out.old.items out.new.items }
 {
@@ -40,6 +49,9 @@ pub fn put_byte(out: &mut Vec<u8>, byte: u8) -> Result<(), WriteCodeError>
 }
 
 /// Appends a text: its length in bytes, and then the bytes.
+///
+/// # Errors
+/// `TooLong` where it has 2^32 entries or bytes or more; there may be no memory.
 pub fn put_text(out: &mut Vec<u8>, text: &Text) -> Result<(), WriteCodeError>
     ensures { Writes result (IsText text.now) (text_spelling text.now) (length text.now) out.old.items out.new.items }
 {
@@ -50,6 +62,9 @@ pub fn put_text(out: &mut Vec<u8>, text: &Text) -> Result<(), WriteCodeError>
 }
 
 /// Appends a list of bytes.
+///
+/// # Errors
+/// `TooLong` where it has 2^32 entries or bytes or more; there may be no memory.
 pub fn put_bytes(out: &mut Vec<u8>, bytes: &[u8]) -> Result<(), WriteCodeError>
     ensures { Writes result (IsList IsByte bytes.now) (list_spelling byte_spelling bytes.now) (length bytes.now) out.old.items out.new.items }
 {
@@ -59,6 +74,9 @@ pub fn put_bytes(out: &mut Vec<u8>, bytes: &[u8]) -> Result<(), WriteCodeError>
 }
 
 /// Appends a list of texts.
+///
+/// # Errors
+/// `TooLong` where it has 2^32 entries or bytes or more; there may be no memory.
 pub fn put_names(out: &mut Vec<u8>, names: &[Text]) -> Result<(), WriteCodeError>
     ensures { Writes result (AreNames names.now) (names_spelling names.now) (longest_of_names names.now) out.old.items out.new.items }
 {
@@ -76,6 +94,9 @@ fn put_texts(out: &mut Vec<u8>, texts: &[Text]) -> Result<(), WriteCodeError>
 }
 
 /// Appends a list of units, each an instruction's number and a byte.
+///
+/// # Errors
+/// `TooLong` where it has 2^32 entries or bytes or more; there may be no memory.
 pub fn put_unit_list(out: &mut Vec<u8>, units: &[CodeUnit]) -> Result<(), WriteCodeError>
     ensures { Writes result (IsList IsUnit units.now) (list_spelling unit_spelling units.now) (length units.now) out.old.items out.new.items }
 {
@@ -100,6 +121,9 @@ fn put_unit(out: &mut Vec<u8>, unit: CodeUnit) -> Result<(), WriteCodeError>
 }
 
 /// Appends a list of locations, each a row and a column.
+///
+/// # Errors
+/// `TooLong` where it has 2^32 entries or bytes or more; there may be no memory.
 pub fn put_location_list(
     out: &mut Vec<u8>,
     locations: &[SourceLocation],
@@ -127,6 +151,9 @@ fn put_location(out: &mut Vec<u8>, location: SourceLocation) -> Result<(), Write
 }
 
 /// Appends the row in which a scope begins, or 0.
+///
+/// # Errors
+/// `TooLong` where it has 2^32 entries or bytes or more; there may be no memory.
 pub fn put_line(out: &mut Vec<u8>, line: Option<OneIndexed>) -> Result<(), WriteCodeError>
     ensures { Writes result (IsLine line) (line_spelling line) 0 out.old.items out.new.items }
 {
@@ -137,6 +164,9 @@ pub fn put_line(out: &mut Vec<u8>, line: Option<OneIndexed>) -> Result<(), Write
 }
 
 /// Appends which parameters the cells are: a byte 0, or a byte 1 and the list of their places.
+///
+/// # Errors
+/// `TooLong` where it has 2^32 entries or bytes or more; there may be no memory.
 pub fn put_cells(out: &mut Vec<u8>, cells: &Option<List<i32>>) -> Result<(), WriteCodeError>
     ensures { Writes result (AreCells cells.now) (cells_spelling cells.now) (longest_of_cells cells.now) out.old.items out.new.items }
 {

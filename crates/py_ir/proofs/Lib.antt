@@ -20,3 +20,4 @@ pub mod Chained
 pub mod Listed
 pub mod TakenCode
 pub mod Unrefused
+pub mod Feeding

@@ -9,3 +9,4 @@ pub mod Spans
 pub mod Flattened
 pub mod FlatCode
 pub mod Sizes
+pub mod Feeding

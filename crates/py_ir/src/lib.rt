@@ -4,6 +4,7 @@
 pub mod blocks;
 pub mod chain;
 pub mod checks;
+pub mod constants;
 pub mod error;
 pub mod finalize;
 pub mod flat;
@@ -13,9 +14,10 @@ pub mod sets;
 pub mod taking;
 
 pub use blocks::{Block, Blocks};
+pub use constants::ConstantSet;
 pub use error::FinalizeError;
 pub use flat::FlatBlocks;
 pub use flat_code::FlatCode;
 pub use info::CodeInfo;
 pub use py_walks::{BlockIdx, InstructionInfo};
-pub use sets::{ConstantSet, NameSet, OrderedSet};
+pub use sets::{NameSet, OrderedSet};

@@ -1,4 +1,4 @@
-//! Sets that keep the order in which their values came: the tables of a code.
+//! Sets that keep the order in which their values came: the tables of names of a code.
 ghost use Rattle.std.specs.Prelude.{◌≡◌, ◌<◌, ◌^◌, [], Some, true, length, position, slice_get, IfOk, IfErr, OnOk, OnErr};
 ghost use Rattle.std.specs.Option.{option_copied};
 ghost use Rattle.std.specs.List.{position_or_len, IsDistinct};
@@ -6,16 +6,12 @@ ghost use Rattle.indexmap.specs.IndexSet.{insert_key};
 
 use indexmap::IndexSet;
 use py_base::{List, Text};
-use py_bytecode::ConstantData;
 use std::alloc::{AllocError, AllocFailed, Global};
 use std::hash::Hash;
 use std::marker::Model;
 
 /// Names in the order in which they came, each once.
 pub type NameSet = OrderedSet<Text>;
-
-/// Constants in the order in which they came, each once.
-pub type ConstantSet = OrderedSet<ConstantData>;
 
 /// A set that keeps the order of insertion, seen as the list of its values.
 #[derive(Drop)]

@@ -1,5 +1,4 @@
 pub mod Parts
-pub mod CodesOver
 pub mod Nodes
 pub mod Laid
 pub mod Runs

@@ -17,7 +17,7 @@ use Rattle.py_meaning.specs.Table.{expr_form, target_form, test_form}
 use Rattle.py_meaning.specs.TableStmts.{stmt_form, stmts_form}
 use Rattle.py_nodes.specs.Adding.{Adds, NameBlocks, loops_in, present, seen, told}
 use Rattle.py_nodes.specs.Running.{BodiesRun, ExprsRun, Hold, StatementsRun, TargetsRun, TestsRun, end_of, place_after}
-use Rattle.py_nodes.proofs.CodesOver.{over_g, over_s, over_t, over_v}
+use Rattle.py_simulation.proofs.CodeOver.{over_g, over_s, over_t, over_v}
 use Rattle.py_nodes.proofs.Laid.{begins, few_begin, place_joined, stand_behind, stand_in, stand_lies}
 use Rattle.py_nodes.proofs.Nodes.{bodies_add, exprs_add, statements_add, targets_add, tests_add}
 use Rattle.py_nodes.proofs.Parts.{targets_simulate, tests_simulate, values_simulate}

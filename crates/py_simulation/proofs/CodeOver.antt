@@ -1,4 +1,4 @@
--- A form's code over other children is its code with the children replaced.
+-- The code of each part of a form over other children, from any label on, is its code with the children replaced; and so is the whole code of a scope.
 use Rattle.std.proofs.Common.{◌≡◌, ℕ, suc, ◌+◌, List, [], ◌∷◌, ◌++◌, Bool, true, false, Option, Some, None, refl, ap, ◌∙◌}
 use Rattle.py_bytecode.specs.Values.{Operation, Cell, flip}
 use Rattle.py_bytecode.specs.Machine.{Instr, PopBlock, Jump, SetupExcept}
@@ -17,7 +17,7 @@ module _ {K L : Type 0} (c : K → L) where
   abbrev pub interp_over : Interp K → Interp L
   interp_over i = record { child = λ s. c (i.child s); kind = i.kind; place = i.place; closure = i.closure; class_cells = i.class_cells }
 
-  record Over (a : List (Item K)) (b : List (Item L)) : Type 0 where
+  pub record Over (a : List (Item K)) (b : List (Item L)) : Type 0 where
     pub same : items_over c a ≡ b
 
   nothing : Over [] []
@@ -60,11 +60,11 @@ module _ {K L : Type 0} (c : K → L) where
   kept_over (Some o) = refl
 
   module _ (i : Interp K) where
-    abbrev j : Interp L
+    abbrev pub j : Interp L
     j = interp_over i
 
     mutual
-      over_v : (f : VForm) (n : ℕ) → Over (code_v i f n) (code_v j f n)
+      pub over_v : (f : VForm) (n : ℕ) → Over (code_v i f n) (code_v j f n)
       over_v (VConst m) n = record { same = refl }
       over_v (VLoad x m) n = record { same = refl }
       over_v (VOp o fs) n = ended _ _ (over_vs fs n) refl
@@ -91,7 +91,7 @@ module _ {K L : Type 0} (c : K → L) where
       over_ls (LastLink o f) out n = ended _ _ (over_v f n) refl
       over_ls (MoreLink o f ls) out n = both (over_v f n) (doing refl (doing refl (doing refl (doing refl (over_ls ls out (n + labels_v f))))))
 
-      over_t : (t : TForm) (d : Bool) (to n : ℕ) → Over (code_t i t d to n) (code_t j t d to n)
+      pub over_t : (t : TForm) (d : Bool) (to n : ℕ) → Over (code_t i t d to n) (code_t j t d to n)
       over_t (TTruth f) d to n = ended _ _ (over_v f n) refl
       over_t (TNot t) d to n = over_t t (flip d) to n
       over_t (TAll ts) false to n = over_ts ts false to to n
@@ -101,7 +101,7 @@ module _ {K L : Type 0} (c : K → L) where
       over_ts (OneTest t) d to out n = over_t t d to n
       over_ts (MoreTest t ts) d to out n = both (over_t t false out n) (over_ts ts d to out (n + labels_t t false))
 
-      over_g : (t : Target) (n : ℕ) → Over (code_g i t n) (code_g j t n)
+      pub over_g : (t : Target) (n : ℕ) → Over (code_g i t n) (code_g j t n)
       over_g (GStore x m) n = record { same = refl }
       over_g (GPut o fs) n = ended _ _ (over_vs fs n) refl
       over_g (GUnder o f) n = ended _ _ (over_v f n) refl
@@ -137,7 +137,7 @@ module _ {K L : Type 0} (c : K → L) where
     over_try final p q ha hh hb = doing refl (both ha (doing refl (doing refl (mark (both hh (mark (both hb (tail_over final))))))))
 
     mutual
-      over_s : (f : SForm) (l : Loops) (n : ℕ) → Over (code i f l n) (code j f l n)
+      pub over_s : (f : SForm) (l : Loops) (n : ℕ) → Over (code i f l n) (code j f l n)
       over_s SSkip l n = nothing
       over_s (SThen a b) l n = both (over_s a l n) (over_s b l (n + labels a))
       over_s (SDo o r fs) l n = ended _ _ (over_vs fs n) refl
