@@ -1,3 +1,4 @@
+//! The words for operands that are cases: operators, tests, kinds of raise, conversions.
 ghost use Rattle.std.specs.Prelude.{◌≡◌, ◌++◌, slice_get, string_bytes, OnOk};
 ghost use Rattle.py_listing.specs.Listing.{case_names, case_text, entry};
 
@@ -5,6 +6,9 @@ use py_bytecode::OperandKind;
 use std::alloc::AllocError;
 
 /// Appends the name of an enumerated case after a space, and nothing where the kind has no cases.
+///
+/// # Errors
+/// There is no memory for it.
 pub fn push_case(out: &mut String, kind: OperandKind, case: u32) -> Result<(), AllocError>
     ensures { OnOk result (string_bytes out.new ≡ string_bytes out.old ++ case_text kind case) }
 {
@@ -29,6 +33,9 @@ pub fn push_case(out: &mut String, kind: OperandKind, case: u32) -> Result<(), A
 }
 
 /// Appends the name of a unary operator after a space.
+///
+/// # Errors
+/// There is no memory for it.
 pub fn push_unary(out: &mut String, case: u32) -> Result<(), AllocError>
     ensures { OnOk result (string_bytes out.new ≡ string_bytes out.old ++ entry (λ t. t) (slice_get (case_names OperandKind.Unary) case)) }
 {
@@ -42,6 +49,9 @@ pub fn push_unary(out: &mut String, case: u32) -> Result<(), AllocError>
 }
 
 /// Appends the name of a binary operator after a space.
+///
+/// # Errors
+/// There is no memory for it.
 pub fn push_binary(out: &mut String, case: u32) -> Result<(), AllocError>
     ensures { OnOk result (string_bytes out.new ≡ string_bytes out.old ++ entry (λ t. t) (slice_get (case_names OperandKind.Binary) case)) }
 {
@@ -64,6 +74,9 @@ pub fn push_binary(out: &mut String, case: u32) -> Result<(), AllocError>
 }
 
 /// Appends the name of a comparison after a space.
+///
+/// # Errors
+/// There is no memory for it.
 pub fn push_compare(out: &mut String, case: u32) -> Result<(), AllocError>
     ensures { OnOk result (string_bytes out.new ≡ string_bytes out.old ++ entry (λ t. t) (slice_get (case_names OperandKind.Compare) case)) }
 {
@@ -79,6 +92,9 @@ pub fn push_compare(out: &mut String, case: u32) -> Result<(), AllocError>
 }
 
 /// Appends the name of a test after a space.
+///
+/// # Errors
+/// There is no memory for it.
 pub fn push_test(out: &mut String, case: u32) -> Result<(), AllocError>
     ensures { OnOk result (string_bytes out.new ≡ string_bytes out.old ++ entry (λ t. t) (slice_get (case_names OperandKind.Test) case)) }
 {
@@ -93,6 +109,9 @@ pub fn push_test(out: &mut String, case: u32) -> Result<(), AllocError>
 }
 
 /// Appends the name of a kind of raise after a space.
+///
+/// # Errors
+/// There is no memory for it.
 pub fn push_raise_kind(out: &mut String, case: u32) -> Result<(), AllocError>
     ensures { OnOk result (string_bytes out.new ≡ string_bytes out.old ++ entry (λ t. t) (slice_get (case_names OperandKind.RaiseKind) case)) }
 {
@@ -105,6 +124,9 @@ pub fn push_raise_kind(out: &mut String, case: u32) -> Result<(), AllocError>
 }
 
 /// Appends the name of a conversion after a space.
+///
+/// # Errors
+/// There is no memory for it.
 pub fn push_conversion(out: &mut String, case: u32) -> Result<(), AllocError>
     ensures { OnOk result (string_bytes out.new ≡ string_bytes out.old ++ entry (λ t. t) (slice_get (case_names OperandKind.Conversion) case)) }
 {

@@ -1,3 +1,4 @@
+//! Constants as a listing writes them.
 ghost use Rattle.std.specs.Prelude.{◌≡◌, ◌++◌, string_bytes, OnOk};
 ghost use Rattle.py_listing.specs.Listing.{code_text, constant_text, joined, separator, tuple_end};
 ghost use Rattle.py_bytecode.specs.Objects.{tuple};
@@ -8,6 +9,9 @@ use py_quote::{push_bool, push_decimal, push_quote, push_quote_bytes};
 use std::alloc::AllocError;
 
 /// Appends the text of a constant.
+///
+/// # Errors
+/// There is no memory for it.
 #[cycle(constant_text)]
 #[tactic(auto, using(py_bytecode::proofs::View::views))]
 pub fn push_constant(out: &mut String, item: &ConstantData) -> Result<(), AllocError>
@@ -55,6 +59,9 @@ fn push_tuple_end(out: &mut String, elements: &[ConstantData]) -> Result<(), All
 }
 
 /// Appends a comma before all but the first entry.
+///
+/// # Errors
+/// There is no memory for it.
 pub fn push_separator(out: &mut String, i: usize) -> Result<(), AllocError>
     ensures { OnOk result (string_bytes out.new ≡ string_bytes out.old ++ separator i) }
 {
@@ -65,6 +72,9 @@ pub fn push_separator(out: &mut String, i: usize) -> Result<(), AllocError>
 }
 
 /// Appends constants with commas between them.
+///
+/// # Errors
+/// There is no memory for it.
 #[cycle(constant_text)]
 pub fn push_joined(out: &mut String, elements: &[ConstantData]) -> Result<(), AllocError>
     ensures { OnOk result (string_bytes out.new ≡ string_bytes out.old ++ joined (constants_of elements.now)) }

@@ -1,3 +1,4 @@
+//! What a listing writes behind an operand.
 ghost use Rattle.std.specs.Prelude.{◌≡◌, ◌++◌, codes, decimal, slice_get, string_bytes, OnOk};
 ghost use Rattle.py_listing.specs.Listing.{constant_text, detail, entry};
 ghost use Rattle.py_quote.specs.Quote.{quote};
@@ -7,13 +8,16 @@ use crate::cases::{
     push_binary, push_compare, push_conversion, push_raise_kind, push_test, push_unary,
 };
 use crate::constants::push_constant;
-use crate::texts::push_number;
+use crate::texts::{push_mark, push_number};
 use py_base::Text;
 use py_bytecode::{CodeObject, ConstantData, OperandKind};
 use py_quote::push_quote;
 use std::alloc::AllocError;
 
 /// Appends what a whole operand names, after a space: a constant, a name, a place or a case.
+///
+/// # Errors
+/// There is no memory for it.
 #[tactic(auto, using(py_bytecode::proofs::View::views, crate::proofs::Joining::constant_entry))]
 pub fn push_detail(
     out: &mut String,
@@ -59,7 +63,7 @@ fn push_constant_entry(
 {
     match constants.get(place as usize) {
         Some(item) => {
-            out.push_str(" ")?;
+            push_mark(out, ' ')?;
             push_constant(out, item)
         }
         None => out.push_str(" ?"),
@@ -71,7 +75,7 @@ fn push_name_entry(out: &mut String, names: &[Text], place: usize) -> Result<(),
 {
     match names.get(place) {
         Some(name) => {
-            out.push_str(" ")?;
+            push_mark(out, ' ')?;
             push_quote(out, name.as_str())
         }
         None => out.push_str(" ?"),

@@ -1,3 +1,4 @@
+//! The listing of a code object.
 ghost use Rattle.std.specs.Prelude.{◌≡◌, ◌++◌, string_bytes, IfOk, OnOk};
 ghost use Rattle.py_listing.specs.Listing.{listing as listing_of, listing_in, listings, own_lines};
 ghost use Rattle.py_bytecode.specs.View.{constant, constants_of, head_of, object};

@@ -6,6 +6,7 @@ mod constants;
 mod details;
 mod disassembly;
 mod lines;
+mod numbers;
 mod texts;
 
 pub use cases::push_case;

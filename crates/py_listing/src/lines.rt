@@ -1,3 +1,4 @@
+//! The lines of a listing.
 ghost use Rattle.std.specs.Prelude.{◌≡◌, ◌++◌, ◌%◌, ◌+◌, ◌*◌, ◌^◌, ℕ, ℤ, List, codes, decimal, slice_get, string_bytes, OnOk};
 ghost use Rattle.std.specs.Fmt.{signed_decimal};
 ghost use Rattle.std.specs.List.{join_by};
@@ -7,7 +8,8 @@ ghost use Rattle.py_bytecode.specs.View.{constants_of, head_of, object};
 
 use crate::constants::{push_joined, push_separator};
 use crate::details::push_detail;
-use crate::texts::{push_number, push_text};
+use crate::numbers::push_places;
+use crate::texts::{push_mark, push_number, push_text};
 use bitflags::Flags;
 use py_base::{List, OneIndexed, SourceLocation, Text};
 use py_bytecode::{CodeObject, CodeUnit, ConstantData, Instruction, OperandKind};
@@ -16,6 +18,9 @@ use std::alloc::AllocError;
 use std::fmt::Write;
 
 /// Appends the line that begins a code's text.
+///
+/// # Errors
+/// There is no memory for it.
 #[tactic(auto, unfolding(crate::specs::Listing::head_line))]
 pub fn push_head(out: &mut String, code: &CodeObject) -> Result<(), AllocError>
     ensures { OnOk result (string_bytes out.new ≡ string_bytes out.old ++ head_line (head_of code.now)) }
@@ -57,6 +62,9 @@ fn push_numbers(out: &mut String, code: &CodeObject) -> Result<(), AllocError>
 }
 
 /// Appends the line of constants, where there are some.
+///
+/// # Errors
+/// There is no memory for it.
 #[tactic(auto, using(crate::proofs::Joining::constants_line_some))]
 pub fn push_constants(out: &mut String, constants: &[ConstantData]) -> Result<(), AllocError>
     ensures { OnOk result (string_bytes out.new ≡ string_bytes out.old ++ constants_line (constants_of constants.now)) }
@@ -78,6 +86,9 @@ fn push_all_constants(out: &mut String, constants: &[ConstantData]) -> Result<()
 }
 
 /// Appends a line of names after its word, where there are some.
+///
+/// # Errors
+/// There is no memory for it.
 #[tactic(auto, unfolding(crate::specs::Listing::names_line))]
 pub fn push_names(out: &mut String, word: &str, names: &[Text]) -> Result<(), AllocError>
     ensures { OnOk result (string_bytes out.new ≡ string_bytes out.old ++ names_line word.now names.now) }
@@ -95,6 +106,9 @@ pub fn push_names(out: &mut String, word: &str, names: &[Text]) -> Result<(), Al
 }
 
 /// Appends the line that says for each cell which parameter it is.
+///
+/// # Errors
+/// There is no memory for it.
 #[tactic(auto, unfolding(crate::specs::Listing::cells_line))]
 pub fn push_cells(out: &mut String, places: &Option<List<i32>>) -> Result<(), AllocError>
     ensures { OnOk result (string_bytes out.new ≡ string_bytes out.old ++ cells_line places.now) }
@@ -103,11 +117,11 @@ pub fn push_cells(out: &mut String, places: &Option<List<i32>>) -> Result<(), Al
         return Ok(());
     };
     out.push_str("cell2arg: ")?;
-    push_places(out, places.as_slice())?;
+    push_arguments(out, places.as_slice())?;
     out.push_str("\n")
 }
 
-fn push_places(out: &mut String, places: &[i32]) -> Result<(), AllocError>
+fn push_arguments(out: &mut String, places: &[i32]) -> Result<(), AllocError>
     ensures { OnOk result (string_bytes out.new ≡ string_bytes out.old ++ join_by signed_decimal (codes ", ") places.now) }
 {
     let Some((first, rest)) = places.split_first() else {
@@ -121,6 +135,9 @@ fn push_places(out: &mut String, places: &[i32]) -> Result<(), AllocError>
 }
 
 /// Appends a line for each unit. The operand of a unit that is no prefix is whole, prefixes included.
+///
+/// # Errors
+/// There is no memory for it.
 pub fn push_units(out: &mut String, code: &CodeObject, units: &[CodeUnit]) -> Result<(), AllocError>
     ensures { OnOk result (string_bytes out.new ≡ string_bytes out.old ++ unit_lines (object code.now) 0 0 units.now) }
 {
@@ -160,37 +177,24 @@ fn push_unit(
 ) -> Result<(), AllocError>
     ensures { OnOk result (string_bytes out.new ≡ string_bytes out.old ++ unit_line (object code.now) at whole unit) }
 {
-    push_offset(out, at)?;
-    push_location(out, code.locations.as_slice(), at)?;
-    push_text(out, " ")?;
+    push_front(out, at, code.locations.as_slice())?;
     push_text(out, unit.op.name())?;
     push_byte(out, unit.op.operand_kind(), unit.arg)?;
     push_detail(out, code, unit.op.operand_kind(), whole)?;
-    push_text(out, "\n")?;
+    push_mark(out, '\n')?;
     Ok(())
 }
 
-fn push_offset(out: &mut String, at: usize) -> Result<(), AllocError>
-    ensures { OnOk result (string_bytes out.new ≡ string_bytes out.old ++ (decimal at ++ codes " ")) }
-{
-    push_number(out, at)?;
-    out.push_str(" ")
-}
-
-fn push_location(
-    out: &mut String,
-    locations: &[SourceLocation],
-    at: usize,
-) -> Result<(), AllocError>
-    ensures { OnOk result (string_bytes out.new ≡ string_bytes out.old ++ place_text (slice_get locations.now at)) }
+/// Appends what stands before the instruction: its offset, its row and its column.
+fn push_front(out: &mut String, at: usize, locations: &[SourceLocation]) -> Result<(), AllocError>
+    ensures { OnOk result (string_bytes out.new ≡ string_bytes out.old ++ (decimal at ++ codes " " ++ place_text (slice_get locations.now at) ++ codes " ")) }
 {
     match locations.get(at) {
-        Some(location) => {
-            push_number(out, location.row.get())?;
-            out.push_str(":")?;
-            push_number(out, location.column.get())
+        Some(location) => push_places(out, at, location.row.get(), location.column.get()),
+        None => {
+            push_number(out, at)?;
+            out.push_str(" -:- ")
         }
-        None => out.push_str("-:-"),
     }
 }
 
@@ -200,7 +204,7 @@ fn push_byte(out: &mut String, kind: OperandKind, byte: u8) -> Result<(), AllocE
     match kind {
         OperandKind::None => Ok(()),
         _ => {
-            out.push_str(" ")?;
+            push_mark(out, ' ')?;
             push_number(out, byte)
         }
     }
