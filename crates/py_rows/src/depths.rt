@@ -1,3 +1,4 @@
+//! How deep the rows of a tree nest.
 ghost use Rattle.std.specs.Prelude.{◌≡◌, ◌≤◌, length};
 ghost use Rattle.py_rows_fields.specs.Gives.{Gives};
 ghost use Rattle.py_rows.specs.Rows.{further_levels, is_item, is_with, item_count, whole_depth};

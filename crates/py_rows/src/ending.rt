@@ -1,3 +1,4 @@
+//! What is asked once all rows are read.
 ghost use Rattle.std.specs.Prelude.{◌≡◌, Some, position};
 ghost use Rattle.py_tree.specs.View.{mod_tree};
 ghost use Rattle.py_rows_fields.specs.Gives.{Fails, Gives};

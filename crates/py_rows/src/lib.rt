@@ -18,7 +18,8 @@ use py_tree::Mod;
 use reading::read_all;
 use std::alloc::Global;
 
-/// The tree whose rows the bytes are. Work is linear in the rows: each node is moved once, into its parent.
+/// The tree whose rows the bytes are. Work is linear in the rows: each node is moved once, into its parent, and the JSON
+/// of each row is let go once the row is read.
 ///
 /// # Errors
 /// The first thing that is wrong with the bytes, `row` being the row that is at fault. Want of memory is
@@ -28,7 +29,7 @@ pub fn read_rows(alloc: Global, bytes: &[u8]) -> Result<Mod, RowsError>
     ensures { Gives mod_tree result (rows_tree bytes.now) }
 {
     let value = read_json(alloc, bytes)?;
-    let rows = rows_of(&value)?;
+    let rows = rows_of(value)?;
     let mut nodes = Nodes::new(alloc);
     read_all(alloc, rows, &mut nodes)?;
     take_program(&mut nodes)

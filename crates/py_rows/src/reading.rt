@@ -1,3 +1,4 @@
+//! The rows, read one by one.
 ghost use Rattle.std.specs.Prelude.{◌<◌, ◌^◌, length};
 ghost use Rattle.serde_json.specs.View.{view, items_view};
 ghost use Rattle.py_rows_fields.specs.Gives.{Gives};
@@ -11,14 +12,21 @@ use py_rows_slots::Nodes;
 use serde_json::Value;
 use std::alloc::Global;
 
-/// Reads the rows from 0 up.
-pub(crate) fn read_all(alloc: Global, rows: &[Value], nodes: &mut Nodes) -> Result<(), RowsError>
-    requires { length rows.now < 2 ^ 32 }
-    ensures { Gives (λ _. nodes_view nodes.new) result (rows_from 0 (items_view rows.now) (nodes_view nodes.old)) }
+/// Reads the rows from 0 up, and lets each go once it is read.
+pub(crate) fn read_all(
+    alloc: Global,
+    mut rows: Vec<Value>,
+    nodes: &mut Nodes,
+) -> Result<(), RowsError>
+    requires { length rows.items < 2 ^ 32 }
+    ensures { Gives (λ _. nodes_view nodes.new) result (rows_from 0 (items_view rows.items) (nodes_view nodes.old)) }
 {
     let mut parts = Vec::new(alloc);
-    for (i, row) in rows.iter().enumerate() {
-        read_row(alloc, row, i as u32, &mut parts, nodes)?;
+    let mut number = 0u32;
+    rows.reverse();
+    while let Some(row) = rows.pop() {
+        read_row(alloc, &row, number, &mut parts, nodes)?;
+        number += 1;
     }
     Ok(())
 }

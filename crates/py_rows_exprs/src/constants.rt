@@ -1,3 +1,4 @@
+//! Rows of constants.
 ghost use Rattle.serde_json.specs.View.{items_view};
 ghost use Rattle.py_tree.specs.View.{literal_of};
 ghost use Rattle.py_rows_fields.specs.Gives.{Gives};

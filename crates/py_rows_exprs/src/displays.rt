@@ -1,3 +1,4 @@
+//! Rows of displays and comprehensions.
 ghost use Rattle.serde_json.specs.View.{items_view};
 ghost use Rattle.py_tree.specs.View.{expr_tree, exprs, generators};
 ghost use Rattle.py_rows_fields.specs.Gives.{Gives};

@@ -1,3 +1,4 @@
+//! Nodes made of rows, put among those of their sort.
 ghost use Rattle.serde_json.specs.View.{items_view};
 ghost use Rattle.py_rows_exprs.specs.Making.{make_arg, make_arguments, make_comprehension, make_constant, make_default, make_expr, make_keyword};
 ghost use Rattle.py_rows_fields.specs.Gives.{Gives};

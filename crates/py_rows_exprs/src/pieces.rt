@@ -1,3 +1,4 @@
+//! Rows of the parts of expressions.
 ghost use Rattle.serde_json.specs.View.{items_view};
 ghost use Rattle.py_tree.specs.View.{arg, arguments, expr_tree};
 ghost use Rattle.py_rows_exprs.specs.Pieces.{arg_node, arguments_node, comprehension_node, default_node, keyword_node};

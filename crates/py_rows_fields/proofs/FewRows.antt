@@ -1,5 +1,5 @@
 -- There are no more rows than bytes.
-use Rattle.std.proofs.Common.{◌≡◌, ℕ, zero, suc, ◌≤◌, ◌<◌, List, [], ◌∷◌, length, Bool, true, false, Option, Some, None, refl, ap, ◌∙◌, arith, option_map, option_and_then, subst}
+use Rattle.std.proofs.Common.{◌≡◌, ℕ, zero, suc, ◌≤◌, List, [], ◌∷◌, length, Bool, true, false, Option, Some, None, refl, ap, ◌∙◌, arith, option_map, option_and_then, subst}
 use Rattle.json.specs.Token.{Token, begin_object, end_object, begin_array, end_array, key, string, number, boolean, null, bad}
 use Rattle.json.specs.Lex.{Lexeme, token, comma, colon, Class, Mode, between, in_word, in_string, in_escape, quote, backslash, operator, space, other, class, lex, lex_byte, Place, fresh, after_value, after_comma, after_key, if_allowed, place_token, begins_colon, may_begin, may_close, punctuate, tokens}
 use Rattle.json.specs.Json.{Json, items, value, after_end_array, items_step, parse_map, if_last}
@@ -8,7 +8,6 @@ use Rattle.serde_json.specs.Data as tree
 use Rattle.serde_json.specs.Events.{items_len}
 use Rattle.std.proofs.Common.{Ok, if◌then◌else◌}
 use Rattle.std.specs.Str.{is_utf8}
-use Rattle.serde_json.specs.Find.{as_array}
 use Rattle.serde_json.specs.View.{items_view}
 use Rattle.serde_json.specs.declared.value.Value.{Value}
 use Rattle.py_rows_fields.specs.declared.error.RowsError.TheVariants.{NotJson}
@@ -217,7 +216,3 @@ pub few_rows : (bytes : List ℕ) (d : tree.Data) (vs : List Value) → json_of 
 few_rows bytes d vs e h =
     let r : read bytes ≡ Some (tree.array (items_view vs)) = read_of (is_utf8 bytes) bytes d e ∙ ap (λ (x : tree.Data). Some x) (rows_are d (items_view vs) h) in
     omega (arith, view_len vs, read_len bytes (items_view vs) r)
-
-pub rows_found : (d : tree.Data) (vs : List Value) → as_array d ≡ Some (items_view vs) → 0 < length vs → rows_in d ≡ Ok (items_view vs)
-rows_found d [] e h = absurd (omega arith)
-rows_found d (v ∷ vs) e h = rw e refl

@@ -12,7 +12,7 @@ use Rattle.py_rows_fields.specs.Gives.{or_fault, ◌>>=◌}
 abbrev pub json_of : List ℕ → Result Data RowsError
 json_of bytes = or_fault NotJson (if is_utf8 bytes then read bytes else None)
 
-abbrev some_rows : Items → Result Items RowsError
+abbrev pub some_rows : Items → Result Items RowsError
 some_rows no_items = Err NotRows
 some_rows (item row rows) = Ok (item row rows)
 

@@ -1,3 +1,4 @@
+//! Why bytes are not the rows of a tree.
 use std::alloc::{AllocError, AllocFailed};
 use thiserror::Error;
 

@@ -1,3 +1,4 @@
+//! The fields of a row, by their form.
 ghost use Rattle.std.specs.Prelude.{◌≡◌};
 ghost use Rattle.serde_json.specs.View.{view, items_view};
 ghost use Rattle.py_rows_fields.specs.Gives.{Gives};
@@ -16,6 +17,9 @@ fn one_indexed(value: &Value) -> Option<OneIndexed>
 }
 
 /// No field.
+///
+/// # Errors
+/// `WrongRow` where the field has not this form; there may be no memory.
 pub fn no_field(fields: &[Value], row: u32) -> Result<(), RowsError>
     ensures { Gives (λ x. x) result (no_field row (items_view fields.now)) }
 {
@@ -27,6 +31,9 @@ pub fn no_field(fields: &[Value], row: u32) -> Result<(), RowsError>
 }
 
 /// The only field.
+///
+/// # Errors
+/// `WrongRow` where the field has not this form; there may be no memory.
 pub fn one(fields: &[Value], row: u32) -> Result<&Value, RowsError>
     ensures { Gives (λ v. view v.now) result (one row (items_view fields.now)) }
 {
@@ -37,6 +44,9 @@ pub fn one(fields: &[Value], row: u32) -> Result<&Value, RowsError>
 }
 
 /// Two fields.
+///
+/// # Errors
+/// `WrongRow` where the field has not this form; there may be no memory.
 pub fn two(fields: &[Value], row: u32) -> Result<(&Value, &Value), RowsError>
     ensures { Gives (λ t. (view t.0.now, view t.1.now)) result (two row (items_view fields.now)) }
 {
@@ -47,6 +57,9 @@ pub fn two(fields: &[Value], row: u32) -> Result<(&Value, &Value), RowsError>
 }
 
 /// Three fields.
+///
+/// # Errors
+/// `WrongRow` where the field has not this form; there may be no memory.
 pub fn three(fields: &[Value], row: u32) -> Result<(&Value, &Value, &Value), RowsError>
     ensures { Gives (λ t. (view t.0.now, view t.1.now, view t.2.now)) result (three row (items_view fields.now)) }
 {
@@ -57,6 +70,9 @@ pub fn three(fields: &[Value], row: u32) -> Result<(&Value, &Value, &Value), Row
 }
 
 /// Four fields.
+///
+/// # Errors
+/// `WrongRow` where the field has not this form; there may be no memory.
 pub fn four(fields: &[Value], row: u32) -> Result<(&Value, &Value, &Value, &Value), RowsError>
     ensures { Gives (λ t. (view t.0.now, view t.1.now, view t.2.now, view t.3.now)) result (four row (items_view fields.now)) }
 {
@@ -67,6 +83,9 @@ pub fn four(fields: &[Value], row: u32) -> Result<(&Value, &Value, &Value, &Valu
 }
 
 /// Five fields.
+///
+/// # Errors
+/// `WrongRow` where the field has not this form; there may be no memory.
 pub fn five(
     fields: &[Value],
     row: u32,
@@ -80,6 +99,9 @@ pub fn five(
 }
 
 /// Six fields.
+///
+/// # Errors
+/// `WrongRow` where the field has not this form; there may be no memory.
 pub fn six(
     fields: &[Value],
     row: u32,
@@ -95,6 +117,9 @@ pub fn six(
 }
 
 /// The location that a row gives first.
+///
+/// # Errors
+/// `WrongRow` where the field has not this form; there may be no memory.
 pub fn place(fields: &[Value], row: u32) -> Result<SourceLocation, RowsError>
     ensures { Gives (λ x. x) result (place_in row (items_view fields.now)) }
 {
@@ -108,6 +133,9 @@ pub fn place(fields: &[Value], row: u32) -> Result<SourceLocation, RowsError>
 }
 
 /// The fields behind the location.
+///
+/// # Errors
+/// `WrongRow` where the field has not this form; there may be no memory.
 pub fn behind_place(fields: &[Value], row: u32) -> Result<&[Value], RowsError>
     ensures { Gives (λ v. items_view v.now) result (behind_place row (items_view fields.now)) }
 {
@@ -118,6 +146,9 @@ pub fn behind_place(fields: &[Value], row: u32) -> Result<&[Value], RowsError>
 }
 
 /// The number of a row that a field names.
+///
+/// # Errors
+/// `WrongRow` where the field has not this form; there may be no memory.
 pub fn number(value: &Value, row: u32) -> Result<u64, RowsError>
     ensures { Gives (λ x. x) result (number_at row (view value.now)) }
 {
@@ -128,6 +159,9 @@ pub fn number(value: &Value, row: u32) -> Result<u64, RowsError>
 }
 
 /// The entries of an array.
+///
+/// # Errors
+/// `WrongRow` where the field has not this form; there may be no memory.
 pub fn entries(value: &Value, row: u32) -> Result<&[Value], RowsError>
     ensures { Gives (λ v. items_view v.now) result (entries_at row (view value.now)) }
 {
@@ -138,6 +172,9 @@ pub fn entries(value: &Value, row: u32) -> Result<&[Value], RowsError>
 }
 
 /// A text.
+///
+/// # Errors
+/// `WrongRow` where the field has not this form; there may be no memory.
 pub fn word(value: &Value, row: u32) -> Result<&str, RowsError>
     ensures { Gives (λ s. s.now) result (text_at row (view value.now)) }
 {
@@ -148,6 +185,9 @@ pub fn word(value: &Value, row: u32) -> Result<&str, RowsError>
 }
 
 /// A name.
+///
+/// # Errors
+/// `WrongRow` where the field has not this form; there may be no memory.
 pub fn text(alloc: Global, value: &Value, row: u32) -> Result<Text, RowsError>
     ensures { Gives (λ x. x) result (text_at row (view value.now)) }
 {
@@ -158,6 +198,9 @@ pub fn text(alloc: Global, value: &Value, row: u32) -> Result<Text, RowsError>
 }
 
 /// A name, or none where the field is null.
+///
+/// # Errors
+/// `WrongRow` where the field has not this form; there may be no memory.
 pub fn optional_text(alloc: Global, value: &Value, row: u32) -> Result<Option<Text>, RowsError>
     ensures { Gives (λ x. x) result (optional_text_at row (view value.now)) }
 {
@@ -168,6 +211,9 @@ pub fn optional_text(alloc: Global, value: &Value, row: u32) -> Result<Option<Te
 }
 
 /// Names in order.
+///
+/// # Errors
+/// `WrongRow` where the field has not this form; there may be no memory.
 pub fn texts(alloc: Global, value: &Value, row: u32) -> Result<Names, RowsError>
     ensures { Gives (λ x. x) result (texts_at row (view value.now)) }
 {
@@ -179,6 +225,9 @@ pub fn texts(alloc: Global, value: &Value, row: u32) -> Result<Names, RowsError>
 }
 
 /// True or false.
+///
+/// # Errors
+/// `WrongRow` where the field has not this form; there may be no memory.
 pub fn boolean(value: &Value, row: u32) -> Result<bool, RowsError>
     ensures { Gives (λ x. x) result (boolean_at row (view value.now)) }
 {
@@ -189,6 +238,9 @@ pub fn boolean(value: &Value, row: u32) -> Result<bool, RowsError>
 }
 
 /// A whole number below 2^32.
+///
+/// # Errors
+/// `WrongRow` where the field has not this form; there may be no memory.
 pub fn level(value: &Value, row: u32) -> Result<u32, RowsError>
     ensures { Gives (λ x. x) result (level_at row (view value.now)) }
 {

@@ -1,3 +1,4 @@
+//! Bytes that are spelled in hexadecimal digits.
 ghost use Rattle.std.specs.Prelude.{◌≡◌};
 ghost use Rattle.std.specs.Char.{is_ascii_uppercase};
 ghost use Rattle.std.specs.List.{list_any};
@@ -10,6 +11,9 @@ use py_base::List;
 use std::alloc::Global;
 
 /// The bytes that a text spells: two lower-case hexadecimal digits each.
+///
+/// # Errors
+/// `WrongRow` where the field has not this form; there may be no memory.
 pub fn bytes(alloc: Global, text: &str, row: u32) -> Result<List<u8>, RowsError>
     ensures { Gives (λ b. b) result (bytes_at row text.now) }
 {

@@ -1,6 +1,9 @@
+//! The kinds of rows.
 ghost use Rattle.std.specs.Prelude.{◌≡◌};
 ghost use Rattle.py_rows_fields.specs.Kinds.{kind_of, kind_of_two, kind_of_three, kind_of_four, kind_of_five, kind_of_six, kind_of_seven, kind_of_eight, kind_of_nine, kind_of_ten, kind_of_eleven, kind_of_twelve, kind_of_thirteen, kind_of_fourteen, kind_of_sixteen};
 ghost use Rattle.py_rows_fields.specs.Sorts.{sort_number, sort_of};
+
+use crate::words::find_word;
 
 /// A kind of row.
 #[derive(Clone, Copy, Debug)]
@@ -172,212 +175,199 @@ impl Kind {
 pub fn kind_of(word: &str) -> Option<Kind>
     ensures { result ≡ kind_of word.now }
 {
-    match word.len() {
-        2 => kind_of_two(word),
-        3 => kind_of_three(word),
-        4 => kind_of_four(word),
-        5 => kind_of_five(word),
-        6 => kind_of_six(word),
-        7 => kind_of_seven(word),
-        8 => kind_of_eight(word),
-        9 => kind_of_nine(word),
-        10 => kind_of_ten(word),
-        11 => kind_of_eleven(word),
-        12 => kind_of_twelve(word),
-        13 => kind_of_thirteen(word),
-        14 => kind_of_fourteen(word),
-        16 => kind_of_sixteen(word),
+    let bytes = word.as_bytes();
+    match bytes.len() {
+        2 => kind_of_two(bytes),
+        3 => kind_of_three(bytes),
+        4 => kind_of_four(bytes),
+        5 => kind_of_five(bytes),
+        6 => kind_of_six(bytes),
+        7 => kind_of_seven(bytes),
+        8 => kind_of_eight(bytes),
+        9 => kind_of_nine(bytes),
+        10 => kind_of_ten(bytes),
+        11 => kind_of_eleven(bytes),
+        12 => kind_of_twelve(bytes),
+        13 => kind_of_thirteen(bytes),
+        14 => kind_of_fourteen(bytes),
+        16 => kind_of_sixteen(bytes),
         _ => None,
     }
 }
 
-fn kind_of_two(word: &str) -> Option<Kind>
+fn kind_of_two(word: &[u8]) -> Option<Kind>
     ensures { result ≡ kind_of_two word.now }
 {
-    match word {
-        "If" => Some(Kind::Stmt(StmtKind::If)),
-        _ => None,
+    find_word! { word;
+        b"If" => Kind::Stmt(StmtKind::If),
     }
 }
 
-fn kind_of_three(word: &str) -> Option<Kind>
+fn kind_of_three(word: &[u8]) -> Option<Kind>
     ensures { result ≡ kind_of_three word.now }
 {
-    match word {
-        "str" => Some(Kind::Constant(ConstantKind::Str)),
-        "Arg" => Some(Kind::Arg),
-        "int" => Some(Kind::Constant(ConstantKind::Int)),
-        "Try" => Some(Kind::Stmt(StmtKind::Try)),
-        "For" => Some(Kind::Stmt(StmtKind::For)),
-        "Set" => Some(Kind::Expr(ExprKind::Set)),
-        _ => None,
+    find_word! { word;
+        b"str" => Kind::Constant(ConstantKind::Str),
+        b"Arg" => Kind::Arg,
+        b"int" => Kind::Constant(ConstantKind::Int),
+        b"Try" => Kind::Stmt(StmtKind::Try),
+        b"For" => Kind::Stmt(StmtKind::For),
+        b"Set" => Kind::Expr(ExprKind::Set),
     }
 }
 
-fn kind_of_four(word: &str) -> Option<Kind>
+fn kind_of_four(word: &[u8]) -> Option<Kind>
     ensures { result ≡ kind_of_four word.now }
 {
-    match word {
-        "Name" => Some(Kind::Expr(ExprKind::Name)),
-        "Call" => Some(Kind::Expr(ExprKind::Call)),
-        "Expr" => Some(Kind::Stmt(StmtKind::Expr)),
-        "none" => Some(Kind::Constant(ConstantKind::None)),
-        "true" => Some(Kind::Constant(ConstantKind::True)),
-        "List" => Some(Kind::Expr(ExprKind::List)),
-        "Pass" => Some(Kind::Stmt(StmtKind::Pass)),
-        "Dict" => Some(Kind::Expr(ExprKind::Dict)),
-        "With" => Some(Kind::Stmt(StmtKind::With)),
-        _ => None,
+    find_word! { word;
+        b"Name" => Kind::Expr(ExprKind::Name),
+        b"Call" => Kind::Expr(ExprKind::Call),
+        b"Expr" => Kind::Stmt(StmtKind::Expr),
+        b"none" => Kind::Constant(ConstantKind::None),
+        b"true" => Kind::Constant(ConstantKind::True),
+        b"List" => Kind::Expr(ExprKind::List),
+        b"Pass" => Kind::Stmt(StmtKind::Pass),
+        b"Dict" => Kind::Expr(ExprKind::Dict),
+        b"With" => Kind::Stmt(StmtKind::With),
     }
 }
 
-fn kind_of_five(word: &str) -> Option<Kind>
+fn kind_of_five(word: &[u8]) -> Option<Kind>
     ensures { result ≡ kind_of_five word.now }
 {
-    match word {
-        "Tuple" => Some(Kind::Expr(ExprKind::Tuple)),
-        "BinOp" => Some(Kind::Expr(ExprKind::BinOp)),
-        "Raise" => Some(Kind::Stmt(StmtKind::Raise)),
-        "false" => Some(Kind::Constant(ConstantKind::False)),
-        "Alias" => Some(Kind::Alias),
-        "Slice" => Some(Kind::Expr(ExprKind::Slice)),
-        "bytes" => Some(Kind::Constant(ConstantKind::Bytes)),
-        "While" => Some(Kind::Stmt(StmtKind::While)),
-        "Break" => Some(Kind::Stmt(StmtKind::Break)),
-        "Yield" => Some(Kind::Expr(ExprKind::Yield)),
-        "IfExp" => Some(Kind::Expr(ExprKind::IfExp)),
-        "Await" => Some(Kind::Expr(ExprKind::Await)),
-        "Match" => Some(Kind::Stmt(StmtKind::Match)),
-        "tuple" => Some(Kind::Constant(ConstantKind::Tuple)),
-        _ => None,
+    find_word! { word;
+        b"Tuple" => Kind::Expr(ExprKind::Tuple),
+        b"BinOp" => Kind::Expr(ExprKind::BinOp),
+        b"Raise" => Kind::Stmt(StmtKind::Raise),
+        b"false" => Kind::Constant(ConstantKind::False),
+        b"Alias" => Kind::Alias,
+        b"Slice" => Kind::Expr(ExprKind::Slice),
+        b"bytes" => Kind::Constant(ConstantKind::Bytes),
+        b"While" => Kind::Stmt(StmtKind::While),
+        b"Break" => Kind::Stmt(StmtKind::Break),
+        b"Yield" => Kind::Expr(ExprKind::Yield),
+        b"IfExp" => Kind::Expr(ExprKind::IfExp),
+        b"Await" => Kind::Expr(ExprKind::Await),
+        b"Match" => Kind::Stmt(StmtKind::Match),
+        b"tuple" => Kind::Constant(ConstantKind::Tuple),
     }
 }
 
-fn kind_of_six(word: &str) -> Option<Kind>
+fn kind_of_six(word: &[u8]) -> Option<Kind>
     ensures { result ≡ kind_of_six word.now }
 {
-    match word {
-        "Assign" => Some(Kind::Stmt(StmtKind::Assign)),
-        "Return" => Some(Kind::Stmt(StmtKind::Return)),
-        "BoolOp" => Some(Kind::Expr(ExprKind::BoolOp)),
-        "Import" => Some(Kind::Stmt(StmtKind::Import)),
-        "Delete" => Some(Kind::Stmt(StmtKind::Delete)),
-        "Assert" => Some(Kind::Stmt(StmtKind::Assert)),
-        "Lambda" => Some(Kind::Expr(ExprKind::Lambda)),
-        "Module" => Some(Kind::Mod(ModKind::Module)),
-        "Global" => Some(Kind::Stmt(StmtKind::Global)),
-        _ => None,
+    find_word! { word;
+        b"Assign" => Kind::Stmt(StmtKind::Assign),
+        b"Return" => Kind::Stmt(StmtKind::Return),
+        b"BoolOp" => Kind::Expr(ExprKind::BoolOp),
+        b"Import" => Kind::Stmt(StmtKind::Import),
+        b"Delete" => Kind::Stmt(StmtKind::Delete),
+        b"Assert" => Kind::Stmt(StmtKind::Assert),
+        b"Lambda" => Kind::Expr(ExprKind::Lambda),
+        b"Module" => Kind::Mod(ModKind::Module),
+        b"Global" => Kind::Stmt(StmtKind::Global),
     }
 }
 
-fn kind_of_seven(word: &str) -> Option<Kind>
+fn kind_of_seven(word: &[u8]) -> Option<Kind>
     ensures { result ≡ kind_of_seven word.now }
 {
-    match word {
-        "Compare" => Some(Kind::Expr(ExprKind::Compare)),
-        "Keyword" => Some(Kind::Keyword),
-        "UnaryOp" => Some(Kind::Expr(ExprKind::UnaryOp)),
-        "Starred" => Some(Kind::Expr(ExprKind::Starred)),
-        "TypeVar" => Some(Kind::TypeParam(TypeParamKind::TypeVar)),
-        "SetComp" => Some(Kind::Expr(ExprKind::SetComp)),
-        "TryStar" => Some(Kind::Stmt(StmtKind::TryStar)),
-        _ => None,
+    find_word! { word;
+        b"Compare" => Kind::Expr(ExprKind::Compare),
+        b"Keyword" => Kind::Keyword,
+        b"UnaryOp" => Kind::Expr(ExprKind::UnaryOp),
+        b"Starred" => Kind::Expr(ExprKind::Starred),
+        b"TypeVar" => Kind::TypeParam(TypeParamKind::TypeVar),
+        b"SetComp" => Kind::Expr(ExprKind::SetComp),
+        b"TryStar" => Kind::Stmt(StmtKind::TryStar),
     }
 }
 
-fn kind_of_eight(word: &str) -> Option<Kind>
+fn kind_of_eight(word: &[u8]) -> Option<Kind>
     ensures { result ≡ kind_of_eight word.now }
 {
-    match word {
-        "Constant" => Some(Kind::Expr(ExprKind::Constant)),
-        "ClassDef" => Some(Kind::Stmt(StmtKind::ClassDef)),
-        "WithItem" => Some(Kind::WithItem),
-        "Continue" => Some(Kind::Stmt(StmtKind::Continue)),
-        "ListComp" => Some(Kind::Expr(ExprKind::ListComp)),
-        "ellipsis" => Some(Kind::Constant(ConstantKind::Ellipsis)),
-        "DictComp" => Some(Kind::Expr(ExprKind::DictComp)),
-        "Nonlocal" => Some(Kind::Stmt(StmtKind::Nonlocal)),
-        "AsyncFor" => Some(Kind::Stmt(StmtKind::AsyncFor)),
-        _ => None,
+    find_word! { word;
+        b"Constant" => Kind::Expr(ExprKind::Constant),
+        b"ClassDef" => Kind::Stmt(StmtKind::ClassDef),
+        b"WithItem" => Kind::WithItem,
+        b"Continue" => Kind::Stmt(StmtKind::Continue),
+        b"ListComp" => Kind::Expr(ExprKind::ListComp),
+        b"ellipsis" => Kind::Constant(ConstantKind::Ellipsis),
+        b"DictComp" => Kind::Expr(ExprKind::DictComp),
+        b"Nonlocal" => Kind::Stmt(StmtKind::Nonlocal),
+        b"AsyncFor" => Kind::Stmt(StmtKind::AsyncFor),
     }
 }
 
-fn kind_of_nine(word: &str) -> Option<Kind>
+fn kind_of_nine(word: &[u8]) -> Option<Kind>
     ensures { result ≡ kind_of_nine word.now }
 {
-    match word {
-        "Attribute" => Some(Kind::Expr(ExprKind::Attribute)),
-        "Arguments" => Some(Kind::Arguments),
-        "Subscript" => Some(Kind::Expr(ExprKind::Subscript)),
-        "JoinedStr" => Some(Kind::Expr(ExprKind::JoinedStr)),
-        "AugAssign" => Some(Kind::Stmt(StmtKind::AugAssign)),
-        "YieldFrom" => Some(Kind::Expr(ExprKind::YieldFrom)),
-        "NamedExpr" => Some(Kind::Expr(ExprKind::NamedExpr)),
-        "MatchCase" => Some(Kind::MatchCase),
-        "TypeAlias" => Some(Kind::Stmt(StmtKind::TypeAlias)),
-        "AsyncWith" => Some(Kind::Stmt(StmtKind::AsyncWith)),
-        "AnnAssign" => Some(Kind::Stmt(StmtKind::AnnAssign)),
-        "ParamSpec" => Some(Kind::TypeParam(TypeParamKind::ParamSpec)),
-        _ => None,
+    find_word! { word;
+        b"Attribute" => Kind::Expr(ExprKind::Attribute),
+        b"Arguments" => Kind::Arguments,
+        b"Subscript" => Kind::Expr(ExprKind::Subscript),
+        b"JoinedStr" => Kind::Expr(ExprKind::JoinedStr),
+        b"AugAssign" => Kind::Stmt(StmtKind::AugAssign),
+        b"YieldFrom" => Kind::Expr(ExprKind::YieldFrom),
+        b"NamedExpr" => Kind::Expr(ExprKind::NamedExpr),
+        b"MatchCase" => Kind::MatchCase,
+        b"TypeAlias" => Kind::Stmt(StmtKind::TypeAlias),
+        b"AsyncWith" => Kind::Stmt(StmtKind::AsyncWith),
+        b"AnnAssign" => Kind::Stmt(StmtKind::AnnAssign),
+        b"ParamSpec" => Kind::TypeParam(TypeParamKind::ParamSpec),
     }
 }
 
-fn kind_of_ten(word: &str) -> Option<Kind>
+fn kind_of_ten(word: &[u8]) -> Option<Kind>
     ensures { result ≡ kind_of_ten word.now }
 {
-    match word {
-        "ImportFrom" => Some(Kind::Stmt(StmtKind::ImportFrom)),
-        "Expression" => Some(Kind::Mod(ModKind::Expression)),
-        _ => None,
+    find_word! { word;
+        b"ImportFrom" => Kind::Stmt(StmtKind::ImportFrom),
+        b"Expression" => Kind::Mod(ModKind::Expression),
     }
 }
 
-fn kind_of_eleven(word: &str) -> Option<Kind>
+fn kind_of_eleven(word: &[u8]) -> Option<Kind>
     ensures { result ≡ kind_of_eleven word.now }
 {
-    match word {
-        "FunctionDef" => Some(Kind::Stmt(StmtKind::FunctionDef)),
-        "Interactive" => Some(Kind::Mod(ModKind::Interactive)),
-        _ => None,
+    find_word! { word;
+        b"FunctionDef" => Kind::Stmt(StmtKind::FunctionDef),
+        b"Interactive" => Kind::Mod(ModKind::Interactive),
     }
 }
 
-fn kind_of_twelve(word: &str) -> Option<Kind>
+fn kind_of_twelve(word: &[u8]) -> Option<Kind>
     ensures { result ≡ kind_of_twelve word.now }
 {
-    match word {
-        "GeneratorExp" => Some(Kind::Expr(ExprKind::GeneratorExp)),
-        "FunctionType" => Some(Kind::Mod(ModKind::FunctionType)),
-        "TypeVarTuple" => Some(Kind::TypeParam(TypeParamKind::TypeVarTuple)),
-        _ => None,
+    find_word! { word;
+        b"GeneratorExp" => Kind::Expr(ExprKind::GeneratorExp),
+        b"FunctionType" => Kind::Mod(ModKind::FunctionType),
+        b"TypeVarTuple" => Kind::TypeParam(TypeParamKind::TypeVarTuple),
     }
 }
 
-fn kind_of_thirteen(word: &str) -> Option<Kind>
+fn kind_of_thirteen(word: &[u8]) -> Option<Kind>
     ensures { result ≡ kind_of_thirteen word.now }
 {
-    match word {
-        "ExceptHandler" => Some(Kind::ExceptHandler),
-        "Comprehension" => Some(Kind::Comprehension),
-        _ => None,
+    find_word! { word;
+        b"ExceptHandler" => Kind::ExceptHandler,
+        b"Comprehension" => Kind::Comprehension,
     }
 }
 
-fn kind_of_fourteen(word: &str) -> Option<Kind>
+fn kind_of_fourteen(word: &[u8]) -> Option<Kind>
     ensures { result ≡ kind_of_fourteen word.now }
 {
-    match word {
-        "ArgWithDefault" => Some(Kind::ArgWithDefault),
-        "FormattedValue" => Some(Kind::Expr(ExprKind::FormattedValue)),
-        _ => None,
+    find_word! { word;
+        b"ArgWithDefault" => Kind::ArgWithDefault,
+        b"FormattedValue" => Kind::Expr(ExprKind::FormattedValue),
     }
 }
 
-fn kind_of_sixteen(word: &str) -> Option<Kind>
+fn kind_of_sixteen(word: &[u8]) -> Option<Kind>
     ensures { result ≡ kind_of_sixteen word.now }
 {
-    match word {
-        "AsyncFunctionDef" => Some(Kind::Stmt(StmtKind::AsyncFunctionDef)),
-        _ => None,
+    find_word! { word;
+        b"AsyncFunctionDef" => Kind::Stmt(StmtKind::AsyncFunctionDef),
     }
 }

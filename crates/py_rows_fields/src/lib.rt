@@ -12,6 +12,7 @@ mod outline;
 mod parts;
 mod plain;
 mod table;
+mod words;
 
 pub use error::RowsError;
 pub use fields::{

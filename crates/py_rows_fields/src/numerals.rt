@@ -1,3 +1,4 @@
+//! Integers that are spelled in decimal digits.
 ghost use Rattle.std.specs.Prelude.{◌≡◌};
 ghost use Rattle.std.specs.Char.{is_ascii_digit};
 ghost use Rattle.std.specs.List.{list_all};
@@ -7,6 +8,9 @@ ghost use Rattle.py_rows_fields.specs.Integers.{integer_at, integer_form, is_dig
 use crate::error::RowsError;
 
 /// The integer that a text spells: decimal digits, behind a minus or not.
+///
+/// # Errors
+/// `WrongRow` where the text has not this form, `WideInteger` where the integer is no `i128`.
 pub fn integer(text: &str, row: u32) -> Result<i128, RowsError>
     ensures { Gives (λ z. z) result (integer_at row text.now) }
 {

@@ -1,3 +1,4 @@
+//! The words for operators.
 ghost use Rattle.std.specs.Prelude.{◌≡◌};
 ghost use Rattle.serde_json.specs.View.{view};
 ghost use Rattle.py_rows_fields.specs.Gives.{Gives};
@@ -5,11 +6,15 @@ ghost use Rattle.py_rows_fields.specs.Operators.{bool_operator_at, bool_operator
 
 use crate::error::RowsError;
 use crate::fields::entries;
+use crate::words::find_word;
 use py_base::{BoolOp, CmpOp, ConversionFlag, List, Operator, UnaryOp};
 use serde_json::Value;
 use std::alloc::Global;
 
 /// The operator of a `BoolOp`.
+///
+/// # Errors
+/// `WrongRow` where the field has not this form; there may be no memory.
 pub fn bool_operator(value: &Value, row: u32) -> Result<BoolOp, RowsError>
     ensures { Gives (λ x. x) result (bool_operator_at row (view value.now)) }
 {
@@ -22,14 +27,17 @@ pub fn bool_operator(value: &Value, row: u32) -> Result<BoolOp, RowsError>
 fn bool_operator_of(word: &str) -> Option<BoolOp>
     ensures { result ≡ bool_operator_of word.now }
 {
-    match word {
-        "And" => Some(BoolOp::And),
-        "Or" => Some(BoolOp::Or),
-        _ => None,
+    let bytes = word.as_bytes();
+    find_word! { bytes;
+        b"And" => BoolOp::And,
+        b"Or" => BoolOp::Or,
     }
 }
 
 /// The operator of a `BinOp`.
+///
+/// # Errors
+/// `WrongRow` where the field has not this form; there may be no memory.
 pub fn operator(value: &Value, row: u32) -> Result<Operator, RowsError>
     ensures { Gives (λ x. x) result (operator_at row (view value.now)) }
 {
@@ -42,25 +50,28 @@ pub fn operator(value: &Value, row: u32) -> Result<Operator, RowsError>
 fn operator_of(word: &str) -> Option<Operator>
     ensures { result ≡ operator_of word.now }
 {
-    match word {
-        "Add" => Some(Operator::Add),
-        "Sub" => Some(Operator::Sub),
-        "Mult" => Some(Operator::Mult),
-        "MatMult" => Some(Operator::MatMult),
-        "Div" => Some(Operator::Div),
-        "FloorDiv" => Some(Operator::FloorDiv),
-        "Mod" => Some(Operator::Mod),
-        "Pow" => Some(Operator::Pow),
-        "LShift" => Some(Operator::LShift),
-        "RShift" => Some(Operator::RShift),
-        "BitOr" => Some(Operator::BitOr),
-        "BitXor" => Some(Operator::BitXor),
-        "BitAnd" => Some(Operator::BitAnd),
-        _ => None,
+    let bytes = word.as_bytes();
+    find_word! { bytes;
+        b"Add" => Operator::Add,
+        b"Sub" => Operator::Sub,
+        b"Mult" => Operator::Mult,
+        b"MatMult" => Operator::MatMult,
+        b"Div" => Operator::Div,
+        b"FloorDiv" => Operator::FloorDiv,
+        b"Mod" => Operator::Mod,
+        b"Pow" => Operator::Pow,
+        b"LShift" => Operator::LShift,
+        b"RShift" => Operator::RShift,
+        b"BitOr" => Operator::BitOr,
+        b"BitXor" => Operator::BitXor,
+        b"BitAnd" => Operator::BitAnd,
     }
 }
 
 /// The operator of a `UnaryOp`.
+///
+/// # Errors
+/// `WrongRow` where the field has not this form; there may be no memory.
 pub fn unary_operator(value: &Value, row: u32) -> Result<UnaryOp, RowsError>
     ensures { Gives (λ x. x) result (unary_operator_at row (view value.now)) }
 {
@@ -73,12 +84,12 @@ pub fn unary_operator(value: &Value, row: u32) -> Result<UnaryOp, RowsError>
 fn unary_operator_of(word: &str) -> Option<UnaryOp>
     ensures { result ≡ unary_operator_of word.now }
 {
-    match word {
-        "Invert" => Some(UnaryOp::Invert),
-        "Not" => Some(UnaryOp::Not),
-        "UAdd" => Some(UnaryOp::UAdd),
-        "USub" => Some(UnaryOp::USub),
-        _ => None,
+    let bytes = word.as_bytes();
+    find_word! { bytes;
+        b"Invert" => UnaryOp::Invert,
+        b"Not" => UnaryOp::Not,
+        b"UAdd" => UnaryOp::UAdd,
+        b"USub" => UnaryOp::USub,
     }
 }
 
@@ -95,22 +106,25 @@ pub(crate) fn comparison(value: &Value, row: u32) -> Result<CmpOp, RowsError>
 fn comparison_of(word: &str) -> Option<CmpOp>
     ensures { result ≡ comparison_of word.now }
 {
-    match word {
-        "Eq" => Some(CmpOp::Eq),
-        "NotEq" => Some(CmpOp::NotEq),
-        "Lt" => Some(CmpOp::Lt),
-        "LtE" => Some(CmpOp::LtE),
-        "Gt" => Some(CmpOp::Gt),
-        "GtE" => Some(CmpOp::GtE),
-        "Is" => Some(CmpOp::Is),
-        "IsNot" => Some(CmpOp::IsNot),
-        "In" => Some(CmpOp::In),
-        "NotIn" => Some(CmpOp::NotIn),
-        _ => None,
+    let bytes = word.as_bytes();
+    find_word! { bytes;
+        b"Eq" => CmpOp::Eq,
+        b"NotEq" => CmpOp::NotEq,
+        b"Lt" => CmpOp::Lt,
+        b"LtE" => CmpOp::LtE,
+        b"Gt" => CmpOp::Gt,
+        b"GtE" => CmpOp::GtE,
+        b"Is" => CmpOp::Is,
+        b"IsNot" => CmpOp::IsNot,
+        b"In" => CmpOp::In,
+        b"NotIn" => CmpOp::NotIn,
     }
 }
 
 /// The operators of a `Compare`.
+///
+/// # Errors
+/// `WrongRow` where the field has not this form; there may be no memory.
 pub fn comparisons(alloc: Global, value: &Value, row: u32) -> Result<List<CmpOp>, RowsError>
     ensures { Gives (λ x. x) result (comparisons_at row (view value.now)) }
 {
@@ -122,6 +136,9 @@ pub fn comparisons(alloc: Global, value: &Value, row: u32) -> Result<List<CmpOp>
 }
 
 /// The conversion of a `FormattedValue`.
+///
+/// # Errors
+/// `WrongRow` where the field has not this form; there may be no memory.
 pub fn conversion(value: &Value, row: u32) -> Result<ConversionFlag, RowsError>
     ensures { Gives (λ x. x) result (conversion_at row (view value.now)) }
 {
@@ -134,11 +151,11 @@ pub fn conversion(value: &Value, row: u32) -> Result<ConversionFlag, RowsError>
 fn conversion_of(word: &str) -> Option<ConversionFlag>
     ensures { result ≡ conversion_of word.now }
 {
-    match word {
-        "None" => Some(ConversionFlag::None),
-        "Str" => Some(ConversionFlag::Str),
-        "Ascii" => Some(ConversionFlag::Ascii),
-        "Repr" => Some(ConversionFlag::Repr),
-        _ => None,
+    let bytes = word.as_bytes();
+    find_word! { bytes;
+        b"None" => ConversionFlag::None,
+        b"Str" => ConversionFlag::Str,
+        b"Ascii" => ConversionFlag::Ascii,
+        b"Repr" => ConversionFlag::Repr,
     }
 }

@@ -1,3 +1,4 @@
+//! What is known of a row before its node is made: its kind, and how deep it nests.
 ghost use Rattle.std.specs.Prelude.{◌≡◌};
 ghost use Rattle.py_rows_fields.specs.Gives.{Gives};
 ghost use Rattle.py_rows_fields.specs.Outline.{all_earlier, all_fit, checked, deepest, depth_at, depth_of, fits};

@@ -1,3 +1,4 @@
+//! The rows that a row names.
 ghost use Rattle.serde_json.specs.View.{view, items_view};
 ghost use Rattle.py_rows_fields.specs.Gives.{Gives};
 ghost use Rattle.py_rows_fields.specs.Parts.{field_parts, kind_at, maybe_part, node_part, own_fields, parts_by, parts_of};

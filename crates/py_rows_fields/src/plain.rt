@@ -1,3 +1,4 @@
+//! Kinds of rows that name no others.
 ghost use Rattle.serde_json.specs.View.{view};
 ghost use Rattle.py_rows_fields.specs.Gives.{Gives};
 ghost use Rattle.py_rows_fields.specs.Operators.{bool_operator_at, conversion_at, operator_at, unary_operator_at};

@@ -1,3 +1,4 @@
+//! Which fields each kind has.
 ghost use Rattle.std.specs.Prelude.{◌≡◌};
 ghost use Rattle.py_rows_fields.specs.Table.{fields_of, mod_fields, stmt_fields, expr_fields, constant_fields, type_param_fields};
 

@@ -1,3 +1,4 @@
+//! The node that a row makes.
 ghost use Rattle.serde_json.specs.View.{items_view};
 ghost use Rattle.py_rows_fields.specs.Gives.{Gives};
 ghost use Rattle.py_rows_nodes.specs.Making.{make, make_program};

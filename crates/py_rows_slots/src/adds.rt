@@ -1,3 +1,4 @@
+//! Nodes put among those of their sort.
 ghost use Rattle.py_tree.specs.View.{arg, arguments, expr_tree, literal_of, mod_tree, stmt_tree, type_param_tree};
 ghost use Rattle.py_rows_fields.specs.Gives.{Gives};
 ghost use Rattle.py_rows_slots.specs.Lists.{case_view, comprehension_view, default_view, handler_view, item_view, keyword_view};
@@ -13,6 +14,9 @@ use py_tree::{
 };
 
 /// Keeps the program that a row made, in place of an earlier one. No row names it.
+///
+/// # Errors
+/// There is no memory for it.
 pub fn set_program(node: Mod, nodes: &mut Nodes) -> Result<usize, RowsError>
     ensures { Gives (λ k. (k, nodes_view nodes.new)) result (set_program (mod_tree node) (nodes_view nodes.old)) }
 {
@@ -21,6 +25,9 @@ pub fn set_program(node: Mod, nodes: &mut Nodes) -> Result<usize, RowsError>
 }
 
 /// Adds a statement, and tells its place among those of its sort.
+///
+/// # Errors
+/// There is no memory for it.
 pub fn add_stmt(node: Stmt, nodes: &mut Nodes) -> Result<usize, RowsError>
     ensures { Gives (λ k. (k, nodes_view nodes.new)) result (add_stmt (stmt_tree node) (nodes_view nodes.old)) }
 {
@@ -28,6 +35,9 @@ pub fn add_stmt(node: Stmt, nodes: &mut Nodes) -> Result<usize, RowsError>
 }
 
 /// Adds an expression, and tells its place among those of its sort.
+///
+/// # Errors
+/// There is no memory for it.
 pub fn add_expr(node: Expr, nodes: &mut Nodes) -> Result<usize, RowsError>
     ensures { Gives (λ k. (k, nodes_view nodes.new)) result (add_expr (expr_tree node) (nodes_view nodes.old)) }
 {
@@ -35,6 +45,9 @@ pub fn add_expr(node: Expr, nodes: &mut Nodes) -> Result<usize, RowsError>
 }
 
 /// Adds a constant, and tells its place among those of its sort.
+///
+/// # Errors
+/// There is no memory for it.
 pub fn add_constant(node: Constant, nodes: &mut Nodes) -> Result<usize, RowsError>
     ensures { Gives (λ k. (k, nodes_view nodes.new)) result (add_constant (literal_of node) (nodes_view nodes.old)) }
 {
@@ -42,6 +55,9 @@ pub fn add_constant(node: Constant, nodes: &mut Nodes) -> Result<usize, RowsErro
 }
 
 /// Adds a type parameter, and tells its place among those of its sort.
+///
+/// # Errors
+/// There is no memory for it.
 pub fn add_type_param(node: TypeParam, nodes: &mut Nodes) -> Result<usize, RowsError>
     ensures { Gives (λ k. (k, nodes_view nodes.new)) result (add_type_param (type_param_tree node) (nodes_view nodes.old)) }
 {
@@ -49,6 +65,9 @@ pub fn add_type_param(node: TypeParam, nodes: &mut Nodes) -> Result<usize, RowsE
 }
 
 /// Adds parameters, and tells its place among those of its sort.
+///
+/// # Errors
+/// There is no memory for it.
 pub fn add_arguments(node: Arguments, nodes: &mut Nodes) -> Result<usize, RowsError>
     ensures { Gives (λ k. (k, nodes_view nodes.new)) result (add_arguments (arguments expr_tree node) (nodes_view nodes.old)) }
 {
@@ -56,6 +75,9 @@ pub fn add_arguments(node: Arguments, nodes: &mut Nodes) -> Result<usize, RowsEr
 }
 
 /// Adds a parameter with its default, and tells its place among those of its sort.
+///
+/// # Errors
+/// There is no memory for it.
 pub fn add_default(node: ArgWithDefault, nodes: &mut Nodes) -> Result<usize, RowsError>
     ensures { Gives (λ k. (k, nodes_view nodes.new)) result (add_default (default_view node) (nodes_view nodes.old)) }
 {
@@ -63,6 +85,9 @@ pub fn add_default(node: ArgWithDefault, nodes: &mut Nodes) -> Result<usize, Row
 }
 
 /// Adds a parameter, and tells its place among those of its sort.
+///
+/// # Errors
+/// There is no memory for it.
 pub fn add_arg(node: Arg, nodes: &mut Nodes) -> Result<usize, RowsError>
     ensures { Gives (λ k. (k, nodes_view nodes.new)) result (add_arg (arg expr_tree node) (nodes_view nodes.old)) }
 {
@@ -70,6 +95,9 @@ pub fn add_arg(node: Arg, nodes: &mut Nodes) -> Result<usize, RowsError>
 }
 
 /// Adds a keyword, and tells its place among those of its sort.
+///
+/// # Errors
+/// There is no memory for it.
 pub fn add_keyword(node: Keyword, nodes: &mut Nodes) -> Result<usize, RowsError>
     ensures { Gives (λ k. (k, nodes_view nodes.new)) result (add_keyword (keyword_view node) (nodes_view nodes.old)) }
 {
@@ -77,6 +105,9 @@ pub fn add_keyword(node: Keyword, nodes: &mut Nodes) -> Result<usize, RowsError>
 }
 
 /// Adds an alias, and tells its place among those of its sort.
+///
+/// # Errors
+/// There is no memory for it.
 pub fn add_alias(node: Alias, nodes: &mut Nodes) -> Result<usize, RowsError>
     ensures { Gives (λ k. (k, nodes_view nodes.new)) result (add_alias node (nodes_view nodes.old)) }
 {
@@ -84,6 +115,9 @@ pub fn add_alias(node: Alias, nodes: &mut Nodes) -> Result<usize, RowsError>
 }
 
 /// Adds an item of a `with`, and tells its place among those of its sort.
+///
+/// # Errors
+/// There is no memory for it.
 pub fn add_item(node: WithItem, nodes: &mut Nodes) -> Result<usize, RowsError>
     ensures { Gives (λ k. (k, nodes_view nodes.new)) result (add_item (item_view node) (nodes_view nodes.old)) }
 {
@@ -91,6 +125,9 @@ pub fn add_item(node: WithItem, nodes: &mut Nodes) -> Result<usize, RowsError>
 }
 
 /// Adds a handler, and tells its place among those of its sort.
+///
+/// # Errors
+/// There is no memory for it.
 pub fn add_handler(node: ExceptHandler, nodes: &mut Nodes) -> Result<usize, RowsError>
     ensures { Gives (λ k. (k, nodes_view nodes.new)) result (add_handler (handler_view node) (nodes_view nodes.old)) }
 {
@@ -98,6 +135,9 @@ pub fn add_handler(node: ExceptHandler, nodes: &mut Nodes) -> Result<usize, Rows
 }
 
 /// Adds a `for` clause, and tells its place among those of its sort.
+///
+/// # Errors
+/// There is no memory for it.
 pub fn add_comprehension(node: Comprehension, nodes: &mut Nodes) -> Result<usize, RowsError>
     ensures { Gives (λ k. (k, nodes_view nodes.new)) result (add_comprehension (comprehension_view node) (nodes_view nodes.old)) }
 {
@@ -105,6 +145,9 @@ pub fn add_comprehension(node: Comprehension, nodes: &mut Nodes) -> Result<usize
 }
 
 /// Adds a case of a `match`, and tells its place among those of its sort.
+///
+/// # Errors
+/// There is no memory for it.
 pub fn add_case(node: MatchCase, nodes: &mut Nodes) -> Result<usize, RowsError>
     ensures { Gives (λ k. (k, nodes_view nodes.new)) result (add_case (case_view node) (nodes_view nodes.old)) }
 {

@@ -1,3 +1,4 @@
+//! The sorts of nodes that rows make.
 ghost use Rattle.py_base.specs.Literal.{Literal};
 ghost use Rattle.py_tree.specs.Tree as tree;
 ghost use Rattle.py_tree.specs.View.{arg, arguments, expr_tree, literal_of, stmt_tree, type_param_tree};

@@ -1,3 +1,4 @@
+//! The nodes that were made and are not taken yet.
 ghost use Rattle.std.specs.Prelude.{◌≡◌, map, option_map};
 ghost use Rattle.py_rows_slots.specs.Nodes.{is_left, no_nodes, nodes_view};
 ghost use Rattle.py_rows_slots.specs.Taking.{is_left_at};

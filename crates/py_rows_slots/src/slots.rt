@@ -1,3 +1,4 @@
+//! Nodes taken by the fields that name them, sort by sort.
 ghost use Rattle.serde_json.specs.View.{view};
 ghost use Rattle.py_tree.specs.View.{arg, args, arguments, cases, expr_tree, exprs, generators, handlers, keywords, literal_list, literal_of, opt_arg, opt_box, opt_exprs, stmt_tree, stmts, type_params, with_items};
 ghost use Rattle.py_rows_fields.specs.Gives.{Gives};
@@ -16,6 +17,10 @@ use serde_json::Value;
 use std::alloc::Global;
 
 /// The expression that a field names.
+///
+/// # Errors
+/// `WrongRow` where the field is no number of a row or no list of them, `LaterRow` where it names no row before, and
+/// `NamedTwice` where a row took the node before; there may be no memory.
 pub fn take_expr(field: &Value, nodes: &mut Nodes, row: u32) -> Result<Expr, RowsError>
     ensures { Gives (λ x. (expr_tree x, nodes_view nodes.new)) result (take_expr row (view field.now) (nodes_view nodes.old)) }
 {
@@ -23,6 +28,10 @@ pub fn take_expr(field: &Value, nodes: &mut Nodes, row: u32) -> Result<Expr, Row
 }
 
 /// The same, in a box.
+///
+/// # Errors
+/// `WrongRow` where the field is no number of a row or no list of them, `LaterRow` where it names no row before, and
+/// `NamedTwice` where a row took the node before; there may be no memory.
 pub fn take_boxed_expr(
     alloc: Global,
     field: &Value,
@@ -35,6 +44,10 @@ pub fn take_boxed_expr(
 }
 
 /// The expression that a field names, or none where it is null.
+///
+/// # Errors
+/// `WrongRow` where the field is no number of a row or no list of them, `LaterRow` where it names no row before, and
+/// `NamedTwice` where a row took the node before; there may be no memory.
 pub fn take_optional_expr(
     alloc: Global,
     field: &Value,
@@ -47,6 +60,10 @@ pub fn take_optional_expr(
 }
 
 /// The expressions that a field names, in order.
+///
+/// # Errors
+/// `WrongRow` where the field is no number of a row or no list of them, `LaterRow` where it names no row before, and
+/// `NamedTwice` where a row took the node before; there may be no memory.
 pub fn take_exprs(
     alloc: Global,
     field: &Value,
@@ -59,6 +76,10 @@ pub fn take_exprs(
 }
 
 /// The same, with none where the field has null.
+///
+/// # Errors
+/// `WrongRow` where the field is no number of a row or no list of them, `LaterRow` where it names no row before, and
+/// `NamedTwice` where a row took the node before; there may be no memory.
 pub fn take_optional_exprs(
     alloc: Global,
     field: &Value,
@@ -71,6 +92,10 @@ pub fn take_optional_exprs(
 }
 
 /// The statements that a field names, in order.
+///
+/// # Errors
+/// `WrongRow` where the field is no number of a row or no list of them, `LaterRow` where it names no row before, and
+/// `NamedTwice` where a row took the node before; there may be no memory.
 pub fn take_stmts(
     alloc: Global,
     field: &Value,
@@ -83,6 +108,10 @@ pub fn take_stmts(
 }
 
 /// The constant that a field names.
+///
+/// # Errors
+/// `WrongRow` where the field is no number of a row or no list of them, `LaterRow` where it names no row before, and
+/// `NamedTwice` where a row took the node before; there may be no memory.
 pub fn take_constant(field: &Value, nodes: &mut Nodes, row: u32) -> Result<Constant, RowsError>
     ensures { Gives (λ x. (literal_of x, nodes_view nodes.new)) result (take_constant row (view field.now) (nodes_view nodes.old)) }
 {
@@ -90,6 +119,10 @@ pub fn take_constant(field: &Value, nodes: &mut Nodes, row: u32) -> Result<Const
 }
 
 /// The constants that a field names, in order.
+///
+/// # Errors
+/// `WrongRow` where the field is no number of a row or no list of them, `LaterRow` where it names no row before, and
+/// `NamedTwice` where a row took the node before; there may be no memory.
 pub fn take_constants(
     alloc: Global,
     field: &Value,
@@ -108,6 +141,10 @@ pub fn take_constants(
 }
 
 /// The type parameters that a field names, in order.
+///
+/// # Errors
+/// `WrongRow` where the field is no number of a row or no list of them, `LaterRow` where it names no row before, and
+/// `NamedTwice` where a row took the node before; there may be no memory.
 pub fn take_type_params(
     alloc: Global,
     field: &Value,
@@ -126,6 +163,10 @@ pub fn take_type_params(
 }
 
 /// The parameters that a field names.
+///
+/// # Errors
+/// `WrongRow` where the field is no number of a row or no list of them, `LaterRow` where it names no row before, and
+/// `NamedTwice` where a row took the node before; there may be no memory.
 pub fn take_arguments(
     alloc: Global,
     field: &Value,
@@ -144,6 +185,10 @@ pub fn take_arguments(
 }
 
 /// The parameters, each with its default, that a field names, in order.
+///
+/// # Errors
+/// `WrongRow` where the field is no number of a row or no list of them, `LaterRow` where it names no row before, and
+/// `NamedTwice` where a row took the node before; there may be no memory.
 pub fn take_defaults(
     alloc: Global,
     field: &Value,
@@ -162,6 +207,10 @@ pub fn take_defaults(
 }
 
 /// The parameter that a field names.
+///
+/// # Errors
+/// `WrongRow` where the field is no number of a row or no list of them, `LaterRow` where it names no row before, and
+/// `NamedTwice` where a row took the node before; there may be no memory.
 pub fn take_arg(field: &Value, nodes: &mut Nodes, row: u32) -> Result<Arg, RowsError>
     ensures { Gives (λ x. (arg expr_tree x, nodes_view nodes.new)) result (take_arg row (view field.now) (nodes_view nodes.old)) }
 {
@@ -169,6 +218,10 @@ pub fn take_arg(field: &Value, nodes: &mut Nodes, row: u32) -> Result<Arg, RowsE
 }
 
 /// The parameter that a field names, or none where it is null.
+///
+/// # Errors
+/// `WrongRow` where the field is no number of a row or no list of them, `LaterRow` where it names no row before, and
+/// `NamedTwice` where a row took the node before; there may be no memory.
 pub fn take_optional_arg(
     alloc: Global,
     field: &Value,
@@ -181,6 +234,10 @@ pub fn take_optional_arg(
 }
 
 /// The keywords that a field names, in order.
+///
+/// # Errors
+/// `WrongRow` where the field is no number of a row or no list of them, `LaterRow` where it names no row before, and
+/// `NamedTwice` where a row took the node before; there may be no memory.
 pub fn take_keywords(
     alloc: Global,
     field: &Value,
@@ -199,6 +256,10 @@ pub fn take_keywords(
 }
 
 /// The aliases that a field names, in order.
+///
+/// # Errors
+/// `WrongRow` where the field is no number of a row or no list of them, `LaterRow` where it names no row before, and
+/// `NamedTwice` where a row took the node before; there may be no memory.
 pub fn take_aliases(
     alloc: Global,
     field: &Value,
@@ -211,6 +272,10 @@ pub fn take_aliases(
 }
 
 /// The items of a `with` that a field names, in order.
+///
+/// # Errors
+/// `WrongRow` where the field is no number of a row or no list of them, `LaterRow` where it names no row before, and
+/// `NamedTwice` where a row took the node before; there may be no memory.
 pub fn take_items(
     alloc: Global,
     field: &Value,
@@ -223,6 +288,10 @@ pub fn take_items(
 }
 
 /// The handlers that a field names, in order.
+///
+/// # Errors
+/// `WrongRow` where the field is no number of a row or no list of them, `LaterRow` where it names no row before, and
+/// `NamedTwice` where a row took the node before; there may be no memory.
 pub fn take_handlers(
     alloc: Global,
     field: &Value,
@@ -241,6 +310,10 @@ pub fn take_handlers(
 }
 
 /// The `for` clauses that a field names, in order.
+///
+/// # Errors
+/// `WrongRow` where the field is no number of a row or no list of them, `LaterRow` where it names no row before, and
+/// `NamedTwice` where a row took the node before; there may be no memory.
 pub fn take_comprehensions(
     alloc: Global,
     field: &Value,
@@ -259,6 +332,10 @@ pub fn take_comprehensions(
 }
 
 /// The cases of a `match` that a field names, in order.
+///
+/// # Errors
+/// `WrongRow` where the field is no number of a row or no list of them, `LaterRow` where it names no row before, and
+/// `NamedTwice` where a row took the node before; there may be no memory.
 pub fn take_cases(
     alloc: Global,
     field: &Value,

@@ -1,3 +1,4 @@
+//! Nodes taken by the fields that name them, whatever their sort.
 ghost use Rattle.std.specs.Prelude.{map, option_map};
 ghost use Rattle.serde_json.specs.View.{view};
 ghost use Rattle.py_rows_fields.specs.Gives.{Gives};

@@ -1,3 +1,4 @@
+//! Rows of statements that hold statements.
 ghost use Rattle.serde_json.specs.View.{items_view};
 ghost use Rattle.py_tree.specs.View.{expr_tree, handlers, stmt_tree, stmts, with_items};
 ghost use Rattle.py_rows_fields.specs.Gives.{Gives};

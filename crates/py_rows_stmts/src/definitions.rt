@@ -1,3 +1,4 @@
+//! Rows of functions and classes.
 ghost use Rattle.serde_json.specs.View.{items_view, view};
 ghost use Rattle.py_tree.specs.View.{arguments, expr_tree, exprs, keywords, opt_box, stmt_tree, stmts, type_params};
 ghost use Rattle.py_rows_fields.specs.Gives.{Gives};

@@ -1,3 +1,4 @@
+//! Nodes made of rows, put among those of their sort.
 ghost use Rattle.serde_json.specs.View.{items_view};
 ghost use Rattle.py_rows_fields.specs.Gives.{Gives};
 ghost use Rattle.py_rows_slots.specs.Nodes.{nodes_view};

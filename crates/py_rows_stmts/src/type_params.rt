@@ -1,3 +1,4 @@
+//! Rows of type parameters.
 ghost use Rattle.serde_json.specs.View.{items_view};
 ghost use Rattle.py_tree.specs.View.{type_param_tree};
 ghost use Rattle.py_rows_fields.specs.Gives.{Gives};

@@ -1,8 +1,14 @@
-use Rattle.std.proofs.Common.{◌≡◌, drop}
+use Rattle.std.proofs.Common.{◌≡◌, ◌+◌, reverse, vec_len}
 use Rattle.serde_json.specs.View.{items_view}
 use Rattle.py_rows.specs.Rows.{rows_from}
 use Rattle.py_rows_slots.specs.Nodes.{nodes_view}
 use Rattle.py_rows.proofs.reading.read_all.Given as goal
 
-abbrev pub invariant-loop-i : goal.invariant-loop-i
-invariant-loop-i l = rows_from l.i (items_view (drop l.i l.rows)) (nodes_view l.nodes) ≡ rows_from 0 (items_view l.rows) (nodes_view l.initial.nodes)
+abbrev pub invariant-loop-row : goal.invariant-loop-row
+invariant-loop-row l = record {
+  rest : rows_from l.number (items_view (reverse l.rows.items)) (nodes_view l.nodes) ≡ rows_from 0 (items_view l.fn.rows.items) (nodes_view l.fn.nodes);
+  counted : l.number + vec_len l.rows ≡ vec_len l.fn.rows;
+}
+
+abbrev pub decreases-loop-row : goal.decreases-loop-row
+decreases-loop-row l = vec_len l.rows
