@@ -223,7 +223,7 @@ fn compile_mod(
     ensures refused { IfErr result (λ e. IsRefused e (emitted (tree_of program.now) mode (outermost opts.optimize source_path scopes))) }
     ensures path { IfErr result (λ e. e.source_path ≡ source_path) }
 {
-    let mut em = Emitter::new(alloc, opts, source_path, scopes)?;
+    let mut em = Emitter::over(alloc, opts, source_path, scopes)?;
     emit_mod(&mut em, program, mode)?;
     em.finish()
 }

@@ -5,7 +5,7 @@ use py_base::{CodegenErrorType, List};
 use py_bytecode::{ConstantData, Instruction, OpArg};
 use py_emit::{CompileOpts, Emitter};
 use py_ir::BlockIdx;
-use py_scope::{FlatScopes, SymbolTable, SymbolTableType, Symbols};
+use py_scope::{SymbolTable, SymbolTableType, Symbols};
 use std::alloc::Global;
 use std::process::Abort;
 use std::test::Fail;
@@ -20,8 +20,7 @@ fn emitter(alloc: Global) -> Result<Emitter, Fail> {
         symbols: Symbols::new(alloc),
         sub_tables: List::new(alloc),
     };
-    let scopes = FlatScopes::from_table(alloc, table)?;
-    Ok(Emitter::new(alloc, CompileOpts::default(), text(alloc, "m.py")?, scopes)?)
+    Ok(Emitter::new(alloc, CompileOpts::default(), text(alloc, "m.py")?, table)?)
 }
 
 /// Takes the last instruction out, which is this one, with no target, at this column.
@@ -78,5 +77,58 @@ fn debug_is_no_name_of_its_own(rt: HostRuntime) -> Result<(), Fail> {
         }
         _ => panic!(rt; "another error"),
     }
+    Ok(())
+}
+
+/// An emitter within the class `A`.
+fn in_class(alloc: Global) -> Result<Emitter, Fail> {
+    let mut em = emitter(alloc)?;
+    em.set_class(Some(text(alloc, "A")?));
+    Ok(em)
+}
+
+#[test]
+fn names_are_written_as_the_class_writes_them(rt: HostRuntime) -> Result<(), Fail> {
+    let alloc = rt.alloc();
+    let mut em = in_class(alloc)?;
+    assert_eq!(rt; em.mangled("__x")?.as_str(), "_A__x");
+    assert_eq!(rt; em.mangled("x")?.as_str(), "x");
+    let class = em.set_class(None);
+    assert!(rt; class.is_some());
+    Ok(())
+}
+
+#[test]
+fn names_are_entered_as_the_class_writes_them(rt: HostRuntime) -> Result<(), Fail> {
+    let alloc = rt.alloc();
+    let mut em = in_class(alloc)?;
+    assert_eq!(rt; em.name("x")?, 0);
+    assert_eq!(rt; em.name("__x")?, 1);
+    assert_eq!(rt; em.name("_A__x")?, 1);
+    Ok(())
+}
+
+#[test]
+fn own_names_are_entered_as_the_class_writes_them(rt: HostRuntime) -> Result<(), Fail> {
+    let alloc = rt.alloc();
+    let mut em = in_class(alloc)?;
+    assert_eq!(rt; em.varname("__y")?, 0);
+    assert_eq!(rt; em.varname("_A__y")?, 0);
+    assert!(rt; em.varname("__debug__").is_err());
+    Ok(())
+}
+
+#[test]
+fn the_qualified_name_is_told_part_by_part(rt: HostRuntime) -> Result<(), Fail> {
+    let alloc = rt.alloc();
+    let mut em = emitter(alloc)?;
+    em.push_path(text(alloc, "f")?)?;
+    em.push_path(text(alloc, "<locals>")?)?;
+    assert_eq!(rt; em.qualified_name()?.as_str(), "f.<locals>");
+    em.pop_path();
+    assert_eq!(rt; em.qualified_name()?.as_str(), "f");
+    em.pop_path();
+    assert_eq!(rt; em.set_path(text(alloc, "A")?).as_str(), "");
+    assert_eq!(rt; em.qualified_name()?.as_str(), "A");
     Ok(())
 }

@@ -11,3 +11,5 @@ mod bytecode;
 mod emit;
 #[cfg(test)]
 mod fixtures;
+#[cfg(test)]
+mod tables;

@@ -13,3 +13,4 @@ pub mod Within
 pub mod CellPlaces
 pub mod Closures
 pub mod Dotted
+pub mod Dropping

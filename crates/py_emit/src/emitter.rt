@@ -4,6 +4,7 @@ ghost use Rattle.py_bytecode.specs.View.{object};
 ghost use Rattle.py_ir.specs.Chain.{block_number};
 ghost use Rattle.py_ir.specs.Final.{IsFinal};
 ghost use Rattle.py_base.specs.declared.location.SourceLocation.{SourceLocation as Location};
+ghost use Rattle.py_scope.specs.Flat.{flat_table};
 ghost use Rattle.py_steps.specs.Children.{code_head};
 ghost use Rattle.py_steps.specs.Context.{inside, outermost, symbols_in};
 ghost use Rattle.py_steps.specs.Emitting.{Begin, Done, Put, begun, emit as emission_of, emit_count, generating, jump as jumping, located, nothing, with_block, with_loops, with_postponed, with_step};
@@ -17,7 +18,7 @@ use crate::scopes::{OpenScope, first_code, laid_out};
 use py_base::{CodegenError, CodegenErrorType, LocatedError, OneIndexed, SourceLocation, Text};
 use py_bytecode::{CodeFlags, CodeObject, Instruction, OpArg};
 use py_ir::{BlockIdx, FlatCode, InstructionInfo};
-use py_scope::{FlatScopes, SymbolTableType};
+use py_scope::{FlatScopes, SymbolTable, SymbolTableType};
 use std::alloc::{AllocError, Global};
 use std::mem;
 
@@ -41,13 +42,34 @@ pub struct Emitter {
 }
 
 impl Emitter {
+    /// One scope `<module>`, which is that of the table, with one empty block, at row 1 and column 1, with no class and no
+    /// loop around.
+    ///
+    /// # Errors
+    /// OutOfMemory alone.
+    pub fn new(
+        alloc: Global,
+        opts: CompileOpts,
+        source_path: Text,
+        table: SymbolTable,
+    ) -> Result<Emitter, CodegenError>
+        ensures state { IfOk result (λ em. state em ≡ nothing (outermost opts.optimize source_path (flat_table table 0))) }
+        ensures rest { IfOk result (λ em. rest em ≡ first_rest opts source_path (flat_table table 0)) }
+        ensures err { IfErr result (λ e. IsStarved e source_path) }
+    {
+        match FlatScopes::from_table(alloc, table) {
+            Ok(scopes) => Emitter::over(alloc, opts, source_path, scopes),
+            Err(_) => Err(starved(source_path)),
+        }
+    }
+
     /// One scope `<module>`, which is the first of these, with one empty block, at row 1 and column 1, with no class and
     /// no loop around.
     ///
     /// # Errors
     /// OutOfMemory alone.
     #[tactic(auto, unfolding(crate::specs::States::rest))]
-    pub fn new(
+    pub fn over(
         alloc: Global,
         opts: CompileOpts,
         source_path: Text,
@@ -81,7 +103,9 @@ impl Emitter {
     }
 
     /// The allocator that it was made with.
-    pub fn alloc(&self) -> Global {
+    pub fn alloc(&self) -> Global
+        ensures { result ≡ self.now.alloc }
+    {
         self.alloc
     }
 
@@ -259,7 +283,7 @@ impl Emitter {
     /// # Errors
     /// OutOfMemory alone.
     #[tactic(auto, unfolding(crate::specs::States::rest))]
-    pub fn enter_scope(
+    pub fn open_scope(
         &mut self,
         head: ScopeHead,
         typ: SymbolTableType,
@@ -299,7 +323,7 @@ impl Emitter {
         ensures err { IfErr result (λ e. IsStarved e (rest self.old).path) }
     {
         let Some(around) = self.outer.pop() else {
-            return Err(self.error(CodegenErrorType::OutOfMemory));
+            unreachable!();
         };
         let scope = mem::replace(&mut self.scope, around);
         if !has_short_tables(&scope.code) {

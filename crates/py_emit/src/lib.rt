@@ -1,8 +1,10 @@
 //! What is emitted of a scope: instructions with their locations, in blocks, and the tables that their operands name.
 #![tactic(auto)]
 
+mod around;
 mod children;
 mod context;
+mod counted;
 mod emitter;
 mod endings;
 mod laws;

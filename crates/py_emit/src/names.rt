@@ -8,7 +8,7 @@ ghost use Rattle.py_bytecode.specs.Equality.{text_eq};
 ghost use Rattle.py_scope.specs.Names.{same_name};
 ghost use Rattle.py_forms.specs.Form.{Resolved};
 ghost use Rattle.py_steps.specs.Accesses.{accessed, accessed_in, delete_by, emission_of_name, load_by, store_by};
-ghost use Rattle.py_steps.specs.Context.{access_kind, cell_place, deref_kind, is_function, kind_by, scope_of, symbols_in};
+ghost use Rattle.py_steps.specs.Context.{access_kind, cell_place, deref_kind, is_function, kind_by, mangled as mangled_here, scope_of, symbols_in};
 ghost use Rattle.py_steps.specs.EmissionParts.{unless_debug};
 ghost use Rattle.py_steps.specs.Emitting.{Refused, emit as emission_of_arg, emit_mangled as emission_mangled, refuse};
 ghost use Rattle.py_steps.specs.TableParts.{debug_constant as constant_debug, is_debug as named_debug};
@@ -144,9 +144,24 @@ impl Emitter {
     pub fn access(&mut self, usage: NameUsage, name: &str) -> Result<(), CodegenError>
         ensures { Emits result (accessed (usage_of usage) name.now) self.old self.new }
     {
-        match self.mangled(name)? {
+        match self.mangled_if_private(name)? {
             Some(other) => self.access_mangled(usage, other.as_str()),
             None => self.access_mangled(usage, name),
+        }
+    }
+
+    /// The name as the innermost class writes it.
+    ///
+    /// # Errors
+    /// OutOfMemory alone.
+    pub fn mangled(&mut self, name: &str) -> Result<Text, CodegenError>
+        ensures data { IfOk result (λ text. text ≡ mangled_here (state self.old).around.context name.now) }
+        ensures same { OnOk result (self.new ≡ self.old) }
+        ensures err { IfErr result (λ e. IsStarved e (rest self.old).path) }
+    {
+        match self.mangled_if_private(name)? {
+            Some(other) => Ok(other),
+            None => self.text(name),
         }
     }
 
@@ -154,7 +169,7 @@ impl Emitter {
     ///
     /// # Errors
     /// OutOfMemory alone.
-    pub fn mangled(&mut self, name: &str) -> Result<Option<Text>, CodegenError>
+    pub fn mangled_if_private(&mut self, name: &str) -> Result<Option<Text>, CodegenError>
         ensures data { IfOk result (λ other. other ≡ mangled_name (state self.old).around.context.class name.now) }
         ensures same { OnOk result (self.new ≡ self.old) }
         ensures err { IfErr result (λ e. IsStarved e (rest self.old).path) }
@@ -294,7 +309,7 @@ impl Emitter {
     pub fn emit_mangled(&mut self, instr: Instruction, name: &str) -> Result<(), CodegenError>
         ensures { Emits result (emission_mangled instr name.now) self.old self.new }
     {
-        match self.mangled(name)? {
+        match self.mangled_if_private(name)? {
             Some(other) => self.emit_name(instr, other.as_str()),
             None => self.emit_name(instr, name),
         }

@@ -62,7 +62,7 @@ impl Emitter {
         ensures same { OnOk result (self.new ≡ self.old) }
         ensures err { IfErr result (λ e. IsStarved e (rest self.old).path) }
     {
-        let scope = match self.mangled(name)? {
+        let scope = match self.mangled_if_private(name)? {
             Some(other) => self.scope_of(other.as_str()),
             None => self.scope_of(name),
         };

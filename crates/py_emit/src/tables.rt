@@ -3,6 +3,7 @@ ghost use Rattle.std.specs.Prelude.{◌≡◌, IfOk, IfErr, OnOk};
 ghost use Rattle.py_bytecode.specs.Equality.{const_eq, text_eq};
 ghost use Rattle.py_bytecode.specs.View.{constant as constant_of};
 ghost use Rattle.py_steps.specs.Emitting.{add_constant, add_varname, emit_constant, emit_name as emission_of_name, emit_varname as emission_of_varname, place_in, with_constant, with_name, with_varname};
+ghost use Rattle.py_steps.specs.Context.{mangled};
 ghost use Rattle.py_steps.specs.EmissionParts.{unless_debug};
 ghost use Rattle.py_steps.specs.Refused.{no_assignment};
 ghost use Rattle.py_emit.specs.States.{Emits, IsStarved, rest, state};
@@ -13,12 +14,28 @@ use py_base::{CodegenError, CodegenErrorType, Text};
 use py_bytecode::{ConstantData, Instruction};
 
 impl Emitter {
-    /// The place of a name in the name table, where it is entered if it is new.
+    /// The place of a name, as the innermost class writes it, in the name table, where it is entered if it is new.
+    ///
+    /// # Errors
+    /// OutOfMemory alone.
+    pub fn name(&mut self, name: &str) -> Result<u32, CodegenError>
+        ensures place { IfOk result (λ place. place ≡ place_in text_eq (state self.old).names (mangled (state self.old).around.context name.now)) }
+        ensures next { OnOk result (state self.new ≡ with_name (mangled (state self.old).around.context name.now) (state self.old)) }
+        ensures rest { OnOk result (rest self.new ≡ rest self.old) }
+        ensures err { IfErr result (λ e. IsStarved e (rest self.old).path) }
+    {
+        match self.mangled_if_private(name)? {
+            Some(other) => self.own_name(other.as_str()),
+            None => self.own_name(name),
+        }
+    }
+
+    /// The place of a name as it stands in the name table, where it is entered if it is new.
     ///
     /// # Errors
     /// OutOfMemory alone.
     #[tactic(auto, unfolding(py_steps::specs::Emitting::with_name, crate::specs::States::rest))]
-    pub fn name(&mut self, name: &str) -> Result<u32, CodegenError>
+    fn own_name(&mut self, name: &str) -> Result<u32, CodegenError>
         ensures place { IfOk result (λ place. place ≡ place_in text_eq (state self.old).names name.now) }
         ensures next { OnOk result (state self.new ≡ with_name name.now (state self.old)) }
         ensures rest { OnOk result (rest self.new ≡ rest self.old) }
@@ -38,12 +55,39 @@ impl Emitter {
         }
     }
 
-    /// The place of a name among those that the code object has of its own, where it is entered if it is new.
+    /// The place of a name, as the innermost class writes it, among those that the code object has of its own, where it is
+    /// entered if it is new.
+    ///
+    /// # Errors
+    /// SyntaxError where the name is `__debug__`, at the present location, or OutOfMemory.
+    pub fn varname(&mut self, name: &str) -> Result<u32, CodegenError>
+        ensures place { IfOk result (λ place. place ≡ place_in text_eq (state self.old).varnames (mangled (state self.old).around.context name.now)) }
+        ensures emits { Emits result (unless_debug no_assignment name.now (add_varname name.now)) self.old self.new }
+    {
+        if is_debug(name) {
+            return Err(self.syntax_error("cannot assign to __debug__"));
+        }
+        self.mangled_varname(name)
+    }
+
+    /// The place of a name, as the innermost class writes it, among those that the code object has of its own.
+    #[tactic(auto, unfolding(py_steps::specs::Emitting::add_varname))]
+    fn mangled_varname(&mut self, name: &str) -> Result<u32, CodegenError>
+        ensures place { IfOk result (λ place. place ≡ place_in text_eq (state self.old).varnames (mangled (state self.old).around.context name.now)) }
+        ensures emits { Emits result (add_varname name.now) self.old self.new }
+    {
+        match self.mangled_if_private(name)? {
+            Some(other) => self.own_varname(other.as_str()),
+            None => self.own_varname(name),
+        }
+    }
+
+    /// The place of a name as it stands among those that the code object has of its own, where it is entered if it is new.
     ///
     /// # Errors
     /// OutOfMemory alone.
     #[tactic(auto, unfolding(py_steps::specs::Emitting::with_varname, crate::specs::States::rest))]
-    fn varname(&mut self, name: &str) -> Result<u32, CodegenError>
+    fn own_varname(&mut self, name: &str) -> Result<u32, CodegenError>
         ensures place { IfOk result (λ place. place ≡ place_in text_eq (state self.old).varnames name.now) }
         ensures next { OnOk result (state self.new ≡ with_varname name.now (state self.old)) }
         ensures rest { OnOk result (rest self.new ≡ rest self.old) }
@@ -63,10 +107,8 @@ impl Emitter {
     pub fn add_parameter(&mut self, name: &str) -> Result<(), CodegenError>
         ensures { Emits result (unless_debug no_assignment name.now (add_varname name.now)) self.old self.new }
     {
-        if is_debug(name) {
-            return Err(self.syntax_error("cannot assign to __debug__"));
-        }
-        self.add_varname(name)
+        self.varname(name)?;
+        Ok(())
     }
 
     /// Enters a name, as the innermost class writes it, among those that the code object has of its own. No instruction
@@ -74,14 +116,10 @@ impl Emitter {
     ///
     /// # Errors
     /// OutOfMemory alone.
-    #[tactic(auto, unfolding(py_steps::specs::Emitting::add_varname))]
     pub fn add_varname(&mut self, name: &str) -> Result<(), CodegenError>
         ensures { Emits result (add_varname name.now) self.old self.new }
     {
-        match self.mangled(name)? {
-            Some(other) => self.varname(other.as_str())?,
-            None => self.varname(name)?,
-        };
+        self.mangled_varname(name)?;
         Ok(())
     }
 
@@ -93,7 +131,7 @@ impl Emitter {
     pub fn emit_varname(&mut self, instr: Instruction, name: &str) -> Result<(), CodegenError>
         ensures { Emits result (emission_of_varname instr name.now) self.old self.new }
     {
-        let place = self.varname(name)?;
+        let place = self.own_varname(name)?;
         self.emit_arg(instr, place)
     }
 
@@ -127,6 +165,9 @@ impl Emitter {
     }
 
     /// A place in a table. What does not fit 32 bits counts as want of memory.
+    ///
+    /// # Errors
+    /// OutOfMemory, where the place is 2^32 or more.
     pub fn narrow(&mut self, place: usize) -> Result<u32, CodegenError>
         ensures value { IfOk result (λ n. n ≡ place) }
         ensures same { OnOk result (self.new ≡ self.old) }
@@ -170,7 +211,7 @@ impl Emitter {
     pub fn emit_name(&mut self, instr: Instruction, name: &str) -> Result<(), CodegenError>
         ensures { Emits result (emission_of_name instr name.now) self.old self.new }
     {
-        let place = self.name(name)?;
+        let place = self.own_name(name)?;
         self.emit_arg(instr, place)
     }
 }

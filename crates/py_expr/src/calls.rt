@@ -10,9 +10,9 @@ ghost use Rattle.py_expr_parts.specs.Calls.{argument_tuple, arguments, called, c
 use crate::elements::compile_groups;
 use crate::expressions::{compile_expression, compile_expressions};
 use crate::keywords::{compile_keyword_map, compile_named_values};
-use py_base::{CodegenError, CodegenErrorType};
+use py_base::CodegenError;
 use py_bytecode::Instruction;
-use py_emit::{Emitter, refuse};
+use py_emit::Emitter;
 use py_expr_parts::calls::{CallType, call_type, emit_call, is_packed};
 use py_expr_parts::elements::{close_run, has_star};
 use py_expr_parts::keywords::check_keywords;
@@ -111,7 +111,7 @@ fn compile_plain(em: &mut Emitter, args: &[Expr]) -> Result<(), CodegenError>
 
 /// Emits a tuple of arguments, behind `additional` values: where some are starred, of these first.
 #[cycle(code)]
-#[tactic(auto, using(py_expr_parts::proofs::Groups::many_elements))]
+#[tactic(auto, using(py_expr_parts::proofs::Groups::many_elements, crate::proofs::Runs::few_runs))]
 fn compile_argument_tuple(
     em: &mut Emitter,
     additional: u32,
@@ -124,10 +124,7 @@ fn compile_argument_tuple(
         let own = close_run(em, additional as usize)?;
         let groups = compile_groups(em, args)?;
         check_keywords(em, keywords)?;
-        let Some(groups) = own.checked_add(groups) else {
-            refuse!(em, CodegenErrorType::OutOfMemory);
-        };
-        return em.emit_count(Instruction::BuildTupleUnpack, groups);
+        return em.emit_count(Instruction::BuildTupleUnpack, own + groups);
     }
     compile_plain(em, args)?;
     check_keywords(em, keywords)?;

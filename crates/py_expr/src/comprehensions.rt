@@ -70,9 +70,14 @@ pub(crate) fn compile_generator_exp(
     compile_comprehension(em, e.generators.as_slice(), &element)
 }
 
-/// Emits a comprehension, which has a clause, and in which nothing is awaited.
+/// Emits a comprehension of these clauses: a function of its scope, and its call with the iterator of what the first clause
+/// goes over.
+///
+/// # Errors
+/// MalformedTree where there is no clause, NotImplementedYet where a clause is async or something in it is awaited, the first
+/// compile fault of the parts, or OutOfMemory.
 #[cycle(code)]
-fn compile_comprehension(
+pub fn compile_comprehension(
     em: &mut Emitter,
     generators: &[Comprehension],
     element: &ComprehensionElement<'_>,

@@ -1,5 +1,5 @@
 //! Elements, some of which may be starred.
-ghost use Rattle.std.specs.Prelude.{◌≡◌, [], length, IfOk};
+ghost use Rattle.std.specs.Prelude.{◌≡◌, ◌≤◌, [], length, IfOk};
 ghost use Rattle.py_tree.specs.View.{expr_tree, exprs};
 ghost use Rattle.py_steps.specs.Elements.{groups};
 ghost use Rattle.py_steps.specs.EmissionParts.{built, elements, in_turn, unpacked};
@@ -32,6 +32,7 @@ pub(crate) fn compile_unpacked(
 #[cycle(code)]
 pub(crate) fn compile_groups(em: &mut Emitter, elts: &[Expr]) -> Result<usize, CodegenError>
     ensures count { IfOk result (λ n. n ≡ length (groups (built Instruction.BuildTuple) [] (elements (all_emissions (exprs expr_tree elts.now))))) }
+    ensures few { IfOk result (λ n. n ≤ length elts.now) }
     ensures emits { Emits result (in_turn (groups (built Instruction.BuildTuple) [] (elements (all_emissions (exprs expr_tree elts.now))))) em.old em.new }
 {
     let mut groups = 0;

@@ -1,5 +1,5 @@
 //! Lambdas, and the defaults of parameters.
-ghost use Rattle.std.specs.Prelude.{◌≡◌, ◌+◌, length, IfOk};
+ghost use Rattle.std.specs.Prelude.{◌≡◌, ◌+◌, ◌≤◌, length, IfOk};
 ghost use Rattle.py_tree.specs.View.{args, arguments, expr_tree, opt_box};
 ghost use Rattle.py_steps.specs.Children.{child, emission_of_defaults, flags_of_defaults, function_scope, some_emitted};
 ghost use Rattle.py_steps.specs.Within.{lambda_inside, some_flag};
@@ -11,9 +11,9 @@ ghost use Rattle.py_expr_scopes.specs.Functions.{Gives, default_count, default_v
 
 use crate::expressions::compile_expression;
 use crate::returns::compile_return;
-use py_base::{CodegenError, CodegenErrorType};
+use py_base::CodegenError;
 use py_bytecode::{CodeObject, Instruction};
-use py_emit::{Emitter, Naming, refuse};
+use py_emit::{Emitter, Naming};
 use py_expr_scopes::functions::{
     Defaults, begin_function, build_some, enter_function, load_default_name, make_lambda,
 };
@@ -74,12 +74,11 @@ fn compile_positional_defaults(em: &mut Emitter, params: &Arguments) -> Result<b
     ensures any { IfOk result (λ any. some_flag 0x08 (default_emissions (arguments expr_tree params.now)).positional ≡ flag_if 0x08 any) }
     ensures emits { Emits result (some_emitted (built Instruction.BuildTuple) (default_emissions (arguments expr_tree params.now)).positional) em.old em.new }
 {
-    let posonly = compile_each_default(em, params.posonlyargs.as_slice(), false)?;
-    let others = compile_each_default(em, params.args.as_slice(), false)?;
-    let Some(count) = posonly.checked_add(others) else {
-        refuse!(em, CodegenErrorType::OutOfMemory);
-    };
-    build_some(em, Instruction::BuildTuple, count)
+    let posonly = params.posonlyargs.as_slice();
+    let others = params.args.as_slice();
+    let first = compile_each_default(em, posonly, false)?;
+    let further = compile_each_default(em, others, false)?;
+    build_some(em, Instruction::BuildTuple, first + further)
 }
 
 /// Emits the map of the defaults of keyword-only parameters. Answers whether there are any.
@@ -101,6 +100,7 @@ fn compile_each_default(
     named: bool,
 ) -> Result<usize, CodegenError>
     ensures count { IfOk result (λ n. n ≡ length (default_values named (args expr_tree items.now))) }
+    ensures few { IfOk result (λ n. n ≤ length items.now) }
     ensures emits { Emits result (in_turn (default_values named (args expr_tree items.now))) em.old em.new }
 {
     let mut count = 0;

@@ -17,6 +17,7 @@ mod texts;
 mod yields;
 
 pub use calls::compile_call_inner;
+pub use comprehensions::compile_comprehension;
 pub use conditions::compile_jump_if;
 pub use expressions::{compile_expression, compile_expressions};
 pub use functions::compile_defaults;

@@ -99,7 +99,7 @@ pub fn enter_comprehension(em: &mut Emitter, name: Text) -> Result<(), CodegenEr
         kwonlyarg_count: 0,
         obj_name: name,
     };
-    em.enter_scope(head, SymbolTableType::Comprehension, Naming::AsAround)
+    em.open_scope(head, SymbolTableType::Comprehension, Naming::AsAround)
 }
 
 /// Emits the empty collection, where there is one.

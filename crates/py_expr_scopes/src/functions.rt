@@ -63,7 +63,7 @@ pub fn enter_function(
     ensures err { IfErr result (λ e. IsStarved e (rest em.old).path) }
 {
     let head = function_head(em, params, name)?;
-    em.enter_scope(head, SymbolTableType::Function, naming)
+    em.open_scope(head, SymbolTableType::Function, naming)
 }
 
 /// Begins the scope of a function: its parameters are the first names of the code object's own, and None is its first

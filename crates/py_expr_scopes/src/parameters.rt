@@ -7,9 +7,9 @@ ghost use Rattle.py_emit.specs.States.{Emits, IsStarved, rest, shape_of};
 ghost use Rattle.py_expr_scopes.specs.Functions.{flag_if, names_given, parameter, parameter_given};
 
 use bitflags::Flags;
-use py_base::{CodegenError, CodegenErrorType};
+use py_base::CodegenError;
 use py_bytecode::CodeFlags;
-use py_emit::{Emitter, ScopeHead, refuse};
+use py_emit::{Emitter, ScopeHead};
 use py_tree::{Arg, ArgWithDefault, Arguments, Text};
 
 /// What the code object of a function of these parameters says, under this name.
@@ -25,13 +25,11 @@ pub(crate) fn function_head(
     ensures same { OnOk result (em.new ≡ em.old) }
     ensures err { IfErr result (λ e. IsStarved e (rest em.old).path) }
 {
-    let posonly = params.posonlyargs.len();
-    let Some(positional) = posonly.checked_add(params.args.len()) else {
-        refuse!(em, CodegenErrorType::OutOfMemory);
-    };
+    let posonly = params.posonlyargs.as_slice();
+    let others = params.args.as_slice();
     let flags = code_flags(params.vararg.is_some(), params.kwarg.is_some());
-    let posonlyarg_count = em.narrow(posonly)?;
-    let arg_count = em.narrow(positional)?;
+    let posonlyarg_count = em.narrow(posonly.len())?;
+    let arg_count = em.narrow(posonly.len() + others.len())?;
     let kwonlyarg_count = em.narrow(params.kwonlyargs.len())?;
     Ok(ScopeHead {
         flags,

@@ -1,5 +1,5 @@
 -- How a node is read: what stands around it, and what its scope says of names.
-use Rattle.std.specs.Prelude.{ℕ, zero, suc, ◌+◌, ◌||◌, length, List, [], ◌∷◌, ◌++◌, Bool, true, false, Option, Some, None, codes, find, if◌then◌else◌}
+use Rattle.std.specs.Prelude.{ℕ, ◌||◌, List, [], ◌∷◌, ◌++◌, Bool, true, false, Option, Some, None, codes, find, if◌then◌else◌}
 use Rattle.std.specs.List.{list_any, position_or_len}
 use Rattle.py_base.specs.Mangle.{mangled_in}
 use Rattle.py_bytecode.specs.Equality.{text_eq}
@@ -33,11 +33,6 @@ pub record Context : Type 0 where
 -- the symbols of the scope with this number; none where there is no such scope
 abbrev pub symbols_in : List ScopeEntry → (number : ℕ) → List Symbol
 symbols_in scopes n = elim (symbols_at scopes n) [ None ↦ [] | Some symbols ↦ symbols ]
-
--- how many symbols the scopes before this number have together
-abbrev pub room : List ScopeEntry → (number : ℕ) → ℕ
-room scopes zero = 0
-room scopes (suc n) = room scopes n + length (symbols_in scopes n)
 
 -- a name that a scope within needs
 abbrev pub is_cell : SymbolScope → Bool

@@ -54,7 +54,7 @@ fn store_key(em: &mut Emitter, map: &str, key: &str) -> Result<(), CodegenError>
 pub fn load_mangled(em: &mut Emitter, name: &str) -> Result<(), CodegenError>
     ensures { Emits result (by_context (λ c. emit_constant Instruction.LoadConst (str (mangled c name.now)))) em.old em.new }
 {
-    match em.mangled(name)? {
+    match em.mangled_if_private(name)? {
         Some(other) => load_text(em, other.as_str()),
         None => load_text(em, name),
     }

@@ -53,7 +53,7 @@ pub fn enter_class(em: &mut Emitter, name: &str, path: Text) -> Result<(), Codeg
         kwonlyarg_count: 0,
         obj_name,
     };
-    em.enter_scope(head, SymbolTableType::Class, Naming::Class { name, path })
+    em.open_scope(head, SymbolTableType::Class, Naming::Class { name, path })
 }
 
 /// Emits the names with which a class begins, around whose names this path stands. Answers the place at which the

@@ -151,7 +151,7 @@ pub fn enter_hidden(em: &mut Emitter, name: &str, count: u32) -> Result<(), Code
         kwonlyarg_count: 0,
         obj_name,
     };
-    em.enter_scope(head, SymbolTableType::TypeParams, Naming::AsAround)
+    em.open_scope(head, SymbolTableType::TypeParams, Naming::AsAround)
 }
 
 /// Makes a function of the code of a hidden scope, under the name of the scope.

@@ -1,5 +1,5 @@
 //! The annotations of functions.
-ghost use Rattle.std.specs.Prelude.{◌≡◌, ◌+◌, length, IfOk};
+ghost use Rattle.std.specs.Prelude.{◌≡◌, ◌+◌, ◌<◌, ◌≤◌, ◌^◌, length, IfOk};
 ghost use Rattle.py_tree.specs.View.{args, arguments, expr_tree, opt_arg, opt_box};
 ghost use Rattle.py_steps.specs.Children.{some_emitted};
 ghost use Rattle.py_steps.specs.Within.{some_flag};
@@ -8,9 +8,9 @@ ghost use Rattle.py_emission.specs.EmissionDefs.{arg_notes, emission_of_note, no
 ghost use Rattle.py_emit.specs.States.{Emits};
 ghost use Rattle.py_expr_scopes.specs.Functions.{flag_if};
 
-use py_base::{CodegenError, CodegenErrorType};
+use py_base::CodegenError;
 use py_bytecode::Instruction;
-use py_emit::{Emitter, refuse};
+use py_emit::Emitter;
 use py_expr::compile_expression;
 use py_expr_scopes::functions::build_some;
 use py_stmt_parts::{load_annotation, load_mangled};
@@ -40,10 +40,13 @@ fn compile_each_note(
     ensures count { IfOk result (λ n. n ≡ length (notes (arguments expr_tree params.now) (opt_box expr_tree returns.now))) }
     ensures emits { Emits result (in_turn (notes (arguments expr_tree params.now) (opt_box expr_tree returns.now))) em.old em.new }
 {
+    let posonly = params.posonlyargs.as_slice();
+    let others = params.args.as_slice();
+    let named = params.kwonlyargs.as_slice();
     let count = compile_note(em, "return", returns, 0)?;
-    let count = compile_arg_notes(em, params.posonlyargs.as_slice(), count)?;
-    let count = compile_arg_notes(em, params.args.as_slice(), count)?;
-    let count = compile_arg_notes(em, params.kwonlyargs.as_slice(), count)?;
+    let count = compile_arg_notes(em, posonly, count)?;
+    let count = compile_arg_notes(em, others, count)?;
+    let count = compile_arg_notes(em, named, count)?;
     let count = compile_opt_note(em, &params.vararg, count)?;
     compile_opt_note(em, &params.kwarg, count)
 }
@@ -54,7 +57,9 @@ fn compile_arg_notes(
     items: &[ArgWithDefault],
     count: usize,
 ) -> Result<usize, CodegenError>
+    requires { count + length items.now < 2 ^ 64 }
     ensures count { IfOk result (λ n. n ≡ count + length (arg_notes (args expr_tree items.now))) }
+    ensures few { IfOk result (λ n. n ≤ count + length items.now) }
     ensures emits { Emits result (in_turn (arg_notes (args expr_tree items.now))) em.old em.new }
 {
     let mut sum = count;
@@ -70,7 +75,9 @@ fn compile_opt_note(
     param: &Option<Box<Arg>>,
     count: usize,
 ) -> Result<usize, CodegenError>
+    requires { count + 1 < 2 ^ 64 }
     ensures count { IfOk result (λ n. n ≡ count + length (opt_arg_note (opt_arg expr_tree param.now))) }
+    ensures few { IfOk result (λ n. n ≤ count + 1) }
     ensures emits { Emits result (in_turn (opt_arg_note (opt_arg expr_tree param.now))) em.old em.new }
 {
     match param {
@@ -87,18 +94,17 @@ fn compile_note(
     annotation: &Option<Box<Expr>>,
     count: usize,
 ) -> Result<usize, CodegenError>
+    requires { count + 1 < 2 ^ 64 }
     ensures count { IfOk result (λ n. n ≡ count + length (opt_note name.now (opt_box expr_tree annotation.now))) }
+    ensures few { IfOk result (λ n. n ≤ count + 1) }
     ensures emits { Emits result (in_turn (opt_note name.now (opt_box expr_tree annotation.now))) em.old em.new }
 {
     let Some(annotation) = annotation else {
         return Ok(count);
     };
-    let Some(count) = count.checked_add(1) else {
-        refuse!(em, CodegenErrorType::OutOfMemory);
-    };
     load_mangled(em, name)?;
     compile_noted(em, annotation)?;
-    Ok(count)
+    Ok(count + 1)
 }
 
 /// Emits an annotation, or its text where annotations are postponed.

@@ -30,4 +30,5 @@ loop-item-preserved c =
       c.in_ok-sum.ensures.emits.same ∙ c.loop-item.invariant.0,
       c.loop-item.invariant.1 ∙ ap (λ (f : Emission). f (state c.loop-item.em)) turn ∙ went _ _ _ c.in_ok-sum.ensures.emits.goes,
       omega (arith, n, m, h),
+      (let few = c.in_ok-sum.ensures.few in let before = c.loop-item.invariant.3 in omega (arith, few, before)),
     )

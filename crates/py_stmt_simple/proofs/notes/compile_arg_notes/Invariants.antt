@@ -1,4 +1,4 @@
-use Rattle.std.proofs.Common.{◌≡◌, ◌+◌, drop, length}
+use Rattle.std.proofs.Common.{◌≡◌, ◌+◌, ◌≤◌, drop, length}
 use Rattle.py_tree.specs.View.{args, expr_tree}
 use Rattle.py_steps.specs.EmissionParts.{in_turn}
 use Rattle.py_emission.specs.EmissionDefs.{arg_notes}
@@ -10,3 +10,4 @@ invariant-loop-item l =
     let all = arg_notes (args expr_tree l.items) in
     let left = arg_notes (args expr_tree (drop l.item-index l.items)) in
     (rest l.em ≡ rest l.initial.em) × (in_turn all (state l.initial.em) ≡ in_turn left (state l.em)) × (l.count + length all ≡ l.sum + length left)
+    × (l.sum ≤ l.count + l.item-index)

@@ -1,25 +1,32 @@
-use Rattle.std.proofs.Common.{◌≡◌, suc, [], ◌∷◌, ◌++◌, ap, ◌∙◌, arith}
+use Rattle.std.proofs.Common.{◌≡◌, suc, Some, sym, subst, arith}
+use Rattle.std.specs.Prelude.{OnOk}
+use Rattle.py_scope.specs.Flat.{typ_at}
+use Rattle.py_scope.specs.declared.table_type.SymbolTableType.{SymbolTableType}
+use Rattle.py_steps.specs.Children.{code_head}
+use Rattle.py_steps.specs.Context.{inside}
 use Rattle.py_steps.specs.Emitting.{begun}
-use Rattle.py_emit.specs.States.{entered, head_of, rest, shape_of, source_of, state, state_of}
-use Rattle.py_emit.specs.declared.scopes.OpenScope.{OpenScope}
-use Rattle.py_emit.proofs.Within.{head_within}
+use Rattle.py_emit.specs.States.{entered_rest, rest, shape_of, state}
+use Rattle.py_emit.proofs.Dropping.{typ_is}
 use Rattle.py_emit.proofs.emitter.Emitter.enter_scope.Goals as goal
 
+pub typ-typ-requires : goal.typ-typ-requires
+typ-typ-requires g c = omega (arith, c.requires.left.1, c.next_scope-number.ensures)
+
+pub after-requires : goal.after-requires
+after-requires g c = omega (arith, c.requires.left.1, c.next_scope-number.ensures)
+
 pub returns-clause-state : goal.returns-clause-state
-returns-clause-state c =
+returns-clause-state g c =
     let e = c.args.self.now in
-    let h = c.in-Some.ensures in
-    let n : c.in-Some.next ≡ suc e.next = omega (arith, h) in
-    ap (λ (o : OpenScope). state_of (source_of e) o e.location c.in-Some.next) c.replace-around.ensures.after
-    ∙ c.in-Ok.ensures.state e.location c.in-Some.next
-    ∙ ap (begun (entered c.args.typ c.args.naming (state e)) e.location) n
+    let here = subst (λ n. typ_at e.scopes n ≡ Some c.typ-typ.result) c.next_scope-number.ensures c.typ-typ.ensures in
+    subst (λ (typ : SymbolTableType). OnOk c.open_scope.result (state c.open_scope.new.self ≡ begun (inside typ e.next (state e).around.context) e.location (suc e.next)))
+    (sym (typ_is e.scopes e.next c.typ-typ.result here))
+    c.open_scope.ensures.state
 
 pub returns-clause-rest : goal.returns-clause-rest
-unfolding rest
-returns-clause-rest c =
+returns-clause-rest g c =
     let e = c.args.self.now in
-    let after = c.replace-around.ensures.after in
-    let context = ap (λ (o : OpenScope). o.context) after ∙ c.in-Ok.ensures.context in
-    let head = ap (λ (o : OpenScope). head_of o.code) after ∙ c.in-Ok.ensures.head ∙ head_within (source_of e) e.scope c.args.naming c.args.typ e.next (shape_of c.args.head) e.location in
-    let outer = c.in-Ok-push_scope.ensures ∙ ap (λ (o : OpenScope). e.outer.items ++ o ∷ []) c.replace-around.ensures.value in
-    λ i. record { opts = e.opts; context = context i; path = e.source_path; scopes = e.scopes; head = head i; outer = outer i }
+    let here = subst (λ n. typ_at e.scopes n ≡ Some c.typ-typ.result) c.next_scope-number.ensures c.typ-typ.ensures in
+    subst (λ (typ : SymbolTableType). OnOk c.open_scope.result (rest c.open_scope.new.self ≡ entered_rest e.scope (code_head (inside typ e.next (state e).around.context) (shape_of c.args.head) e.location) (rest e)))
+    (sym (typ_is e.scopes e.next c.typ-typ.result here))
+    c.open_scope.ensures.rest

@@ -1,4 +1,4 @@
-use Rattle.std.proofs.Common.{◌++◌, sym, ap, ◌∙◌}
+use Rattle.std.proofs.Common.{◌≢◌, ◌<◌, List, [], ◌∷◌, ◌++◌, length, refl, sym, ap, ◌∙◌, arith}
 use Rattle.std.specs.Option.{option_to_list}
 use Rattle.py_steps.specs.Sealed.{sealed}
 use Rattle.py_emit.specs.States.{head_of, left_rest, rest, source_of, state_of}
@@ -6,6 +6,16 @@ use Rattle.py_emit.specs.declared.scopes.OpenScope.{OpenScope}
 use Rattle.py_emit.proofs.Sealed.{scope_sealed}
 use Rattle.py_emit.proofs.Within.{last_alike}
 use Rattle.py_emit.proofs.emitter.Emitter.leave_scope.Goals as goal
+
+some_length : {A : Type 0} (xs : List A) → xs ≢ [] → 0 < length xs
+some_length [] some = absurd (some refl)
+some_length (x ∷ xs) some = omega arith
+
+pub unreachable-requires : goal.unreachable-requires
+unfolding rest
+unreachable-requires c =
+    let some = some_length c.args.self.now.outer.items c.requires.inner in
+    omega (arith, some, c.in_default.ensures.cases, c.args.self.now.outer.ok.0)
 
 pub returns-in-Ok-clause-code : goal.returns-in-Ok-clause-code
 unfolding rest

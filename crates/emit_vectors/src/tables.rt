@@ -1,0 +1,95 @@
+//! Tables that are entered and dropped, each by one counted step.
+ghost use Rattle.std.specs.Prelude.{◌≡◌, ◌<◌, IfOk};
+ghost use Rattle.py_scope.specs.declared.table.SymbolTable.{out-SymbolTable};
+ghost use Rattle.py_emit.specs.States.{state};
+ghost use Rattle.py_emit.specs.Tables.{AreLeft};
+
+use crate::fixtures::text;
+use bitflags::Flags;
+use py_base::{CodegenError, List};
+use py_bytecode::CodeFlags;
+use py_emit::{CompileOpts, Emitter, ScopeHead};
+use py_scope::{Steps, SymbolTable, SymbolTableType, Symbols};
+use std::alloc::{AllocError, Global};
+use std::marker::Brand;
+use std::sync::ledger::{Blank, Ledger};
+use std::test::Fail;
+
+/// A table without names, with these within.
+fn table(
+    alloc: Global,
+    typ: SymbolTableType,
+    sub_tables: List<SymbolTable>,
+) -> Result<SymbolTable, AllocError>
+    ensures { IfOk result (λ table. (out-SymbolTable table).sub_tables ≡ sub_tables) }
+{
+    Ok(SymbolTable {
+        name: text(alloc, "f")?,
+        typ,
+        line_number: 0,
+        is_nested: false,
+        symbols: Symbols::new(alloc),
+        sub_tables,
+    })
+}
+
+/// An emitter of a file with one function.
+fn emitter(alloc: Global) -> Result<Emitter, Fail>
+    ensures { IfOk result (λ em. AreLeft 1 (state em)) }
+{
+    let function = table(alloc, SymbolTableType::Function, List::new(alloc))?;
+    let mut within = Vec::new(alloc);
+    within.push(function)?;
+    let top = table(alloc, SymbolTableType::Module, List::from_vec(within))?;
+    let em = Emitter::new(alloc, CompileOpts::default(), text(alloc, "m.py")?, top)?;
+    Ok(em)
+}
+
+/// Enters the scope within.
+fn enter<L: Ledger>(em: &mut Emitter, head: ScopeHead, blank: Blank) -> Result<(), CodegenError>
+    requires name { blank.name ≡ L.name }
+    requires parts { blank.parts ≡ L.parts }
+    requires shared { 0 < blank.parts }
+    requires left { AreLeft 1 (state em.old) }
+{
+    let (book, share) = blank.open::<L>();
+    let mut steps = Steps::new(book, share);
+    em.enter_scope(head, &mut steps)
+}
+
+/// Drops the table of the scope within.
+fn drop_one<L: Ledger>(em: &mut Emitter, blank: Blank)
+    requires name { blank.name ≡ L.name }
+    requires parts { blank.parts ≡ L.parts }
+    requires shared { 0 < blank.parts }
+    requires left { AreLeft 1 (state em.old) }
+{
+    let (book, share) = blank.open::<L>();
+    let mut steps = Steps::new(book, share);
+    em.drop_tables(1, &mut steps);
+}
+
+#[test]
+fn the_next_table_is_entered(rt: HostRuntime) -> Result<(), Fail> {
+    let mut em = emitter(rt.alloc())?;
+    let head = ScopeHead {
+        flags: CodeFlags::from_bits_retain(0x21),
+        posonlyarg_count: 0,
+        arg_count: 0,
+        kwonlyarg_count: 0,
+        obj_name: text(rt.alloc(), "f")?,
+    };
+    enter::<Brand>(&mut em, head, Blank::new(1))?;
+    assert!(rt; em.scope_type() == SymbolTableType::Function);
+    assert_eq!(rt; em.next_scope(), 2);
+    Ok(())
+}
+
+#[test]
+fn the_next_table_is_dropped(rt: HostRuntime) -> Result<(), Fail> {
+    let mut em = emitter(rt.alloc())?;
+    drop_one::<Brand>(&mut em, Blank::new(1));
+    assert!(rt; em.scope_type() == SymbolTableType::Module);
+    assert_eq!(rt; em.next_scope(), 2);
+    Ok(())
+}

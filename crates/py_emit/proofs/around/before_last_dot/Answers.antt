@@ -1,0 +1,10 @@
+use Rattle.std.proofs.Common.{◌≡◌}
+use Rattle.py_steps.specs.Context.{behind_dot}
+use Rattle.py_emit.proofs.Dotted.{cut_last}
+use Rattle.py_emit.proofs.around.before_last_dot.Goals as goal
+
+pub returns : goal.returns
+returns c before part undotted whole =
+    let bytes : behind_dot before part ≡ c.as_bytes.result.now = cc in
+    let cut = cut_last before part c.as_bytes.result.now c.last_dot-end.result undotted bytes c.last_dot-end.ensures.dot c.last_dot-end.ensures.last in
+    cc

@@ -1,0 +1,34 @@
+-- The tables that are left within the present scope, in the flat list of all scopes.
+use Rattle.std.specs.Prelude.{ℕ, zero, suc, ◌<◌, List, length, Some, None}
+use Rattle.py_scope.specs.Flat.{next_at, typ_at}
+use Rattle.py_scope.specs.declared.flat.ScopeEntry.{ScopeEntry}
+use Rattle.py_scope.specs.declared.table_type.SymbolTableType.{SymbolTableType}
+use Rattle.py_scope.specs.declared.table_type.SymbolTableType.TheVariants as kind
+use Rattle.py_steps.specs.Context.{Context, inside}
+use Rattle.py_steps.specs.Emitting.{State}
+
+-- the number behind the scope with this number and those inside it
+abbrev pub beyond : List ScopeEntry → ℕ → ℕ
+beyond entries i = elim (next_at entries i) [ None ↦ i | Some n ↦ n ]
+
+-- the number behind so many scopes that stand side by side from number k on
+abbrev pub behind : List ScopeEntry → (count k : ℕ) → ℕ
+behind entries zero k = k
+behind entries (suc n) k = behind entries n (beyond entries k)
+
+-- at least so many scopes stand side by side from number k on, before a number
+abbrev pub Stand : List ScopeEntry → (before count k : ℕ) → Type 0
+Stand entries before zero k = Unit {0}
+Stand entries before (suc n) k = (k < before) × (k < length entries) × Stand entries before n (beyond entries k)
+
+-- so many tables are left within the present scope
+abbrev pub AreLeft : (count : ℕ) → State → Type 0
+AreLeft count s = Stand s.around.context.scopes (beyond s.around.context.scopes s.around.context.here) count s.next
+
+-- what the table with this number says that its scope is
+abbrev pub typ_in : List ScopeEntry → ℕ → SymbolTableType
+typ_in entries i = elim (typ_at entries i) [ None ↦ kind.Module | Some typ ↦ typ ]
+
+-- within the scope of the next table, where the class and the qualified name stay
+abbrev pub next_within : State → Context
+next_within s = inside (typ_in s.around.context.scopes s.next) s.next s.around.context
