@@ -2,7 +2,7 @@
 
 use crate::fixtures::{emitter, tree};
 use py_calls::tree::annotation_text;
-use py_calls::{EmitContext, SetContext, contains_await, find_ann, split_doc};
+use py_calls::{EmitContext, contains_await, find_ann, split_doc};
 use py_emit::CompileOpts;
 use py_ir::BlockIdx;
 use py_tree::Mod;

@@ -4,8 +4,9 @@ ghost use Rattle.py_emit.specs.States.{AreMade, rest};
 use crate::fixtures::{emitter, taken, tree};
 use bitflags::Flags;
 use py_calls::{
-    CallType, compile_call_inner, compile_delete, compile_expression, compile_future_features,
-    compile_jump_if, compile_statement, compile_statements, compile_store, enter_function,
+    CallType, ComprehensionParts, compile_call_inner, compile_comprehension, compile_delete,
+    compile_expression, compile_future_features, compile_jump_if, compile_statement,
+    compile_statements, compile_store, enter_function,
 };
 use py_emit::Emitter;
 use py_scope::SymbolTableType;
@@ -21,6 +22,7 @@ enum Call {
     Delete,
     Test,
     Arguments,
+    Comprehension,
     Function,
     Statement,
     FromSecond,
@@ -43,6 +45,13 @@ fn call_on_expr(em: &mut Emitter, call: Call, expr: &Expr) -> Result<(), Fail> {
             {
                 return Err(Fail::from("another way to be called"));
             }
+        }
+        (Call::Comprehension, Expr::ListComp(e)) => {
+            let parts = ComprehensionParts::List {
+                elt: &e.elt,
+                generators: &e.generators,
+            };
+            compile_comprehension(em, parts)?;
         }
         (Call::Function, Expr::Lambda(e)) => {
             let flags = enter_function(em, "<lambda>", &e.args)?;
@@ -87,6 +96,9 @@ const NAME: &str = r#"[["Name",1,1,"a"],["Expression",0]]"#;
 const NAMED: &str =
     r#"[["Name",1,1,"f"],["Name",1,3,"a"],["Name",1,8,"b"],["Keyword","k",2],["Call",1,1,0,[1],[3]],["Expression",4]]"#;
 
+const LISTED: &str =
+    r#"[["Name",1,2,"x"],["Name",1,8,"x"],["Name",1,13,"a"],["Comprehension",1,2,[],false],["ListComp",1,1,0,[3]],["Expression",4]]"#;
+
 const LAMBDA: &str =
     r#"[["Arg",1,8,"a",null],["ArgWithDefault",0,null],["Arg",1,11,"b",null],["int","1"],["Constant",1,13,3],["ArgWithDefault",2,4],["Arguments",[],[1,5],null,[],null],["Name",1,16,"a"],["Lambda",1,1,6,7],["Expression",8]]"#;
 
@@ -111,6 +123,11 @@ fn each_call_emits_its_code(rt: HostRuntime) -> Result<(), Fail> {
             Call::Arguments,
             NAMED,
             "LoadConst 0; LoadNameAny 1; LoadNameAny 0; ",
+        ),
+        (
+            Call::Comprehension,
+            LISTED,
+            "CallFunctionPositional 1; GetIter 0; LoadNameAny 0; MakeFunction 0; LoadConst 1; LoadConst 0; ",
         ),
         (Call::Function, LAMBDA, ""),
         (Call::Statement, TWO, "Pop 0; LoadNameAny 0; "),

@@ -6,7 +6,7 @@ use py_base::Text;
 use py_calls::Scan;
 use py_emit::{CompileOpts, Emitter};
 use py_rows::read_rows;
-use py_scope::{FlatScopes, SymbolTable};
+use py_scope::SymbolTable;
 use py_tree::Mod;
 use std::alloc::{AllocError, Global};
 use std::fmt::Write;
@@ -39,8 +39,7 @@ pub fn emitter(alloc: Global, program: &Mod) -> Result<Emitter, Fail>
     ensures { IfOk result (λ em. AreMade (rest em).context.loop_blocks) }
 {
     let table = table_of(alloc, program)?;
-    let scopes = FlatScopes::from_table(alloc, table)?;
-    Ok(Emitter::new(alloc, CompileOpts::default(), text(alloc, "m.py")?, scopes)?)
+    Ok(Emitter::new(alloc, CompileOpts::default(), text(alloc, "m.py")?, table)?)
 }
 
 /// The instructions of the current block, the last first, each with its operand. They are taken out.

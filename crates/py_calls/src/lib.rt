@@ -1,13 +1,13 @@
 //! Calls on an emitter one at a time, and what is asked of a tree before: for users that take the compiler apart.
 #![tactic(auto)]
 
-mod contexts;
+mod comprehensions;
 mod functions;
 mod futures;
 mod statements;
 pub mod tree;
 
-pub use contexts::SetContext;
+pub use comprehensions::{ComprehensionParts, compile_comprehension};
 pub use functions::enter_function;
 pub use futures::compile_future_features;
 pub use py_emit::{CompileOpts, EmitContext, Emitter, NameUsage, ScopeHead};
