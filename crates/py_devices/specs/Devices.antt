@@ -1,5 +1,5 @@
 -- What a call of a source and of a sink does.
-use Rattle.std.specs.Prelude.{◌≡◌, ℕ, ◌+◌, ◌-◌, ◌^◌, ◌<◌, ◌≤◌, min, Bool, IsTrue, List, length, take, Option, Some, None}
+use Rattle.std.specs.Prelude.{◌≡◌, ℕ, ◌+◌, ◌-◌, ◌^◌, ◌<◌, ◌≤◌, min, Bool, false, IsTrue, List, length, take, Option, Some, None}
 use Rattle.std.specs.Io.KnownBytes.{Keeps, Appends, Consumes, IsAtEnd}
 use Rattle.py_devices.specs.declared.source.ReadAnswer.{ReadAnswer}
 use Rattle.py_devices.specs.declared.source.ReadAnswer.TheVariants as read
@@ -29,6 +29,15 @@ abbrev pub ReadKeepsCount : Bool → ℕ → ℕ → ReadAnswer → Type 0
 ReadKeepsCount alone before now (read.Got n) = IsTrue alone → now ≡ before
 ReadKeepsCount alone before now read.End = IsTrue alone → now ≡ before
 ReadKeepsCount alone before now read.Failed = Unit {0}
+
+abbrev pub GaveBytes : ReadAnswer → Type 0
+GaveBytes (read.Got n) = 0 < n
+GaveBytes read.End = ⊥
+GaveBytes read.Failed = ⊥
+
+-- a read of a source that has not ended is not late, and the source goes on where bytes came
+abbrev pub ReadsInTime : Bool → Bool → ℕ → ℕ → ReadAnswer → Type 0
+ReadsInTime ended_before ended_now before now answer = ended_before ≡ false → (now ≡ before) × (GaveBytes answer → ended_now ≡ false)
 
 -- ---- sinks
 

@@ -1,3 +1,4 @@
+//! A sink that keeps what is written, in memory.
 ghost use Rattle.std.specs.Prelude.{◌≡◌, ◌≤◌, ◌+◌, ◌==◌, ◌++◌, length, take, drop};
 ghost use Rattle.std.specs.List.{list_any};
 

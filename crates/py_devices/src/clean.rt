@@ -1,5 +1,6 @@
-ghost use Rattle.std.specs.Prelude.{◌≡◌, ◌≤◌, ◌<◌, [], Some, true, length};
-ghost use Rattle.py_devices.specs.Devices.{ReadGives, ReadCounts, ReadKeepsCount, WriteTakes, WriteCounts, WriteKeepsCount, HasRoom};
+//! Devices over memory that never fail.
+ghost use Rattle.std.specs.Prelude.{◌≡◌, ◌≤◌, ◌<◌, [], Some, true, false, length};
+ghost use Rattle.py_devices.specs.Devices.{ReadGives, ReadCounts, ReadKeepsCount, ReadsInTime, WriteTakes, WriteCounts, WriteKeepsCount, HasRoom};
 
 use crate::buffer::{fill_from, put_at};
 use crate::sink::{Sink, WriteAnswer};
@@ -48,6 +49,7 @@ impl Source for CleanSource {
         ensures bytes { ReadGives (Some self.old) (Some self.new) result buf.new }
         ensures cause { ReadCounts 0 0 result }
         ensures still { ReadKeepsCount true 0 0 result }
+        ensures in_time { ReadsInTime false false 0 0 result }
         ensures answer { result ≡ clean_answer self.old (length buf.old) }
         ensures after { self.new ≡ after_clean self.old (length buf.old) }
     {

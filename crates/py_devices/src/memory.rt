@@ -1,5 +1,6 @@
-ghost use Rattle.std.specs.Prelude.{◌≡◌, ◌≤◌, ◌<◌, [], Some, None, true, length};
-ghost use Rattle.py_devices.specs.Devices.{ReadGives, ReadCounts, ReadKeepsCount, WriteTakes, WriteCounts, WriteKeepsCount, HasRoom};
+//! Devices in memory.
+ghost use Rattle.std.specs.Prelude.{◌≡◌, ◌≤◌, ◌<◌, [], Some, None, true, false, length};
+ghost use Rattle.py_devices.specs.Devices.{ReadGives, ReadCounts, ReadKeepsCount, ReadsInTime, WriteTakes, WriteCounts, WriteKeepsCount, HasRoom};
 
 use crate::buffer::{fill_from, is_listed, put_at};
 use crate::sink::{Sink, WriteAnswer};
@@ -62,6 +63,7 @@ impl Source for MemSource {
         ensures bytes { ReadGives (Some self.old.left) (Some self.new.left) result buf.new }
         ensures cause { ReadCounts self.old.faults self.new.faults result }
         ensures still { ReadKeepsCount true self.old.faults self.new.faults result }
+        ensures in_time { ReadsInTime false false 0 0 result }
         ensures answer { result ≡ read_of self.old (length buf.old) }
         ensures after { self.new ≡ after_read self.old (length buf.old) }
     {

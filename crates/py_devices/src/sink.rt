@@ -1,3 +1,4 @@
+//! What bytes are written to.
 ghost use Rattle.std.specs.Prelude.{List, ℕ, Option, Bool, false};
 ghost use Rattle.py_devices.specs.Devices.{WriteTakes, WriteCounts, WriteKeepsCount, HasRoom};
 
