@@ -13,6 +13,7 @@ usage: sh pyc.sh [-m MODE] [-O LEVEL] [-o FILE] [--rows] FILE.. | -
        sh pyc.sh pack MODE LEVEL PATH <ROWS >CODE
        sh pyc.sh unpack <CODE
        sh pyc.sh names PATH <ROWS
+       sh pyc.sh sample N LEVEL
        sh pyc.sh --run FILE.py [ARG..]
        sh pyc.sh --try FILE..
        sh pyc.sh --help | --version
@@ -36,8 +37,9 @@ Compiles Python files and writes the listings of their code; `-` is standard inp
   --version  the commit of this checkout, and the kit
 
 MODE LEVEL PATH: compiles the rows on standard input; PATH is the path that the code names. `pack` writes the code to a
-file in place of its listing, `unpack` verifies such a file and writes its listing, and `names` reports on the names of
-the tree that the rows are (docs/COMMANDS.md). These want no python3. A file of such a name is written ./names.
+file in place of its listing, `unpack` verifies such a file and writes its listing, `names` reports on the names of the
+tree that the rows are, and `sample` compiles a made program of N statements and says in numbers what it became
+(docs/COMMANDS.md). These want no python3. A file of such a name is written ./names.
 
 The first call that compiles proves the program and all below it, and builds it (README.md says how long that takes).
 
@@ -83,12 +85,18 @@ is_level() {
     case $1 in 0 | 1 | 2) ;; *) return 1 ;; esac
 }
 
+# Whether a word is a number: digits alone.
+is_number() {
+    case $1 in '' | *[!0-9]*) return 1 ;; esac
+}
+
 # Whether the words are those of a command, which the program itself reads; $1 is one.
 is_command() {
     case $1 in
         pack) [ $# -eq 4 ] && is_mode "$2" && is_level "$3" ;;
         unpack) [ $# -eq 1 ] ;;
         names) [ $# -eq 2 ] ;;
+        sample) [ $# -eq 3 ] && is_number "$2" && is_level "$3" ;;
     esac
 }
 
@@ -192,15 +200,15 @@ if [ $# -eq 0 ]; then
     usage >&2
     exit 2
 fi
-if is_mode "$1" || [ "$1" = sample ]; then
-    if is_mode "$1" && { [ $# -ne 3 ] || ! is_level "$2"; }; then
+if is_mode "$1"; then
+    if [ $# -ne 3 ] || ! is_level "$2"; then
         wrong "'$1' is a mode, which a level (0, 1 or 2) and one path follow; a file of that name is written ./$1"
     fi
     want_program
     exec "$pyc" "$@"
 fi
 case $1 in
-    pack | unpack | names)
+    pack | unpack | names | sample)
         is_command "$@" || wrong "'$1' is a command with other words after it; a file of that name is written ./$1"
         want_program
         exec "$pyc" "$@"

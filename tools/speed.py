@@ -4,6 +4,7 @@
 usage: speed.py [--program PATH] [--runs N] [--series plain|scopes] [--most N] [--library FOLDER | --without-library]
        speed.py [--program PATH] [--runs N] --growth [NAME..] [--sizes N] [--limit SECONDS] [--memory MB]
        speed.py [--program PATH] [--runs N] --source FILE..
+       speed.py [--program PATH] [--series plain|scopes] [--library FOLDER] --instructions [FILE..]
 
 The program is crates/pyc/out/pyc, which pyc.sh builds. The trees are made ones of 10^3 to 10^5 statements, and
 one of --most at most, and those files of the library of this Python, or of FOLDER, that pyc compiles and that import
@@ -15,7 +16,9 @@ functions, closures, classes, methods with super, comprehensions, decorators, de
 --growth times made inputs whose cost may grow faster than their size, each at several sizes n, and tells how the rows, the
 time and the listing grow: as which power of n, by the line through the logarithms that has the least squares. A run
 that takes more seconds than --limit or more memory than --memory is ended, and the input with it. --source times files
-from the source on: tools/rows.py and the program apart, and `python -m dis` beside them.
+from the source on: tools/rows.py and the program apart, and `python -m dis` beside them. --instructions counts what the
+program executes, by callgrind of valgrind: over 10^4 statements of a series, and over files, or each 34th of those of the
+library that pyc compiles. That is the same in each run, whatever else the machine does.
 
 Times are seconds of processor time, the least of N runs (3). Peaks are of resident memory, and no less than what the
 Python has that starts the run, some 16 MB. Standard output is a table, as docs/PERFORMANCE.md and docs/GROWTH.md show them.
@@ -72,7 +75,11 @@ GROWTH_HEADS = (
     "Time",
     "Listing",
 )
+INSTRUCTION_HEADS = ("Rows of", "Rows, kB", "Instructions, millions", "Instructions / byte of rows")
 SOURCE_HEADS = ("File", "Source, kB", "Rows, kB", "rows.py", "pyc", "Both", "pyc / both", "python -m dis")
+
+# The statements over which instructions are counted, and which of the files of the library.
+COUNTED, EACH = 10000, 34
 
 # What is started and ended takes about a thousandth of a second, whatever it does: times below this tell little.
 SHORTEST = 0.004
@@ -187,6 +194,14 @@ class Bench:
         least, peak = min(it.seconds for it in runs), max(it.peak for it in runs)
         return file.stat().st_size, runs[0]._replace(seconds=least, peak=peak)
 
+    def instructions(self, rows):
+        """The instructions that the program executes over rows, or None where it does not compile."""
+        file = self.folder / "callgrind"
+        words = ["valgrind", "--tool=callgrind", "--callgrind-out-file=%s" % file, self.program, "exec", "0", "m.py"]
+        if timed(words, rows).status != 0:
+            return None
+        return summary_of(file.read_text(errors="replace"))
+
     def from_source(self, source):
         """The seconds of rows.py, of the program and of dis over a file, and the bytes of its rows; None without them."""
         file = self.folder / "rows"
@@ -275,6 +290,22 @@ def gather(program, library, together):
     print(len(texts))
 
 
+def summary_of(text):
+    """The instructions that a file of callgrind tells, or None where it tells none."""
+    lines = [it.split(":")[1].split() for it in text.splitlines() if it.startswith(("summary:", "totals:"))]
+    return int(lines[0][0]) if lines and lines[0] else None
+
+
+def sample(program, library):
+    """Each 34th of the files of a folder that the program compiles, as `gather` takes them."""
+    import rows
+    import stdlib
+
+    files = stdlib.library_files(pathlib.Path(library))
+    found = [it for it in files if stdlib.Found(program, it).how == "compiled" and "from __future__" not in rows.text_of(it.read_bytes())]
+    return found[::EACH]
+
+
 def machine():
     """What the machine is."""
     try:
@@ -313,6 +344,31 @@ def show_sources(bench, files):
         print(source_line(str(file), *numbers), flush=True)
     if len(files) > 1 and whole[0]:
         print(source_line("together", *whole))
+
+
+def show_instructions(bench, words):
+    """Prints the table of instructions, of statements and of files, and a line of all files together."""
+    print(table_head(INSTRUCTION_HEADS), flush=True)
+    source = bench.folder / "source.py"
+    source.write_text(made_inputs.source_of(words.series, COUNTED))
+    files = words.instructions or sample(bench.program, words.library)
+    size = count = 0
+    for name, file in [("%d statements" % COUNTED, source), *((str(it), it) for it in files)]:
+        rows = bench.rows(file)
+        found = rows and bench.instructions(rows)
+        if not found:
+            print("| %s does not compile |" % name, flush=True)
+            continue
+        if file != source:
+            size, count = size + rows.stat().st_size, count + found
+        print(instruction_line(name, rows.stat().st_size, found), flush=True)
+    if size and len(files) > 1:
+        print(instruction_line("these %d files" % len(files), size, count))
+
+
+def instruction_line(name, size, count):
+    """A line of the table of instructions: bytes of the rows, and instructions."""
+    return table_line([name, "%.0f" % (size / 1000), "%.1f" % (count / 1e6), "%.0f" % (count / size)])
 
 
 def source_line(name, size, rows, reading, compiling, showing):
@@ -360,6 +416,7 @@ def words_of():
     parser.add_argument("--limit", metavar="SECONDS", type=int, default=20, help="with --growth: the most seconds of a run (%(default)s)")
     parser.add_argument("--memory", metavar="MB", type=int, default=4000, help="with --growth: the most memory of a run (%(default)s)")
     parser.add_argument("--source", metavar="FILE", nargs="+", type=pathlib.Path, help="time these files from the source on: rows.py and the program apart")
+    parser.add_argument("--instructions", metavar="FILE", nargs="*", type=pathlib.Path, help="count the instructions of the program, by valgrind: over statements, and over these files or some of the library")
     return parser.parse_args()
 
 
@@ -367,7 +424,7 @@ def main():
     words = words_of()
     if not os.access(words.program, os.X_OK):
         sys.exit("speed.py: there is no program %s: sh pyc.sh builds it" % words.program)
-    missing = [str(it) for it in words.source or () if not it.is_file()]
+    missing = [str(it) for it in (words.source or []) + (words.instructions or []) if not it.is_file()]
     if missing:
         sys.exit("speed.py: there is no file %s" % ", ".join(missing))
     print("%s; %s; CPython %s\n" % (datetime.date.today(), machine(), platform.python_version()))
@@ -377,6 +434,10 @@ def main():
             show_growth(bench, words.growth or made_inputs.GROWING, words.sizes, (words.limit, words.memory))
         elif words.source:
             show_sources(bench, words.source)
+        elif words.instructions is not None:
+            if shutil.which("valgrind") is None:
+                sys.exit("speed.py: there is no valgrind")
+            show_instructions(bench, words)
         else:
             show_series(bench, words)
 

@@ -42,6 +42,12 @@ class Arithmetic(unittest.TestCase):
         self.assertEqual(speed.table_head(["a", "b"]), "| a | b |\n|---|---|")
         self.assertEqual(speed.source_line("m.py", 4200, 31000, 0.3, 0.1, 0.5), "| m.py | 4 | 31 | 0.300 | 0.100 | 0.400 | 0.25 | 0.500 |")
 
+    def test_instructions(self):
+        self.assertEqual(speed.summary_of("events: Ir\nfn=(1) main\nsummary: 1194000001\n\ntotals: 1194000001\n"), 1194000001)
+        self.assertEqual(speed.summary_of("events: Ir\ntotals: 7\n"), 7)
+        self.assertIsNone(speed.summary_of("events: Ir\n"))
+        self.assertEqual(speed.instruction_line("m.py", 250000, 152500000), "| m.py | 250 | 152.5 | 610 |")
+
     def test_lines_of_growth(self):
         points = [(n, 100 * n, speed.Run(0, n * n / 1e8, 16 * 10**6, 1000 * n)) for n in (100, 1000, 2000)]
         # The shortest time is that of starting a process, and is left out.

@@ -1,15 +1,11 @@
 -- What is due where a line, or a text, was made.
-use Rattle.std.proofs.Common.{◌≡◌, ◌≤◌, ◌≢◌, ◌⊎◌, ℕ, List, length, take, Option, Some, None, IsSome, IsNone, IfSome, refl, sym, subst, inl, inr, option_map, String, Global, string_bytes}
-use Rattle.std.specs.Io.KnownBytes.{Appends}
-use Rattle.py_bytecode.specs.View.{object}
+use Rattle.std.proofs.Common.{◌≡◌, ℕ, List, Option, Some, None, IfSome, refl, sym, subst, option_map}
 use Rattle.py_bytecode.specs.declared.code.CodeObject.{CodeObject}
-use Rattle.py_run.specs.declared.report.Status.{Status}
 use Rattle.py_run.specs.declared.report.Status.TheVariants as status
-use Rattle.py_run.specs.Prepared.{Faults, HasForm, IsTextOf, Prepares, Refuses}
-use Rattle.py_run.specs.declared.preparing.Prepared.TheVariants as made
-use Rattle.py_run.specs.Runs.{AppendsFront, IsDue, IsMisread, IsRefused, IsSound, IsTextless, IsLineless, Written, Text, Line, Nothing, Either, line_for, side, told_side, told_text, text_by}
-use Rattle.py_run.specs.Statuses.{Due, Misuse, Misread, Refused, Compiled, Spelled, Told, IsCodeOf, code_text, due_by}
-use Rattle.py_run.specs.Words.{Command, Compile, Pack, Unpack, Names}
+use Rattle.py_run.specs.Prepared.{Faults, IsTextOf, Refuses}
+use Rattle.py_run.specs.Runs.{IsDue, IsMisread, IsRefused, IsSound, Written, Text, Line, Either, line_for, side, told_side, told_text, text_by}
+use Rattle.py_run.specs.Statuses.{Due, Misuse, Misread, Refused, Compiled, Spelled, Told, IsCodeOf}
+use Rattle.py_run.specs.Words.{Command, Compile, Pack, Unpack, Names, Sample}
 
 -- ---- lines
 
@@ -86,6 +82,7 @@ line_side None o line P h p q = p
 line_side (Some (Compile c)) o line P h p q = p
 line_side (Some (Pack c)) o line P h p q = p
 line_side (Some Unpack) o line P h p q = p
+line_side (Some (Sample count level)) o line P h p q = p
 line_side (Some Names) None line P h p q = q
 line_side (Some Names) (Some d) line P h p q = subst P (sym h.textless) p
 
@@ -93,6 +90,11 @@ line_side (Some Names) (Some d) line P h p q = subst P (sym h.textless) p
 pub line_incomplete : (o : Option Due) (line : List ℕ) (A B C D : Type 0) → IfSome o (LineDue line) → IfSome o (λ d. IsSound d → A → B → C → D)
 line_incomplete None line A B C D h = tt
 line_incomplete (Some d) line A B C D h = λ s. absurd (h.unsound s)
+
+-- nor where a read failed
+pub fault_incomplete : (o : Option Due) (T R A B C : Type 0) → T → R → IfSome o (λ d. IsSound d → (T → ¬ R) → A → B → C)
+fault_incomplete None T R A B C t r = tt
+fault_incomplete (Some d) T R A B C t r = λ s k. absurd (k t r)
 
 -- ---- codes and their texts
 

@@ -5,6 +5,7 @@ use Rattle.py_bytecode.specs.View.{object}
 use Rattle.py_bytecode.specs.declared.code.CodeObject.{CodeObject}
 use Rattle.py_codefile.specs.Grammar.{Spells}
 use Rattle.py_codefile.specs.Spelling.{spelling}
+use Rattle.py_codefile.proofs.FileFormat.{file_again}
 use Rattle.py_flawless.specs.Flawless.{CompiledIsFlawless}
 use Rattle.py_listing.specs.Listing.{listing}
 use Rattle.py_verify.specs.Nested.{Flawless}
@@ -13,7 +14,6 @@ use Rattle.py_run.specs.Laws.{Unpacks}
 use Rattle.py_run.specs.Runs.{IsSound}
 use Rattle.py_run.specs.Statuses.{Due, Misuse, Misread, Refused, Compiled, Spelled, Told, IsCodeOf, by_file, due}
 use Rattle.py_run.specs.Words.{Unpack}
-use Rattle.py_run.proofs.Again.{file_again}
 use Rattle.py_run.proofs.Verdicts.{short_due}
 
 -- two codes that are both due for rows are equal
@@ -36,7 +36,7 @@ no_flaw law (Told text) a h = absurd h
 
 -- the file of a code is due to be that code
 file_due : (o : Object) → Spells (spelling o) o → length (spelling o) < 2 ^ 26 → Spelled (spelling o) o ≡ due Unpack (spelling o)
-file_due o h l = ap (by_file (spelling o)) (sym (file_again o h)) ∙ short_due Unpack (spelling o) l
+file_due o h l = ap (by_file (spelling o)) (sym (file_again (spelling o) o h)) ∙ short_due Unpack (spelling o) l
 
 pub unpacks : EqualTreesHaveEqualCode → CompiledIsFlawless → (d : Due) (listed packed : CodeObject) → IsCodeOf d listed → IsCodeOf d packed → Spells (spelling (object packed)) (object packed) → length (spelling (object packed)) < 2 ^ 26
     → Unpacks (spelling (object packed)) (listing (object listed))

@@ -1,12 +1,12 @@
 -- What is made fits the form of the words.
-use Rattle.std.proofs.Common.{◌≡◌, ℕ, List, Option, Some, None, IsSome, IsNone, IfSome, refl, sym, subst, String, Vec, Global}
+use Rattle.std.proofs.Common.{◌≡◌, ℕ, true, Option, Some, None, IsSome, IfSome, refl, sym, subst, String, Vec, Global}
 use Rattle.py_bytecode.specs.View.{object}
 use Rattle.py_bytecode.specs.declared.code.CodeObject.{CodeObject}
 use Rattle.py_run.specs.declared.report.Status.TheVariants as status
-use Rattle.py_run.specs.Prepared.{Fits, HasForm, IsTextOf}
+use Rattle.py_run.specs.Prepared.{HasForm, IsTextOf}
 use Rattle.py_run.specs.declared.preparing.Prepared.TheVariants as made
 use Rattle.py_run.specs.Runs.{IsOfForm, Reports, TakesTree}
-use Rattle.py_run.specs.Words.{Command, Compile, Pack, Unpack, Names}
+use Rattle.py_run.specs.Words.{Command, Compile, Pack, Unpack, Names, Sample, reads_input}
 
 -- ---- a code with its text
 
@@ -23,6 +23,7 @@ code_reported None code text h = absurd h
 code_reported (Some (Compile c)) code text h = refl
 code_reported (Some (Pack c)) code text h = refl
 code_reported (Some Unpack) code text h = refl
+code_reported (Some (Sample count level)) code text h = refl
 code_reported (Some Names) code text h = absurd h.1
 
 pub code_kind : (form : Option Command) (code : CodeObject) (text : Vec ℕ Global) → HasForm (made.Code code text) form → IsOfForm form (object code)
@@ -48,13 +49,13 @@ pub refusal_form : (form : Option Command) (line : String Global) → HasForm (m
 refusal_form None line h = h
 refusal_form (Some c) line h = h
 
-pub misread_form : (form : Option Command) (line : String Global) → HasForm (made.Misread line) form → IsSome form
+pub misread_form : (form : Option Command) (line : String Global) → HasForm (made.Misread line) form → reads_input form ≡ true
 misread_form None line h = absurd h
-misread_form (Some c) line h = refl
+misread_form (Some c) line h = h
 
-pub fault_form : (form : Option Command) → HasForm made.ReadFault form → IsSome form
+pub fault_form : (form : Option Command) → HasForm made.ReadFault form → reads_input form ≡ true
 fault_form None h = absurd h
-fault_form (Some c) h = refl
+fault_form (Some c) h = h
 
 pub memory_form : (form : Option Command) → HasForm made.Memory form → IsSome form
 memory_form None h = absurd h

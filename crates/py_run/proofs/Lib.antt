@@ -1,8 +1,10 @@
-pub mod Again
+pub mod Counting
 pub mod Dues
 pub mod Formed
 pub mod Made
 pub mod Pieces
 pub mod Rooms
+pub mod Summed
 pub mod Files
+pub mod Takes
 pub mod Verdicts

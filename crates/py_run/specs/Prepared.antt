@@ -1,5 +1,5 @@
 -- What is to be written, made before the first write.
-use Rattle.std.specs.Prelude.{◌≡◌, ℕ, Bool, IsTrue, List, Option, None, Some, IsSome, Result, Ok, Err, string_bytes}
+use Rattle.std.specs.Prelude.{◌≡◌, ℕ, Bool, true, IsTrue, List, Option, None, Some, Result, Ok, Err, string_bytes}
 use Rattle.py_tree.specs.Tree as tree
 use Rattle.py_tree.specs.View.{mod_tree}
 use Rattle.py_tree.specs.declared.modules.Mod.{Mod}
@@ -11,12 +11,13 @@ use Rattle.py_codefile.specs.Grammar.{Spells}
 use Rattle.py_listing.specs.Listing.{listing}
 use Rattle.py_verify.specs.Nested.{Flawless}
 use Rattle.py_meaning.specs.ExprFaults.{Fault}
+use Rattle.py_sample.specs.Summary.{summary}
 use Rattle.py_run.specs.declared.preparing.Prepared.{Prepared}
 use Rattle.py_run.specs.declared.preparing.Prepared.TheVariants as made
 use Rattle.py_devices.specs.Devices.{Rose}
 use Rattle.py_run.specs.Runs.{TakesTree}
-use Rattle.py_run.specs.Statuses.{Due, Misuse, Misread, Refused, Compiled, Spelled, Told, IsCodeOf, IsReported, by_rows, code_text, flaw_text, input_line, refusal_line}
-use Rattle.py_run.specs.Words.{Command, Names, Unpack}
+use Rattle.py_run.specs.Statuses.{Due, Misuse, Misread, Refused, Spelled, Told, IsCodeOf, IsReported, by_rows, code_text, flaw_text, input_line, refusal_line}
+use Rattle.py_run.specs.Words.{Command, Names, Unpack, takes_input}
 
 -- the line names the first fault
 abbrev pub Refuses : Due → (line : List ℕ) → Type 0
@@ -48,9 +49,9 @@ abbrev pub Fits : Prepared → Command → Type 0
 Fits (made.Code code text) c = IsTextOf c code text.items
 Fits (made.Report text) c = c ≡ Names
 Fits (made.Refusal line) c = TakesTree (Some c)
-Fits (made.Misread line) c = Unit {0}
+Fits (made.Misread line) c = takes_input c ≡ true
 Fits made.Misuse c = ⊥
-Fits made.ReadFault c = Unit {0}
+Fits made.ReadFault c = takes_input c ≡ true
 Fits made.Memory c = Unit {0}
 
 -- misuse is where the words have not their form
@@ -98,6 +99,12 @@ abbrev pub IsListed : Prepared → CodeObject → Type 0
 IsListed (made.Code code text) o = (code ≡ o) × (text.items ≡ listing (object o))
 IsListed made.Memory o = Unit {0}
 IsListed p o = ⊥
+
+-- that code with its summary, as one of so many statements
+abbrev pub IsSummed : Prepared → (count : ℕ) → CodeObject → Type 0
+IsSummed (made.Code code text) n o = (code ≡ o) × (text.items ≡ summary n (object o))
+IsSummed made.Memory n o = Unit {0}
+IsSummed p n o = ⊥
 
 -- that code with its file
 abbrev pub IsFiled : Prepared → CodeObject → Type 0

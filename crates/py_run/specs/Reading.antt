@@ -1,5 +1,6 @@
--- What many reads of a source do to its count of faults.
-use Rattle.std.specs.Prelude.{◌≡◌, ℕ, Bool, IsTrue, Result, Ok, Err}
+-- What many reads of a source do to its count of faults, and take of its bytes.
+use Rattle.std.specs.Prelude.{◌≡◌, ℕ, ◌≤◌, ◌^◌, Bool, IsTrue, List, length, Option, Result, Ok, Err}
+use Rattle.std.specs.Io.KnownBytes.{Consumes}
 use Rattle.py_run.specs.declared.reading.ReadError.{ReadError}
 use Rattle.py_run.specs.declared.reading.ReadError.TheVariants.{TooLong, Failed, OutOfMemory}
 
@@ -9,3 +10,7 @@ ReadsStill alone before now (Ok x) = IsTrue alone → now ≡ before
 ReadsStill alone before now (Err TooLong) = IsTrue alone → now ≡ before
 ReadsStill alone before now (Err OutOfMemory) = IsTrue alone → now ≡ before
 ReadsStill alone before now (Err Failed) = Unit {0}
+
+-- of known bytes 2^26 are taken at most, from the front
+abbrev pub TakesFew : Option (List ℕ) → Option (List ℕ) → Type 0
+TakesFew before now = (bytes : List ℕ) × Consumes before now bytes × (length bytes ≤ 2 ^ 26)

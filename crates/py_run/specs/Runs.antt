@@ -1,5 +1,5 @@
 -- What a run does, by the status that it ends with.
-use Rattle.std.specs.Prelude.{◌≡◌, ℕ, ◌≤◌, ◌⊎◌, Bool, IsTrue, List, [], length, take, Option, Some, None, IsNone, IsSome, IfSome, option_map}
+use Rattle.std.specs.Prelude.{◌≡◌, ℕ, ◌≤◌, ◌⊎◌, Bool, true, IsTrue, List, [], length, take, Option, Some, None, IsNone, IsSome, IfSome, option_map}
 use Rattle.std.specs.Io.KnownBytes.{Keeps, Appends}
 use Rattle.py_bytecode.specs.Objects.{Object}
 use Rattle.py_bytecode.specs.View.{object}
@@ -10,25 +10,26 @@ use Rattle.py_run.specs.declared.report.Status.{Status}
 use Rattle.py_run.specs.declared.report.Status.TheVariants as status
 use Rattle.py_devices.specs.Devices.{Rose}
 use Rattle.py_run.specs.Statuses.{Due, Misuse, Misread, Refused, Compiled, Spelled, Told, IsReported, code_text, due_of, flaw_text, input_line, refusal_line, usage_line}
-use Rattle.py_run.specs.Words.{Command, Compile, Pack, Unpack, Names, words_form}
+use Rattle.py_run.specs.Words.{Command, Compile, Pack, Unpack, Names, Sample, reads_input, words_form}
 
 -- ---- the status
 
--- a tree is compiled or reported on
+-- the tree that rows are is compiled or reported on
 abbrev pub TakesTree : Option Command → Type 0
 TakesTree None = ⊥
 TakesTree (Some (Compile c)) = Unit {0}
 TakesTree (Some (Pack c)) = Unit {0}
 TakesTree (Some Unpack) = ⊥
 TakesTree (Some Names) = Unit {0}
+TakesTree (Some (Sample count level)) = ⊥
 
--- usage is where the words have not their form, and a refusal where they ask for something of a tree
+-- usage is where the words have not their form, and a refusal where they ask for something of rows; a fault of the input, or of a read, is where there is input
 abbrev pub FitsForm : Status → Option Command → Type 0
 FitsForm status.Done form = IsSome form
 FitsForm status.Refused form = TakesTree form
 FitsForm status.Usage form = form ≡ None
-FitsForm status.Input form = IsSome form
-FitsForm status.ReadFault form = IsSome form
+FitsForm status.Input form = reads_input form ≡ true
+FitsForm status.ReadFault form = reads_input form ≡ true
 FitsForm status.WriteFault form = Unit {0}
 FitsForm status.Memory form = IsSome form
 

@@ -23,7 +23,10 @@ use Rattle.py_meaning.specs.ExprFaults.{Fault}
 use Rattle.py_meaning.specs.Faults.{faults}
 use Rattle.py_meaning.specs.Scanned.{fault_as}
 use Rattle.codegen.specs.Calls.{IsCompiled}
-use Rattle.py_run.specs.Words.{Compilation, Command, Compile, Pack, Unpack, Names, words_form}
+use Rattle.py_sample.specs.Sample.{program}
+use Rattle.py_sample.specs.Summary.{summary}
+use Rattle.py_tree.specs.declared.modules.Mode.TheVariants.{Exec}
+use Rattle.py_run.specs.Words.{Compilation, Command, Compile, Pack, Unpack, Names, Sample, takes_input, words_form}
 
 -- ---- the lines of refusals
 
@@ -114,21 +117,30 @@ abbrev pub by_file : List ℕ → Result Object ReadCodeError → Due
 by_file bytes (Ok o) = Spelled bytes o
 by_file bytes (Err e) = Misread (file_text e)
 
--- what a command makes of the bytes
+-- what is due for a sample is the code of its program, which comes from the path `sample` and has no fault
+abbrev pub sample_compilation : (level : ℕ) → Compilation
+sample_compilation level = record { mode = Exec; level = level; path = codes "sample" }
+
+abbrev pub sampled : (count level : ℕ) → Due
+sampled count level = Compiled (sample_compilation level) (program count)
+
+-- what a command makes of the bytes; a sample is made of none
 abbrev pub answered : Command → List ℕ → Due
 answered (Compile c) bytes = by_rows (compiled c) (rows_tree bytes)
 answered (Pack c) bytes = by_rows (compiled c) (rows_tree bytes)
 answered Unpack bytes = by_file bytes (file_at bytes)
 answered Names bytes = by_rows reported (rows_tree bytes)
+answered (Sample count level) bytes = sampled count level
 
 abbrev pub due : Command → List ℕ → Due
 due c bytes = if nat_lt (length bytes) (2 ^ 26) then answered c bytes else Misread (codes "too long")
 
+-- the bytes count where the command takes input
 abbrev pub due_by : Option Command → Option (List ℕ) → Option Due
 due_by None left = Some Misuse
-due_by (Some c) left = option_map (due c) left
+due_by (Some c) left = if takes_input c then option_map (due c) left else Some (answered c [])
 
--- the same, where the words need no bytes or the bytes are told
+-- so it is known where the words need no bytes, or the bytes are told
 abbrev pub due_of : List (List ℕ) → Option (List ℕ) → Option Due
 due_of words left = due_by (words_form words) left
 
@@ -149,6 +161,7 @@ code_text (Compile c) o = listing o
 code_text (Pack c) o = spelling o
 code_text Unpack o = listing o
 code_text Names o = []
+code_text (Sample count level) o = summary count o
 
 -- what is so of that code whatever the source tells; the report on names reports no code
 abbrev pub IsReported : Command → Object → Type 0
@@ -156,3 +169,4 @@ IsReported (Compile c) o = Unit {0}
 IsReported (Pack c) o = Spells (spelling o) o
 IsReported Unpack o = Flawless o
 IsReported Names o = ⊥
+IsReported (Sample count level) o = Unit {0}

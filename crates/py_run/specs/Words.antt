@@ -1,5 +1,7 @@
 -- The words that the program is called with.
-use Rattle.std.specs.Prelude.{ℕ, ◌^◌, nat_lt, ◌&&◌, List, [], ◌∷◌, length, Option, Some, None, option_and_then, option_map, if◌then◌else◌, codes}
+use Rattle.std.specs.Prelude.{ℕ, ◌+◌, ◌-◌, ◌*◌, ◌<◌, ◌^◌, ◌==◌, nat_lt, Bool, true, false, ◌&&◌, List, [], ◌∷◌, length, Option, Some, None, option_and_then, option_map, if◌then◌else◌, codes}
+use Rattle.std.specs.Char.{is_ascii_digit}
+use Rattle.std.specs.List.{list_all}
 use Rattle.std.specs.Str.{bytes_eq}
 use Rattle.py_tree.specs.declared.modules.Mode.{Mode}
 use Rattle.py_run.specs.declared.words.Compilation as kept
@@ -23,6 +25,8 @@ pub data Command : Type 0 where
   Unpack : Command
   -- the report on the names of the tree that the rows are
   Names : Command
+  -- the summary of the code that the program of so many statements compiles to at this level
+  Sample : (count level : ℕ) → Command
 
 -- what the program keeps of them
 abbrev pub compilation_view : kept.Compilation → Compilation
@@ -33,6 +37,24 @@ command_view (asked_for.Compile c) = Compile (compilation_view c)
 command_view (asked_for.Pack c) = Pack (compilation_view c)
 command_view asked_for.Unpack = Unpack
 command_view asked_for.Names = Names
+command_view (asked_for.Sample s) = Sample s.count s.level
+
+-- what is made of input, and what is made without it
+abbrev pub takes_input : Command → Bool
+takes_input (Compile c) = true
+takes_input (Pack c) = true
+takes_input Unpack = true
+takes_input Names = true
+takes_input (Sample count level) = false
+
+abbrev pub reads_input : Option Command → Bool
+reads_input None = false
+reads_input (Some c) = takes_input c
+
+-- a sample has few statements
+abbrev pub IsFew : Command → Type 0
+IsFew (Sample count level) = count < 2 ^ 17
+IsFew c = Unit {0}
 
 abbrev pub mode_of : List ℕ → Option Mode
 mode_of word =
@@ -46,6 +68,22 @@ level_of word =
     if bytes_eq word (codes "0") then Some 0 else
     (if bytes_eq word (codes "1") then Some 1 else
     (if bytes_eq word (codes "2") then Some 2 else None))
+
+-- the number that decimal digits say behind a number
+abbrev pub number_behind : (high : ℕ) → List ℕ → ℕ
+number_behind high [] = high
+number_behind high (c ∷ cs) = number_behind (high * 10 + (c - 48)) cs
+
+-- one digit behind a number, and digits alone, where the number stays below 2 ^ 17
+abbrev pub with_digit : (high byte : ℕ) → Option ℕ
+with_digit high byte = if is_ascii_digit byte && nat_lt (high * 10 + (byte - 48)) (2 ^ 17) then Some (high * 10 + (byte - 48)) else None
+
+abbrev pub count_behind : (high : ℕ) → List ℕ → Option ℕ
+count_behind high word = if list_all is_ascii_digit word && nat_lt (number_behind high word) (2 ^ 17) then Some (number_behind high word) else None
+
+-- one digit or more, whose number is below 2 ^ 17
+abbrev pub count_of : List ℕ → Option ℕ
+count_of word = if length word == 0 then None else count_behind 0 word
 
 -- a mode, a level and any path
 abbrev pub compilation_of : (mode level path : List ℕ) → Option Compilation
@@ -71,9 +109,17 @@ abbrev pub pack_of : (word mode level path : List ℕ) → Option Command
 pack_of word mode level path =
     if bytes_eq word (codes "pack") && nat_lt (length path) (2 ^ 32) then option_map Pack (compilation_of mode level path) else None
 
+-- sample N LEVEL
+abbrev pub sample_of : (count level : List ℕ) → Option Command
+sample_of count level = option_and_then (λ n. option_map (λ l. Sample n l) (level_of level)) (count_of count)
+
+-- three words, the first of which says which form they have
+abbrev pub three_of : (first second third : List ℕ) → Option Command
+three_of first second third = if bytes_eq first (codes "sample") then sample_of second third else compile_of first second third
+
 abbrev pub words_form : List (List ℕ) → Option Command
 words_form (word ∷ []) = unpack_of word
 words_form (word ∷ path ∷ []) = names_of word
-words_form (mode ∷ level ∷ path ∷ []) = compile_of mode level path
+words_form (first ∷ second ∷ third ∷ []) = three_of first second third
 words_form (word ∷ mode ∷ level ∷ path ∷ []) = pack_of word mode level path
 words_form words = None

@@ -58,7 +58,7 @@ fn code_of(
     code
 }
 
-fn code_of_tree(
+pub(crate) fn code_of_tree(
     alloc: Global,
     compilation: &Compilation<'_>,
     tree: &Mod,

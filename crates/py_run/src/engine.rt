@@ -1,9 +1,11 @@
-ghost use Rattle.std.specs.Prelude.{◌≡◌, ◌≢◌, ◌⊎◌, ◌≤◌, None, length, IfSome, option_map};
+//! The one call: words and a source give a listing, a file, a report or a line.
+ghost use Rattle.std.specs.Prelude.{◌≡◌, ◌≢◌, ◌⊎◌, ◌≤◌, true, false, length, IfSome, option_map};
 ghost use Rattle.py_bytecode.specs.View.{object};
 ghost use Rattle.py_devices.specs.Devices.{Rose};
+ghost use Rattle.py_run.specs.Reading.{TakesFew};
 ghost use Rattle.py_run.specs.Runs.{ErrGets, FitsForm, IsDue, IsLineless, IsOfForm, IsSound, IsTextless, NoReadFailed, NoWriteFailed, OutGets, ReadCause, Reports, Text, Line, WriteCause, line_of, text_of, written};
 ghost use Rattle.py_run.specs.Statuses.{IsCodeOf, due_of};
-ghost use Rattle.py_run.specs.Words.{words_form};
+ghost use Rattle.py_run.specs.Words.{reads_input, words_form};
 
 use crate::lines::USAGE;
 use crate::preparing::{Prepared, prepare};
@@ -42,9 +44,13 @@ pub fn run<S: Source, O: Sink, E: Sink>(
     ensures err { ErrGets (written words.now (S.left source.old) result) result.status (line_of words.now (S.left source.old)) (E.held err.old) (E.held err.new) }
 
     // Nothing else is touched.
-    ensures unread { words_form words.now ≡ None → source.new ≡ source.old }
+    ensures unread { reads_input (words_form words.now) ≡ false → source.new ≡ source.old }
     ensures no_text { IsTextless (written words.now (S.left source.old) result) → out.new ≡ out.old }
     ensures no_line { IsLineless (written words.now (S.left source.old) result) → err.new ≡ err.old }
+
+    // Reading ends at the first of a read that gives no byte, a failed read and 2^26 bytes.
+    ensures in_time { S.ended source.old ≡ false → S.late source.new ≡ S.late source.old }
+    ensures taken { TakesFew (S.left source.old) (S.left source.new) }
 
     // Always where a call failed.
     ensures reads { NoReadFailed result.status S.counts_failures (S.faults source.old) (S.faults source.new) }
@@ -59,9 +65,10 @@ pub fn run<S: Source, O: Sink, E: Sink>(
         (λ line. IfSome (E.room err.old)
         (λ room. length line ≤ room → (result.status ≢ Status.WriteFault) × (E.faults err.new ≡ E.faults err.old))) }
 
-    // Where a text is due and no count rose, the run is done, or memory ran out.
+    // Where a text is due and no count rose, the run is done, or memory ran out. Where there is no input, no count of a
+    // source matters.
     ensures complete { IfSome (due_of words.now (S.left source.old))
-        (λ d. IsSound d → ¬ (Rose (S.faults source.old) (S.faults source.new)) → ¬ (Rose (O.faults out.old) (O.faults out.new)) → ¬ (Rose (E.faults err.old) (E.faults err.new))
+        (λ d. IsSound d → (reads_input (words_form words.now) ≡ true → ¬ (Rose (S.faults source.old) (S.faults source.new))) → ¬ (Rose (O.faults out.old) (O.faults out.new)) → ¬ (Rose (E.faults err.old) (E.faults err.new))
         → (result.status ≡ Status.Done) ⊎ (result.status ≡ Status.Memory)) }
 {
     match prepare(alloc, words, source) {

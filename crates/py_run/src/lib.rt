@@ -2,6 +2,7 @@
 #![tactic(auto)]
 
 mod compiling;
+mod counts;
 mod engine;
 pub mod laws;
 mod lines;
@@ -9,6 +10,7 @@ mod naming;
 mod preparing;
 mod reading;
 mod report;
+mod sampling;
 mod unpacking;
 mod words;
 mod writing;

@@ -1,3 +1,4 @@
+//! The lines that tell why nothing was done.
 ghost use Rattle.std.specs.Prelude.{◌≡◌, ◌++◌, IfOk, OnOk, string_bytes, codes};
 ghost use Rattle.py_run.specs.Statuses.{bad_at, file_text, flaw_text, input_line, lines_text, place_text, refusal_line, rows_text};
 
@@ -12,6 +13,9 @@ use std::fmt::Write;
 pub const USAGE: &str = "usage: pyc MODE LEVEL PATH\n";
 
 /// The line that says what is wrong with the input.
+///
+/// # Errors
+/// There is no memory for the line.
 pub fn input_line(alloc: Global, error: &RowsError) -> Result<String, AllocError>
     ensures { IfOk result (λ s. string_bytes s ≡ input_line (rows_text error.now)) }
 {
@@ -40,6 +44,9 @@ fn push_rows_text(out: &mut String, error: &RowsError) -> Result<(), AllocError>
 }
 
 /// The line that says that the input is too long.
+///
+/// # Errors
+/// There is no memory for the line.
 pub fn too_long_line(alloc: Global) -> Result<String, AllocError>
     ensures { IfOk result (λ s. string_bytes s ≡ input_line (codes "too long")) }
 {
@@ -47,6 +54,9 @@ pub fn too_long_line(alloc: Global) -> Result<String, AllocError>
 }
 
 /// The line of a refusal: where the fault stands, and what it is.
+///
+/// # Errors
+/// There is no memory for the line.
 pub fn refusal_line(
     alloc: Global,
     error: &CodegenErrorType,
@@ -70,6 +80,9 @@ fn push_place(out: &mut String, location: Option<SourceLocation>) -> Result<(), 
 }
 
 /// The line that says where the first bad field of a file begins.
+///
+/// # Errors
+/// There is no memory for the line.
 pub fn file_line(alloc: Global, error: &ReadCodeError) -> Result<String, AllocError>
     ensures { IfOk result (λ s. string_bytes s ≡ input_line (file_text error.now)) }
 {
@@ -94,6 +107,9 @@ fn bad_at(error: &ReadCodeError) -> u64
 }
 
 /// The line that says that the code in a file has a flaw.
+///
+/// # Errors
+/// There is no memory for the line.
 pub fn flaw_line(alloc: Global) -> Result<String, AllocError>
     ensures { IfOk result (λ s. string_bytes s ≡ input_line flaw_text) }
 {
@@ -101,6 +117,9 @@ pub fn flaw_line(alloc: Global) -> Result<String, AllocError>
 }
 
 /// Each line with its end.
+///
+/// # Errors
+/// There is no memory for the line.
 pub fn lines_text(alloc: Global, lines: &[Text]) -> Result<String, AllocError>
     ensures { IfOk result (λ s. string_bytes s ≡ lines_text lines.now) }
 {

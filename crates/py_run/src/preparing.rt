@@ -1,13 +1,16 @@
-ghost use Rattle.std.specs.Prelude.{◌≡◌, ◌<◌, ◌^◌, None, length, IfSome, codes};
+//! From words and a source to the text that is due.
+ghost use Rattle.std.specs.Prelude.{◌≡◌, ◌<◌, ◌^◌, false, length, IfSome, codes};
 ghost use Rattle.py_rows.specs.Rows.{rows_tree};
 ghost use Rattle.py_run.specs.Prepared.{HasForm, IsListed, Prepares, Readies, ReadsOf, ReadsTree, RefusesTree, TellsFault};
+ghost use Rattle.py_run.specs.Reading.{TakesFew};
 ghost use Rattle.py_run.specs.Statuses.{answered, due_of, rows_text};
-ghost use Rattle.py_run.specs.Words.{command_view, words_form};
+ghost use Rattle.py_run.specs.Words.{IsFew, command_view, reads_input, words_form};
 
 use crate::compiling::{compiled, packed};
 use crate::lines::{input_line, refusal_line, too_long_line};
 use crate::naming::reported;
 use crate::reading::{ReadError, read_all};
+use crate::sampling::sampled;
 use crate::unpacking::unpacked;
 use crate::words::{Command, Words, parse};
 use py_base::CodegenErrorType;
@@ -38,15 +41,21 @@ pub enum Prepared {
 }
 
 /// Makes what the words ask for of what the source has.
+#[tactic(auto, using(crate::proofs::Takes::takes_none))]
 pub fn prepare<S: Source>(alloc: Global, words: &Words, source: &mut S) -> Prepared
     ensures form { HasForm result (words_form words.now) }
     ensures due { IfSome (due_of words.now (S.left source.old)) (Prepares result) }
     ensures reads { ReadsOf result S.counts_failures (S.faults source.old) (S.faults source.new) }
-    ensures unread { words_form words.now ≡ None → source.new ≡ source.old }
+    ensures in_time { S.ended source.old ≡ false → S.late source.new ≡ S.late source.old }
+    ensures taken { TakesFew (S.left source.old) (S.left source.new) }
+    ensures unread { reads_input (words_form words.now) ≡ false → source.new ≡ source.old }
 {
     let Some(command) = parse(words) else {
         return Prepared::Misuse;
     };
+    if !command.takes_input() {
+        return answered(alloc, &command, &[]);
+    }
     match read_all(alloc, source) {
         Ok(bytes) => answered(alloc, &command, bytes.as_slice()),
         Err(ReadError::TooLong) => too_long(alloc),
@@ -56,7 +65,8 @@ pub fn prepare<S: Source>(alloc: Global, words: &Words, source: &mut S) -> Prepa
 }
 
 fn answered(alloc: Global, command: &Command<'_>, bytes: &[u8]) -> Prepared
-    requires { length bytes.now < 2 ^ 26 }
+    requires short { length bytes.now < 2 ^ 26 }
+    requires few { IsFew (command_view command.now) }
     ensures { Readies (command_view command.now) result (answered (command_view command.now) bytes.now) }
 {
     match command {
@@ -64,6 +74,7 @@ fn answered(alloc: Global, command: &Command<'_>, bytes: &[u8]) -> Prepared
         Command::Pack(compilation) => packed(alloc, compilation, bytes),
         Command::Unpack => unpacked(alloc, bytes),
         Command::Names => reported(alloc, bytes),
+        Command::Sample(made) => sampled(alloc, made.count, made.level),
     }
 }
 

@@ -1,3 +1,4 @@
+//! What a run reports.
 use py_bytecode::CodeObject;
 
 /// How a run ended. The number of each is the program's exit status.

@@ -1,6 +1,8 @@
-ghost use Rattle.std.specs.Prelude.{◌≡◌, option_map};
-ghost use Rattle.py_run.specs.Words.{command_view, compilation_of, compilation_view, compile_of, level_of, mode_of, names_of, pack_of, unpack_of, words_form};
+//! Words, read as a command.
+ghost use Rattle.std.specs.Prelude.{◌≡◌, IfSome, option_map};
+ghost use Rattle.py_run.specs.Words.{IsFew, command_view, compilation_of, compilation_view, compile_of, level_of, mode_of, names_of, pack_of, sample_of, takes_input, three_of, unpack_of, words_form};
 
+use crate::counts::count_of;
 use py_tree::{List, Mode, Text};
 
 /// A file holds no path of so many bytes.
@@ -51,6 +53,27 @@ pub enum Command<'a> {
     Unpack,
     /// The report on the names of the tree that the rows are.
     Names,
+    /// The summary of the code that a made program compiles to.
+    Sample(Sample),
+}
+
+/// A made program: how many statements it has, and the level that it is compiled at.
+#[derive(Drop)]
+pub struct Sample {
+    pub count: u32,
+    pub level: u8,
+}
+
+impl Command<'_> {
+    /// Whether it is made of input.
+    pub fn takes_input(&self) -> bool
+        ensures { result ≡ takes_input (command_view self.now) }
+    {
+        match self {
+            Command::Compile(_) | Command::Pack(_) | Command::Unpack | Command::Names => true,
+            Command::Sample(_) => false,
+        }
+    }
 }
 
 /// A mode, a level and any path.
@@ -66,7 +89,8 @@ fn compilation_of<'a>(mode: &Text, level: &Text, path: &'a Text) -> Option<Compi
 
 /// `unpack`.
 fn unpack_of<'a>(word: &Text) -> Option<Command<'a>>
-    ensures { option_map command_view result ≡ unpack_of word.now }
+    ensures form { option_map command_view result ≡ unpack_of word.now }
+    ensures few { IfSome result (λ c. IsFew (command_view c)) }
 {
     if word.as_str() == "unpack" {
         Some(Command::Unpack)
@@ -77,7 +101,8 @@ fn unpack_of<'a>(word: &Text) -> Option<Command<'a>>
 
 /// `names PATH`.
 fn names_of<'a>(word: &Text) -> Option<Command<'a>>
-    ensures { option_map command_view result ≡ names_of word.now }
+    ensures form { option_map command_view result ≡ names_of word.now }
+    ensures few { IfSome result (λ c. IsFew (command_view c)) }
 {
     if word.as_str() == "names" {
         Some(Command::Names)
@@ -88,14 +113,16 @@ fn names_of<'a>(word: &Text) -> Option<Command<'a>>
 
 /// `MODE LEVEL PATH`.
 fn compile_of<'a>(mode: &Text, level: &Text, path: &'a Text) -> Option<Command<'a>>
-    ensures { option_map command_view result ≡ compile_of mode.now level.now path.now }
+    ensures form { option_map command_view result ≡ compile_of mode.now level.now path.now }
+    ensures few { IfSome result (λ c. IsFew (command_view c)) }
 {
     Some(Command::Compile(compilation_of(mode, level, path)?))
 }
 
 /// `pack MODE LEVEL PATH`, where a file can hold the path.
 fn pack_of<'a>(word: &Text, mode: &Text, level: &Text, path: &'a Text) -> Option<Command<'a>>
-    ensures { option_map command_view result ≡ pack_of word.now mode.now level.now path.now }
+    ensures form { option_map command_view result ≡ pack_of word.now mode.now level.now path.now }
+    ensures few { IfSome result (λ c. IsFew (command_view c)) }
 {
     if word.as_str() == "pack" && path.as_str().len() < PATH_LIMIT {
         Some(Command::Pack(compilation_of(mode, level, path)?))
@@ -104,14 +131,38 @@ fn pack_of<'a>(word: &Text, mode: &Text, level: &Text, path: &'a Text) -> Option
     }
 }
 
+/// `sample N LEVEL`.
+fn sample_of<'a>(count: &Text, level: &Text) -> Option<Command<'a>>
+    ensures form { option_map command_view result ≡ sample_of count.now level.now }
+    ensures few { IfSome result (λ c. IsFew (command_view c)) }
+{
+    Some(Command::Sample(Sample {
+        count: count_of(count.as_str())?,
+        level: level_of(level.as_str())?,
+    }))
+}
+
+/// `sample N LEVEL`, or `MODE LEVEL PATH`.
+fn three_of<'a>(first: &Text, second: &Text, third: &'a Text) -> Option<Command<'a>>
+    ensures form { option_map command_view result ≡ three_of first.now second.now third.now }
+    ensures few { IfSome result (λ c. IsFew (command_view c)) }
+{
+    if first.as_str() == "sample" {
+        sample_of(second, third)
+    } else {
+        compile_of(first, second, third)
+    }
+}
+
 /// What the words ask for. None exactly where they have no form that a command has.
 pub fn parse(words: &Words) -> Option<Command<'_>>
-    ensures { option_map command_view result ≡ words_form words.now }
+    ensures form { option_map command_view result ≡ words_form words.now }
+    ensures few { IfSome result (λ c. IsFew (command_view c)) }
 {
     match words.as_slice() {
         [word] => unpack_of(word),
         [word, _path] => names_of(word),
-        [mode, level, path] => compile_of(mode, level, path),
+        [first, second, third] => three_of(first, second, third),
         [word, mode, level, path] => pack_of(word, mode, level, path),
         _ => None,
     }

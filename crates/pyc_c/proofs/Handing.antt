@@ -2,7 +2,7 @@
 use Rattle.std.proofs.Common.{◌≡◌, ◌==◌, ◌&&◌, ◌^◌, nat_lt, length, ℕ, List, [], ◌∷◌, Bool, true, false, IfOk, Option, Some, None, Result, Ok, Err, codes, if◌then◌else◌, option_map, refl, ◌∙◌, subst, sym}
 use Rattle.std.proofs.lemmas.Str.{IsUtf8-from_is_utf8, is_utf8-from_IsUtf8}
 use Rattle.std.specs.Str.{IsUtf8, bytes_eq, is_utf8}
-use Rattle.py_run.specs.Words.{Compilation, Compile, Pack, compilation_of, words_form}
+use Rattle.py_run.specs.Words.{Compilation, Compile, Pack, compilation_of, compile_of, sample_of, words_form}
 use Rattle.pyc_c.specs.Handed.{asked_words, level_word, mode_word, words_of}
 use Rattle.pyc_c.specs.Runs.{AsksForCode}
 
@@ -38,16 +38,31 @@ packs_by : (c : Option Compilation) → AsksForCode (option_map Pack c)
 packs_by (Some c) = tt
 packs_by None = tt
 
--- words of a listing or of a file ask for the code of a tree, or have no form
-asks : (output : ℕ) (mode level path : List ℕ) → AsksForCode (words_form (asked_words output mode level path))
-asks output mode level path = by_output (output == 0) (output == 1)
+-- no mode is the word of another command
+plain_mode : (mode : ℕ) → bytes_eq (mode_word mode) (codes "sample") ≡ false
+plain_mode mode = by_number (mode == 0) (mode == 1) (mode == 2) (mode == 3)
   where
+    by_number : (a b c d : Bool) → bytes_eq (if a then codes "exec" else (if b then codes "eval" else (if c then codes "single" else (if d then codes "block" else [])))) (codes "sample") ≡ false
+    by_number true b c d = refl
+    by_number false true c d = refl
+    by_number false false true d = refl
+    by_number false false false true = refl
+    by_number false false false false = refl
+
+-- words of a listing or of a file ask for the code of a tree, or have no form
+asks : (output : ℕ) (mode level path : List ℕ) → bytes_eq mode (codes "sample") ≡ false → AsksForCode (words_form (asked_words output mode level path))
+asks output mode level path plain = by_output (output == 0) (output == 1)
+  where
+    if_compiles : (b : Bool) → b ≡ false → AsksForCode (if b then sample_of level path else compile_of mode level path)
+    if_compiles true contrary = absurd (let w : true ≡ false = contrary in cc)
+    if_compiles false e = asks_by (compilation_of mode level path)
+
     if_packs : (b : Bool) → AsksForCode (if b then option_map Pack (compilation_of mode level path) else None)
     if_packs true = packs_by (compilation_of mode level path)
     if_packs false = tt
 
     by_output : (listing file : Bool) → AsksForCode (words_form (if listing then mode ∷ level ∷ path ∷ [] else (if file then codes "pack" ∷ mode ∷ level ∷ path ∷ [] else [])))
-    by_output true file = asks_by (compilation_of mode level path)
+    by_output true file = if_compiles (bytes_eq mode (codes "sample")) plain
     by_output false true = if_packs (bytes_eq (codes "pack") (codes "pack") && nat_lt (length path) (2 ^ 32))
     by_output false false = tt
 
@@ -55,7 +70,7 @@ handed_asks : (output mode level : ℕ) (path : List ℕ) → AsksForCode (words
 handed_asks output mode level path = by_text (is_utf8 path)
   where
     by_text : (b : Bool) → AsksForCode (words_form (if b then asked_words output (mode_word mode) (level_word level) path else []))
-    by_text true = asks output (mode_word mode) (level_word level) path
+    by_text true = asks output (mode_word mode) (level_word level) path (plain_mode mode)
     by_text false = tt
 
 -- so do words that are those

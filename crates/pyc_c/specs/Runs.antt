@@ -1,5 +1,5 @@
 -- What C gets of a run.
-use Rattle.std.specs.Prelude.{◌≡◌, ◌⊎◌, ◌<◌, ℕ, List, [], ◌++◌, drop, length, Option, Some, None, IsSome, IfSome}
+use Rattle.std.specs.Prelude.{◌≡◌, ◌⊎◌, ◌<◌, ℕ, true, List, [], ◌++◌, drop, length, Option, Some, None, IsSome, IfSome}
 use Rattle.py_bytecode.specs.View.{object}
 use Rattle.py_bytecode.specs.declared.code.CodeObject.{CodeObject}
 use Rattle.py_devices.specs.Memory.{Shelf}
@@ -7,7 +7,7 @@ use Rattle.py_run.specs.declared.report.Status.{Status}
 use Rattle.py_run.specs.declared.report.Status.TheVariants as status
 use Rattle.py_run.specs.Runs.{IsDue, TakesTree, line_for}
 use Rattle.py_run.specs.Statuses.{Due, IsCodeOf, IsReported, code_text, due_of}
-use Rattle.py_run.specs.Words.{Command, Compile, Pack, Unpack, Names, words_form}
+use Rattle.py_run.specs.Words.{Command, Compile, Pack, Unpack, Names, Sample, reads_input, words_form}
 
 -- the number of each status
 abbrev pub status_number : Status → ℕ
@@ -26,6 +26,7 @@ AsksForCode (Some (Compile c)) = Unit {0}
 AsksForCode (Some (Pack c)) = Unit {0}
 AsksForCode (Some Unpack) = ⊥
 AsksForCode (Some Names) = ⊥
+AsksForCode (Some (Sample count level)) = ⊥
 
 -- a sink that holds nothing yet
 abbrev pub empty_shelf : (room : ℕ) → Shelf
@@ -69,8 +70,8 @@ abbrev pub FitsWords : Status → Option Command → Type 0
 FitsWords status.Done form = IsSome form
 FitsWords status.Refused form = TakesTree form
 FitsWords status.Usage form = form ≡ None
-FitsWords status.Input form = IsSome form
-FitsWords status.ReadFault form = IsSome form
+FitsWords status.Input form = reads_input form ≡ true
+FitsWords status.ReadFault form = reads_input form ≡ true
 FitsWords status.WriteFault form = Unit {0}
 FitsWords status.Memory form = Unit {0}
 

@@ -1,8 +1,8 @@
 //! The commands over devices in memory. Expected texts are those of the model, and files those of the format's tables.
 
-use crate::fixtures::room;
+use crate::fixtures::{bytes, only, room};
 use py_base::{List, Text};
-use py_devices::{CleanSink, CleanSource};
+use py_devices::{CleanSink, CleanSource, MemSource};
 use py_run::{Status, run};
 use std::alloc::{AllocError, Global};
 use std::process::Abort;
@@ -57,7 +57,7 @@ const BREAK: &str = r#"[["Break",3,5],["Module",[0]]]"#;
 const USAGE: &str = "usage: pyc MODE LEVEL PATH\n";
 
 /// Words with one space between two of them, an input, and the text that is written.
-const TEXTS: [(&str, &str, &str); 5] = [
+const TEXTS: [(&str, &str, &str); 12] = [
     ("eval 0 m.py", ONE, LISTING),
     (
         "names m.py",
@@ -67,10 +67,45 @@ const TEXTS: [(&str, &str, &str); 5] = [
     ("names m.py", UNBOUND, "unbound top/g z\nunused top/g y\n"),
     ("names m.py", SHADOWED, "shadowed top/h x over top\n"),
     ("names m.py", ONE, ""),
+    (
+        "sample 0 0",
+        "",
+        "statements 0\ncodes 1\nunits 1\nconstants 1\ndepth 0\n",
+    ),
+    (
+        "sample 4 0",
+        "",
+        "statements 4\ncodes 3\nunits 29\nconstants 4\ndepth 3\n",
+    ),
+    (
+        "sample 4 1",
+        "",
+        "statements 4\ncodes 3\nunits 28\nconstants 4\ndepth 3\n",
+    ),
+    (
+        "sample 8 0",
+        "",
+        "statements 8\ncodes 5\nunits 57\nconstants 6\ndepth 3\n",
+    ),
+    (
+        "sample 0008 0",
+        "no rows",
+        "statements 8\ncodes 5\nunits 57\nconstants 6\ndepth 3\n",
+    ),
+    (
+        "sample 203 2",
+        "",
+        "statements 203\ncodes 103\nunits 1479\nconstants 104\ndepth 3\n",
+    ),
+    (
+        "sample 00000000000000000000000000000000000000 0",
+        "",
+        "statements 0\ncodes 1\nunits 1\nconstants 1\ndepth 0\n",
+    ),
 ];
 
 /// Words, an input, the status, and the line that says why not.
-const LINES: [(&str, &str, Status, &str); 17] = [
+const LINES: [(&str, &str, Status, &str); 28] = [
     (
         "names m.py",
         PARAMETER,
@@ -113,6 +148,17 @@ const LINES: [(&str, &str, Status, &str); 17] = [
     ("pack exec 3 m.py", ONE, Status::Usage, USAGE),
     ("pack exec 0 m.py n.py", ONE, Status::Usage, USAGE),
     ("Pack exec 0 m.py", ONE, Status::Usage, USAGE),
+    ("sample", ONE, Status::Usage, USAGE),
+    ("sample 4", ONE, Status::Usage, USAGE),
+    ("sample 131072 0", ONE, Status::Usage, USAGE),
+    ("sample 00131072 0", ONE, Status::Usage, USAGE),
+    ("sample 18446744073709551616 0", ONE, Status::Usage, USAGE),
+    ("sample +4 0", ONE, Status::Usage, USAGE),
+    ("sample -4 0", ONE, Status::Usage, USAGE),
+    ("sample 4x 0", ONE, Status::Usage, USAGE),
+    ("sample 4 3", ONE, Status::Usage, USAGE),
+    ("sample 4 0 m.py", ONE, Status::Usage, USAGE),
+    ("Sample 4 0", ONE, Status::Usage, USAGE),
 ];
 
 fn split_words(alloc: Global, line: &str) -> Result<List<Text>, AllocError> {
@@ -160,6 +206,19 @@ fn lines_say_why_not(rt: HostRuntime) -> Result<(), Fail> {
         assert_eq!(rt; ran.out.bytes(), b"".as_slice(), "{words} {input}");
         assert_eq!(rt; ran.err.bytes(), line.as_bytes(), "{words} {input}");
     }
+    Ok(())
+}
+
+/// The first read of this source would fail, and the text fits the sink to the byte.
+#[test]
+fn samples_read_no_input(rt: HostRuntime) -> Result<(), Fail> {
+    let words = split_words(rt.alloc(), "sample 4 0")?;
+    let mut source = MemSource::new(bytes(rt.alloc(), ONE)?, 1, only(rt.alloc(), 1)?);
+    let mut out = CleanSink::new(room(rt.alloc(), 50)?);
+    let mut err = CleanSink::new(room(rt.alloc(), 0)?);
+    let status = run(rt.alloc(), &words, &mut source, &mut out, &mut err).status;
+    assert_eq!(rt; status, Status::Done);
+    assert_eq!(rt; out.bytes().len(), 50);
     Ok(())
 }
 

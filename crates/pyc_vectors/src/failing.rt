@@ -2,7 +2,7 @@
 
 use crate::fixtures::{bytes, only, room, words};
 use crate::shapes::{LISTING, ROWS};
-use py_devices::{CleanSink, CleanSource, MemSink, MemSource, Sink, Source};
+use py_devices::{CleanSink, CleanSource, MemSink, MemSource, ReadAnswer, Sink, Source};
 use py_run::{Status, run};
 use std::alloc::Global;
 use std::test::Fail;
@@ -91,5 +91,65 @@ fn single_bytes_and_a_failure_behind_the_end(rt: HostRuntime) -> Result<(), Fail
     let status = status_over(alloc, &mut source, &mut out, &mut err)?;
     assert_eq!(rt; status, Status::Done);
     assert_eq!(rt; out.bytes(), LISTING.as_bytes());
+    Ok(())
+}
+
+/// A source in memory that counts the reads which are made of it after one that gave no byte.
+#[derive(Drop)]
+struct Watched {
+    inner: MemSource,
+    ended: bool,
+    late: u64,
+}
+
+impl Source for Watched {
+    ghost use Rattle.std.specs.Prelude.{Some, true};
+
+    ghost left = { λ s. Some s.inner.left };
+
+    ghost faults = { λ s. s.inner.faults };
+
+    ghost counts_failures = { true };
+
+    ghost ended = { λ s. s.ended };
+
+    ghost late = { λ s. s.late };
+
+    fn read(&mut self, buf: &mut [u8]) -> ReadAnswer {
+        if self.ended {
+            self.late = self.late.saturating_add(1);
+        }
+        let answer = self.inner.read(buf);
+        self.ended = match answer {
+            ReadAnswer::Got(count) => count == 0,
+            ReadAnswer::End | ReadAnswer::Failed => true,
+        };
+        answer
+    }
+}
+
+/// A run reads up to the first read that gives no byte, and makes none after it.
+#[test]
+fn no_read_is_late(rt: HostRuntime) -> Result<(), Fail> {
+    let alloc = rt.alloc();
+    for (read, status) in [
+        (0, Status::Done),
+        (1, Status::ReadFault),
+        (4, Status::ReadFault),
+    ] {
+        let mut source = Watched {
+            inner: MemSource::new(bytes(alloc, ROWS)?, 16, only(alloc, read)?),
+            ended: false,
+            late: 0,
+        };
+        let mut out = CleanSink::new(room(alloc, 8192)?);
+        let mut err = CleanSink::new(room(alloc, 64)?);
+        assert_eq!(rt;
+            status_over(alloc, &mut source, &mut out, &mut err)?,
+            status
+        );
+        assert!(rt; source.ended);
+        assert_eq!(rt; source.late, 0);
+    }
     Ok(())
 }

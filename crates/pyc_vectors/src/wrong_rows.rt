@@ -42,11 +42,34 @@ const ROWS: [(&str, Status, &str); 9] = [
 
 /// How a run over these bytes ends, and what it says.
 fn ended(alloc: Global, input: List<u8>) -> Result<(Status, CleanSink), Fail> {
-    let mut source = CleanSource::new(input);
     let mut out = CleanSink::new(room(alloc, 1 << 20)?);
+    ended_on(alloc, input, &mut out)
+}
+
+/// The same, on this sink.
+fn ended_on(
+    alloc: Global,
+    input: List<u8>,
+    out: &mut CleanSink,
+) -> Result<(Status, CleanSink), Fail> {
+    let mut source = CleanSource::new(input);
     let mut err = CleanSink::new(room(alloc, 64)?);
-    let status = run(alloc, &words(alloc, "0")?, &mut source, &mut out, &mut err).status;
+    let status = run(alloc, &words(alloc, "0")?, &mut source, out, &mut err).status;
     Ok((status, err))
+}
+
+/// The module without statements has one unit.
+#[test]
+fn an_empty_module_returns_none(rt: HostRuntime) -> Result<(), Fail> {
+    let alloc = rt.alloc();
+    let mut out = CleanSink::new(room(alloc, 1024)?);
+    let (status, _err) = ended_on(alloc, bytes(alloc, r#"[["Module",[]]]"#)?, &mut out)?;
+    assert_eq!(rt; status, Status::Done);
+    assert_eq!(rt;
+        out.bytes(),
+        b"code '<module>' from 'm.py' line 1 flags 1 args 0 0 0 depth 0\nconstants: None\n0 1:1 ReturnConst 0 None\n".as_slice()
+    );
+    Ok(())
 }
 
 #[test]

@@ -1,10 +1,10 @@
-use Rattle.std.proofs.Common.{◌≡◌, ◌≢◌, ◌≤◌, List, ℕ, length, None, Some, IfSome, Ok, string_bytes, inl, inr}
+use Rattle.std.proofs.Common.{◌≡◌, None, IfSome, Ok, string_bytes, inl, inr}
 use Rattle.std.specs.Io.KnownBytes.{Appends}
 use Rattle.py_run.specs.Runs.{AppendsFront, ErrGets, IsLineless, IsTextless, OutGets, RoseOn, Text, Line, line_of, text_by}
 use Rattle.py_run.specs.Statuses.{due_of, usage_line}
 use Rattle.py_run.specs.Words.{words_form}
 use Rattle.py_run.specs.declared.report.Status.TheVariants as status
-use Rattle.py_run.proofs.Dues.{refused_lines, misread_lines, misuse_lines, refused_due, misread_due, line_is, line_side, line_incomplete, code_due, code_text_is, told_due, told_text_is, told_side_is}
+use Rattle.py_run.proofs.Dues.{refused_lines, misread_lines, misuse_lines, refused_due, misread_due, line_is, line_side, line_incomplete, fault_incomplete, code_due, code_text_is, told_due, told_text_is, told_side_is}
 use Rattle.py_run.proofs.Formed.{code_formed, code_form, code_reported, code_kind, report_formed, report_form, report_reported, refusal_form, misread_form, fault_form}
 use Rattle.py_run.proofs.Rooms.{HasRoom, HasLineRoom, room_done, no_room, room_for, no_room_for, keeps_same, text_no_line, line_no_text, either_no_line, either_no_text}
 use Rattle.py_run.proofs.engine.run.Goals as goal
@@ -266,3 +266,7 @@ returns-in-Misuse-clause-line_room g c =
 pub returns-in-ReadFault-clause-form : goal.returns-in-ReadFault-clause-form
 returns-in-ReadFault-clause-form g c =
     fault_form (words_form c.args.words.now) c.in-ReadFault.ensures.form
+
+pub returns-in-ReadFault-clause-complete : goal.returns-in-ReadFault-clause-complete
+returns-in-ReadFault-clause-complete g c =
+    fault_incomplete (due_of c.args.words.now (g.S.Source.left c.args.source.now)) _ _ _ _ _ (fault_form (words_form c.args.words.now) c.in-ReadFault.ensures.form) c.in-ReadFault.ensures.reads

@@ -1,24 +1,67 @@
-use Rattle.std.proofs.Common.{Err, sym, codes}
+use Rattle.std.proofs.Common.{◌≡◌, true, false, Err, sym, codes}
 use Rattle.py_run.specs.Statuses.{Misread, answered}
-use Rattle.py_run.specs.Words.{command_view}
+use Rattle.py_run.specs.Words.{command_view, takes_input}
 use Rattle.py_run.proofs.Made.{tells}
-use Rattle.py_run.proofs.Verdicts.{all_read, has_form, too_long as too_long_due}
+use Rattle.py_run.proofs.Verdicts.{all_read, alone_due, alone_form, alone_reads, fault_form, has_form, reads, too_long as too_long_due}
 use Rattle.py_run.proofs.preparing.prepare.Goals as goal
+
+pub returns-then-not-takes_input-clause-form : goal.returns-then-not-takes_input-clause-form
+returns-then-not-takes_input-clause-form g c =
+    let alone : takes_input (command_view c.in-Some.command) ≡ false = cc in
+    alone_form c.args.words.now (command_view c.in-Some.command) c.answered.result (sym c.in-Some.ensures.form) alone c.answered.ensures
+
+pub returns-then-not-takes_input-clause-due : goal.returns-then-not-takes_input-clause-due
+returns-then-not-takes_input-clause-due g c =
+    let alone : takes_input (command_view c.in-Some.command) ≡ false = cc in
+    alone_due c.args.words.now (command_view c.in-Some.command) (g.S.Source.left c.args.source.now) c.answered.result (sym c.in-Some.ensures.form) alone c.answered.ensures
+
+pub returns-then-not-takes_input-clause-reads : goal.returns-then-not-takes_input-clause-reads
+returns-then-not-takes_input-clause-reads g c =
+    alone_reads (command_view c.in-Some.command) c.answered.result _ g.S.Source.counts_failures (g.S.Source.faults c.args.source.now) c.answered.ensures
 
 pub returns-in-Ok-clause-form : goal.returns-in-Ok-clause-form
 returns-in-Ok-clause-form g c =
-    has_form c.args.words.now (command_view c.in-Some.command) c.answered.result (answered (command_view c.in-Some.command) c.in-Ok.bytes.items) (sym c.in-Some.ensures) (rw c.as_slice.ensures.value at c.answered.ensures)
+    let input : takes_input (command_view c.in-Some.command) ≡ true = cc in
+    has_form c.args.words.now (command_view c.in-Some.command) c.answered-in-Ok.result (answered (command_view c.in-Some.command) c.in-Ok.bytes.items) (sym c.in-Some.ensures.form) input (rw c.as_slice.ensures.value at c.answered-in-Ok.ensures)
 
 pub returns-in-Ok-clause-due : goal.returns-in-Ok-clause-due
 returns-in-Ok-clause-due g c =
-    all_read c.args.words.now (command_view c.in-Some.command) _ _ c.in-Ok.bytes.items c.answered.result (sym c.in-Some.ensures) c.in-Ok.ensures.short c.in-Ok.ensures.whole c.in-Ok.ensures.end (rw c.as_slice.ensures.value at c.answered.ensures)
+    let input : takes_input (command_view c.in-Some.command) ≡ true = cc in
+    all_read c.args.words.now (command_view c.in-Some.command) _ _ c.in-Ok.bytes.items c.answered-in-Ok.result (sym c.in-Some.ensures.form) input c.in-Ok.ensures.short c.in-Ok.ensures.whole c.in-Ok.ensures.end (rw c.as_slice.ensures.value at c.answered-in-Ok.ensures)
+
+pub returns-in-Ok-clause-unread : goal.returns-in-Ok-clause-unread
+returns-in-Ok-clause-unread g c =
+    let input : takes_input (command_view c.in-Some.command) ≡ true = cc in
+    reads c.args.words.now (command_view c.in-Some.command) (sym c.in-Some.ensures.form) input
 
 pub returns-in-Err-TooLong-clause-form : goal.returns-in-Err-TooLong-clause-form
 returns-in-Err-TooLong-clause-form g c =
     let command = command_view c.in-Some.command in
-    has_form c.args.words.now command c.too_long.result (Misread (codes "too long")) (sym c.in-Some.ensures) (tells command c.too_long.result (codes "too long") c.too_long.ensures)
+    let input : takes_input command ≡ true = cc in
+    has_form c.args.words.now command c.too_long.result (Misread (codes "too long")) (sym c.in-Some.ensures.form) input (tells command c.too_long.result (codes "too long") c.too_long.ensures)
 
 pub returns-in-Err-TooLong-clause-due : goal.returns-in-Err-TooLong-clause-due
 returns-in-Err-TooLong-clause-due g c =
     let command = command_view c.in-Some.command in
-    too_long_due c.args.words.now command _ c.too_long.result (sym c.in-Some.ensures) (c.in-Err-TooLong.ensures.long (λ i. Err (c.in-Err-TooLong.field-0-is i))) (tells command c.too_long.result (codes "too long") c.too_long.ensures)
+    let input : takes_input command ≡ true = cc in
+    too_long_due c.args.words.now command _ c.too_long.result (sym c.in-Some.ensures.form) input (c.in-Err-TooLong.ensures.long (λ i. Err (c.in-Err-TooLong.field-0-is i))) (tells command c.too_long.result (codes "too long") c.too_long.ensures)
+
+pub returns-in-Err-TooLong-clause-unread : goal.returns-in-Err-TooLong-clause-unread
+returns-in-Err-TooLong-clause-unread g c =
+    let input : takes_input (command_view c.in-Some.command) ≡ true = cc in
+    reads c.args.words.now (command_view c.in-Some.command) (sym c.in-Some.ensures.form) input
+
+pub returns-in-Err-Failed-clause-form : goal.returns-in-Err-Failed-clause-form
+returns-in-Err-Failed-clause-form g c =
+    let input : takes_input (command_view c.in-Some.command) ≡ true = cc in
+    fault_form c.args.words.now (command_view c.in-Some.command) (sym c.in-Some.ensures.form) input
+
+pub returns-in-Err-Failed-clause-unread : goal.returns-in-Err-Failed-clause-unread
+returns-in-Err-Failed-clause-unread g c =
+    let input : takes_input (command_view c.in-Some.command) ≡ true = cc in
+    reads c.args.words.now (command_view c.in-Some.command) (sym c.in-Some.ensures.form) input
+
+pub returns-in-Err-OutOfMemory-clause-unread : goal.returns-in-Err-OutOfMemory-clause-unread
+returns-in-Err-OutOfMemory-clause-unread g c =
+    let input : takes_input (command_view c.in-Some.command) ≡ true = cc in
+    reads c.args.words.now (command_view c.in-Some.command) (sym c.in-Some.ensures.form) input

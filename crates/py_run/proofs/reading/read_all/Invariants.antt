@@ -1,4 +1,4 @@
-use Rattle.std.proofs.Common.{◌≡◌, ◌≤◌, ◌-◌, length, IsTrue}
+use Rattle.std.proofs.Common.{◌≡◌, ◌≤◌, ◌-◌, false, length, IsTrue}
 use Rattle.std.specs.Io.KnownBytes.{Consumes}
 use Rattle.py_run.proofs.reading.read_all.Given as goal
 
@@ -8,6 +8,8 @@ invariant-reading g l = record {
   small : length l.found.items ≤ 67108864;
   later : g.S.Source.faults l.initial.source ≤ g.S.Source.faults l.source;
   still : IsTrue g.S.Source.counts_failures → g.S.Source.faults l.source ≡ g.S.Source.faults l.initial.source;
+  on : g.S.Source.ended l.initial.source ≡ false → g.S.Source.ended l.source ≡ false;
+  in_time : g.S.Source.ended l.initial.source ≡ false → g.S.Source.late l.source ≡ g.S.Source.late l.initial.source;
 }
 
 abbrev pub decreases-reading : goal.decreases-reading
