@@ -155,6 +155,13 @@ abbrev pub placed_error : CodegenErrorType → SourceLocation → (path : List �
 placed_error error.OutOfMemory at path = record { error = error.OutOfMemory; location = None; source_path = path }
 placed_error e at path = record { error = e; location = Some at; source_path = path }
 
+-- no path is left to name in errors
+abbrev pub without_source : State → State
+without_source s = record s { around = record s.around { context = record s.around.context { source = [] } } }
+
+abbrev pub without_path : Rest → Rest
+without_path r = record r { path = [] }
+
 -- the error says that there was no memory, which stands nowhere
 pub record IsStarved (e : LocatedError CodegenErrorType) (path : List ℕ) : Type 0 where
   pub error_is : e.error ≡ error.OutOfMemory

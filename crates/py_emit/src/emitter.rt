@@ -9,7 +9,7 @@ ghost use Rattle.py_steps.specs.Children.{code_head};
 ghost use Rattle.py_steps.specs.Context.{inside, outermost, symbols_in};
 ghost use Rattle.py_steps.specs.Emitting.{Begin, Done, Put, begun, emit as emission_of, emit_count, generating, jump as jumping, located, nothing, with_block, with_loops, with_postponed, with_step};
 ghost use Rattle.py_steps.specs.Sealed.{sealed};
-ghost use Rattle.py_emit.specs.States.{Emits, Goes, IsFirst, IsStarved, IsUnrefused, entered, entered_rest, first_rest, head_in, head_of, info, left, left_rest, loop_blocks, looped, module_shape, named_in, placed_error, postponed_rest, rest, shape_of, source_of, state, state_of, unlooped};
+ghost use Rattle.py_emit.specs.States.{Emits, Goes, IsFirst, IsStarved, IsUnrefused, entered, entered_rest, first_rest, head_in, head_of, info, left, left_rest, loop_blocks, looped, module_shape, named_in, placed_error, postponed_rest, rest, shape_of, source_of, state, state_of, unlooped, without_path, without_source};
 ghost use Rattle.py_emit.specs.Steps.{IsOpen, step_of};
 
 use crate::context::{CompileOpts, EmitContext, Naming, ScopeHead};
@@ -154,10 +154,13 @@ impl Emitter {
         self.location = location;
     }
 
-    /// The error at the present location; for want of memory there is none. It takes the source path with it.
+    /// The error at the present location; for want of memory there is none. It takes the source path with it, and leaves an
+    /// empty one; what is emitted stays.
     #[tactic(auto, unfolding(crate::specs::States::rest))]
     pub fn error(&mut self, error: CodegenErrorType) -> CodegenError
-        ensures { result ≡ placed_error error (state self.old).location (rest self.old).path }
+        ensures told { result ≡ placed_error error (state self.old).location (rest self.old).path }
+        ensures state { state self.new ≡ without_source (state self.old) }
+        ensures rest { rest self.new ≡ without_path (rest self.old) }
     {
         let location = match &error {
             CodegenErrorType::OutOfMemory => None,

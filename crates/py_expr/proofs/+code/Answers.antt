@@ -58,7 +58,7 @@ returns::compile_return-returns t c = record {
 pub conditions::compile_bool_value-returns-then-is_empty : goal.conditions::compile_bool_value-returns-then-is_empty
 conditions::compile_bool_value-returns-then-is_empty t c =
     let none = ap (λ n. nat_eq n 0) (many_emissions c.args.values.now) ∙ sym c.is_empty.ensures ∙ c.if-is_empty.true in
-    record { goes = λ n. ap (λ (f : Emission). f (state c.args.em.now)) (if_so _ _ (some_values c.args.op (all_emissions (exprs expr_tree c.args.values.now))) none) ∙ refused_shape _ (state c.args.em.now) _ c.refuse-error.result c.refuse-error.ensures; same = path_of _ (state c.args.em.now) _ c.refuse-error.result c.refuse-error.ensures }
+    record { goes = λ n. ap (λ (f : Emission). f (state c.args.em.now)) (if_so _ _ (some_values c.args.op (all_emissions (exprs expr_tree c.args.values.now))) none) ∙ refused_shape _ (state c.args.em.now) _ c.refuse-error.result c.refuse-error.ensures.told; same = path_of _ (state c.args.em.now) _ c.refuse-error.result c.refuse-error.ensures.told }
 
 pub conditions::compile_bool_value-returns : goal.conditions::compile_bool_value-returns
 conditions::compile_bool_value-returns t c =
@@ -70,7 +70,7 @@ conditions::compile_bool_test-returns-then-is_empty t c =
     let xs = c.args.e.now.values in
     let es = all_emissions (exprs expr_tree xs) in
     let none = ap (λ n. nat_eq n 0) (many_emissions xs) ∙ ap (λ ys. nat_eq (length ys) 0) (sym c.as_slice-values.ensures) ∙ sym c.is_empty.ensures ∙ c.if-is_empty.true in
-    record { goes = λ n. ap (λ (f : Emission). f (state c.args.em.now)) (if_so _ _ (some_test (deciding c.args.e.now.op) c.args.jump.now.truth es c.args.jump.now.block.0) none) ∙ refused_shape _ (state c.args.em.now) _ c.refuse-error.result c.refuse-error.ensures; same = path_of _ (state c.args.em.now) _ c.refuse-error.result c.refuse-error.ensures }
+    record { goes = λ n. ap (λ (f : Emission). f (state c.args.em.now)) (if_so _ _ (some_test (deciding c.args.e.now.op) c.args.jump.now.truth es c.args.jump.now.block.0) none) ∙ refused_shape _ (state c.args.em.now) _ c.refuse-error.result c.refuse-error.ensures.told; same = path_of _ (state c.args.em.now) _ c.refuse-error.result c.refuse-error.ensures.told }
 
 pub conditions::compile_bool_test-returns : goal.conditions::compile_bool_test-returns
 conditions::compile_bool_test-returns t c =
@@ -137,7 +137,7 @@ comparisons::compile_compare-returns t c =
 pub comparisons::compile_compare-returns-then-count-eq0 : goal.comparisons::compile_compare-returns-then-count-eq0
 comparisons::compile_compare-returns-then-count-eq0 t c =
     let es = all_emissions (exprs expr_tree c.args.e.now.comparators) in
-    record { goes = λ n. ap (λ (f : Emission). f (state c.args.em.now)) (no_operand (emissions (expr_tree c.args.e.now.left.value)).value c.args.e.now.ops es (sym c.len-count.ensures ∙ c.if-count-eq0.true)) ∙ refused_shape _ (state c.args.em.now) _ c.refuse-error.result c.refuse-error.ensures; same = path_of _ (state c.args.em.now) _ c.refuse-error.result c.refuse-error.ensures }
+    record { goes = λ n. ap (λ (f : Emission). f (state c.args.em.now)) (no_operand (emissions (expr_tree c.args.e.now.left.value)).value c.args.e.now.ops es (sym c.len-count.ensures ∙ c.if-count-eq0.true)) ∙ refused_shape _ (state c.args.em.now) _ c.refuse-error.result c.refuse-error.ensures.told; same = path_of _ (state c.args.em.now) _ c.refuse-error.result c.refuse-error.ensures.told }
 
 pub comparisons::compile_compare-returns-then-count-gt1 : goal.comparisons::compile_compare-returns-then-count-gt1
 comparisons::compile_compare-returns-then-count-gt1 t c =
@@ -151,7 +151,7 @@ comparisons::compile_compare-returns-then-count-len t c =
     let es = all_emissions (exprs expr_tree c.args.e.now.comparators) in
     let long = c.len-count.ensures in
     let wide = c.len.ensures ∙ sym (many_emissions c.args.e.now.comparators) in
-    record { goes = λ n. ap (λ (f : Emission). f (state c.args.em.now)) (uneven_lists (emissions (expr_tree c.args.e.now.left.value)).value c.args.e.now.ops es (λ e. c.if-count-eq0.false (long ∙ e)) (λ e. c.if-count-len.true (long ∙ e ∙ sym wide))) ∙ refused_shape _ (state c.args.em.now) _ c.refuse-error-then-count-len.result c.refuse-error-then-count-len.ensures; same = path_of _ (state c.args.em.now) _ c.refuse-error-then-count-len.result c.refuse-error-then-count-len.ensures }
+    record { goes = λ n. ap (λ (f : Emission). f (state c.args.em.now)) (uneven_lists (emissions (expr_tree c.args.e.now.left.value)).value c.args.e.now.ops es (λ e. c.if-count-eq0.false (long ∙ e)) (λ e. c.if-count-len.true (long ∙ e ∙ sym wide))) ∙ refused_shape _ (state c.args.em.now) _ c.refuse-error-then-count-len.result c.refuse-error-then-count-len.ensures.told; same = path_of _ (state c.args.em.now) _ c.refuse-error-then-count-len.result c.refuse-error-then-count-len.ensures.told }
 
 pub comparisons::compile_links-loop-i-preserved : goal.comparisons::compile_links-loop-i-preserved
 comparisons::compile_links-loop-i-preserved t c = (
@@ -321,7 +321,7 @@ displays::compile_dict-returns-then-count-len t c =
     let vs = values (all_emissions (exprs expr_tree c.args.e.now.values)) in
     let long = c.len-count.ensures ∙ sym (many_keys c.args.e.now.keys) in
     let wide = c.len.ensures ∙ sym (many_values c.args.e.now.values) in
-    record { goes = λ n. ap (λ (f : Emission). f (state c.args.em.now)) (uneven_dict ks vs (λ e. c.if-count-len.true (long ∙ e ∙ sym wide))) ∙ refused_shape _ (state c.args.em.now) _ c.refuse-error.result c.refuse-error.ensures; same = path_of _ (state c.args.em.now) _ c.refuse-error.result c.refuse-error.ensures }
+    record { goes = λ n. ap (λ (f : Emission). f (state c.args.em.now)) (uneven_dict ks vs (λ e. c.if-count-len.true (long ∙ e ∙ sym wide))) ∙ refused_shape _ (state c.args.em.now) _ c.refuse-error.result c.refuse-error.ensures.told; same = path_of _ (state c.args.em.now) _ c.refuse-error.result c.refuse-error.ensures.told }
 
 pub displays::compile_dict-returns : goal.displays::compile_dict-returns
 displays::compile_dict-returns t c =

@@ -122,13 +122,13 @@ iterable_refused t c = record {
 pub no_generator : goal.comprehensions::compile_comprehension-returns-then-is_empty
 no_generator t c =
     let none = sym c.is_empty.ensures ∙ c.if-is_empty.true in
-    record { goes = λ n. ap (λ (f : Emission). f (state c.args.em.now)) (no_clause c.args.generators.now c.args.element.now none) ∙ refused_shape _ (state c.args.em.now) _ c.refuse-error.result c.refuse-error.ensures; same = path_of _ (state c.args.em.now) _ c.refuse-error.result c.refuse-error.ensures }
+    record { goes = λ n. ap (λ (f : Emission). f (state c.args.em.now)) (no_clause c.args.generators.now c.args.element.now none) ∙ refused_shape _ (state c.args.em.now) _ c.refuse-error.result c.refuse-error.ensures.told; same = path_of _ (state c.args.em.now) _ c.refuse-error.result c.refuse-error.ensures.told }
 
 pub comprehension_awaits : goal.comprehensions::compile_comprehension-returns-then-is_awaited
 comprehension_awaits t c = record {
   goes =
       let some = sym c.is_empty.ensures ∙ c.if-is_empty.false in
-      λ n. ap (λ (f : Emission). f (state c.args.em.now)) (some_clause c.args.generators.now c.args.element.now some ∙ if_so _ _ _ (sym c.is_awaited.ensures ∙ c.if-is_awaited.true)) ∙ refused_by error.NotImplementedYet (state c.args.em.now) _ c.refuse-error-then-is_awaited.result c.refuse-error-then-is_awaited.ensures;
+      λ n. ap (λ (f : Emission). f (state c.args.em.now)) (some_clause c.args.generators.now c.args.element.now some ∙ if_so _ _ _ (sym c.is_awaited.ensures ∙ c.if-is_awaited.true)) ∙ refused_by error.NotImplementedYet (state c.args.em.now) _ c.refuse-error-then-is_awaited.result c.refuse-error-then-is_awaited.ensures.told;
   same = search rules;
 }
 

@@ -30,7 +30,7 @@ returns-then-before-gt-MOST_ASIDE c = record {
         | then-before-gt-MOST_ASIDE-via-then-before-gt-MOST_ASIDE w ↦ many_before c.args.location es (let h = w.if-before-gt-MOST_ASIDE.true in omega (arith, h, b))
         | then-before-gt-MOST_ASIDE-via-else-before-gt-MOST_ASIDE+then-after-gt-MOST_ASIDE w ↦ many_after c.args.location es (let h = w.if-after-gt-MOST_ASIDE.true in omega (arith, h, e))
       ] in
-      ap (λ (f : Emission). f (state c.args.em.now)) many ∙ went _ (refuse error.TooManyStarUnpack) _ (move_goes c.args.location (state c.args.em.now)) ∙ ap (refuse error.TooManyStarUnpack) (sym c.set_location.ensures.state) ∙ refused_by error.TooManyStarUnpack (state c.set_location.new.self) _ c.refuse-error.result c.refuse-error.ensures;
+      ap (λ (f : Emission). f (state c.args.em.now)) many ∙ went _ (refuse error.TooManyStarUnpack) _ (move_goes c.args.location (state c.args.em.now)) ∙ ap (refuse error.TooManyStarUnpack) (sym c.set_location.ensures.state) ∙ refused_by error.TooManyStarUnpack (state c.set_location.new.self) _ c.refuse-error.result c.refuse-error.ensures.told;
   same = search rules;
 }
 
@@ -45,7 +45,7 @@ returns-then-starred-gt1 c = record {
       let few = c.if-after-gt-MOST_ASIDE.false in
       let s = c.requires.counted in
       let more = c.if-starred-gt1.true in
-      ap (λ (f : Emission). f (state c.args.em.now)) (two_stars c.args.location es (omega (arith, low, b)) (omega (arith, few, e)) (λ z. absurd (omega (arith, z, s, more)))) ∙ refused_by error.MultipleStarArgs (state c.args.em.now) _ c.refuse-error-then-starred-gt1.result c.refuse-error-then-starred-gt1.ensures;
+      ap (λ (f : Emission). f (state c.args.em.now)) (two_stars c.args.location es (omega (arith, low, b)) (omega (arith, few, e)) (λ z. absurd (omega (arith, z, s, more)))) ∙ refused_by error.MultipleStarArgs (state c.args.em.now) _ c.refuse-error-then-starred-gt1.result c.refuse-error-then-starred-gt1.ensures.told;
   same = search rules;
 }
 

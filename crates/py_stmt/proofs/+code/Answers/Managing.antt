@@ -20,7 +20,7 @@ no_items t c = record {
   goes =
       let none = itemless_is c.args.s.now.items c.is_empty.result c.is_empty.ensures.0 c.is_empty.ensures.1 ∙ c.if-is_empty.true in
       λ n. ap (λ (f : Emission). f (state c.args.em.now)) (if_so _ _ (emission_of_items c.args.s.now.location (with_items c.args.s.now.items) (full_body (stmts stmt_tree c.args.s.now.body))) none)
-      ∙ refused_as error.EmptyWithItems (state c.args.em.now) c.refuse-error.result (ap (λ (x : LocatedError CodegenErrorType). x.error) c.refuse-error.ensures) (ap (λ (x : LocatedError CodegenErrorType). x.location) c.refuse-error.ensures);
+      ∙ refused_as error.EmptyWithItems (state c.args.em.now) c.refuse-error.result (ap (λ (x : LocatedError CodegenErrorType). x.error) c.refuse-error.ensures.told) (ap (λ (x : LocatedError CodegenErrorType). x.location) c.refuse-error.ensures.told);
   same = search rules;
 }
 
@@ -37,7 +37,7 @@ no_body t c = record {
   goes =
       let none = none_stmts c.args.body.now ∙ sym c.is_empty.ensures ∙ c.if-is_empty.true in
       λ n. ap (λ (f : Emission). f (state c.args.em.now)) (if_so _ _ (emission_of_stmts (stmts stmt_tree c.args.body.now)) none)
-      ∙ refused_as error.EmptyWithBody (state c.args.em.now) c.refuse-error.result (ap (λ (x : LocatedError CodegenErrorType). x.error) c.refuse-error.ensures) (ap (λ (x : LocatedError CodegenErrorType). x.location) c.refuse-error.ensures);
+      ∙ refused_as error.EmptyWithBody (state c.args.em.now) c.refuse-error.result (ap (λ (x : LocatedError CodegenErrorType). x.error) c.refuse-error.ensures.told) (ap (λ (x : LocatedError CodegenErrorType). x.location) c.refuse-error.ensures.told);
   same = search rules;
 }
 

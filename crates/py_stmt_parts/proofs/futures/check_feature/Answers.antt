@@ -18,6 +18,6 @@ returns c = record {
       let same : s ≡ state c.text.new.self = ap state (sym c.in_ok-name.ensures.same) in
       λ n. ap (λ b. (if b then check_features [] else refuse (error.InvalidFutureFeature x.name)) s) unknown
       ∙ (λ i. refuse (error.InvalidFutureFeature (named i)) (same i))
-      ∙ refused_by (error.InvalidFutureFeature c.in_ok-name.name) (state c.text.new.self) _ _ c.refuse-error.ensures;
+      ∙ refused_by (error.InvalidFutureFeature c.in_ok-name.name) (state c.text.new.self) _ _ c.refuse-error.ensures.told;
   same = search rules;
 }

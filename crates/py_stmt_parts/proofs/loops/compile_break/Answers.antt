@@ -15,6 +15,6 @@ returns-in-None c = record {
   goes =
       let none : (rest c.args.em.now).context.loop_blocks ≡ None = ap (λ (x : EmitContext). x.loop_blocks) (sym c.context.ensures) ∙ c.in-None.is in
       λ n. ap (λ x. leave_loop op.Break (λ y. y.on_break) error.InvalidBreak (loop_blocks x) (state c.args.em.now)) none
-      ∙ refused_as error.InvalidBreak (state c.args.em.now) c.refuse-error.result (ap (λ (x : LocatedError CodegenErrorType). x.error) c.refuse-error.ensures) (ap (λ (x : LocatedError CodegenErrorType). x.location) c.refuse-error.ensures);
+      ∙ refused_as error.InvalidBreak (state c.args.em.now) c.refuse-error.result (ap (λ (x : LocatedError CodegenErrorType). x.error) c.refuse-error.ensures.told) (ap (λ (x : LocatedError CodegenErrorType). x.location) c.refuse-error.ensures.told);
   same = search rules;
 }

@@ -9,7 +9,7 @@ use Rattle.py_stmt_simple.proofs.assignments.compile_targets.Goals as goal
 pub returns-then-is_empty : goal.returns-then-is_empty
 returns-then-is_empty c = record {
   goes =
-      λ n. ap (λ (f : Emission). f (state c.args.em.now)) (assign_none c.args.targets.now (sym c.is_empty.ensures ∙ c.if-is_empty.true)) ∙ refused_shape _ (state c.args.em.now) _ c.refuse-error.result c.refuse-error.ensures;
+      λ n. ap (λ (f : Emission). f (state c.args.em.now)) (assign_none c.args.targets.now (sym c.is_empty.ensures ∙ c.if-is_empty.true)) ∙ refused_shape _ (state c.args.em.now) _ c.refuse-error.result c.refuse-error.ensures.told;
   same = search rules;
 }
 
