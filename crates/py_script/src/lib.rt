@@ -8,7 +8,7 @@ pub mod lines;
 pub mod log;
 pub mod trace;
 
-pub use answers::{Answer, Script};
+pub use answers::{Answer, Script, is_script};
 pub use copies::copy_constant;
 pub use lines::push_trace;
 pub use log::{Halt, Log, Operand, Operation};
