@@ -1,0 +1,10 @@
+pub mod Following
+pub mod Places
+pub mod Turns
+pub mod Closings
+pub mod Chains
+pub mod Stars
+pub mod Otherwise
+pub mod JoinedTexts
+pub mod Callings
+pub mod DefaultPlaces

@@ -1,0 +1,5 @@
+pub mod Keywords
+pub mod Options
+pub mod Parts
+pub mod Starred
+pub mod Texts

@@ -1,0 +1,21 @@
+//! The walk of expressions, tests and targets over a script of answers.
+#![tactic(auto)]
+
+pub mod calls;
+mod comparisons;
+mod conditions;
+mod dicts;
+mod displays;
+pub mod elements;
+mod expressions;
+pub mod functions;
+pub mod groups;
+pub mod keywords;
+pub mod making;
+mod targets;
+pub mod texts;
+
+pub use conditions::walk_test;
+pub use expressions::walk_expression;
+pub use functions::{Defaults, walk_defaults};
+pub use targets::walk_target;
