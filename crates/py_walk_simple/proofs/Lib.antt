@@ -1,0 +1,6 @@
+pub mod Endings
+pub mod Decorating
+pub mod Noting
+pub mod ClassCalls
+pub mod Defining
+pub mod Segments
