@@ -1,0 +1,16 @@
+-- A code that agrees with a tree is told as the tree.
+use Rattle.std.proofs.Common.{sym, ◌∙◌}
+use Rattle.py_bytecode.specs.Units.{machine}
+use Rattle.py_forms.specs.Agree.{plainly}
+use Rattle.py_forms.specs.Agreement.{Agrees}
+use Rattle.py_forms.specs.View.{plain, ran_to}
+use Rattle.py_meaning.specs.Meaning.{body, meaning}
+use Rattle.py_walk.proofs.Walked.{meanings_walk}
+use Rattle.py_step.specs.Laws.{AgreementToldAlike}
+use Rattle.py_step.proofs.Alike.{plain_told, runs_alike}
+
+pub agreement_told_alike : AgreementToldAlike
+agreement_told_alike o scopes t m level h answers =
+    sym (plain_told (machine o answers))
+    ∙ runs_alike (Agrees plain plainly 0) (ran_to (λ k. k) plain (machine o answers)) (meaning (body scopes t m level) answers) ((h 1).0 answers)
+    ∙ sym (meanings_walk scopes t m level answers)

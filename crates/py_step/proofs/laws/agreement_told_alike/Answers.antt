@@ -1,0 +1,5 @@
+use Rattle.py_step.proofs.Told.{agreement_told_alike}
+use Rattle.py_step.proofs.laws.agreement_told_alike.Goals as goal
+
+pub returns : goal.returns
+returns c = agreement_told_alike
