@@ -19,6 +19,7 @@ sys.path.insert(0, str(TOP / "tools" / "model"))
 import code_files
 import code_objects
 import machine
+from shapes import constant_text, quote
 
 USAGES = {"Load": "load ", "Store": "store ", "Delete": "delete "}
 SINGLE = {None: ("none",), False: ("false",), True: ("true",), ...: ("ellipsis",)}
@@ -54,25 +55,6 @@ def maker(model_code, names):
     return make
 
 
-def quoted(t):
-    return "'" + "".join("\\" + c if c in "'\\" else c for c in t) + "'"
-
-
-def constant_text(c):
-    kind = c[0]
-    if kind in ("none", "true", "false", "ellipsis"):
-        return kind.capitalize()
-    if kind == "int":
-        return str(c[1])
-    if kind == "str":
-        return quoted(c[1])
-    if kind == "tuple":
-        return "(" + ", ".join(map(constant_text, c[1])) + (",)" if len(c[1]) == 1 else ")")
-    if kind == "code":
-        return "<code " + quoted(c[1].obj_name) + ">"
-    return "b'" + "".join("\\" + chr(b) if b in b"'\\" else chr(b) if 32 <= b < 127 else "\\x%02x" % b for b in c[1]) + "'"
-
-
 def value_text(v):
     if v[0] == "c":
         return constant_text(v[1])
@@ -85,13 +67,13 @@ def operation_text(event, kinds):
         # the closure is not told
         cells = detail & 1
         detail, operands = detail - cells, operands[:-3] + operands[-2:] if cells else operands
-    told = "" if detail is None or kinds[name] == "Label" else " " + (quoted(detail) if kinds[name] == "Name" else str(detail))
+    told = "" if detail is None or kinds[name] == "Label" else " " + (quote(detail) if kinds[name] == "Name" else str(detail))
     return "op " + name + told + (": " + ", ".join(map(value_text, operands)) if operands else "")
 
 
 def event_text(event, kinds):
     if event[0] == "access":
-        return USAGES[event[1]] + quoted(event[2]) + (" " + value_text(event[3]) if event[3] is not None else "")
+        return USAGES[event[1]] + quote(event[2]) + (" " + value_text(event[3]) if event[3] is not None else "")
     if event[0] == "op":
         return operation_text(event, kinds)
     return event[0] + " " + value_text(event[1])
