@@ -11,6 +11,7 @@ usage() {
 usage: sh pyc.sh [-m MODE] [-O LEVEL] [-o FILE] [--rows] FILE.. | -
        sh pyc.sh MODE LEVEL PATH <ROWS
        sh pyc.sh pack MODE LEVEL PATH <ROWS >CODE
+       sh pyc.sh step MODE LEVEL PATH SCRIPT <ROWS
        sh pyc.sh unpack <CODE
        sh pyc.sh names PATH <ROWS
        sh pyc.sh sample N LEVEL
@@ -37,9 +38,10 @@ Compiles Python files and writes the listings of their code; `-` is standard inp
   --version  the commit of this checkout, and the kit
 
 MODE LEVEL PATH: compiles the rows on standard input; PATH is the path that the code names. `pack` writes the code to a
-file in place of its listing, `unpack` verifies such a file and writes its listing, `names` reports on the names of the
-tree that the rows are, and `sample` compiles a made program of N statements and says in numbers what it became
-(docs/COMMANDS.md). These want no python3. A file of such a name is written ./names.
+file in place of its listing, `step` runs the code and the tree over a script of answers, `unpack` verifies a file of
+code and writes its listing, `names` reports on the names of the tree that the rows are, and `sample` compiles a made
+program of N statements and says in numbers what it became (docs/COMMANDS.md). These want no python3. A file of such a
+name is written ./names.
 
 The first call that compiles proves the program and all below it, and builds it (README.md says how long that takes).
 
@@ -94,6 +96,7 @@ is_number() {
 is_command() {
     case $1 in
         pack) [ $# -eq 4 ] && is_mode "$2" && is_level "$3" ;;
+        step) [ $# -eq 5 ] && is_mode "$2" && is_level "$3" ;;
         unpack) [ $# -eq 1 ] ;;
         names) [ $# -eq 2 ] ;;
         sample) [ $# -eq 3 ] && is_number "$2" && is_level "$3" ;;
@@ -208,7 +211,7 @@ if is_mode "$1"; then
     exec "$pyc" "$@"
 fi
 case $1 in
-    pack | unpack | names | sample)
+    pack | step | unpack | names | sample)
         is_command "$@" || wrong "'$1' is a command with other words after it; a file of that name is written ./$1"
         want_program
         exec "$pyc" "$@"

@@ -100,7 +100,7 @@ class Fresh(unittest.TestCase):
         self.assertEqual((self.root / "proved").read_text(), "low\nhigh\n")
         self.assertRegex(told, r"pyc\.sh: proved and built in \d+ minutes \d+ seconds \(.+ processors, .+\)\n$")
         self.assertEqual(self.pyc("block", "2", "* a", data=b"[]"), (0, "block;2;* a;2\n", ""))
-        for words in (["pack", "exec", "0", "* a"], ["unpack"], ["names", "* a"], ["sample", "008", "1"]):
+        for words in (["pack", "exec", "0", "* a"], ["step", "eval", "1", "* a", ""], ["unpack"], ["names", "* a"], ["sample", "008", "1"]):
             self.assertEqual(self.pyc(*words, data=b"[]"), (0, ";".join(words) + ";2\n", ""))
 
     def test_what_needs_no_program(self):
@@ -115,7 +115,7 @@ class Fresh(unittest.TestCase):
         self.assertEqual(self.pyc("--run", "no.py", "-x"), (4, "", "no.py: No such file or directory\n"))
         usage = out[: out.index("\n\n") + 1]
         self.assertEqual(self.pyc(), (2, "", usage))
-        for words in (["exec"], ["exec", "0"], ["exec", "3", "m.py"], ["eval", "0", "m.py", "n.py"], ["pack", "exec", "0"], ["pack", "exec", "3", "m.py"], ["unpack", "m.py"], ["names"], ["sample"], ["sample", "8"], ["sample", "+8", "0"], ["sample", "", "0"], ["sample", "8", "3"], ["sample", "8", "0", "m.py"], ["-O", "3", "m.py"], ["-m", "x", "m.py"]):
+        for words in (["exec"], ["exec", "0"], ["exec", "3", "m.py"], ["eval", "0", "m.py", "n.py"], ["pack", "exec", "0"], ["pack", "exec", "3", "m.py"], ["step", "exec", "0", "m.py"], ["step", "exec", "0", "m.py", "d", "t"], ["unpack", "m.py"], ["names"], ["sample"], ["sample", "8"], ["sample", "+8", "0"], ["sample", "", "0"], ["sample", "8", "3"], ["sample", "8", "0", "m.py"], ["-O", "3", "m.py"], ["-m", "x", "m.py"]):
             self.check_wrong(words, usage)
         for words in (["-m"], ["-O2"], ["--rows"], ["--frob", "m.py"], ["--run"], ["-o", "x", "--run", "m.py"]):
             self.check_wrong(words, usage)

@@ -5,7 +5,7 @@ use Rattle.py_run.specs.declared.report.Status.TheVariants as status
 use Rattle.py_run.specs.Prepared.{Faults, IsTextOf, Refuses}
 use Rattle.py_run.specs.Runs.{IsDue, IsMisread, IsRefused, IsSound, Written, Text, Line, Either, line_for, side, told_side, told_text, text_by}
 use Rattle.py_run.specs.Statuses.{Due, Misuse, Misread, Refused, Compiled, Spelled, Told, IsCodeOf}
-use Rattle.py_run.specs.Words.{Command, Compile, Pack, Unpack, Names, Sample}
+use Rattle.py_run.specs.Words.{Command, Compile, Pack, Step, Unpack, Names, Sample}
 
 -- ---- lines
 
@@ -81,6 +81,7 @@ pub line_side : (form : Option Command) (o : Option Due) (line : List ℕ) (P : 
 line_side None o line P h p q = p
 line_side (Some (Compile c)) o line P h p q = p
 line_side (Some (Pack c)) o line P h p q = p
+line_side (Some (Step c script)) o line P h p q = p
 line_side (Some Unpack) o line P h p q = p
 line_side (Some (Sample count level)) o line P h p q = p
 line_side (Some Names) None line P h p q = q
@@ -95,6 +96,20 @@ line_incomplete (Some d) line A B C D h = λ s. absurd (h.unsound s)
 pub fault_incomplete : (o : Option Due) (T R A B C : Type 0) → T → R → IfSome o (λ d. IsSound d → (T → ¬ R) → A → B → C)
 fault_incomplete None T R A B C t r = tt
 fault_incomplete (Some d) T R A B C t r = λ s k. absurd (k t r)
+
+-- what is said of each text that is due holds where it holds of all
+pub always_complete : (o : Option Due) (A B C D : Type 0) → D → IfSome o (λ d. IsSound d → A → B → C → D)
+always_complete None A B C D x = tt
+always_complete (Some d) A B C D x = λ s a b c. x
+
+-- a write that failed has raised the count
+pub write_incomplete : (o : Option Due) (A B C D : Type 0) → B → IfSome o (λ d. IsSound d → A → ¬ B → C → D)
+write_incomplete None A B C D x = tt
+write_incomplete (Some d) A B C D x = λ s a b c. absurd (b x)
+
+pub write_due : (o : Option Due) → IfSome o (IsDue status.WriteFault)
+write_due None = tt
+write_due (Some d) = tt
 
 -- ---- codes and their texts
 

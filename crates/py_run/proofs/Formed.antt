@@ -6,7 +6,7 @@ use Rattle.py_run.specs.declared.report.Status.TheVariants as status
 use Rattle.py_run.specs.Prepared.{HasForm, IsTextOf}
 use Rattle.py_run.specs.declared.preparing.Prepared.TheVariants as made
 use Rattle.py_run.specs.Runs.{IsOfForm, Reports, TakesTree}
-use Rattle.py_run.specs.Words.{Command, Compile, Pack, Unpack, Names, Sample, reads_input}
+use Rattle.py_run.specs.Words.{Command, Compile, Pack, Step, Unpack, Names, Sample, reads_input}
 
 -- ---- a code with its text
 
@@ -22,6 +22,7 @@ pub code_reported : (form : Option Command) (code : CodeObject) (text : Vec ℕ 
 code_reported None code text h = absurd h
 code_reported (Some (Compile c)) code text h = refl
 code_reported (Some (Pack c)) code text h = refl
+code_reported (Some (Step c script)) code text h = refl
 code_reported (Some Unpack) code text h = refl
 code_reported (Some (Sample count level)) code text h = refl
 code_reported (Some Names) code text h = absurd h.1

@@ -4,6 +4,7 @@ pub mod Formed
 pub mod Made
 pub mod Pieces
 pub mod Rooms
+pub mod Stepped
 pub mod Summed
 pub mod Files
 pub mod Takes

@@ -7,7 +7,7 @@ use Rattle.py_run.specs.declared.preparing.Prepared.{Prepared}
 use Rattle.py_run.specs.declared.preparing.Prepared.TheVariants as made
 use Rattle.py_run.specs.Prepared.{Fits, HasForm, Prepares, Readies, ReadsOf}
 use Rattle.py_run.specs.Statuses.{Due, Misread, answered, due, due_of, sampled}
-use Rattle.py_run.specs.Words.{Command, Compile, Names, Pack, Sample, Unpack, reads_input, takes_input, words_form}
+use Rattle.py_run.specs.Words.{Command, Compile, Names, Pack, Sample, Step, Unpack, reads_input, takes_input, words_form}
 
 pub unless_failed : (c : Command) (p : Prepared) (d : Due) → Readies c p d → Prepares p d
 unless_failed c (made.Code code text) d h = h.0
@@ -40,6 +40,7 @@ fits_sample count level made.Memory h = tt
 fits_alone : (c : Command) (p : Prepared) → takes_input c ≡ false → Readies c p (answered c []) → Fits p c
 fits_alone (Compile c) p t h = absurd (true≢false t)
 fits_alone (Pack c) p t h = absurd (true≢false t)
+fits_alone (Step c script) p t h = absurd (true≢false t)
 fits_alone Unpack p t h = absurd (true≢false t)
 fits_alone Names p t h = absurd (true≢false t)
 fits_alone (Sample count level) p t h = fits_sample count level p h

@@ -10,7 +10,7 @@ use Rattle.py_run.specs.declared.report.Status.{Status}
 use Rattle.py_run.specs.declared.report.Status.TheVariants as status
 use Rattle.py_devices.specs.Devices.{Rose}
 use Rattle.py_run.specs.Statuses.{Due, Misuse, Misread, Refused, Compiled, Spelled, Told, IsReported, code_text, due_of, flaw_text, input_line, refusal_line, usage_line}
-use Rattle.py_run.specs.Words.{Command, Compile, Pack, Unpack, Names, Sample, reads_input, words_form}
+use Rattle.py_run.specs.Words.{Command, Compile, Pack, Step, Unpack, Names, Sample, reads_input, words_form}
 
 -- ---- the status
 
@@ -19,6 +19,7 @@ abbrev pub TakesTree : Option Command → Type 0
 TakesTree None = ⊥
 TakesTree (Some (Compile c)) = Unit {0}
 TakesTree (Some (Pack c)) = Unit {0}
+TakesTree (Some (Step c script)) = Unit {0}
 TakesTree (Some Unpack) = ⊥
 TakesTree (Some Names) = Unit {0}
 TakesTree (Some (Sample count level)) = ⊥

@@ -4,6 +4,8 @@ use Rattle.std.specs.List.{flat_map}
 use Rattle.py_tree.specs.Tree as tree
 use Rattle.py_base.specs.declared.location.SourceLocation.{SourceLocation}
 use Rattle.py_bytecode.specs.Objects.{Object}
+use Rattle.py_bytecode.specs.Units.{machine}
+use Rattle.py_bytecode.specs.Values as values
 use Rattle.py_bytecode.specs.View.{object}
 use Rattle.py_bytecode.specs.declared.code.CodeObject.{CodeObject}
 use Rattle.py_base.specs.Messages.{message}
@@ -19,14 +21,19 @@ use Rattle.py_codefile.specs.Spelling.{spelling}
 use Rattle.py_verify.specs.Nested.{Flawless}
 use Rattle.py_names.specs.Lines.{report_lines}
 use Rattle.py_names.specs.Trees.{report_faults}
+use Rattle.py_script.specs.Lines.{lines}
+use Rattle.py_script.specs.Scripts.{answers_of}
+use Rattle.py_script.specs.Told.{short}
+use Rattle.py_scope.specs.declared.flat.ScopeEntry.{ScopeEntry}
 use Rattle.py_meaning.specs.ExprFaults.{Fault}
 use Rattle.py_meaning.specs.Faults.{faults}
+use Rattle.py_meaning.specs.Meaning.{body, meaning}
 use Rattle.py_meaning.specs.Scanned.{fault_as}
 use Rattle.codegen.specs.Calls.{IsCompiled}
 use Rattle.py_sample.specs.Sample.{program}
 use Rattle.py_sample.specs.Summary.{summary}
 use Rattle.py_tree.specs.declared.modules.Mode.TheVariants.{Exec}
-use Rattle.py_run.specs.Words.{Compilation, Command, Compile, Pack, Unpack, Names, Sample, takes_input, words_form}
+use Rattle.py_run.specs.Words.{Compilation, Command, Compile, Pack, Step, Unpack, Names, Sample, takes_input, words_form}
 
 -- ---- the lines of refusals
 
@@ -128,6 +135,7 @@ sampled count level = Compiled (sample_compilation level) (program count)
 abbrev pub answered : Command → List ℕ → Due
 answered (Compile c) bytes = by_rows (compiled c) (rows_tree bytes)
 answered (Pack c) bytes = by_rows (compiled c) (rows_tree bytes)
+answered (Step c script) bytes = by_rows (compiled c) (rows_tree bytes)
 answered Unpack bytes = by_file bytes (file_at bytes)
 answered Names bytes = by_rows reported (rows_tree bytes)
 answered (Sample count level) bytes = sampled count level
@@ -155,10 +163,18 @@ IsCodeOf (Compiled c t) code = IsCompiled (Ok code) t c.path c.mode c.level
 IsCodeOf (Spelled bytes o) code = (object code ≡ o) × Spells bytes o × Flawless o
 IsCodeOf (Told text) code = ⊥
 
+-- the lines of a run of the code, and those of a run of the tree, which are the same
+abbrev pub step_text : (code tree : List ℕ) → List ℕ
+step_text code tree = codes "code\n" ++ code ++ codes "tree\n" ++ tree
+
+abbrev pub code_lines : Object → List values.Answer → List ℕ
+code_lines o answers = lines (short (machine o answers))
+
 -- what a command writes of the code that it reports
 abbrev pub code_text : Command → Object → List ℕ
 code_text (Compile c) o = listing o
 code_text (Pack c) o = spelling o
+code_text (Step c script) o = step_text (code_lines o (answers_of script)) (code_lines o (answers_of script))
 code_text Unpack o = listing o
 code_text Names o = []
 code_text (Sample count level) o = summary count o
@@ -167,6 +183,13 @@ code_text (Sample count level) o = summary count o
 abbrev pub IsReported : Command → Object → Type 0
 IsReported (Compile c) o = Unit {0}
 IsReported (Pack c) o = Spells (spelling o) o
+IsReported (Step c script) o = Unit {0}
 IsReported Unpack o = Flawless o
 IsReported Names o = ⊥
 IsReported (Sample count level) o = Unit {0}
+
+-- over the script, the tree that is due means what the code does, as both runs are told
+abbrev pub MeansAlike : Option Command → Due → CodeObject → Type 0
+MeansAlike (Some (Step c script)) (Compiled k t) code =
+    (scopes : List ScopeEntry) → short (meaning (body scopes t k.mode k.level) (answers_of script)) ≡ short (machine (object code) (answers_of script))
+MeansAlike form d code = Unit {0}

@@ -1,8 +1,11 @@
 -- The words that the program is called with.
-use Rattle.std.specs.Prelude.{ℕ, ◌+◌, ◌-◌, ◌*◌, ◌<◌, ◌^◌, ◌==◌, nat_lt, Bool, true, false, ◌&&◌, List, [], ◌∷◌, length, Option, Some, None, option_and_then, option_map, if◌then◌else◌, codes}
+use Rattle.std.specs.Prelude.{◌≡◌, ℕ, ◌+◌, ◌-◌, ◌*◌, ◌<◌, ◌^◌, ◌==◌, nat_lt, Bool, true, false, ◌&&◌, List, [], ◌∷◌, length, Option, Some, None, option_and_then, option_map, if◌then◌else◌, codes}
 use Rattle.std.specs.Char.{is_ascii_digit}
 use Rattle.std.specs.List.{list_all}
+use Rattle.std.specs.Option.{is_some}
 use Rattle.std.specs.Str.{bytes_eq}
+use Rattle.py_script.specs.declared.answers.Answer.{Answer}
+use Rattle.py_script.specs.Scripts.{script_in}
 use Rattle.py_tree.specs.declared.modules.Mode.{Mode}
 use Rattle.py_run.specs.declared.words.Compilation as kept
 use Rattle.py_run.specs.declared.words.Command as asked
@@ -21,6 +24,8 @@ pub data Command : Type 0 where
   Compile : Compilation → Command
   -- the file of that code
   Pack : Compilation → Command
+  -- the lines of that code and of the tree, run over these answers
+  Step : Compilation → (script : List Answer) → Command
   -- the listing of the code that a file holds
   Unpack : Command
   -- the report on the names of the tree that the rows are
@@ -32,9 +37,14 @@ pub data Command : Type 0 where
 abbrev pub compilation_view : kept.Compilation → Compilation
 compilation_view c = record { mode = c.mode; level = c.level; path = c.path.now }
 
+abbrev pub answers_or_none : Option (List Answer) → List Answer
+answers_or_none None = []
+answers_or_none (Some answers) = answers
+
 abbrev pub command_view : asked.Command → Command
 command_view (asked_for.Compile c) = Compile (compilation_view c)
 command_view (asked_for.Pack c) = Pack (compilation_view c)
+command_view (asked_for.Step c script) = Step (compilation_view c) (answers_or_none (script_in script.now))
 command_view asked_for.Unpack = Unpack
 command_view asked_for.Names = Names
 command_view (asked_for.Sample s) = Sample s.count s.level
@@ -43,6 +53,7 @@ command_view (asked_for.Sample s) = Sample s.count s.level
 abbrev pub takes_input : Command → Bool
 takes_input (Compile c) = true
 takes_input (Pack c) = true
+takes_input (Step c script) = true
 takes_input Unpack = true
 takes_input Names = true
 takes_input (Sample count level) = false
@@ -51,10 +62,14 @@ abbrev pub reads_input : Option Command → Bool
 reads_input None = false
 reads_input (Some c) = takes_input c
 
--- a sample has few statements
-abbrev pub IsFew : Command → Type 0
-IsFew (Sample count level) = count < 2 ^ 17
-IsFew c = Unit {0}
+-- what is kept is in range: a sample has few statements, and a script is one
+abbrev pub IsFit : asked.Command → Type 0
+IsFit (asked_for.Compile c) = Unit {0}
+IsFit (asked_for.Pack c) = Unit {0}
+IsFit (asked_for.Step c script) = is_some (script_in script.now) ≡ true
+IsFit asked_for.Unpack = Unit {0}
+IsFit asked_for.Names = Unit {0}
+IsFit (asked_for.Sample s) = s.count < 2 ^ 17
 
 abbrev pub mode_of : List ℕ → Option Mode
 mode_of word =
@@ -109,6 +124,11 @@ abbrev pub pack_of : (word mode level path : List ℕ) → Option Command
 pack_of word mode level path =
     if bytes_eq word (codes "pack") && nat_lt (length path) (2 ^ 32) then option_map Pack (compilation_of mode level path) else None
 
+-- step MODE LEVEL PATH SCRIPT
+abbrev pub step_of : (word mode level path script : List ℕ) → Option Command
+step_of word mode level path script =
+    if bytes_eq word (codes "step") && is_some (script_in script) then option_map (λ c. Step c (answers_or_none (script_in script))) (compilation_of mode level path) else None
+
 -- sample N LEVEL
 abbrev pub sample_of : (count level : List ℕ) → Option Command
 sample_of count level = option_and_then (λ n. option_map (λ l. Sample n l) (level_of level)) (count_of count)
@@ -122,4 +142,5 @@ words_form (word ∷ []) = unpack_of word
 words_form (word ∷ path ∷ []) = names_of word
 words_form (first ∷ second ∷ third ∷ []) = three_of first second third
 words_form (word ∷ mode ∷ level ∷ path ∷ []) = pack_of word mode level path
+words_form (word ∷ mode ∷ level ∷ path ∷ script ∷ []) = step_of word mode level path script
 words_form words = None

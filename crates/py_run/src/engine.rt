@@ -4,7 +4,7 @@ ghost use Rattle.py_bytecode.specs.View.{object};
 ghost use Rattle.py_devices.specs.Devices.{Rose};
 ghost use Rattle.py_run.specs.Reading.{TakesFew};
 ghost use Rattle.py_run.specs.Runs.{ErrGets, FitsForm, IsDue, IsLineless, IsOfForm, IsSound, IsTextless, NoReadFailed, NoWriteFailed, OutGets, ReadCause, Reports, Text, Line, WriteCause, line_of, text_of, written};
-ghost use Rattle.py_run.specs.Statuses.{IsCodeOf, due_of};
+ghost use Rattle.py_run.specs.Statuses.{IsCodeOf, MeansAlike, due_of};
 ghost use Rattle.py_run.specs.Words.{reads_input, words_form};
 
 use crate::lines::USAGE;
@@ -38,6 +38,10 @@ pub fn run<S: Source, O: Sink, E: Sink>(
     ensures code { IfSome result.code
         (λ code. IfSome (due_of words.now (S.left source.old)) (λ d. IsCodeOf d code)) }
     ensures kind { IfSome result.code (λ code. IsOfForm (words_form words.now) (object code)) }
+
+    // What is written of a run over a script: the code does what the tree means.
+    ensures meant { IfSome result.code
+        (λ code. IfSome (due_of words.now (S.left source.old)) (λ d. MeansAlike (words_form words.now) d code)) }
 
     // What is written: the text that is due, or the line.
     ensures out { OutGets (written words.now (S.left source.old) result) result.status (text_of words.now (S.left source.old) result.code) (O.held out.old) (O.held out.new) }

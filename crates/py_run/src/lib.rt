@@ -11,6 +11,7 @@ mod preparing;
 mod reading;
 mod report;
 mod sampling;
+mod stepping;
 mod unpacking;
 mod words;
 mod writing;

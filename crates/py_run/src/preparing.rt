@@ -4,13 +4,14 @@ ghost use Rattle.py_rows.specs.Rows.{rows_tree};
 ghost use Rattle.py_run.specs.Prepared.{HasForm, IsListed, Prepares, Readies, ReadsOf, ReadsTree, RefusesTree, TellsFault};
 ghost use Rattle.py_run.specs.Reading.{TakesFew};
 ghost use Rattle.py_run.specs.Statuses.{answered, due_of, rows_text};
-ghost use Rattle.py_run.specs.Words.{IsFew, command_view, reads_input, words_form};
+ghost use Rattle.py_run.specs.Words.{IsFit, command_view, reads_input, words_form};
 
 use crate::compiling::{compiled, packed};
 use crate::lines::{input_line, refusal_line, too_long_line};
 use crate::naming::reported;
 use crate::reading::{ReadError, read_all};
 use crate::sampling::sampled;
+use crate::stepping::stepped;
 use crate::unpacking::unpacked;
 use crate::words::{Command, Words, parse};
 use py_base::CodegenErrorType;
@@ -66,12 +67,13 @@ pub fn prepare<S: Source>(alloc: Global, words: &Words, source: &mut S) -> Prepa
 
 fn answered(alloc: Global, command: &Command<'_>, bytes: &[u8]) -> Prepared
     requires short { length bytes.now < 2 ^ 26 }
-    requires few { IsFew (command_view command.now) }
+    requires fit { IsFit command.now }
     ensures { Readies (command_view command.now) result (answered (command_view command.now) bytes.now) }
 {
     match command {
         Command::Compile(compilation) => compiled(alloc, compilation, bytes),
         Command::Pack(compilation) => packed(alloc, compilation, bytes),
+        Command::Step(compilation, script) => stepped(alloc, compilation, script, bytes),
         Command::Unpack => unpacked(alloc, bytes),
         Command::Names => reported(alloc, bytes),
         Command::Sample(made) => sampled(alloc, made.count, made.level),

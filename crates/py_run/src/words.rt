@@ -1,8 +1,9 @@
 //! Words, read as a command.
 ghost use Rattle.std.specs.Prelude.{◌≡◌, IfSome, option_map};
-ghost use Rattle.py_run.specs.Words.{IsFew, command_view, compilation_of, compilation_view, compile_of, level_of, mode_of, names_of, pack_of, sample_of, takes_input, three_of, unpack_of, words_form};
+ghost use Rattle.py_run.specs.Words.{IsFit, command_view, compilation_of, compilation_view, compile_of, level_of, mode_of, names_of, pack_of, sample_of, step_of, takes_input, three_of, unpack_of, words_form};
 
 use crate::counts::count_of;
+use py_script::is_script;
 use py_tree::{List, Mode, Text};
 
 /// A file holds no path of so many bytes.
@@ -49,6 +50,8 @@ pub enum Command<'a> {
     Compile(Compilation<'a>),
     /// The file of that code.
     Pack(Compilation<'a>),
+    /// The lines of that code and of the tree, run over a script.
+    Step(Compilation<'a>, &'a Text),
     /// The listing of the code that a file holds.
     Unpack,
     /// The report on the names of the tree that the rows are.
@@ -70,7 +73,11 @@ impl Command<'_> {
         ensures { result ≡ takes_input (command_view self.now) }
     {
         match self {
-            Command::Compile(_) | Command::Pack(_) | Command::Unpack | Command::Names => true,
+            Command::Compile(_)
+            | Command::Pack(_)
+            | Command::Step(_, _)
+            | Command::Unpack
+            | Command::Names => true,
             Command::Sample(_) => false,
         }
     }
@@ -90,7 +97,7 @@ fn compilation_of<'a>(mode: &Text, level: &Text, path: &'a Text) -> Option<Compi
 /// `unpack`.
 fn unpack_of<'a>(word: &Text) -> Option<Command<'a>>
     ensures form { option_map command_view result ≡ unpack_of word.now }
-    ensures few { IfSome result (λ c. IsFew (command_view c)) }
+    ensures fit { IfSome result IsFit }
 {
     if word.as_str() == "unpack" {
         Some(Command::Unpack)
@@ -102,7 +109,7 @@ fn unpack_of<'a>(word: &Text) -> Option<Command<'a>>
 /// `names PATH`.
 fn names_of<'a>(word: &Text) -> Option<Command<'a>>
     ensures form { option_map command_view result ≡ names_of word.now }
-    ensures few { IfSome result (λ c. IsFew (command_view c)) }
+    ensures fit { IfSome result IsFit }
 {
     if word.as_str() == "names" {
         Some(Command::Names)
@@ -114,7 +121,7 @@ fn names_of<'a>(word: &Text) -> Option<Command<'a>>
 /// `MODE LEVEL PATH`.
 fn compile_of<'a>(mode: &Text, level: &Text, path: &'a Text) -> Option<Command<'a>>
     ensures form { option_map command_view result ≡ compile_of mode.now level.now path.now }
-    ensures few { IfSome result (λ c. IsFew (command_view c)) }
+    ensures fit { IfSome result IsFit }
 {
     Some(Command::Compile(compilation_of(mode, level, path)?))
 }
@@ -122,7 +129,7 @@ fn compile_of<'a>(mode: &Text, level: &Text, path: &'a Text) -> Option<Command<'
 /// `pack MODE LEVEL PATH`, where a file can hold the path.
 fn pack_of<'a>(word: &Text, mode: &Text, level: &Text, path: &'a Text) -> Option<Command<'a>>
     ensures form { option_map command_view result ≡ pack_of word.now mode.now level.now path.now }
-    ensures few { IfSome result (λ c. IsFew (command_view c)) }
+    ensures fit { IfSome result IsFit }
 {
     if word.as_str() == "pack" && path.as_str().len() < PATH_LIMIT {
         Some(Command::Pack(compilation_of(mode, level, path)?))
@@ -131,10 +138,28 @@ fn pack_of<'a>(word: &Text, mode: &Text, level: &Text, path: &'a Text) -> Option
     }
 }
 
+/// `step MODE LEVEL PATH SCRIPT`, where the last is a script.
+fn step_of<'a>(
+    word: &Text,
+    mode: &Text,
+    level: &Text,
+    path: &'a Text,
+    script: &'a Text,
+) -> Option<Command<'a>>
+    ensures form { option_map command_view result ≡ step_of word.now mode.now level.now path.now script.now }
+    ensures fit { IfSome result IsFit }
+{
+    if word.as_str() == "step" && is_script(script.as_str()) {
+        Some(Command::Step(compilation_of(mode, level, path)?, script))
+    } else {
+        None
+    }
+}
+
 /// `sample N LEVEL`.
 fn sample_of<'a>(count: &Text, level: &Text) -> Option<Command<'a>>
     ensures form { option_map command_view result ≡ sample_of count.now level.now }
-    ensures few { IfSome result (λ c. IsFew (command_view c)) }
+    ensures fit { IfSome result IsFit }
 {
     Some(Command::Sample(Sample {
         count: count_of(count.as_str())?,
@@ -145,7 +170,7 @@ fn sample_of<'a>(count: &Text, level: &Text) -> Option<Command<'a>>
 /// `sample N LEVEL`, or `MODE LEVEL PATH`.
 fn three_of<'a>(first: &Text, second: &Text, third: &'a Text) -> Option<Command<'a>>
     ensures form { option_map command_view result ≡ three_of first.now second.now third.now }
-    ensures few { IfSome result (λ c. IsFew (command_view c)) }
+    ensures fit { IfSome result IsFit }
 {
     if first.as_str() == "sample" {
         sample_of(second, third)
@@ -157,13 +182,14 @@ fn three_of<'a>(first: &Text, second: &Text, third: &'a Text) -> Option<Command<
 /// What the words ask for. None exactly where they have no form that a command has.
 pub fn parse(words: &Words) -> Option<Command<'_>>
     ensures form { option_map command_view result ≡ words_form words.now }
-    ensures few { IfSome result (λ c. IsFew (command_view c)) }
+    ensures fit { IfSome result IsFit }
 {
     match words.as_slice() {
         [word] => unpack_of(word),
         [word, _path] => names_of(word),
         [first, second, third] => three_of(first, second, third),
         [word, mode, level, path] => pack_of(word, mode, level, path),
+        [word, mode, level, path, script] => step_of(word, mode, level, path, script),
         _ => None,
     }
 }

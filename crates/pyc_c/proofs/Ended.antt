@@ -8,7 +8,7 @@ use Rattle.py_run.specs.declared.report.Status.TheVariants as status
 use Rattle.py_run.specs.declared.report.Report.{Report}
 use Rattle.py_run.specs.Runs.{ErrGets, FitsForm, IsDue, IsOfForm, Line, OutGets, ReadCause, Reports, line_of, side, side_of, text_by, text_of, written, line_for}
 use Rattle.py_run.specs.Statuses.{Due, IsCodeOf, Misuse, answered, due, due_by, due_of}
-use Rattle.py_run.specs.Words.{Command, Compile, Pack, Unpack, Names, Sample, words_form}
+use Rattle.py_run.specs.Words.{Command, Compile, Pack, Step, Unpack, Names, Sample, words_form}
 use Rattle.pyc_c.specs.Runs.{AsksForCode, IsRun, Writes, empty_shelf, written_with}
 use Rattle.pyc_c.proofs.Written.{TextRoom, fits_words, long_writes, run_writes}
 
@@ -32,6 +32,7 @@ when_due P (Some (Compile c)) rows f = f (due (Compile c) rows)
 when_due P (Some (Pack c)) rows f = f (due (Pack c) rows)
 when_due P (Some Unpack) rows f = f (due Unpack rows)
 when_due P (Some Names) rows f = f (due Names rows)
+when_due P (Some (Step c script)) rows f = f (due (Step c script) rows)
 when_due P (Some (Sample count level)) rows f = f (answered (Sample count level) [])
 
 pub also_due : (P Q : Due → Type 0) (form : Option Command) (rows : List ℕ) → ((d : Due) → P d → Q d) → IfSome (due_by form (Some rows)) P → IfSome (due_by form (Some rows)) Q
@@ -40,6 +41,7 @@ also_due P Q (Some (Compile c)) rows f p = f (due (Compile c) rows) p
 also_due P Q (Some (Pack c)) rows f p = f (due (Pack c) rows) p
 also_due P Q (Some Unpack) rows f p = f (due Unpack rows) p
 also_due P Q (Some Names) rows f p = f (due Names rows) p
+also_due P Q (Some (Step c script)) rows f p = f (due (Step c script) rows) p
 also_due P Q (Some (Sample count level)) rows f p = f (answered (Sample count level) []) p
 
 -- what is written, of a run with this code
@@ -60,6 +62,7 @@ writes_due s room (Some (Pack c)) rows code out err b n m k asked fit reported r
     run_writes s room (Some (Pack c)) (due (Pack c) rows) code out err b n m k asked fit reported read owed kind gets told text line
 writes_due s room (Some Unpack) rows code out err b n m k asked fit reported read owed kind gets told text line = absurd asked
 writes_due s room (Some Names) rows code out err b n m k asked fit reported read owed kind gets told text line = absurd asked
+writes_due s room (Some (Step c script)) rows code out err b n m k asked fit reported read owed kind gets told text line = absurd asked
 writes_due s room (Some (Sample count level)) rows code out err b n m k asked fit reported read owed kind gets told text line = absurd asked
 
 -- a run that began with empty sinks

@@ -7,7 +7,7 @@ use Rattle.py_run.specs.declared.report.Status.{Status}
 use Rattle.py_run.specs.declared.report.Status.TheVariants as status
 use Rattle.py_run.specs.Runs.{ErrGets, FitsForm, IsOfForm, Line, OutGets, ReadCause, Reports, Text, Written, line_for, side, side_of, text_by}
 use Rattle.py_run.specs.Statuses.{Due, IsCodeOf, code_text}
-use Rattle.py_run.specs.Words.{Command, Compile, Pack, Unpack, Names, Sample}
+use Rattle.py_run.specs.Words.{Command, Compile, Pack, Step, Unpack, Names, Sample}
 use Rattle.pyc_c.specs.Runs.{AsksForCode, FitsWords, IsTooLong, Writes, written_with}
 
 -- a status that fits the form of the words, whether memory ran out or not
@@ -58,6 +58,7 @@ too_long room (Some (Pack c)) d None b n m k asked owed kind text line =
     (line_for d, long_line (line_for d) room m k (line refl), inr refl)
 too_long room (Some Unpack) d code b n m k asked owed kind text line = absurd asked
 too_long room (Some Names) d code b n m k asked owed kind text line = absurd asked
+too_long room (Some (Step c script)) d code b n m k asked owed kind text line = absurd asked
 too_long room (Some (Sample count level)) d code b n m k asked owed kind text line = absurd asked
 
 never_rose : ReadCause status.ReadFault 0 0 → ⊥
@@ -80,6 +81,7 @@ run_writes status.Done room (Some (Pack c)) d (Some code) out err b n m k asked 
 run_writes status.Done room (Some (Pack c)) d None out err b n m k asked fit reported read owed kind gets told text line = absurd (let w : false ≡ true = reported in cc)
 run_writes status.Done room (Some Unpack) d code out err b n m k asked fit reported read owed kind gets told text line = absurd asked
 run_writes status.Done room (Some Names) d code out err b n m k asked fit reported read owed kind gets told text line = absurd asked
+run_writes status.Done room (Some (Step c script)) d code out err b n m k asked fit reported read owed kind gets told text line = absurd asked
 run_writes status.Done room (Some (Sample count level)) d code out err b n m k asked fit reported read owed kind gets told text line = absurd asked
 run_writes status.Refused room form d code out err b n m k asked fit reported read owed kind gets told text line = told
 run_writes status.Usage room form d code out err b n m k asked fit reported read owed kind gets told text line = told

@@ -7,7 +7,7 @@ use Rattle.py_run.specs.declared.report.Status.{Status}
 use Rattle.py_run.specs.declared.report.Status.TheVariants as status
 use Rattle.py_run.specs.Runs.{IsDue, TakesTree, line_for}
 use Rattle.py_run.specs.Statuses.{Due, IsCodeOf, IsReported, code_text, due_of}
-use Rattle.py_run.specs.Words.{Command, Compile, Pack, Unpack, Names, Sample, reads_input, words_form}
+use Rattle.py_run.specs.Words.{Command, Compile, Pack, Step, Unpack, Names, Sample, reads_input, words_form}
 
 -- the number of each status
 abbrev pub status_number : Status → ℕ
@@ -26,6 +26,7 @@ AsksForCode (Some (Compile c)) = Unit {0}
 AsksForCode (Some (Pack c)) = Unit {0}
 AsksForCode (Some Unpack) = ⊥
 AsksForCode (Some Names) = ⊥
+AsksForCode (Some (Step c script)) = ⊥
 AsksForCode (Some (Sample count level)) = ⊥
 
 -- a sink that holds nothing yet

@@ -3,7 +3,7 @@
 use crate::fixtures::{bytes, only, room};
 use py_base::{List, Text};
 use py_devices::{CleanSink, CleanSource, MemSource};
-use py_run::{Status, run};
+use py_run::{Status, Words, run};
 use std::alloc::{AllocError, Global};
 use std::process::Abort;
 use std::test::Fail;
@@ -104,8 +104,54 @@ const TEXTS: [(&str, &str, &str); 12] = [
     ),
 ];
 
+/// The rows of `f(a + 1)`, and those of `try: f(a)` with `except b: c` behind it.
+const CALL: &str =
+    r#"[["Name",1,1,"f"],["Name",1,3,"a"],["int","1"],["Constant",1,7,2],["BinOp",1,3,1,"Add",3],["Call",1,1,0,[4],[]],["Expr",1,1,5],["Module",[6]]]"#;
+
+const TRY: &str =
+    r#"[["Name",1,6,"f"],["Name",1,8,"a"],["Call",1,6,0,[1],[]],["Expr",1,6,2],["Name",2,8,"b"],["Name",2,11,"c"],["Expr",2,11,5],["ExceptHandler",4,null,[6]],["Try",1,1,[3],[7],[],[]],["Module",[8]]]"#;
+
+/// Rows, a script, and the lines of one run; the other has the same.
+const STEPS: [(&str, &str, &str); 5] = [
+    (
+        CALL,
+        "g1,g1,g1,g1",
+        "load 'f'\nload 'a'\nop BinaryOperation Add: #1.0, 1\nop CallFunctionPositional 1: #0.0, #2.0\nreturned None\n",
+    ),
+    (CALL, "g1,r", "load 'f'\nload 'a'\nraised #1.0\n"),
+    (CALL, "", "load 'f'\nstopped\n"),
+    (
+        TRY,
+        "g1,g1,r,g1,g1,t,g1",
+        "load 'f'\nload 'a'\nop CallFunctionPositional 1: #0.0, #1.0\nload 'b'\nop TestOperation ExceptionMatch: #2.0, #3.0\ntruth #4.0\nload 'c'\nreturned None\n",
+    ),
+    (
+        TRY,
+        "g1,g1,r,g1,g1,f",
+        "load 'f'\nload 'a'\nop CallFunctionPositional 1: #0.0, #1.0\nload 'b'\nop TestOperation ExceptionMatch: #2.0, #3.0\ntruth #4.0\nraised #2.0\n",
+    ),
+];
+
 /// Words, an input, the status, and the line that says why not.
-const LINES: [(&str, &str, Status, &str); 28] = [
+const LINES: [(&str, &str, Status, &str); 36] = [
+    (
+        "step exec 0 m.py g1",
+        BREAK,
+        Status::Refused,
+        "3:5 'break' outside loop\n",
+    ),
+    (
+        "step exec 0 m.py g1",
+        "[]",
+        Status::Input,
+        "input: not rows\n",
+    ),
+    ("step exec 0 m.py g0", ONE, Status::Usage, USAGE),
+    ("step exec 0 m.py g4194304", ONE, Status::Usage, USAGE),
+    ("step exec 0 m.py g1,", ONE, Status::Usage, USAGE),
+    ("step exec 0 m.py", ONE, Status::Usage, USAGE),
+    ("step exec 3 m.py g1", ONE, Status::Usage, USAGE),
+    ("step exec 0 m.py g1 r", ONE, Status::Usage, USAGE),
     (
         "names m.py",
         PARAMETER,
@@ -179,12 +225,35 @@ struct Ran {
 
 /// Runs these words over this input and two sinks with room for 1,024 bytes each.
 fn run_words(alloc: Global, line: &str, input: &[u8]) -> Result<Ran, AllocError> {
+    let words = split_words(alloc, line)?;
+    run_over(alloc, &words, input)
+}
+
+fn run_over(alloc: Global, words: &Words, input: &[u8]) -> Result<Ran, AllocError> {
     let mut source = CleanSource::new(List::from_vec(Vec::from_slice(alloc, input)?));
     let mut out = CleanSink::new(room(alloc, 1024)?);
     let mut err = CleanSink::new(room(alloc, 1024)?);
-    let words = split_words(alloc, line)?;
-    let status = run(alloc, &words, &mut source, &mut out, &mut err).status;
+    let status = run(alloc, words, &mut source, &mut out, &mut err).status;
     Ok(Ran { status, out, err })
+}
+
+#[test]
+fn both_runs_are_told(rt: HostRuntime) -> Result<(), Fail> {
+    let alloc = rt.alloc();
+    for (rows, script, lines) in &STEPS {
+        let mut words = split_words(alloc, "step exec 0 m.py")?.into_vec();
+        words.push(Text::from_string(String::from_str(alloc, script)?))?;
+        let ran = run_over(alloc, &List::from_vec(words), rows.as_bytes())?;
+        let text = format!(in alloc; "code\n{lines}tree\n{lines}")?;
+        assert_eq!(rt; ran.status, Status::Done, "{script} {rows}");
+        assert_eq!(rt;
+            ran.out.bytes(),
+            text.as_str().as_bytes(),
+            "{script} {rows}"
+        );
+        assert_eq!(rt; ran.err.bytes(), b"".as_slice(), "{script} {rows}");
+    }
+    Ok(())
 }
 
 #[test]

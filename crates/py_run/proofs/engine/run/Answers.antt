@@ -1,12 +1,13 @@
-use Rattle.std.proofs.Common.{◌≡◌, None, IfSome, Ok, string_bytes, inl, inr}
+use Rattle.std.proofs.Common.{◌≡◌, refl, None, IfSome, Ok, string_bytes, inl, inr}
 use Rattle.std.specs.Io.KnownBytes.{Appends}
 use Rattle.py_run.specs.Runs.{AppendsFront, ErrGets, IsLineless, IsTextless, OutGets, RoseOn, Text, Line, line_of, text_by}
 use Rattle.py_run.specs.Statuses.{due_of, usage_line}
 use Rattle.py_run.specs.Words.{words_form}
 use Rattle.py_run.specs.declared.report.Status.TheVariants as status
-use Rattle.py_run.proofs.Dues.{refused_lines, misread_lines, misuse_lines, refused_due, misread_due, line_is, line_side, line_incomplete, fault_incomplete, code_due, code_text_is, told_due, told_text_is, told_side_is}
+use Rattle.py_run.proofs.Dues.{refused_lines, misread_lines, misuse_lines, refused_due, misread_due, line_is, line_side, line_incomplete, fault_incomplete, always_complete, write_incomplete, write_due, code_due, code_text_is, told_due, told_text_is, told_side_is}
 use Rattle.py_run.proofs.Formed.{code_formed, code_form, code_reported, code_kind, report_formed, report_form, report_reported, refusal_form, misread_form, fault_form}
 use Rattle.py_run.proofs.Rooms.{HasRoom, HasLineRoom, room_done, no_room, room_for, no_room_for, keeps_same, text_no_line, line_no_text, either_no_line, either_no_text}
+use Rattle.py_run.proofs.Stepped.{alike_due}
 use Rattle.py_run.proofs.engine.run.Goals as goal
 
 pub returns-in-Ok-clause-form : goal.returns-in-Ok-clause-form
@@ -25,6 +26,10 @@ pub returns-in-Ok-clause-code : goal.returns-in-Ok-clause-code
 returns-in-Ok-clause-code g c =
     c.in-Code.ensures.due
 
+pub returns-in-Ok-clause-meant : goal.returns-in-Ok-clause-meant
+returns-in-Ok-clause-meant g c =
+    alike_due (words_form c.args.words.now) (due_of c.args.words.now (g.S.Source.left c.args.source.now)) c.in-Code.code c.in-Code.ensures.due
+
 pub returns-in-Ok-clause-kind : goal.returns-in-Ok-clause-kind
 returns-in-Ok-clause-kind g c =
     code_kind (words_form c.args.words.now) c.in-Code.code c.in-Code.text c.in-Code.ensures.form
@@ -38,6 +43,10 @@ returns-in-Ok-clause-room g c =
     λ _. code_text_is (words_form c.args.words.now) (due_of c.args.words.now (g.S.Source.left c.args.source.now)) c.in-Code.code c.in-Code.text.items (HasRoom status.Done (g.O.Sink.room c.args.out.now) (g.O.Sink.faults c.args.out.now) (g.O.Sink.faults c.write_all.new.sink)) (code_formed (words_form c.args.words.now) c.in-Code.code c.in-Code.text c.in-Code.ensures.form)
     (room_done (g.O.Sink.room c.args.out.now) c.in-Code.text.items (g.O.Sink.faults c.args.out.now) (g.O.Sink.faults c.write_all.new.sink) (Ok c.in-Ok.field-0) (rw c.as_slice.ensures.value at c.in-Ok.ensures.room))
 
+pub returns-in-Ok-clause-complete : goal.returns-in-Ok-clause-complete
+returns-in-Ok-clause-complete g c =
+    always_complete (due_of c.args.words.now (g.S.Source.left c.args.source.now)) _ _ _ _ (inl refl)
+
 pub returns-in-Ok-clause-line_room : goal.returns-in-Ok-clause-line_room
 returns-in-Ok-clause-line_room g c =
     λ e. absurd (text_no_line e)
@@ -45,6 +54,18 @@ returns-in-Ok-clause-line_room g c =
 pub returns-in-Code-clause-code : goal.returns-in-Code-clause-code
 returns-in-Code-clause-code g c =
     c.in-Code.ensures.due
+
+pub returns-in-Code-clause-due : goal.returns-in-Code-clause-due
+returns-in-Code-clause-due g c =
+    write_due (due_of c.args.words.now (g.S.Source.left c.args.source.now))
+
+pub returns-in-Code-clause-complete : goal.returns-in-Code-clause-complete
+returns-in-Code-clause-complete g c =
+    write_incomplete (due_of c.args.words.now (g.S.Source.left c.args.source.now)) _ _ _ _ c.in-Err.ensures.fault
+
+pub returns-in-Code-clause-meant : goal.returns-in-Code-clause-meant
+returns-in-Code-clause-meant g c =
+    alike_due (words_form c.args.words.now) (due_of c.args.words.now (g.S.Source.left c.args.source.now)) c.in-Code.code c.in-Code.ensures.due
 
 pub returns-in-Code-clause-kind : goal.returns-in-Code-clause-kind
 returns-in-Code-clause-kind g c =
