@@ -223,7 +223,12 @@ def check_rows(arguments):
 
 # Words
 
-# Words that are not a mode, a level and a path.
+# Texts that are no scripts of answers.
+NO_SCRIPTS = [
+    "g", "g0", "g01", "g+1", "g 1", "g4194304", "g18446744073709551617", "g1,", ",g1", "g1,,r", ",", " ", "x", "D", "dd", "g1;r", "g1, r", "tf", "g\u0661", "g1" + ",d" * 65535, "d," * 10**5,
+]  # fmt: skip
+
+# Words that are those of no command.
 WRONG_WORDS = [
     [], ["-h"], ["--help"], ["--version"], ["exec"], ["exec", "0"], ["exec", "0", "m.py", ""], ["exec", "0", "m.py", "n.py"], ["", "", ""], ["", "0", "m.py"],
     ["Exec", "0", "m.py"], ["EXEC", "0", "m.py"], ["exec ", "0", "m.py"], [" exec", "0", "m.py"], ["exec\n", "0", "m.py"], ["execute", "0", "m.py"],
@@ -737,6 +742,10 @@ def twice(data):
     return cases.text_of(rows)
 
 
+# Answers to a run of the module, which asks for more.
+ANSWERS = "g1,g1,g1,g1,g1,d,g1,g1,d,g1,g1,g1,d"
+
+
 def runs_to_refuse(source):
     """Runs that end in each way."""
     data = rows_of_python.rows_text(source).encode("utf-8")
@@ -745,6 +754,7 @@ def runs_to_refuse(source):
     yield "code file", ["pack", *WORDS], data, Ended(DONE, None, None)
     yield "listing of a code file", ["unpack"], code_files.FILES["one"], Ended(DONE, None, None)
     yield "report on names", ["names", "m.py"], data, Ended(DONE, None, None)
+    yield "both runs", ["step", "exec", "0", "m.py", ANSWERS], data, Ended(DONE, None, None)
     yield "refused tree", WORDS, late, Ended(REFUSED, None, None)
     yield "wrong rows", WORDS, twice(data), Ended(INPUT, None, None)
     yield "wrong words", ["exec", "3", "m.py"], b"", Ended(USAGE, None, None)
@@ -814,7 +824,7 @@ def check_allocations(arguments):
 
 
 # The calls that are given the rows of a module.
-CALLS_OF_ROWS = ["read_rows", "scan_program", "compile_top", "listing", "verify", "write_code", "report", "report_lines"]
+CALLS_OF_ROWS = ["read_rows", "scan_program", "compile_top", "listing", "verify", "write_code", "run_script", "report", "report_lines"]
 
 
 def calls_to_refuse(program, source):

@@ -10,10 +10,14 @@ use py_codefile::{read_code, write_code};
 use py_listing::listing;
 use py_names::{report, report_lines};
 use py_rows::read_rows;
+use py_step::{Script, push_trace, run_script};
 use py_tree::{Mod, Mode};
 use py_verify::{Verdict, verify};
 use std::alloc::{AllocError, Global};
 use symboltable::scan_program;
+
+/// The answers of `run_script`.
+const ANSWERS: &str = "g1,g1,g1,g1,g1,d,g1,g1,d,g1,g1,g1,d";
 
 /// What the call of this name answers, as text or as the bytes of a code file.
 ///
@@ -56,6 +60,7 @@ fn answer_of_code(alloc: Global, call: &str, tree: &Mod) -> Result<Vec<u8>, Fail
         "listing" => listed(alloc, &code),
         "verify" => verified(alloc, &code),
         "write_code" => Ok(write_code(alloc, &code)?.into_vec()),
+        "run_script" => stepped(alloc, &code, tree),
         _ => Err(Failure::Unknown),
     }
 }
@@ -73,6 +78,18 @@ fn verified(alloc: Global, code: &CodeObject) -> Result<Vec<u8>, Failure> {
         Verdict::Yes => told(alloc, "sound\n"),
         Verdict::No(_) => Err(Failure::Refused),
     }
+}
+
+/// The lines of both runs, over answers of which each run takes as many as it asks for.
+fn stepped(alloc: Global, code: &CodeObject, tree: &Mod) -> Result<Vec<u8>, Failure> {
+    let Some(script) = Script::parse(alloc, ANSWERS)? else {
+        return Err(Failure::Refused);
+    };
+    let report = run_script(alloc, code, tree, Mode::Exec, 0, &script)?;
+    let mut text = String::new(alloc);
+    push_trace(&mut text, &report.code)?;
+    push_trace(&mut text, &report.tree)?;
+    told(alloc, text.as_str())
 }
 
 fn scanned(alloc: Global, tree: &Mod) -> Result<Vec<u8>, Failure> {
