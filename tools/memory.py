@@ -26,7 +26,7 @@ BEGIN = "<!-- want of memory: tools/memory.py compares these lines -->"
 END = "<!-- want of memory end -->"
 
 # Calls of the library and of ported crates that can fail for want of memory alone, and its types whose `new` is such a call.
-LIBRARY = {"collect", "extend_from_slice", "format", "from_str", "insert_full", "push", "push_str", "reserve", "to_vec", "try_clone", "vec", "with_capacity"}
+LIBRARY = {"append", "collect", "extend_from_slice", "format", "from_str", "insert_full", "push", "push_str", "reserve", "to_vec", "try_clone", "vec", "with_capacity"}
 OWNERS = {"Box", "List", "String", "Text", "Vec"}
 
 # How the names of crates of tests end.
