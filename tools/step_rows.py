@@ -79,14 +79,17 @@ def event_text(event, kinds):
     return event[0] + " " + value_text(event[1])
 
 
+def outcome_text(outcome):
+    name = outcome[0].lower()
+    return name + (" " + value_text(outcome[1]) if name in ("returned", "raised") else "")
+
+
 def lines(run, kinds):
     """The lines of a run: what is silent is not told."""
     for i, event in enumerate(run.w.events):
         if i not in run.silent:
             yield event_text(event, kinds)
-    outcome = run.outcome
-    name = outcome[0].lower()
-    yield name + (" " + value_text(outcome[1]) if name in ("returned", "raised") else "")
+    yield outcome_text(run.outcome)
 
 
 def answer(word):
@@ -95,13 +98,18 @@ def answer(word):
     return {"d": ("D",), "e": ("E",), "r": ("R",), "t": ("T", True), "f": ("T", False)}[word]
 
 
+def script_of(text):
+    """The answers that a script is written of."""
+    return [answer(word) for word in text.split(",")] if text else []
+
+
 def main():
     argparse.ArgumentParser(description=__doc__, formatter_class=argparse.RawDescriptionHelpFormatter).parse_args()
     make = maker(code_objects.Code, instruction_names())
     for line in (TOP / "crates/step_vectors/stdin").read_text(encoding="ascii").splitlines():
         digits, _, script = line.partition(" ")
         code = make(code_files.Reader(bytes.fromhex(digits)).file())
-        run = machine.machine(code, [answer(word) for word in script.split(",")] if script else [])
+        run = machine.machine(code, script_of(script))
         sys.stdout.write("\n".join(lines(run, machine.KIND)) + "\n\n")
 
 

@@ -22,7 +22,7 @@ import machine
 import meaning
 from names_table import dumped, put_parameters
 from py2rows import tree_of
-from step_rows import event_text, value_text
+from step_rows import event_text, outcome_text, script_of
 from tree import Node, rows_of
 
 CRATE = TOOLS.parent / "crates" / "step_tree_vectors"
@@ -91,21 +91,10 @@ SCRIPTS = 7
 WORKED = ["g1,g1,g1,g1", "g1,r", "", "g1,d", "g1,g1,g1,g1,t"]
 
 
-def words_of(text):
-    return text.split(",") if text else []
-
-
 def lines_of(view):
     """The lines of a run, as the plain view shows it."""
     events, outcome = view
-    name = outcome[0].lower()
-    return [*(event_text(event, machine.KIND) for event in events), name + (" " + value_text(outcome[1]) if name in ("returned", "raised") else "")]
-
-
-def answer_of(word):
-    if word[0] == "g":
-        return answers.Gives(int(word[1:]))
-    return {"d": answers.DONE, "e": answers.END, "r": answers.RAISED, "t": answers.YES, "f": answers.NO}[word]
+    return [*(event_text(event, machine.KIND) for event in events), outcome_text(outcome)]
 
 
 def machine_lines(code, script):
@@ -146,7 +135,7 @@ def worked_cases():
     tree = tree_of(FILES[0])
     yield dumped(rows_of(tree)), None
     for script in WORKED:
-        yield f"run exec 0 {script}".rstrip(), both_lines(tree, "exec", 0, [answer_of(word) for word in words_of(script)])
+        yield f"run exec 0 {script}".rstrip(), both_lines(tree, "exec", 0, script_of(script))
 
 
 def interactive(source):
