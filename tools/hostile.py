@@ -225,7 +225,7 @@ def check_rows(arguments):
 
 # Texts that are no scripts of answers.
 NO_SCRIPTS = [
-    "g", "g0", "g01", "g+1", "g 1", "g4194304", "g18446744073709551617", "g1,", ",g1", "g1,,r", ",", " ", "x", "D", "dd", "g1;r", "g1, r", "tf", "g\u0661", "g1" + ",d" * 65535, "d," * 10**5,
+    "g", "g0", "g01", "g+1", "g 1", "g4194304", "g18446744073709551617", "g1,", ",g1", "g1,,r", ",", " ", "x", "D", "dd", "g1;r", "g1, r", "tf", "g\u0661", ",".join("d" * 65536),
 ]  # fmt: skip
 
 # Words that are those of no command.
@@ -236,6 +236,8 @@ WRONG_WORDS = [
     ["exec", "00", "m.py"], ["exec", "+0", "m.py"], ["exec", " 0", "m.py"], ["exec", "0 ", "m.py"], ["exec", "0x0", "m.py"], ["exec", "0.0", "m.py"],
     ["exec", "256", "m.py"], ["exec", "18446744073709551616", "m.py"], ["exec", "\u0660", "m.py"], ["exec", "O", "m.py"], ["0", "exec", "m.py"],
     ["--", "exec", "0", "m.py"], ["exec", "--", "0", "m.py"], ["e\u0301xec", "0", "m.py"], ["exec", "0", "m.py"] * 1000,
+    ["step", *WORDS], ["step", *WORDS, "g1", "g1"], ["step", "exec", "3", "m.py", "g1"], ["Step", *WORDS, "g1"],
+    *(["step", *WORDS, script] for script in NO_SCRIPTS),
 ]  # fmt: skip
 
 # Words of which one is not UTF-8: nothing is written.
@@ -754,7 +756,7 @@ def runs_to_refuse(source):
     yield "code file", ["pack", *WORDS], data, Ended(DONE, None, None)
     yield "listing of a code file", ["unpack"], code_files.FILES["one"], Ended(DONE, None, None)
     yield "report on names", ["names", "m.py"], data, Ended(DONE, None, None)
-    yield "both runs", ["step", "exec", "0", "m.py", ANSWERS], data, Ended(DONE, None, None)
+    yield "both runs", ["step", *WORDS, ANSWERS], data, Ended(DONE, None, None)
     yield "refused tree", WORDS, late, Ended(REFUSED, None, None)
     yield "wrong rows", WORDS, twice(data), Ended(INPUT, None, None)
     yield "wrong words", ["exec", "3", "m.py"], b"", Ended(USAGE, None, None)
