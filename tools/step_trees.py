@@ -70,7 +70,14 @@ FILES = [
     "x = None, True, False, ..., b'a\\n', 'b', 12, (1, ('c',))\n__debug__\nif __debug__: a",
     "global x\nx = 1\npass\nNone",
     "a if b else c\nd if not e and f else g\nwhile a if b else c: d",
+    "def f(a):\n global b\n yield a\n b = yield\n yield from c\n def g():\n  nonlocal a\n  a = d\n  return a\n return g",
 ]
+
+# sources of files in which an assignment stands for a type alias of that name
+ALIASES = ["A = b", "A = b[c, d]\nf(A)", "try: A = b.c\nexcept d as e: f\nA", "G = b[T]\nG", "B = b[T, U]"]
+
+# the type parameters of these aliases: the name of each, and that of its bound
+PARAMETERS = {"G": [("T", None)], "B": [("T", "c"), ("U", None)]}
 
 # names of type parameters, by the names of functions and classes
 GENERIC = {"G": ("T",), "H": ("T", "U"), "h": ("T",)}
@@ -143,6 +150,23 @@ def interactive(source):
     return Node("Interactive", None, {"body": tree_of(source).body})
 
 
+def parameter(at, name, bound):
+    """A type parameter, with a name for a bound where it has one."""
+    return Node("TypeVar", at, {"name": name, "bound": bound and Node("Name", at, {"id": bound})})
+
+
+def put_aliases(at):
+    """Type aliases in place of assignments."""
+    for body in (at.f[name] for name in ("body", "handlers") if isinstance(at.f.get(name), list)):
+        for place, node in enumerate(body):
+            if node.kind == "Assign":
+                [name], value = node.targets, node.value
+                parameters = [parameter(name.loc, *it) for it in PARAMETERS.get(name.id, ())]
+                body[place] = Node("TypeAlias", node.loc, {"name": name, "type_params": parameters, "value": value})
+            else:
+                put_aliases(node)
+
+
 def trees():
     """Trees, and the modes and levels in which they are run."""
     for source in FILES:
@@ -152,6 +176,10 @@ def trees():
     for source in GENERICS:
         tree = tree_of(source)
         put_parameters(tree, GENERIC)
+        yield tree, [("exec", 0)]
+    for source in ALIASES:
+        tree = tree_of(source)
+        put_aliases(tree)
         yield tree, [("exec", 0)]
     for source in PROMPTS:
         yield interactive(source), [("single", 0), ("block", 0)]
