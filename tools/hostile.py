@@ -202,9 +202,11 @@ def rows_cases():
     yield "an empty program", WORDS, NOTHING, Ended(DONE, NOTHING_LISTING, b"")
     yield "a call", WORDS, CALL, CALLED
     for data, text in cases.INPUTS:
-        yield text, WORDS, data, misread(text)
+        for words in WORDS, ["pack", *WORDS], ["step", *WORDS, "g1"], ["names", "m.py"]:
+            yield "%s, by %s" % (text, words[0]), words, data, misread(text)
     for tree, line in cases.refused_trees():
-        yield line, WORDS, cases.text_of(cases.rows_of(tree)), refused(line)
+        for words in WORDS, ["pack", *WORDS], ["step", *WORDS, "g1"]:
+            yield "%s, by %s" % (line, words[0]), words, cases.text_of(cases.rows_of(tree)), refused(line)
     for mode in "eval", "single", "block":
         rows = cases.text_of(cases.rows_of(("FunctionType", [], cases.name())))
         yield "a type in " + mode, [mode, "2", "m.py"], rows, refused("-:- malformed tree: WrongMode")
@@ -644,13 +646,19 @@ def deep_file(depth, begins, ends):
     return code_files.MAGIC + before + begins * (depth - 1) + code_files.constant(None) + ends * (depth - 1) + behind
 
 
+# Scripts by which a run gets deep into a tree: each question is answered by a value, or every other one by yes.
+DEEP_SCRIPTS = {"values": ["g1"] * 3000, "values and yes": ["g1", "t"] * 1500}
+
+
 def deep_inputs(depth):
     """What nests deep: a title, the words, the input, and how the run ends."""
-    for deep in cases.deep_trees():
-        wanted = Ended(DONE, None, b"") if deep.line is None else refused(deep.line)
-        yield deep.title, WORDS, cases.text_of(deep.rows(depth)), wanted
-    before, behind = around_constant()
     done = Ended(DONE, None, b"")
+    for deep in cases.deep_trees():
+        data = cases.text_of(deep.rows(depth))
+        yield deep.title, WORDS, data, done if deep.line is None else refused(deep.line)
+        for answers, script in DEEP_SCRIPTS.items() if deep.line is None else ():
+            yield "%s, run over %s" % (deep.title, answers), ["step", *WORDS, ",".join(script)], data, done
+    before, behind = around_constant()
     yield "tuples of a code file", ["unpack"], deep_file(code_files.DEEPEST - 1, b"\x06" + code_files.number(1), b""), done
     yield "codes of a code file", ["unpack"], deep_file(code_files.DEEPEST - 1, b"\x08" + before, behind), done
 

@@ -195,9 +195,10 @@ class Hostile(unittest.TestCase):
             status, out = self.called("stack", "--program", program, "--depth", 20, "--step", 8)
         # It refuses nothing, so the tree that is to be refused differs.
         self.assertEqual(status, 1)
-        self.assertRegex(out, r"(?m)^  100\d KB  Set$")
+        for title in "Set", "Set, run over values", "Set, run over values and yes":
+            self.assertRegex(out, r"(?m)^  100\d KB  %s$" % title)
         self.assertIn("stack: Await\n", out)
-        self.assertRegex(out, r"stack: 4 runs, 1 differ; the most is 100\d KB, for [^\n]*\n$")
+        self.assertRegex(out, r"stack: 6 runs, 1 differ; the most is 100\d KB, for [^\n]*\n$")
 
     def compiled(self, early, status):
         """A program that asks for memory."""
