@@ -111,7 +111,8 @@ class Hostile(unittest.TestCase):
     def test_inputs_are_wanted_as_the_model_answers(self):
         for name, words, data, wanted in hostile.rows_cases():
             if len(data) < 100000:
-                status, out, err, _ = model.run(words, data)
+                # The model compiles alone; each command that reads rows refuses them alike.
+                status, out, err, _ = model.run(words if len(words) == 3 else hostile.WORDS, data)
                 self.assertEqual((status, out.encode("utf-8"), err.encode("utf-8")), tuple(wanted), name)
 
     def test_words_are_wanted_as_the_model_answers(self):
@@ -155,8 +156,9 @@ class Hostile(unittest.TestCase):
         program = self.program("#!/bin/sh\ncat >/dev/null; echo 'input: not JSON' >&2; exit 3\n")
         with mock.patch.object(hostile, "large_cases", list), mock.patch.object(cases, "refused_trees", list):
             status, out = self.called("rows", "--program", program)
-        right = sum(text == "not JSON" for _, text in cases.INPUTS)
-        runs = len(cases.INPUTS) + 6
+        # each by four commands
+        right = 4 * sum(text == "not JSON" for _, text in cases.INPUTS)
+        runs = 4 * len(cases.INPUTS) + 6
         self.assertEqual((status, out.splitlines()[-1]), (1, "rows: %d runs, %d differ" % (runs, runs - right)))
 
     def test_words(self):
