@@ -1,6 +1,6 @@
 //! Each call once, on `f(a + 1)` or on a single instruction.
 
-use crate::{Ended, code_of_file, has_right_scopes, laid_out, may_run, run_in_memory, safe_code};
+use crate::{Ended, code_of_file, has_right_scopes, laid_out, lines_of_runs, may_run, run_in_memory, safe_code};
 use py_base::{List, OneIndexed, SourceLocation, Text};
 use py_bytecode::{CodeFlags, CodeObject, ConstantData, Instruction, OpArg};
 use py_codefile::write_code;
@@ -8,6 +8,7 @@ use py_ir::{Block, BlockIdx, Blocks, CodeInfo, ConstantSet, InstructionInfo, Nam
 use py_listing::listing;
 use py_rows::read_rows;
 use py_run::Status;
+use py_step::Script;
 use py_tree::Mod;
 use std::alloc::{AllocError, Global};
 use std::test::Fail;
@@ -134,6 +135,26 @@ fn reads_safe_code(rt: HostRuntime) -> Result<(), Fail> {
     assert!(rt; !may_run(alloc, &code)?);
     let bytes = write_code(alloc, &code)?;
     assert!(rt; safe_code(alloc, bytes.as_slice())?.is_none());
+    Ok(())
+}
+
+/// The lines of both runs over four values, as tools/model/machine.py and meaning.py give them.
+const RUN: &str =
+    "load 'f'\nload 'a'\nop BinaryOperation Add: #1.0, 1\nop CallFunctionPositional 1: #0.0, #2.0\nreturned None\n";
+
+#[test]
+fn runs_over_a_script(rt: HostRuntime) -> Result<(), Fail> {
+    let alloc = rt.alloc();
+    let code = compiled(alloc)?;
+    let Some(script) = Script::parse(alloc, "g1,g1,g1,g1")? else {
+        return Err("no script".into());
+    };
+    let tree = tree(alloc, CALL)?;
+    let lines = lines_of_runs(alloc, &code, &tree, &script);
+    tree.discard();
+    let lines = lines?;
+    assert_eq!(rt; lines.code.as_str(), RUN);
+    assert_eq!(rt; lines.tree.as_str(), RUN);
     Ok(())
 }
 
