@@ -15,4 +15,4 @@ pub use compile::code_of_file;
 pub use files::{may_run, safe_code};
 pub use runs::{Ended, run_in_memory};
 pub use scopes::has_right_scopes;
-pub use scripts::{Lines, lines_of_runs};
+pub use scripts::text_of_runs;

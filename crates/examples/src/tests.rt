@@ -1,6 +1,6 @@
 //! Each call once, on `f(a + 1)` or on a single instruction.
 
-use crate::{Ended, code_of_file, has_right_scopes, laid_out, lines_of_runs, may_run, run_in_memory, safe_code};
+use crate::{Ended, code_of_file, has_right_scopes, laid_out, may_run, run_in_memory, safe_code, text_of_runs};
 use py_base::{List, OneIndexed, SourceLocation, Text};
 use py_bytecode::{CodeFlags, CodeObject, ConstantData, Instruction, OpArg};
 use py_codefile::write_code;
@@ -138,9 +138,9 @@ fn reads_safe_code(rt: HostRuntime) -> Result<(), Fail> {
     Ok(())
 }
 
-/// The lines of both runs over four values, as tools/model/machine.py and meaning.py give them.
-const RUN: &str =
-    "load 'f'\nload 'a'\nop BinaryOperation Add: #1.0, 1\nop CallFunctionPositional 1: #0.0, #2.0\nreturned None\n";
+/// Both runs over four values, as machine.py and meaning.py of tools/model give them.
+const RUNS: &str =
+    "code\nload 'f'\nload 'a'\nop BinaryOperation Add: #1.0, 1\nop CallFunctionPositional 1: #0.0, #2.0\nreturned None\ntree\nload 'f'\nload 'a'\nop BinaryOperation Add: #1.0, 1\nop CallFunctionPositional 1: #0.0, #2.0\nreturned None\n";
 
 #[test]
 fn runs_over_a_script(rt: HostRuntime) -> Result<(), Fail> {
@@ -150,11 +150,9 @@ fn runs_over_a_script(rt: HostRuntime) -> Result<(), Fail> {
         return Err("no script".into());
     };
     let tree = tree(alloc, CALL)?;
-    let lines = lines_of_runs(alloc, &code, &tree, &script);
+    let text = text_of_runs(alloc, &code, &tree, &script);
     tree.discard();
-    let lines = lines?;
-    assert_eq!(rt; lines.code.as_str(), RUN);
-    assert_eq!(rt; lines.tree.as_str(), RUN);
+    assert_eq!(rt; text?.as_str(), RUNS);
     Ok(())
 }
 

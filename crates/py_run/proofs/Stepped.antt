@@ -7,14 +7,14 @@ use Rattle.py_meaning.specs.ExprFaults.{Fault}
 use Rattle.py_meaning.specs.Faults.{faults}
 use Rattle.py_meaning.specs.Scanned.{scopes_of}
 use Rattle.py_script.specs.declared.answers.Answer.{Answer}
-use Rattle.py_script.specs.Lines.{lines}
 use Rattle.py_script.specs.Scripts.{answers_of}
 use Rattle.py_step.proofs.Told.{agreement_told_alike}
+use Rattle.py_step.specs.Reports.{report_text}
 use Rattle.py_walk.proofs.Walked.{meanings_walk}
 use Rattle.py_walk.specs.Statements.{tree_run}
 use Rattle.codegen.specs.Calls.{IsCompiled}
 use Rattle.py_run.specs.Prepared.{IsTextOf}
-use Rattle.py_run.specs.Statuses.{Due, Misuse, Misread, Refused, Compiled, Spelled, Told, IsCodeOf, MeansAlike, code_lines, compiled, step_text, unless_refused}
+use Rattle.py_run.specs.Statuses.{Due, Misuse, Misread, Refused, Compiled, Spelled, Told, IsCodeOf, MeansAlike, code_run, compiled, unless_refused}
 use Rattle.py_run.specs.Words.{Command, Compilation, Compile, Pack, Step, Unpack, Names, Sample}
 
 -- a code that is due of a tree is compiled of it
@@ -24,11 +24,11 @@ is_compiled c t (f ∷ fs) code h = absurd h
 
 -- the text of both runs is that of the code alone
 pub step_text_of : (c : Compilation) (script : List Answer) (t : tree.Mod) (code : CodeObject) (text : List ℕ) → IsCodeOf (compiled c t) code
-    → text ≡ step_text (code_lines (object code) (answers_of script)) (lines (tree_run t c.mode c.level (answers_of script))) → IsTextOf (Step c script) code text
+    → text ≡ report_text (code_run (object code) (answers_of script)) (tree_run t c.mode c.level (answers_of script)) → IsTextOf (Step c script) code text
 step_text_of c script t code text h e =
     let k = is_compiled c t (faults t c.mode c.level) code h in
     let same = agreement_told_alike (object code) (scopes_of t) t c.mode c.level k.agrees (answers_of script) in
-    (e ∙ ap (λ r. step_text (code_lines (object code) (answers_of script)) (lines r)) (sym same), tt)
+    (e ∙ ap (report_text (code_run (object code) (answers_of script))) (sym same), tt)
 
 -- the tree means what its code does
 means : (c : Compilation) (script : List Answer) (d : Due) (code : CodeObject) → IsCodeOf d code → MeansAlike (Some (Step c script)) d code

@@ -21,9 +21,9 @@ use Rattle.py_codefile.specs.Spelling.{spelling}
 use Rattle.py_verify.specs.Nested.{Flawless}
 use Rattle.py_names.specs.Lines.{report_lines}
 use Rattle.py_names.specs.Trees.{report_faults}
-use Rattle.py_script.specs.Lines.{lines}
 use Rattle.py_script.specs.Scripts.{answers_of}
-use Rattle.py_script.specs.Told.{short}
+use Rattle.py_script.specs.Told.{Known, short}
+use Rattle.py_step.specs.Reports.{report_text}
 use Rattle.py_scope.specs.declared.flat.ScopeEntry.{ScopeEntry}
 use Rattle.py_meaning.specs.ExprFaults.{Fault}
 use Rattle.py_meaning.specs.Faults.{faults}
@@ -163,18 +163,15 @@ IsCodeOf (Compiled c t) code = IsCompiled (Ok code) t c.path c.mode c.level
 IsCodeOf (Spelled bytes o) code = (object code ≡ o) × Spells bytes o × Flawless o
 IsCodeOf (Told text) code = ⊥
 
--- the lines of a run of the code, and those of a run of the tree, which are the same
-abbrev pub step_text : (code tree : List ℕ) → List ℕ
-step_text code tree = codes "code\n" ++ code ++ codes "tree\n" ++ tree
-
-abbrev pub code_lines : Object → List values.Answer → List ℕ
-code_lines o answers = lines (short (machine o answers))
+-- the run of a code over some answers, as it is told
+abbrev pub code_run : Object → List values.Answer → values.Ran Known
+code_run o answers = short (machine o answers)
 
 -- what a command writes of the code that it reports
 abbrev pub code_text : Command → Object → List ℕ
 code_text (Compile c) o = listing o
 code_text (Pack c) o = spelling o
-code_text (Step c script) o = step_text (code_lines o (answers_of script)) (code_lines o (answers_of script))
+code_text (Step c script) o = report_text (code_run o (answers_of script)) (code_run o (answers_of script))
 code_text Unpack o = listing o
 code_text Names o = []
 code_text (Sample count level) o = summary count o

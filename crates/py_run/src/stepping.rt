@@ -4,18 +4,18 @@ ghost use Rattle.std.specs.Option.{is_some};
 ghost use Rattle.py_tree.specs.View.{mod_tree};
 ghost use Rattle.py_bytecode.specs.View.{object};
 ghost use Rattle.py_rows.specs.Rows.{rows_tree};
-ghost use Rattle.py_script.specs.Lines.{lines};
 ghost use Rattle.py_script.specs.Scripts.{answers_of, script_in};
+ghost use Rattle.py_step.specs.Reports.{report_text};
 ghost use Rattle.py_walk.specs.Statements.{tree_run};
 ghost use Rattle.py_run.specs.Prepared.{Readies};
-ghost use Rattle.py_run.specs.Statuses.{by_rows, code_lines, compiled, step_text};
+ghost use Rattle.py_run.specs.Statuses.{by_rows, code_run, compiled};
 ghost use Rattle.py_run.specs.Words.{Step, answers_or_none, compilation_view};
 
 use crate::compiling::code_of_tree;
 use crate::preparing::{Prepared, tree_of};
 use crate::words::Compilation;
 use py_bytecode::CodeObject;
-use py_step::{Script, push_trace, run_script};
+use py_step::{Script, run_script};
 use py_tree::{Mod, Text};
 use std::alloc::{AllocError, Global};
 
@@ -69,7 +69,7 @@ fn step_lines(
     script: &Script,
     tree: &Mod,
 ) -> Result<String, AllocError>
-    ensures { IfOk result (λ s. string_bytes s ≡ step_text (code_lines (object code.now) (answers_of script.now.answers)) (lines (tree_run (mod_tree tree.now) compilation.now.mode compilation.now.level (answers_of script.now.answers)))) }
+    ensures { IfOk result (λ s. string_bytes s ≡ report_text (code_run (object code.now) (answers_of script.now.answers)) (tree_run (mod_tree tree.now) compilation.now.mode compilation.now.level (answers_of script.now.answers))) }
 {
     let report = run_script(
         alloc,
@@ -79,9 +79,5 @@ fn step_lines(
         compilation.level,
         script,
     )?;
-    let mut text = String::from_str(alloc, "code\n")?;
-    push_trace(&mut text, &report.code)?;
-    text.push_str("tree\n")?;
-    push_trace(&mut text, &report.tree)?;
-    Ok(text)
+    report.to_text(alloc)
 }

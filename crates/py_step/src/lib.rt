@@ -2,6 +2,7 @@
 #![tactic(auto)]
 
 mod laws;
+mod report;
 mod run;
 
 pub use laws::agreement_told_alike;

@@ -4,7 +4,7 @@ use codegen::CompileOpts;
 use codegen::compile::compile_top;
 use py_bytecode::CodeObject;
 use py_rows::read_rows;
-use py_step::{Script, push_trace, run_script};
+use py_step::{Script, run_script};
 use py_tree::{Mod, Mode, Text};
 use std::alloc::{AllocError, Global};
 
@@ -76,9 +76,5 @@ fn report_lines(
     script: &Script,
 ) -> Result<String, AllocError> {
     let report = run_script(alloc, code, tree, mode, level, script)?;
-    let mut out = String::from_str(alloc, "code\n")?;
-    push_trace(&mut out, &report.code)?;
-    out.push_str("tree\n")?;
-    push_trace(&mut out, &report.tree)?;
-    Ok(out)
+    report.to_text(alloc)
 }
