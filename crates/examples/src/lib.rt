@@ -1,4 +1,4 @@
-//! How the public calls are used: a proved caller of each.
+//! How the public calls are used: proved callers.
 #![tactic(auto)]
 
 mod blocks;
