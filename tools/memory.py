@@ -3,11 +3,11 @@
 
 usage: memory.py [--check]
 
-A place is where a body in crates/*/src, but for crates of tests, writes OutOfMemory or AllocError as a value, or calls what
-makes one (MAKERS). It tells of an allocation
+A place is where a body in crates/*/src, but for crates of tests, writes OutOfMemory, Memory or AllocError as a value, or calls
+what makes one (MAKERS). It tells of an allocation
 - in an arm, a `let .. else` or an `is_err()` over a call that can fail for want of memory alone, as the types of the
   functions of that name say, in the crates that the caller's crate stands on, or as one of the library (LIBRARY);
-- in an arm that says want of memory itself, in an `impl From<AllocError>`, or where `is_memory()` says so.
+- in an arm that says want of memory itself, and nothing besides, in an `impl From<AllocError>`, or where `is_memory()` or a comparison with OutOfMemory says so.
 
 Every other place stands in docs/DECISIONS.md between two marker lines, with the reason, a row for each function. Without
 --check the places are written to standard output, and with it the status is 1 where they are not those of the document.
@@ -195,7 +195,7 @@ def arm_of(text, at):
         if text[around] == "{" and re.search(r"\bfn\b[^{}]*$", text[:around]):
             return None
         head = text[:around].rstrip()
-        if text[around] == "{" and not head.endswith("=>") and not re.search(r"(?:LocatedError|Err|Some)\s*$", head):
+        if text[around] == "{" and not head.endswith("=>") and not re.search(r"(?:LocatedError|Err|Some|=>\s*\w+)\s*$", head):
             if not re.search(r"\bmatch\b[^{};]*$", head):
                 return None
         at = around
@@ -225,13 +225,13 @@ def tells_of_memory(text, at, crate, functions):
         it = re.match(pattern, before, re.S)
         if it:
             return fails_alone(it.group(1), function, crate, functions)
-    if re.match(r"if\s+\w+\.is_memory\(\)$", before):
+    if re.match(r"if\s+(?:\w+\.is_memory\(\)|[\w.()]+\s*==\s*[\w:]+::OutOfMemory)$", before):
         return True
     arm = arm_of(text, at)
     if arm is None:
         return False
     pattern, around = arm
-    if re.search(r"\bOutOfMemory\b|\bAllocError\b|\bMemory\b", pattern):
+    if all(re.search(r"\bOutOfMemory\b|\bAllocError\b|\bMemory\b", it) for it in pattern.split("|")):
         return True
     value = text[text.rindex("match", 0, around) + len("match") : around]
     return bool(re.match(r"Err\(\s*_\w*\s*\)$", pattern)) and fails_alone(value, function, crate, functions)
@@ -275,7 +275,7 @@ def places(top):
     for file, text in sources.items():
         near = below.get(crate_of(file))
         seen = functions if near is None else {name: [it for it in those if it.crate in near] for name, those in functions.items()}
-        for it in re.finditer(r"\b(?:OutOfMemory|AllocError|%s)\b" % "|".join(MAKERS), text):
+        for it in re.finditer(r"\b(?:OutOfMemory|AllocError|Memory|%s)\b" % "|".join(MAKERS), text):
             function = function_at(text, it.start())
             told = tells_of_memory(text, it.start(), crate_of(file), seen)
             if function not in MAKERS and is_value(text, *it.span()) and not told:

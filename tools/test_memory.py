@@ -45,6 +45,11 @@ class Places(unittest.TestCase):
         self.assertEqual(found("fn f() { match e { Told::OutOfMemory => Fault::OutOfMemory, other => Fault::Other(other), } }"), {})
         self.assertEqual(found("impl From<AllocError> for Fault { fn from(_e: AllocError) -> Fault { Fault::OutOfMemory } }"), {})
         self.assertEqual(found("fn f() { if e.is_memory() { Err(Fault::OutOfMemory) } else { Err(Fault::Other) } }"), {})
+        self.assertEqual(found("fn f() { if e.kind() == io::Kind::OutOfMemory { Status::Memory } else { Status::Usage } }"), {})
+        self.assertEqual(found("fn f() { match p { Prepared::Memory => Report { status: Status::Memory, code: None }, other => other } }"), {})
+
+    def test_an_arm_that_says_something_besides_is_a_place(self):
+        self.assertEqual(found("fn f() { match e { Err(Told::TooLong | Told::OutOfMemory) => Prepared::Memory, Ok(x) => x } }"), {"f": 1})
 
     def test_types_patterns_and_clauses_are_no_places(self):
         self.assertEqual(found("fn f() -> Result<u8, AllocError> ensures { IfErr result (λ e. e ≡ Fault.OutOfMemory) } { Ok(1) }"), {})
