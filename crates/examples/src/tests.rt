@@ -1,6 +1,9 @@
 //! Each call once, on `f(a + 1)` or on a single instruction.
 
-use crate::{Ended, code_of_file, has_right_scopes, laid_out, may_run, run_in_memory, safe_code, text_of_runs};
+use crate::{
+    Ended, code_of_file, has_right_scopes, laid_out, may_run, run_in_memory, safe_code,
+    text_of_runs,
+};
 use py_base::{List, OneIndexed, SourceLocation, Text};
 use py_bytecode::{CodeFlags, CodeObject, ConstantData, Instruction, OpArg};
 use py_codefile::write_code;
