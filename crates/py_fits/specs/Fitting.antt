@@ -1,0 +1,20 @@
+-- The emission of a tree without faults is done, and its tables are small: no operand is too large, and no cell is missing.
+use Rattle.std.specs.Prelude.{◌≡◌, ℕ, ◌<◌, ◌^◌, List, [], length}
+use Rattle.py_tree.specs.Tree as tree
+use Rattle.py_tree.specs.declared.modules.Mode.{Mode}
+use Rattle.py_steps.specs.Context.{outermost}
+use Rattle.py_steps.specs.Emitting.{Done, State}
+use Rattle.py_emission.specs.EmissionMods.{emitted}
+use Rattle.py_meaning.specs.Faults.{faults}
+use Rattle.py_meaning.specs.Scanned.{scopes_of}
+
+-- fewer than 2 ^ 30 names, names of its own, constants and blocks
+pub record IsSmall (s : State) : Type 0 where
+  pub names : length s.names < 2 ^ 30
+  pub varnames : length s.varnames < 2 ^ 30
+  pub constants : length s.constants < 2 ^ 30
+  pub blocks : s.blocks < 2 ^ 30
+
+-- what is emitted of a tree without faults is done, and its tables and blocks are so few, in each mode, at each level of optimization and from each path
+abbrev pub TreesFit : Type 0
+TreesFit = (t : tree.Mod) (m : Mode) (level : ℕ) (path : List ℕ) → faults t m level ≡ [] → (s : State) × (emitted t m (outermost level path (scopes_of t)) ≡ Done s) × IsSmall s
