@@ -1,5 +1,6 @@
 pub mod Nodes
 pub mod Calls
+pub mod CallParts
 pub mod Givens
 pub mod GivenExprs
 pub mod GivenParts

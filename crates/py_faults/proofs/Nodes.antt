@@ -9,7 +9,7 @@ use Rattle.py_refusing.proofs.RefusingExprs.{expr_ends, store_ends}
 use Rattle.py_refusing.proofs.RefusingStmts.{stmt_ends, stmts_end_so}
 use Rattle.py_faults.specs.Nodes.{BodiesEnd, DeletesEnd, EndsBy, ExprsEnd, StatementsEnd, TargetsEnd, TestsEnd}
 
-ends_by : (s : State) (fs : List Fault) (q : SourceLocation) (o : Outcome) → Ends s.around fs q o → EndsBy s fs q o
+pub ends_by : (s : State) (fs : List Fault) (q : SourceLocation) (o : Outcome) → Ends s.around fs q o → EndsBy s fs q o
 ends_by s fs q o (Wide e) = subst (EndsBy s fs q) (sym e) tt
 ends_by s fs q o (Stops x at rest f g) = subst (EndsBy s fs q) (sym f) (rest, g)
 ends_by s fs q o (GoesOn r at around f g) = subst (EndsBy s fs q) (sym f) (g, at, around)

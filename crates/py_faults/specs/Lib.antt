@@ -1,3 +1,4 @@
 pub mod Nodes
 pub mod Calls
+pub mod CallParts
 pub mod Given

@@ -1,5 +1,6 @@
-//! The law of the errors of calls that emit nodes. Its body does nothing.
-ghost use Rattle.py_faults.specs.Calls.{BodyCalls, DeleteCalls, ExpressionCalls, StoreCalls, TestCalls};
+//! The laws of the errors of calls that emit nodes and parts of nodes. Their bodies do nothing.
+ghost use Rattle.py_faults.specs.Calls.{BodyCalls, DeleteCalls, DeletionCalls, ExpressionCalls, StatementCalls, StoreCalls, TestCalls};
+ghost use Rattle.py_faults.specs.CallParts.{ArgumentCalls, ComprehensionCalls, EnteringCalls, FeatureCalls};
 
 /// A call that emits a node of the right shapes answers Ok only where the node has no fault, and else the first of its
 /// faults, or that there is no memory.
@@ -7,6 +8,17 @@ pub fn calls_refused_first()
     ensures expressions { ExpressionCalls }
     ensures tests { TestCalls }
     ensures targets { StoreCalls }
+    ensures deletion { DeletionCalls }
     ensures deletions { DeleteCalls }
+    ensures statements { StatementCalls }
     ensures bodies { BodyCalls }
+{}
+
+/// So does a call that emits a comprehension by its parts, the arguments of a call, the defaults and the parameters of a
+/// function, or the check of what is taken from the future.
+pub fn calls_on_parts_refused_first()
+    ensures comprehensions { ComprehensionCalls }
+    ensures arguments { ArgumentCalls }
+    ensures functions { EnteringCalls }
+    ensures features { FeatureCalls }
 {}
