@@ -3,12 +3,12 @@
 ghost use Rattle.std.specs.Prelude.{◌≡◌, ◌<◌, ◌^◌, [], Some, true, fold, length, slice_get, IfOk, IfErr, OnOk, OnErr};
 ghost use Rattle.py_bytecode.specs.declared.code.ConstantData.{ConstantData};
 ghost use Rattle.std.specs.Option.{option_copied};
-ghost use Rattle.std.specs.List.{flat_map, position_or_len};
+ghost use Rattle.std.specs.List.{IsDistinct, flat_map, position, position_or_len};
 ghost use Rattle.indexmap.specs.IndexSet.{insert_key};
 ghost use Rattle.py_bytecode.specs.View.{constant};
 ghost use Rattle.py_ir.specs.Feeding.{constant_eq, flat, within};
 
-use indexmap::IndexSet;
+use indexmap::{Equivalent, IndexSet};
 use py_base::List;
 use py_bytecode::ConstantData;
 use std::alloc::{AllocError, AllocFailed, Global};
@@ -93,6 +93,54 @@ impl Hash for ConstantKey {
     }
 }
 
+/// A constant that is looked up: it is hashed as the table hashes it.
+#[derive(Clone, Copy, PartialEq, Eq)]
+struct SoughtConstant<'a> {
+    constant: &'a ConstantData,
+}
+
+impl Hash for SoughtConstant<'_> {
+    ghost use Rattle.py_ir.specs.Feeding.{key_input};
+    ghost use Rattle.py_bytecode.specs.contracts.code.ConstantDataHash.TheImpl as hashes;
+    ghost use Rattle.py_bytecode.specs.contracts.code.ConstantDataHash.TheImpl.Laws as hash_laws;
+    ghost use Rattle.py_bytecode.specs.View.{constant};
+    ghost use Rattle.py_bytecode.proofs.Same.{equal_constants};
+    ghost use Rattle.std.proofs.Common.{◌∙◌, ap};
+    ghost use Rattle.std.specs.Prelude.{◌++◌};
+    ghost use Rattle.py_ir.specs.Feeding.{within};
+
+    ghost hash_input = { λ q. key_input q.constant.now };
+
+    ghost respects_eq = { λ x y e. ap (λ ws. ws ++ within (constant x.constant.now)) (hash_laws.respects_eq-law x.constant.now y.constant.now e) ∙ ap (λ c. hashes.ghosts.hash_input y.constant.now ++ within c) (equal_constants x.constant.now y.constant.now e) };
+
+    fn hash<H: Hasher>(&self, state: &mut H) {
+        self.constant.hash(state);
+        feed_within(self.constant, state);
+    }
+}
+
+impl Equivalent<ConstantKey> for SoughtConstant<'_> {
+    ghost use Rattle.py_bytecode.specs.contracts.code.ConstantDataPartialEq.TheImpl as equals;
+    ghost use Rattle.py_bytecode.specs.contracts.code.ConstantDataEq.TheImpl.Laws as equal_laws;
+    ghost use Rattle.py_bytecode.specs.contracts.code.ConstantDataHash.TheImpl as hashes;
+    ghost use Rattle.py_bytecode.specs.contracts.code.ConstantDataHash.TheImpl.Laws as hash_laws;
+    ghost use Rattle.py_bytecode.specs.View.{constant};
+    ghost use Rattle.py_bytecode.proofs.Same.{equal_constants};
+    ghost use Rattle.std.proofs.Common.{◌∙◌, ap};
+    ghost use Rattle.std.specs.Prelude.{◌++◌};
+    ghost use Rattle.py_ir.specs.Feeding.{within};
+
+    ghost equivalent = { λ q k. equals.ghosts.eq q.constant.now k };
+
+    ghost respects_hash = { λ q k e. ap (λ ws. ws ++ within (constant q.constant.now)) (hash_laws.respects_eq-law q.constant.now k e) ∙ ap (λ c. hashes.ghosts.hash_input k ++ within c) (equal_constants q.constant.now k e) };
+
+    ghost respects_eq = { λ q. equal_laws.laws-law.congr q.constant.now };
+
+    fn equivalent(&self, key: &ConstantKey) -> bool {
+        *self.constant == key.constant
+    }
+}
+
 /// Feeds the constants of a code.
 #[tactic(auto, using(crate::proofs::Feeding::flat_constants, py_bytecode::proofs::View::views))]
 fn feed_within<H: Hasher>(item: &ConstantData, state: &mut H)
@@ -169,6 +217,7 @@ impl ConstantSet {
     pub fn len(&self) -> usize
         ensures len { result ≡ length self.now }
         ensures small { result < 2 ^ 63 }
+        ensures distinct { IsDistinct constant_eq self.now }
     {
         self.set.len()
     }
@@ -181,6 +230,13 @@ impl ConstantSet {
             Some(key) => Some(key.constant()),
             None => None,
         }
+    }
+
+    /// The place of a constant, where it is there.
+    pub fn get_index_of(&self, x: &ConstantData) -> Option<usize>
+        ensures { result ≡ position (constant_eq x.now) self.now }
+    {
+        self.set.get_index_of(SoughtConstant { constant: x })
     }
 
     /// The place of a constant. One that is there keeps its place, and a new one goes last.
