@@ -10,6 +10,7 @@ use Rattle.py_bytecode.specs.declared.code.CodeObject.{CodeObject}
 use Rattle.py_forms.specs.Form.{Scope}
 use Rattle.py_forms.specs.Agreement.{Agree, AgreeFull}
 use Rattle.py_base.specs.declared.errors.CodegenErrorType.{CodegenErrorType}
+use Rattle.py_base.specs.declared.errors.CodegenErrorType.TheVariants as error
 use Rattle.py_simulation.proofs.CodeObjects.{objects_agree}
 use Rattle.py_steps.specs.Context.{Context}
 use Rattle.py_steps.specs.Everywhere.{Everywhere}
@@ -18,6 +19,7 @@ use Rattle.py_meaning.specs.Faults.{faults}
 use Rattle.py_meaning.specs.Meaning.{body}
 use Rattle.py_meaning.specs.Scanned.{scan_faults, scopes_of}
 use Rattle.py_emit.specs.Emitted.{IsEmitted}
+use Rattle.py_emit.specs.States.{IsTold}
 use Rattle.py_adds.proofs.Codes.{Ground, MadeFrom}
 use Rattle.py_adds.proofs.Naming.{IsMadeSo, Named}
 use Rattle.py_adds.proofs.WellMade.{WellMade, everywhere_so}
@@ -56,6 +58,7 @@ refused_whole e r t path m l p q s h = record {
   clean = tt;
   first = checked_first e r t m l p q h;
   path = s;
+  nowhere = λ o. q;
 }
 
 on_err : {T E : Type 0} (r : Result T E) (P Q : E → Type 0) → ((x : E) → P x → Q x) → IfErr r P → IfErr r Q
@@ -111,8 +114,8 @@ module _ (r : Result CodeObject (LocatedError CodegenErrorType)) (t : tree.Mod) 
   well_so : (Q : Object → Type 0) → ((o : Object) → WellMade path (scopes_of t) o → Q o) → IfOk r (λ code. Everywhere Q (object code))
   well_so Q f = made_so (Everywhere Q) (λ o h. everywhere_so (WellMade path (scopes_of t)) Q f o h.well)
 
-  pub answered : IfErr r (λ e. IsScanned e t m (around_tree t path l)) → IfErr r (λ e. e.source_path ≡ path) → IsCompiled r t path m l
-  answered first named = record {
+  pub answered : IfErr r (λ e. IsScanned e t m (around_tree t path l)) → IfErr r (λ e. IsTold e path) → IsCompiled r t path m l
+  answered first told = record {
     agrees = made_so (λ o. Agree o scope) (λ o h. agree ground o scope h);
     agrees_full = made_so (λ o. AgreeFull o scope) (λ o h. agree_full ground o scope h);
     resolved = ok_so r (faults t m l ≡ []) (ScopesFollow t) (scopes_follow t m l) faultless;
@@ -131,7 +134,8 @@ module _ (r : Result CodeObject (LocatedError CodegenErrorType)) (t : tree.Mod) 
     nested = on_ok r (λ code. IsEmitted code (around_tree t path l) (emitted t m (around_tree t path l))) (λ code. nesting (object code) < 2 ^ 11) (λ code h. nested_below code t m (around_tree t path l) w.0 h) e;
     clean = faultless;
     first = on_err r (λ e. IsScanned e t m (around_tree t path l)) (λ e. IsFirst e (faults t m l)) (λ e h. refused_first e t m l path w h) first;
-    path = named;
+    path = on_err r (λ e. IsTold e path) (λ e. e.source_path ≡ path) (λ e h. h.0) told;
+    nowhere = on_err r (λ e. IsTold e path) (λ e. e.error ≡ error.OutOfMemory → e.location ≡ None) (λ e h. h.1) told;
   }
     where
       captured : IfOk r (λ code. CapturesCells t m l (object code))

@@ -1,5 +1,5 @@
 -- The first fault of a tree.
-use Rattle.std.proofs.Common.{◌≡◌, ℕ, List, [], ◌∷◌, ◌++◌, Some, None, Err, inl, inr, refl, sym, ap, ◌∙◌}
+use Rattle.std.proofs.Common.{◌≡◌, ℕ, List, [], ◌∷◌, ◌++◌, Option, Some, None, Err, inl, inr, refl, sym, ap, ◌∙◌}
 use Rattle.py_tree.specs.Tree as tree
 use Rattle.py_shapes.specs.Valid.{shapes}
 use Rattle.py_base.specs.declared.location.LocatedError.{LocatedError}
@@ -10,11 +10,16 @@ use Rattle.py_emission.specs.EmissionMods.{emitted}
 use Rattle.py_meaning.specs.ExprFaults.{Fault}
 use Rattle.py_meaning.specs.Faults.{faults, compile_faults}
 use Rattle.py_base.specs.declared.errors.CodegenErrorType.{CodegenErrorType}
+use Rattle.py_base.specs.declared.errors.CodegenErrorType.TheVariants as error
+use Rattle.py_base.specs.declared.location.SourceLocation.{SourceLocation}
 use Rattle.py_meaning.specs.Scanned.{scan_faults, scopes_of}
 use Rattle.codegen.specs.Calls.{IsChecked, IsWhole}
 use Rattle.codegen.specs.Compiled.{IsFirst, IsScan, IsScanned, around_tree}
 use Rattle.py_steps.specs.Context.{Context}
+use Rattle.py_scope.specs.declared.error.ScanFault.{ScanFault}
+use Rattle.py_scope.specs.declared.error.ScanFault.TheVariants as fault
 use Rattle.py_scope.specs.declared.error.SymbolTableError.{SymbolTableError}
+use Rattle.py_uses.specs.Goes.{IsTextOrMemory, TextOrMemory}
 use Rattle.symboltable.specs.Errors.{codegen_error}
 use Rattle.py_emit.specs.Emitted.{IsEmitted}
 use Rattle.py_refusing.proofs.Ending.{refusal_heads, done_faultless}
@@ -62,3 +67,13 @@ told_first e told t m c scanned p q = inl (λ known.
     let f = scanned (λ out. known (p ∙ ap codegen_error out)) in
     let at : (record { error = codegen_error e.error; location = e.location } ∷ f.0) ≡ fault_of told ∷ f.0 = λ i. record { error = sym p i; location = sym q i } ∷ f.0 in
     (f.0, f.1 ∙ at))
+
+-- an error of the scan is a text, or want of memory, which stands nowhere
+pub told_nowhere : (e : SymbolTableError) → IsTextOrMemory e → codegen_error e.error ≡ error.OutOfMemory → e.location ≡ None
+told_nowhere e told = go e.error e.location told
+  where
+    go : (f : ScanFault) (at : Option SourceLocation) → TextOrMemory f at → codegen_error f ≡ error.OutOfMemory → at ≡ None
+    go (fault.Text text) at h o = absurd cc
+    go (fault.Malformed shape) at h o = absurd h
+    go (fault.TooLarge limit) at h o = absurd h
+    go fault.OutOfMemory at h o = h

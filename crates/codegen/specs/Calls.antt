@@ -13,6 +13,7 @@ use Rattle.py_bytecode.specs.declared.code.CodeObject.{CodeObject}
 use Rattle.py_walks.specs.Sound.{sound}
 use Rattle.py_forms.specs.Agreement.{Agree, AgreeFull}
 use Rattle.py_base.specs.declared.errors.CodegenErrorType.{CodegenErrorType}
+use Rattle.py_base.specs.declared.errors.CodegenErrorType.TheVariants as error
 use Rattle.py_steps.specs.Everywhere.{Everywhere}
 use Rattle.py_emit.specs.Emitted.{IsEmitted}
 use Rattle.py_adds.specs.Distinct.{HasDistinctNames}
@@ -56,6 +57,8 @@ pub record IsCompiled (answer : Result CodeObject (LocatedError CodegenErrorType
   pub clean : OnOk answer (faults t m l ≡ [])
   pub first : IfErr answer (λ e. IsFirst e (faults t m l))
   pub path : IfErr answer (λ e. e.source_path ≡ source)
+  -- want of memory stands nowhere in the source
+  pub nowhere : IfErr answer (λ e. e.error ≡ error.OutOfMemory → e.location ≡ None)
 
 -- two answers for equal trees, paths, modes and levels are equal codes, where both are codes
 abbrev pub EqualTreesHaveEqualCode : Type 0

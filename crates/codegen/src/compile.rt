@@ -3,13 +3,14 @@
 ghost use Rattle.std.specs.Prelude.{◌≡◌, [], None, IfOk, IfErr, OnOk};
 ghost use Rattle.py_tree.specs.Tree as tree;
 ghost use Rattle.py_tree.specs.View.{expr_tree, mod_tree, stmts, stmt_tree};
+ghost use Rattle.py_uses.specs.Goes.{IsTextOrMemory};
 ghost use Rattle.py_steps.specs.Context.{outermost};
 ghost use Rattle.py_emission.specs.EmissionMods.{emission_of_mod, emitted};
 ghost use Rattle.py_meaning.specs.Scanned.{scan_faults, scopes_of};
 ghost use Rattle.codegen.specs.Calls.{IsCompiled, IsWhole, tree_of};
 ghost use Rattle.codegen.specs.Compiled.{IsRefused, IsScan, IsScanned, around_tree};
 ghost use Rattle.py_emit.specs.Emitted.{IsEmitted};
-ghost use Rattle.py_emit.specs.States.{AreMade, Emits, rest};
+ghost use Rattle.py_emit.specs.States.{AreMade, Emits, IsTold, rest};
 
 use crate::program::{Program, emit_interactive, emit_program};
 use crate::whole::{body_fault, expr_fault, tree_fault};
@@ -172,7 +173,8 @@ fn compile_valid(
 
 /// The scopes of a program. What is entered at a prompt is scanned as a file is.
 fn scan(alloc: Global, program: &Program<'_>) -> Result<SymbolTable, SymbolTableError>
-    ensures { IsScan (tree_of program.now) result }
+    ensures scanned { IsScan (tree_of program.now) result }
+    ensures told { IfErr result IsTextOrMemory }
 {
     match program {
         Program::Module(body) => scan_body(alloc, body),
@@ -192,10 +194,11 @@ fn compile_scanned(
 ) -> Result<CodeObject, CodegenError>
     requires whole { IsWhole (tree_of program.now) mode }
     requires scanned { IsScan (tree_of program.now) table }
+    requires told { IfErr table IsTextOrMemory }
     ensures emission { IfOk result (λ code. IsEmitted code (around_tree (tree_of program.now) source_path opts.optimize) (emitted (tree_of program.now) mode (around_tree (tree_of program.now) source_path opts.optimize))) }
     ensures clean { OnOk result (scan_faults (tree_of program.now) ≡ []) }
     ensures first { IfErr result (λ e. IsScanned e (tree_of program.now) mode (around_tree (tree_of program.now) source_path opts.optimize)) }
-    ensures path { IfErr result (λ e. e.source_path ≡ source_path) }
+    ensures told { IfErr result (λ e. IsTold e source_path) }
 {
     let table = match table {
         Ok(table) => table,
@@ -221,7 +224,7 @@ fn compile_mod(
     requires scanned { scopes ≡ scopes_of (tree_of program.now) }
     ensures emission { IfOk result (λ code. IsEmitted code (outermost opts.optimize source_path scopes) (emitted (tree_of program.now) mode (outermost opts.optimize source_path scopes))) }
     ensures refused { IfErr result (λ e. IsRefused e (emitted (tree_of program.now) mode (outermost opts.optimize source_path scopes))) }
-    ensures path { IfErr result (λ e. e.source_path ≡ source_path) }
+    ensures told { IfErr result (λ e. IsTold e source_path) }
 {
     let mut em = Emitter::over(alloc, opts, source_path, scopes)?;
     emit_mod(&mut em, program, mode)?;

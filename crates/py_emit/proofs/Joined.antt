@@ -7,7 +7,7 @@ use Rattle.py_base.specs.declared.errors.CodegenErrorType.{CodegenErrorType}
 use Rattle.py_base.specs.declared.errors.CodegenErrorType.TheVariants as error
 use Rattle.py_steps.specs.Emitting.{State, Outcome, Done, TooWide, Refused, Emission, ◌▸◌, go_on, keep}
 use Rattle.py_steps.specs.EmissionParts.{in_turn}
-use Rattle.py_emit.specs.States.{Goes, Rest, Same}
+use Rattle.py_emit.specs.States.{Goes, IsTold, Rest, Same}
 
 go_join : (o : Outcome) (b c : Emission) → go_on (go_on o b) c ≡ go_on o (b ▸ c)
 go_join (Done s) b c = refl
@@ -64,8 +64,8 @@ pub first_refuses : {A : Type 0} (r : Result A (LocatedError CodegenErrorType)) 
 first_refuses r x s o p b e q h = refuses_as r x s (go_on o b) p e q (λ n. refused_first o b x.error x.location (h n))
 
 -- the error of a step names the path of what was before it
-pub same_error : {A : Type 0} (r : Result A (LocatedError CodegenErrorType)) (x : LocatedError CodegenErrorType) (after before first : Rest) → r ≡ Err x → x.source_path ≡ before.path → before ≡ first → Same r after first
-same_error r x after before first e p q = subst (λ y. Same y after first) (sym e) (p ∙ ap (λ (z : Rest). z.path) q)
+pub same_error : {A : Type 0} (r : Result A (LocatedError CodegenErrorType)) (x : LocatedError CodegenErrorType) (after before first : Rest) → r ≡ Err x → IsTold x before.path → before ≡ first → Same r after first
+same_error r x after before first e p q = subst (λ y. Same y after first) (sym e) (p.0 ∙ ap (λ (z : Rest). z.path) q, p.1)
 
 pub done_same : (r o : State) → ◌≡◌ {A = Outcome} (Done r) (Done o) → r ≡ o
 done_same r o e = cc

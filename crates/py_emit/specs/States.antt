@@ -173,10 +173,14 @@ abbrev pub Goes : {A : Type 0} → Result A (LocatedError CodegenErrorType) → 
 Goes (Ok a) s o = o ≡ Done s
 Goes (Err e) s o = e.error ≢ error.OutOfMemory → o ≡ Refused e.error e.location
 
--- where a call is Ok, the rest is as it was; where it is not, the error names the path
+-- an error names the path, and want of memory stands nowhere
+abbrev pub IsTold : LocatedError CodegenErrorType → (path : List ℕ) → Type 0
+IsTold e path = (e.source_path ≡ path) × (e.error ≡ error.OutOfMemory → e.location ≡ None)
+
+-- where a call is Ok, the rest is as it was; where it is not, the error names the path, and want of memory stands nowhere
 abbrev pub Same : {A : Type 0} → Result A (LocatedError CodegenErrorType) → (after before : Rest) → Type 0
 Same (Ok a) after before = after ≡ before
-Same (Err e) after before = e.source_path ≡ before.path
+Same (Err e) after before = IsTold e before.path
 
 -- a call emits this: where it is Ok, it has come from the state before to the one after, and the rest is as it was; where it is not, the
 -- emission is refused so, and the error names the path, unless memory is wanting

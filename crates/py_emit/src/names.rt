@@ -13,7 +13,7 @@ ghost use Rattle.py_steps.specs.EmissionParts.{unless_debug};
 ghost use Rattle.py_steps.specs.Emitting.{Refused, emit as emission_of_arg, emit_mangled as emission_mangled, refuse};
 ghost use Rattle.py_steps.specs.TableParts.{debug_constant as constant_debug, is_debug as named_debug};
 ghost use Rattle.py_emit.specs.Access.{emission_of_access, kind_of, usage_of};
-ghost use Rattle.py_emit.specs.States.{Emits, IsStarved, rest, state};
+ghost use Rattle.py_emit.specs.States.{Emits, IsStarved, IsTold, rest, state};
 
 use crate::context::{CompileOpts, NameUsage};
 use crate::emitter::Emitter;
@@ -319,7 +319,7 @@ impl Emitter {
     #[tactic(auto, unfolding(py_steps::specs::Emitting::refuse))]
     pub fn syntax_error(&mut self, text: &str) -> CodegenError
         ensures goes { result.error ≢ CodegenErrorType.OutOfMemory → refuse (CodegenErrorType.SyntaxError text.now) (state self.old) ≡ Refused result.error result.location }
-        ensures path { result.source_path ≡ (rest self.old).path }
+        ensures told { IsTold result (rest self.old).path }
     {
         match self.text(text) {
             Ok(copy) => self.error(CodegenErrorType::SyntaxError(copy)),

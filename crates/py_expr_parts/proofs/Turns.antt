@@ -19,7 +19,7 @@ use Rattle.py_steps.specs.TableParts.{deciding}
 use Rattle.py_steps.specs.Emitting.{Emission, State, Refused, ◌▸◌, jump, refuse}
 use Rattle.py_steps.specs.EmissionParts.{Emissions, chain, comparisons, dict_value, emission_of_compare, emission_of_dict, emission_of_link, first_comparison, in_turn, keeping_jump, links, shorts, some_test, past_tests, tests, values}
 use Rattle.py_emission.specs.Emission.{all_emissions, emission, emission_of_test, opt_emissions}
-use Rattle.py_emit.specs.States.{placed_error}
+use Rattle.py_emit.specs.States.{IsTold, placed_error}
 use Rattle.py_emit.proofs.Joined.{joined, keep_last}
 use Rattle.py_expr_parts.specs.Turns.{linked, short}
 use Rattle.py_base.specs.declared.location.LocatedError.{LocatedError}
@@ -162,14 +162,14 @@ either_jump t false jump stop last e = ap (λ (j : JumpIf). emission_of_test t j
 pub refused_shape : (m : Malformed) (s : State) (path : List ℕ) (r : LocatedError CodegenErrorType) → r ≡ placed_error (error.MalformedTree m) s.location path → refuse (error.MalformedTree m) s ≡ Refused r.error r.location
 refused_shape m s path r e = refused_as (error.MalformedTree m) s r (ap (λ (x : LocatedError CodegenErrorType). x.error) e) (ap (λ (x : LocatedError CodegenErrorType). x.location) e)
 
-pub path_of : (m : Malformed) (s : State) (path : List ℕ) (r : LocatedError CodegenErrorType) → r ≡ placed_error (error.MalformedTree m) s.location path → r.source_path ≡ path
-path_of m s path r e = ap (λ (x : LocatedError CodegenErrorType). x.source_path) e
+pub path_of : (m : Malformed) (s : State) (path : List ℕ) (r : LocatedError CodegenErrorType) → r ≡ placed_error (error.MalformedTree m) s.location path → IsTold r path
+path_of m s path r e = (ap (λ (x : LocatedError CodegenErrorType). x.source_path) e, λ o. absurd (let q : error.MalformedTree m ≡ error.OutOfMemory = sym (ap (λ (x : LocatedError CodegenErrorType). x.error) e) ∙ o in cc))
 
 -- an error at the location of the state, unless it says that memory is wanting
 pub refused_so : (e : CodegenErrorType) (s : State) (path : List ℕ) (r : LocatedError CodegenErrorType) → r ≡ placed_error e s.location path → r.error ≢ error.OutOfMemory → refuse e s ≡ Refused r.error r.location
 refused_so error.OutOfMemory s path r h n = absurd (n (ap (λ (x : LocatedError CodegenErrorType). x.error) h))
 refused_so e s path r h n = refused_as e s r (ap (λ (x : LocatedError CodegenErrorType). x.error) h) (ap (λ (x : LocatedError CodegenErrorType). x.location) h)
 
-pub placed_path : (e : CodegenErrorType) (at : SourceLocation) (path : List ℕ) (r : LocatedError CodegenErrorType) → r ≡ placed_error e at path → r.source_path ≡ path
-placed_path error.OutOfMemory at path r h = ap (λ (x : LocatedError CodegenErrorType). x.source_path) h
-placed_path e at path r h = ap (λ (x : LocatedError CodegenErrorType). x.source_path) h
+pub placed_path : (e : CodegenErrorType) (at : SourceLocation) (path : List ℕ) (r : LocatedError CodegenErrorType) → r ≡ placed_error e at path → IsTold r path
+placed_path error.OutOfMemory at path r h = (ap (λ (x : LocatedError CodegenErrorType). x.source_path) h, λ o. ap (λ (x : LocatedError CodegenErrorType). x.location) h)
+placed_path e at path r h = (ap (λ (x : LocatedError CodegenErrorType). x.source_path) h, λ o. absurd (let q : e ≡ error.OutOfMemory = sym (ap (λ (x : LocatedError CodegenErrorType). x.error) h) ∙ o in cc))

@@ -20,7 +20,7 @@ use Rattle.py_steps.specs.EmissionParts.{pass_scopes}
 use Rattle.py_steps.specs.Sealed.{sealed}
 use Rattle.py_emission.specs.Emission.{lambda_value}
 use Rattle.py_emission.specs.Parameters.{function_shape, parameters}
-use Rattle.py_emit.specs.States.{IsStarved, Rest, Same, entered, entered_rest, left, left_rest, named_in, rest, state}
+use Rattle.py_emit.specs.States.{IsStarved, IsTold, Rest, Same, entered, entered_rest, left, left_rest, named_in, rest, state}
 use Rattle.py_emit.specs.declared.context.Naming.{Naming}
 use Rattle.py_emit.specs.declared.emitter.Emitter.{Emitter}
 use Rattle.py_emit.specs.declared.scopes.OpenScope.{OpenScope}
@@ -72,13 +72,13 @@ module _ (typ : SymbolTableType) (n : Naming) (h : Shape) (first entry : Emitter
     left_gives body (Err e) done is goes err = λ k ne. absurd (ne err.error_is)
 
     -- an error names the path of the scope around
-    pub same_path : (r : Result CodeObject (LocatedError CodegenErrorType)) (x : LocatedError CodegenErrorType) (s : Rest) → r ≡ Err x → x.source_path ≡ (rest last).path → Same r s (rest first)
-    same_path r x s e why = subst (λ y. Same y s (rest first)) (sym e) (why ∙ ap (λ (z : Rest). z.path) (same ∙ into))
+    pub same_path : (r : Result CodeObject (LocatedError CodegenErrorType)) (x : LocatedError CodegenErrorType) (s : Rest) → r ≡ Err x → IsTold x (rest last).path → Same r s (rest first)
+    same_path r x s e why = subst (λ y. Same y s (rest first)) (sym e) (why.0 ∙ ap (λ (z : Rest). z.path) (same ∙ into), why.1)
 
     -- the scope around goes on as it was
     pub left_keeps : (r : Result CodeObject (LocatedError CodegenErrorType)) → OnOk r ((outer : List OpenScope) (o : OpenScope) → (rest last).outer ≡ outer ++ o ∷ [] → rest after ≡ left_rest outer o (rest last)) → IfErr r (λ e. IsStarved e (rest last).path) → Same r (rest after) (rest first)
     left_keeps (Ok code) goes err = left_same typ n h first entry last into same (rest after) (goes (rest first).outer first.scope (outer_is typ n h first entry last into same))
-    left_keeps (Err e) goes err = err.path_is ∙ ap (λ (x : Rest). x.path) (same ∙ into)
+    left_keeps (Err e) goes err = (err.path_is ∙ ap (λ (x : Rest). x.path) (same ∙ into), λ o. err.location_is)
 
 -- a lambda of these parameters, whose body is returned so
 module _ (p : tree.Arguments) (v : Emission) where

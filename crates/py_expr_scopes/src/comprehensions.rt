@@ -1,5 +1,5 @@
 //! The scope of a comprehension: what it makes, how it begins and ends, and what takes each element.
-ghost use Rattle.std.specs.Prelude.{◌≡◌, ◌≢◌, suc, IfErr, OnOk};
+ghost use Rattle.std.specs.Prelude.{◌≡◌, ◌≢◌, suc, None, IfErr, OnOk};
 ghost use Rattle.py_tree.specs.View.{expr_tree, generators as clause_trees};
 ghost use Rattle.py_bytecode.specs.View.{object};
 ghost use Rattle.py_steps.specs.Children.{code_head, made};
@@ -144,6 +144,7 @@ pub fn retell(alloc: Global, error: CodegenError) -> CodegenError
     ensures error { result.error ≢ CodegenErrorType.OutOfMemory → result.error ≡ retold error.error }
     ensures location { result.error ≢ CodegenErrorType.OutOfMemory → result.location ≡ error.location }
     ensures path { result.source_path ≡ error.source_path }
+    ensures nowhere { (error.error ≡ CodegenErrorType.OutOfMemory → error.location ≡ None) → result.error ≡ CodegenErrorType.OutOfMemory → result.location ≡ None }
 {
     if !matches!(&error.error, CodegenErrorType::InvalidStarExpr) {
         return error;

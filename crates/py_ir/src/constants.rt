@@ -3,7 +3,7 @@
 ghost use Rattle.std.specs.Prelude.{◌≡◌, ◌<◌, ◌^◌, [], Some, true, fold, length, slice_get, IfOk, IfErr, OnOk, OnErr};
 ghost use Rattle.py_bytecode.specs.declared.code.ConstantData.{ConstantData};
 ghost use Rattle.std.specs.Option.{option_copied};
-ghost use Rattle.std.specs.List.{flat_map, position_or_len};
+ghost use Rattle.std.specs.List.{IsDistinct, flat_map, position_or_len};
 ghost use Rattle.indexmap.specs.IndexSet.{insert_key};
 ghost use Rattle.py_bytecode.specs.View.{constant};
 ghost use Rattle.py_ir.specs.Feeding.{constant_eq, flat, within};
@@ -169,6 +169,7 @@ impl ConstantSet {
     pub fn len(&self) -> usize
         ensures len { result ≡ length self.now }
         ensures small { result < 2 ^ 63 }
+        ensures distinct { IsDistinct constant_eq self.now }
     {
         self.set.len()
     }

@@ -4,7 +4,7 @@ ghost use Rattle.py_tree.specs.View.{stmt_tree};
 ghost use Rattle.py_uses.specs.Parts.{names_annotations};
 ghost use Rattle.py_emission.specs.EmissionFutures.{check_features, emission_of_future};
 ghost use Rattle.py_emission.specs.Futures.{future_of, is_feature};
-ghost use Rattle.py_emit.specs.States.{Emits, postponed_rest, rest, state};
+ghost use Rattle.py_emit.specs.States.{Emits, IsTold, postponed_rest, rest, state};
 ghost use Rattle.py_stmt_parts.specs.Futures.{AreChanged, Entered, IsRefusing, NoFuture, Opens, changed_rest, future, restored_state};
 
 use crate::imports::import_from;
@@ -43,7 +43,7 @@ pub fn compile_futures(em: &mut Emitter, body: &[Stmt]) -> Result<Opening, Codeg
     ensures opens { Opens result (state em.old) (state em.new) body.now }
     ensures within { IfOk result (λ o. o.count ≤ length body.now) }
     ensures rest { IfOk result (λ o. rest em.new ≡ changed_rest o.postponed (rest em.old)) }
-    ensures path { IfErr result (λ e. e.source_path ≡ (rest em.old).path) }
+    ensures told { IfErr result (λ e. IsTold e (rest em.old).path) }
 {
     let mut count = 0;
     let mut postponed = false;
@@ -68,7 +68,7 @@ pub fn enter_future(
     ensures entered { IfOk result (λ after. Entered (emission_of_future (future s.now)) (names_annotations s.now.names) (state em.old) (state em.new) postponed after) }
     ensures refused { IfErr result (λ e. IsRefusing e (emission_of_future (future s.now) (state em.old))) }
     ensures rest { IfOk result (λ after. AreChanged postponed after (rest em.old) (rest em.new)) }
-    ensures path { IfErr result (λ e. e.source_path ≡ (rest em.old).path) }
+    ensures told { IfErr result (λ e. IsTold e (rest em.old).path) }
 {
     if compile_future(em, s)? {
         em.set_postponed(true);

@@ -3,7 +3,7 @@ ghost use Rattle.std.specs.Prelude.{◌≡◌, ◌≤◌, ◌<◌, ◌+◌, fals
 ghost use Rattle.py_tree.specs.View.{expr_tree, stmt_tree};
 ghost use Rattle.py_steps.specs.Emitting.{◌▸◌, emit as emitting};
 ghost use Rattle.py_emission.specs.Emission.{emission};
-ghost use Rattle.py_emit.specs.States.{rest, state};
+ghost use Rattle.py_emit.specs.States.{IsTold, rest, state};
 ghost use Rattle.py_stmt_parts.specs.Futures.{AreChanged, Entered, IsRefusing, changed_rest};
 ghost use Rattle.py_stmt_simple.specs.Futures.{Begins, NoBegin, Prompts, begin_emission, begin_postpones, begins, followers};
 
@@ -30,7 +30,7 @@ pub fn compile_openings(em: &mut Emitter, body: &[Stmt]) -> Result<Opening, Code
     ensures opens { Prompts result (state em.old) (state em.new) body.now }
     ensures within { IfOk result (λ o. o.count ≤ length body.now) }
     ensures rest { IfOk result (λ o. rest em.new ≡ changed_rest o.postponed (rest em.old)) }
-    ensures path { IfErr result (λ e. e.source_path ≡ (rest em.old).path) }
+    ensures told { IfErr result (λ e. IsTold e (rest em.old).path) }
 {
     let mut count = 0;
     let mut postponed = false;
@@ -75,7 +75,7 @@ fn enter_begin(em: &mut Emitter, begin: Begin<'_>, postponed: bool) -> Result<bo
     ensures entered { IfOk result (λ after. Entered (begin_emission begin.entry) (begin_postpones begin.entry) (state em.old) (state em.new) postponed after) }
     ensures refused { IfErr result (λ e. IsRefusing e (begin_emission begin.entry (state em.old))) }
     ensures rest { IfOk result (λ after. AreChanged postponed after (rest em.old) (rest em.new)) }
-    ensures path { IfErr result (λ e. e.source_path ≡ (rest em.old).path) }
+    ensures told { IfErr result (λ e. IsTold e (rest em.old).path) }
 {
     match begin {
         Begin::Future(s) => enter_future(em, s, postponed),
@@ -88,7 +88,7 @@ fn enter_value(em: &mut Emitter, s: &StmtExpr, postponed: bool) -> Result<bool, 
     ensures entered { IfOk result (λ after. Entered (emission (expr_tree s.now.value.value) ▸ emitting Instruction.PrintExpr 0) false (state em.old) (state em.new) postponed after) }
     ensures refused { IfErr result (λ e. IsRefusing e ((emission (expr_tree s.now.value.value) ▸ emitting Instruction.PrintExpr 0) (state em.old))) }
     ensures rest { IfOk result (λ after. AreChanged postponed after (rest em.old) (rest em.new)) }
-    ensures path { IfErr result (λ e. e.source_path ≡ (rest em.old).path) }
+    ensures told { IfErr result (λ e. IsTold e (rest em.old).path) }
 {
     print_value(em, &s.value)?;
     Ok(postponed)

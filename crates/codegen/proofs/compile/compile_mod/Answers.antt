@@ -11,7 +11,7 @@ use Rattle.py_adds.proofs.Codes.{LoadsFew}
 use Rattle.py_loads.proofs.Loading.{tree_loads_few}
 use Rattle.py_base.specs.declared.errors.CodegenErrorType.{CodegenErrorType}
 use Rattle.py_emit.specs.Emitted.{IsEmitted}
-use Rattle.py_emit.specs.States.{Rest, info, rest, state}
+use Rattle.py_emit.specs.States.{IsTold, Rest, info, rest, state}
 use Rattle.codegen.specs.Compiled.{IsRefused}
 use Rattle.codegen.proofs.Firsts.{done_clean}
 use Rattle.codegen.proofs.Made.{goes_first, made_mod, unrefused_mod}
@@ -31,10 +31,10 @@ returns-in_err-emit_mod-clause-refused c =
     let h : IsRefused c.in_err-emit_mod.field-0.0 (emitted (tree_of c.args.program.now) c.args.mode (outermost c.args.opts.optimize c.args.source_path c.args.scopes)) = goes_first (tree_of c.args.program.now) c.args.mode c.args.opts c.args.source_path c.args.scopes c.in_ok-em.em c.in_ok-em.ensures.state c.in_ok-em.ensures.rest x (state c.emit_mod.new.em) c.in_err-emit_mod.ensures.goes in
     subst (λ y. IfErr y (λ e. IsRefused e (emitted (tree_of c.args.program.now) c.args.mode (outermost c.args.opts.optimize c.args.source_path c.args.scopes)))) (sym r) h
 
-pub returns-in_err-emit_mod-clause-path : goal.returns-in_err-emit_mod-clause-path
-returns-in_err-emit_mod-clause-path c =
+pub returns-in_err-emit_mod-clause-told : goal.returns-in_err-emit_mod-clause-told
+returns-in_err-emit_mod-clause-told c =
     let r : c.from_residual-in_err-emit_mod.result ≡ Err c.in_err-emit_mod.field-0.0 = errs _ _ c.from_residual-in_err-emit_mod.ensures.1 in
-    subst (λ y. IfErr y (λ e. e.source_path ≡ c.args.source_path)) (sym r) (c.in_err-emit_mod.ensures.same ∙ ap (λ (q : Rest). q.path) c.in_ok-em.ensures.rest)
+    subst (λ y. IfErr y (λ e. IsTold e c.args.source_path)) (sym r) (c.in_err-emit_mod.ensures.same.0 ∙ ap (λ (q : Rest). q.path) c.in_ok-em.ensures.rest, c.in_err-emit_mod.ensures.same.1)
 
 pub finish-requires : goal.finish-requires
 finish-requires c =

@@ -5,4 +5,4 @@ use Rattle.codegen.proofs.compile.compile_valid.Goals as goal
 pub returns : goal.returns
 returns c =
     let e = c.compile_scanned.ensures in
-    answered c.compile_scanned.result (tree_of c.args.program.now) c.args.source_path c.args.mode c.args.opts.optimize c.requires e.emission e.clean e.first e.path
+    answered c.compile_scanned.result (tree_of c.args.program.now) c.args.source_path c.args.mode c.args.opts.optimize c.requires e.emission e.clean e.first e.told

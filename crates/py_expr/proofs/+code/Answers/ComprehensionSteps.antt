@@ -196,7 +196,7 @@ unstarred_refused t c = record {
       let f = c.retell.ensures.error in
       let g = c.retell.ensures.location in
       λ n. told_refused (emission (expr_tree c.args.elt.now)) (state c.args.em.now) e.error e.location (c.in-Err.ensures.goes (λ q. n (f n ∙ ap retold q))) ∙ (λ i. Refused (sym (f n) i) (sym (g n) i));
-  same = search rules;
+  same = (c.retell.ensures.path ∙ c.in-Err.ensures.same.0, c.retell.ensures.nowhere c.in-Err.ensures.same.1);
 }
 
 -- a dict comprehension, of a key and a value
