@@ -11,7 +11,7 @@ use std::process::Abort;
 use std::test::Fail;
 
 /// An emitter of a module without names.
-fn emitter(alloc: Global) -> Result<Emitter, Fail> {
+pub fn emitter(alloc: Global) -> Result<Emitter, Fail> {
     let table = SymbolTable {
         name: text(alloc, "top")?,
         typ: SymbolTableType::Module,

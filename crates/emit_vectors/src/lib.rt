@@ -12,4 +12,8 @@ mod emit;
 #[cfg(test)]
 mod fixtures;
 #[cfg(test)]
+mod naming;
+#[cfg(test)]
+mod paths;
+#[cfg(test)]
 mod tables;
