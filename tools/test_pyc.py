@@ -217,6 +217,28 @@ class Fresh(unittest.TestCase):
         self.assertEqual(build.chains(["d", "b", "c", "a"], crates, weights), {"a": 1, "b": 3, "c": 6, "d": 9})
         self.assertGreaterEqual(build.lanes_here(), 1)
 
+    def test_copies_of_lanes(self):
+        # rt proves a crate where what is below it is proved in the same copy; no two runs share a copy.
+        rt = """#!/bin/sh
+[ "$1" = lib ] || exit 2
+mkdir ../../busy && sleep 0.2 || exit 3
+case ${PWD##*/} in
+    high) [ -e ../low/out/rlib/stamp ] || exit 4 ;;
+esac
+[ -e src/lib.rt ] && mkdir -p out/rlib out/incremental && echo "$PWD" >out/rlib/stamp && echo 1 >out/incremental/work && rmdir ../../busy
+"""
+        write_program(self.bin / "rt", rt)
+        (self.root / "crates.txt").write_text("pyc: high other\nhigh: low\nother:\nlow:\n")
+        for name in ("pyc", "high", "low", "other"):
+            (self.root / "crates" / name / "src").mkdir()
+            (self.root / "crates" / name / "src" / "lib.rt").write_text("")
+        status, out, told = self.call([sys.executable, self.root / "tools" / "build.py", "--lanes", "2", "pyc"])
+        self.assertEqual((status, out), (0, ""), told)
+        lanes = {(self.root / "crates" / name / "out" / "rlib" / "stamp").read_text().split("/lanes-")[1].split("/")[1] for name in ("low", "other")}
+        self.assertEqual(lanes, {"0", "1"})
+        self.assertTrue((self.root / "crates" / "high" / "out" / "incremental" / "work").exists())
+        self.assertEqual(list((self.root / "crates" / "pyc" / "out").iterdir()), [])
+
     def test_a_crate_that_is_not_proved(self):
         self.with_builder()
         write_program(self.bin / "rt", "#!/bin/sh\necho open goal; exit 1\n")
