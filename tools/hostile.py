@@ -74,6 +74,10 @@ CALLED = Ended(DONE, CALL_LISTING, b"")
 NOTHING = b'[["Module",[]]]'
 NOTHING_LISTING = b"code '<module>' from 'm.py' line 1 flags 1 args 0 0 0 depth 0\nconstants: None\n0 1:1 ReturnConst 0 None\n"
 
+# A made program, and the summary of its code, as docs/COMMANDS.md has both.
+SAMPLE = ["sample", "8", "0"]
+SUMMARY = b"statements 8\ncodes 5\nunits 57\nconstants 6\ndepth 3\n"
+
 BREAK = b'[["Break",3,5],["Module",[0]]]'
 BREAK_LINE = b"3:5 'break' outside loop\n"
 
@@ -768,6 +772,7 @@ def runs_to_refuse(source):
     yield "refused tree", WORDS, late, Ended(REFUSED, None, None)
     yield "wrong rows", WORDS, twice(data), Ended(INPUT, None, None)
     yield "wrong words", ["exec", "3", "m.py"], b"", Ended(USAGE, None, None)
+    yield "sample", SAMPLE, b"", Ended(DONE, SUMMARY, b"")
 
 
 class Refuser:

@@ -126,6 +126,13 @@ class Hostile(unittest.TestCase):
         for data, listing in (hostile.CALL, hostile.CALL_LISTING), (hostile.NOTHING, hostile.NOTHING_LISTING), hostile.wide(7):
             self.assertEqual(model.run(hostile.WORDS, data)[:2], (0, listing.decode("utf-8")))
         self.assertGreater(len(hostile.WIDE_LISTING), 2 * 65536)
+        self.assertEqual(model.run(hostile.SAMPLE, b"")[:2], (0, hostile.SUMMARY.decode("utf-8")))
+
+    def test_allocations_are_refused_to_each_command(self):
+        runs = list(hostile.runs_to_refuse(hostile.MODULE.encode("utf-8")))
+        self.assertEqual(len(runs), len({name for name, *_ in runs}))
+        commands = {words[0] for _, words, _, wanted in runs if wanted.status == hostile.DONE}
+        self.assertEqual(commands, {"exec", "pack", "unpack", "step", "names", "sample"})
 
     def test_each_text_of_a_fault_is_there(self):
         lines = " ".join(line for _, line in cases.refused_trees())
