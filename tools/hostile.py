@@ -13,7 +13,8 @@ usage: hostile.py {allocations,calls,rows,files,devices,stack,words} [--program 
 
 The program is crates/pyc/out/pyc, which pyc.sh builds, or crates/single_calls/out/single_calls, which `rt ci` leaves. What differs is told with the input, what is wanted and what came;
 the last line has the counts. The status is 0 where nothing differs, 1 where something does, and 2 where the words are not as
-above. What is wanted comes from docs/ROWS.md and README.md, and none of it from the program. Python 3.8 or later, on Linux.
+above. What is wanted comes from docs/ROWS.md and README.md, reports on names from tools/model, and none of it from the program.
+Python 3.8 or later, on Linux.
 """
 import argparse
 import collections
@@ -38,6 +39,7 @@ import tty
 
 import code_files
 import hostile_cases as cases
+import names_table
 import rows as rows_of_python
 
 TOOLS = pathlib.Path(__file__).resolve().parent
@@ -50,6 +52,10 @@ SECONDS = 120
 DONE, REFUSED, USAGE, INPUT, READ_FAULT, WRITE_FAULT, MEMORY = range(7)
 
 WORDS = ["exec", "0", "m.py"]
+
+# The commands that read rows, and the one that reads a code file.
+READERS = [WORDS, ["pack", *WORDS], ["step", *WORDS, "g1"], ["names", "m.py"]]
+UNPACK = ["unpack"]
 USAGE_LINE = b"usage: pyc MODE LEVEL PATH\n"
 
 # A status, which is negative for a signal, None where there was no end, and a text where something else is wrong, and what
@@ -73,6 +79,8 @@ CALLED = Ended(DONE, CALL_LISTING, b"")
 
 NOTHING = b'[["Module",[]]]'
 NOTHING_LISTING = b"code '<module>' from 'm.py' line 1 flags 1 args 0 0 0 depth 0\nconstants: None\n0 1:1 ReturnConst 0 None\n"
+NOTHING_FILE = code_files.MAGIC + code_files.code({**code_files.ONE, "constants": [None]})
+NOTHING_RUNS = b"code\nreturned None\ntree\nreturned None\n"
 
 # A made program, and the summary of its code, as docs/COMMANDS.md has both.
 SAMPLE = ["sample", "8", "0"]
@@ -181,13 +189,46 @@ def names_of(count):
     return cases.text_of(cases.rows_of(cases.module(("Global", 1, 1, ["a"] * count))))
 
 
+def no_file(data):
+    """What is wanted of `unpack` over bytes that are no code file."""
+    return misread("bad code file at %s" % code_files.answer(data).split()[1])
+
+
+def with_unpack(name, data, wanted):
+    """An input that is neither rows nor a code file, by each command that reads one: as rows it ends as is wanted."""
+    for words in READERS:
+        yield "%s, by %s" % (name, words[0]), words, data, wanted
+    yield "%s, by unpack" % name, UNPACK, data, wanted if len(data) >= 2**26 else no_file(data)
+
+
+def with_sample(name, data):
+    """The same input for `sample`, which reads none."""
+    yield "%s, by sample" % name, SAMPLE, data, Ended(DONE, SUMMARY, b"")
+
+
+def nothing_cases(name, data):
+    """The rows of a program without statements, which may have spaces behind them, by each command."""
+    for words, out in zip(READERS, [NOTHING_LISTING, NOTHING_FILE, NOTHING_RUNS, b""]):
+        yield "%s, by %s" % (name, words[0]), words, data, Ended(DONE, out, b"")
+    yield "%s, by unpack" % name, UNPACK, data, no_file(data)
+    yield from with_sample(name, data)
+
+
+def long_cases():
+    """Inputs at the limit of bytes, by each command."""
+    most = 2**26 - 1
+    for name, data, text in ("2^26 - 1 spaces", b" " * most, "not JSON"), ("2^26 spaces", b" " * 2**26, "too long"):
+        yield from with_unpack(name, data, misread(text))
+        yield from with_sample(name, data)
+    yield from nothing_cases("rows and spaces, 2^26 - 1 bytes", NOTHING.ljust(most))
+    yield from with_unpack("rows and spaces, 2^26 bytes", NOTHING.ljust(2**26), misread("too long"))
+    for size, wanted in (most, misread("bad code file at %d" % len(NOTHING_FILE))), (2**26, misread("too long")):
+        yield "a code file and spaces, %d bytes" % size, UNPACK, NOTHING_FILE.ljust(size), wanted
+
+
 def large_cases():
-    """Inputs at the limits of bytes, of depth and of size."""
+    """Inputs at the limits of depth and of size."""
     nothing = Ended(DONE, NOTHING_LISTING, b"")
-    yield "2^26 spaces", b" " * 2**26, misread("too long")
-    yield "2^26 - 1 spaces", b" " * (2**26 - 1), misread("not JSON")
-    yield "rows and spaces, 2^26 bytes", NOTHING.ljust(2**26), misread("too long")
-    yield "rows and spaces, 2^26 - 1 bytes", NOTHING.ljust(2**26 - 1), nothing
     yield "names, of size 2^22 - 1", names_of(2**22 - 3), nothing
     yield "names, of size 2^22", names_of(2**22 - 2), refused("-:- tree is too large: nodes")
     path = cases.module(cases.imported(".".join("a" * (2**22 - 3))))
@@ -201,20 +242,31 @@ def large_cases():
     yield "a `with` of 1021 items", cases.text_of(deeper), misread("row %d: too deep" % (len(deeper) - 1))
 
 
+def named(data):
+    """What is wanted of `names` over the rows of a tree, as the model says."""
+    tree = names_table.read_rows(data)
+    line = names_table.refusal(tree)
+    if line is not None:
+        return refused(line)
+    return Ended(DONE, "".join(it + "\n" for it in names_table.names.report(tree)).encode("utf-8"), b"")
+
+
 def rows_cases():
     """A name, the words, an input, and how it ends."""
-    yield "an empty program", WORDS, NOTHING, Ended(DONE, NOTHING_LISTING, b"")
+    yield from nothing_cases("an empty program", NOTHING)
+    yield "a file of an empty program", UNPACK, NOTHING_FILE, Ended(DONE, NOTHING_LISTING, b"")
     yield "a call", WORDS, CALL, CALLED
     for data, text in cases.INPUTS:
-        for words in WORDS, ["pack", *WORDS], ["step", *WORDS, "g1"], ["names", "m.py"]:
-            yield "%s, by %s" % (text, words[0]), words, data, misread(text)
+        yield from with_unpack(text, data, misread(text))
     for tree, line in cases.refused_trees():
-        for words in WORDS, ["pack", *WORDS], ["step", *WORDS, "g1"]:
-            yield "%s, by %s" % (line, words[0]), words, cases.text_of(cases.rows_of(tree)), refused(line)
+        data = cases.text_of(cases.rows_of(tree))
+        for words in READERS:
+            yield "%s, by %s" % (line, words[0]), words, data, named(data) if words[0] == "names" else refused(line)
     for mode in "eval", "single", "block":
         rows = cases.text_of(cases.rows_of(("FunctionType", [], cases.name())))
         yield "a type in " + mode, [mode, "2", "m.py"], rows, refused("-:- malformed tree: WrongMode")
     yield "a prompt in eval", ["eval", "1", "m.py"], b'[["Interactive",[]]]', refused("-:- malformed tree: WrongMode")
+    yield from long_cases()
     for name, data, wanted in large_cases():
         yield name, WORDS, data, wanted
 
@@ -293,9 +345,8 @@ def mutant(data, counts, draw):
 
 def unpacking_ends(data, got):
     """What is wanted of a run over these bytes. One that reads a code lists it, or says that it does not verify."""
-    said = code_files.answer(data)
-    if said != "Ok":
-        return misread("bad code file at %s" % said.split()[1])
+    if code_files.answer(data) != "Ok":
+        return no_file(data)
     return Ended(INPUT, b"", UNSOUND) if got.err == UNSOUND else Ended(DONE, None, b"")
 
 
@@ -313,7 +364,7 @@ def check_files(arguments):
     for number in range(arguments.count):
         at = number % len(files)
         data = mutant(files[at], counts[at], draw)
-        got = ended(arguments.program, data, ["unpack"], before=within_space)
+        got = ended(arguments.program, data, UNPACK, before=within_space)
         tally.check("mutant %d" % number, unpacking_ends(data, got), got, data)
         read += got.status == DONE
     return tally.end("; %d were read and listed" % read)
@@ -663,8 +714,8 @@ def deep_inputs(depth):
         for answers, script in DEEP_SCRIPTS.items() if deep.line is None else ():
             yield "%s, run over %s" % (deep.title, answers), ["step", *WORDS, ",".join(script)], data, done
     before, behind = around_constant()
-    yield "tuples of a code file", ["unpack"], deep_file(code_files.DEEPEST - 1, b"\x06" + code_files.number(1), b""), done
-    yield "codes of a code file", ["unpack"], deep_file(code_files.DEEPEST - 1, b"\x08" + before, behind), done
+    yield "tuples of a code file", UNPACK, deep_file(code_files.DEEPEST - 1, b"\x06" + code_files.number(1), b""), done
+    yield "codes of a code file", UNPACK, deep_file(code_files.DEEPEST - 1, b"\x08" + before, behind), done
 
 
 def check_stack(arguments):
@@ -766,7 +817,7 @@ def runs_to_refuse(source):
     late = rows_of_python.rows_text(source + b"break\n").encode("utf-8")
     yield "listing", WORDS, data, Ended(DONE, None, None)
     yield "code file", ["pack", *WORDS], data, Ended(DONE, None, None)
-    yield "listing of a code file", ["unpack"], code_files.FILES["one"], Ended(DONE, None, None)
+    yield "listing of a code file", UNPACK, code_files.FILES["one"], Ended(DONE, None, None)
     yield "report on names", ["names", "m.py"], data, Ended(DONE, None, None)
     yield "both runs", ["step", *WORDS, ANSWERS], data, Ended(DONE, None, None)
     yield "refused tree", WORDS, late, Ended(REFUSED, None, None)

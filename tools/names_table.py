@@ -292,15 +292,21 @@ def check(tree):
     scopes.build(scopes.scan(tree, True))
 
 
+def refusal(tree):
+    """The line that says why there is no report on a tree; None where there is one."""
+    try:
+        check(tree)
+    except scopes.Fault as fault:
+        return f"{'-:-' if fault.loc is None else '%d:%d' % fault.loc} {fault.text}"
+    return None
+
+
 def answer(text):
     """The lines of the report on a tree, or the line that says why there is none."""
     tree = read_rows(text.encode())
     assert not isinstance(tree, RowsError), (text[:200], tree.text())
-    try:
-        check(tree)
-    except scopes.Fault as fault:
-        return [f"{'-:-' if fault.loc is None else '%d:%d' % fault.loc} {fault.text}"]
-    return names.report(tree) + by_numbers(tree)
+    line = refusal(tree)
+    return names.report(tree) + by_numbers(tree) if line is None else [line]
 
 
 def sources():

@@ -2,6 +2,7 @@
 """Tests of hostile.py: what it wants of its inputs is what the model answers, and it finds what programs do wrong that stand
 in the place of pyc."""
 import argparse
+import collections
 import contextlib
 import io
 import pathlib
@@ -14,10 +15,13 @@ from unittest import mock
 
 TOOLS = pathlib.Path(__file__).resolve().parent
 sys.path[:0] = [str(TOOLS), str(TOOLS / "model")]
+import code_files
 import hostile
 import hostile_cases as cases
+import names_table
 import pyc as model
 import read_back
+import step_trees
 
 # It ends as the model would over the inputs that it is asked about, by its reads and writes.
 DEVICES = """#!%s -BSE
@@ -110,10 +114,37 @@ class Hostile(unittest.TestCase):
 
     def test_inputs_are_wanted_as_the_model_answers(self):
         for name, words, data, wanted in hostile.rows_cases():
-            if len(data) < 100000:
-                # The model compiles alone; each command that reads rows refuses them alike.
+            # The model compiles alone; each command that compiles refuses rows alike, and `names` what is no rows.
+            if len(data) < 100000 and words != hostile.UNPACK and (words[0] != "names" or wanted.status == hostile.INPUT):
                 status, out, err, _ = model.run(words if len(words) == 3 else hostile.WORDS, data)
-                self.assertEqual((status, out.encode("utf-8"), err.encode("utf-8")), tuple(wanted), name)
+                self.assertEqual((status, err.encode("utf-8")), (wanted.status, wanted.err), name)
+                if len(words) == 3:
+                    self.assertEqual(out.encode("utf-8"), wanted.out, name)
+
+    def test_inputs_come_by_each_command(self):
+        runs = collections.defaultdict(set)
+        for _, words, data, _ in hostile.rows_cases():
+            runs[len(data), data[:300]].add(words[0])
+        readers = {words[0] for words in hostile.READERS}
+        for data, _ in cases.INPUTS:
+            self.assertLessEqual(readers | {"unpack"}, runs[len(data), data[:300]], data[:300])
+        for tree, _ in cases.refused_trees():
+            data = cases.text_of(cases.rows_of(tree))
+            self.assertLessEqual(readers, runs[len(data), data[:300]], data[:300])
+        for data in hostile.NOTHING, b" " * (2**26 - 1), b" " * 2**26:
+            self.assertEqual(readers | {"unpack", "sample"}, runs[len(data), data[:300]], data[:300])
+
+    def test_names_are_refused_for_their_scopes_alone(self):
+        for tree, line in cases.refused_trees():
+            wanted = hostile.named(cases.text_of(cases.rows_of(tree)))
+            self.assertEqual(wanted.err, b"" if wanted.status == hostile.DONE else line.encode("utf-8") + b"\n")
+        self.assertEqual(hostile.named(cases.text_of(cases.rows_of(cases.module(("Break", 3, 5))))), hostile.Ended(0, b"", b""))
+
+    def test_an_empty_program_is_packed_and_run_as_the_model_does(self):
+        self.assertEqual(code_files.Reader(hostile.NOTHING_FILE).file()[10], [None])
+        tree = names_table.read_rows(hostile.NOTHING)
+        lines = step_trees.both_lines(tree, "exec", 0, step_trees.script_of("g1"))
+        self.assertEqual(hostile.NOTHING_RUNS.decode("utf-8"), "".join(it + "\n" for it in lines))
 
     def test_words_are_wanted_as_the_model_answers(self):
         for words, data, wanted in hostile.words_cases():
@@ -161,11 +192,11 @@ class Hostile(unittest.TestCase):
 
     def test_rows(self):
         program = self.program("#!/bin/sh\ncat >/dev/null; echo 'input: not JSON' >&2; exit 3\n")
-        with mock.patch.object(hostile, "large_cases", list), mock.patch.object(cases, "refused_trees", list):
+        with mock.patch.multiple(hostile, large_cases=list, long_cases=list), mock.patch.object(cases, "refused_trees", list):
             status, out = self.called("rows", "--program", program)
-        # each by four commands
+        # each by four commands, and by `unpack`
         right = 4 * sum(text == "not JSON" for _, text in cases.INPUTS)
-        runs = 4 * len(cases.INPUTS) + 6
+        runs = 5 * len(cases.INPUTS) + 12
         self.assertEqual((status, out.splitlines()[-1]), (1, "rows: %d runs, %d differ" % (runs, runs - right)))
 
     def test_words(self):
