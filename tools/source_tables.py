@@ -4,7 +4,7 @@ usage: source_tables.py [--python PYTHON]
 
 The listings and the reasons are those of tools/model.
 Each source below gives one case: a line with its mode, its level and its source, and a line with its rows; in stdout
-what the model writes over the rows stands in their place. Kinds that the model compiles and this compiler does not yet
+what the model writes over the rows stands in their place, also where they nest too deep. Kinds that the model compiles and this compiler does not yet
 are refused where they stand, as this compiler refuses them.
 The levels 0, 1 and 2 follow one another in each table, unless an entry names its own.
 A source that Python's parser does not read as the tree that is wanted is a pair: what it is called, and its rows.
@@ -176,6 +176,7 @@ CHOICES = {
             "a in b not in c",
             "not a in b",
             "a < (b < c) < (d and e)",
+            At("0", "a < b < c"),
         ],
         "CONDITIONALS": [
             "a if b else c",
@@ -185,6 +186,7 @@ CHOICES = {
             "f(a and b, c < d, e if g else None) or ...",
             "a if 1 < b < 2 else -1",
             rows_of("a file as an expression", [["Name", 1, 1, "a"], ["Expr", 1, 1, 0], ["Module", [1]]]),
+            At("0", "x if c else 1"),
         ],
     },
 }
@@ -264,6 +266,7 @@ DISPLAYS = {
             constant("('a',) as a constant", [["str", "a"], ["tuple", [0]]]),
             constant("tuples in a constant", [["int", "-007"], ["none"], ["bytes", "00ff61"], ["tuple", [1, 2]], ["true"], ["ellipsis"], ["tuple", [0, 3, 4, 5]]]),
             "170141183460469231731687303715884105727",
+            At("0", "1"),
         ],
     },
     "exec": {
@@ -611,6 +614,12 @@ def branch(count):
     return named(f"if c: with {count} statements a and del a", "if c:\n" + " a\n" * count + " del a")
 
 
+def minuses(count):
+    """So many unary minuses over a name, which is the first row; each row names the one before."""
+    rows = [["UnaryOp", 1, count - number, "USub", number] for number in range(count)]
+    return rows_of(f"a behind {count} minuses", [["Name", 1, count + 1, "a"], *rows, ["Expression", count]])
+
+
 # Deep and wide trees
 LARGE = {
     "exec": {
@@ -621,10 +630,14 @@ LARGE = {
             named("f with 299 arguments", "f(" + ", ".join(f"n{i}" for i in range(299)) + ")"),
             At("0", branch(126)),
             At("0", branch(127)),
+            At("0", named("if c: with 127 statements x", "if c:\n" + " x\n" * 127)),
             At("0", named("255 targets before a star", ", ".join(["a"] * 255) + ", *b = c")),
             At("0", named("256 targets before a star", ", ".join(["a"] * 256) + ", *b = c")),
         ],
         "ITEMS": [named("a with of 1020 items", "with " + ", ".join(["a"] * 1020) + ": pass")],
+    },
+    "eval": {
+        "DEEP": [At("0", minuses(1021)), At("0", minuses(1022))],
     },
 }
 
@@ -2339,6 +2352,7 @@ FUTURES = {
             "from __future__ import annotations\nwhile a:\n x: await b\n break",
             "from __future__ import annotations\ndef f(*, a: __debug__): b: (yield) = 1",
             "from __future__ import annotations\ntry: x: y\nexcept A: z: w\nfinally: v: u",
+            At("0", "from __future__ import annotations\ndef f(a: List[int] | None): pass"),
         ],
         "FAULTS": [
             "from __future__ import a",
@@ -2539,6 +2553,8 @@ CALLS = {
             "a = b\nbreak",
             "def f(a, a): pass",
             "def f():\n nonlocal x",
+            At("0", "if True or False or False:\n pass"),
+            At("0", "if True and False and False:\n pass"),
         ],
     ),
     "compile_program_single": (
@@ -2572,6 +2588,8 @@ CALLS = {
             "(yield a)",
             "f(__debug__=a)",
             "lambda a, a: b",
+            At("0", "1"),
+            At("0", "x if c else 1"),
         ],
     ),
 }
@@ -2731,7 +2749,7 @@ def case(source, mode, level):
     else:
         rows = rows_text(source, "eval" if mode == "eval" else "exec")
     status, out, err, _ = pyc.run([mode, level, "m.py"], rows.encode(), True)
-    assert status in (0, 1), (source, err)
+    assert status in (0, 1, 3), (source, err)
     return f"{mode} {level} {escaped(source)}", rows, out if status == 0 else err
 
 
