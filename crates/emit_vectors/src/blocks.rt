@@ -183,6 +183,7 @@ const CODES: &'static str = "
 0 Jump >2|Nop *65534|ReturnConst 0 => 65538 units, depth 0: ExtendedArg 1; ExtendedArg 0; Jump 1; Nop 0;
 0  => NoBlocks
 0 Nop|Nop; =7 => BrokenChain { block: 1 }
+0 Nop|Nop; =0 => BrokenChain { block: 1 }
 0 Nop|Jump => JumpWithoutTarget { block: 1, place: 0 }
 0 Nop >0; ReturnConst 0 => TargetOnOther { block: 0, place: 0 }
 0 ExtendedArg 1; ReturnConst 0 => PrefixGiven { block: 0, place: 0 }
