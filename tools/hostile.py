@@ -8,7 +8,8 @@ usage: hostile.py {allocations,calls,rows,files,devices,stack,words} [--program 
   rows         inputs that are no rows, and trees that are refused: the status, and each byte that is written
   files        code files with bytes cut off, changed, doubled, taken out, and counts made large, through `unpack`
   devices      ends that are closed, full, left early, slow or late: the statuses 4 and 5, and what was written
-  stack        the deepest tree of each kind at the usual limit, and the least `ulimit -s` that it takes
+  stack        the deepest tree of each kind at the usual limit, and the least `ulimit -s` that it takes: `--depth 1022` for one
+               less, and `rows` has them one deeper, where they are refused
   words        words that are not a mode, a level and a path
 
 The program is crates/pyc/out/pyc, which pyc.sh builds, or crates/single_calls/out/single_calls, which `rt ci` leaves. What differs is told with the input, what is wanted and what came;
@@ -226,20 +227,26 @@ def long_cases():
         yield "a code file and spaces, %d bytes" % size, UNPACK, NOTHING_FILE.ljust(size), wanted
 
 
+def too_deep(rows):
+    """The input of rows of which the last alone nests too deep, and what is wanted of it."""
+    return cases.text_of(rows), misread("row %d: too deep" % (len(rows) - 1))
+
+
+def deeper_cases():
+    """Trees that nest one deeper than is taken, in each way to nest."""
+    for deep in cases.deep_trees():
+        yield deep.title + ", one too deep", *too_deep(deep.rows(cases.DEEPEST + 1))
+    items = [("WithItem", cases.name(), None)] * 1021
+    yield "a `with` of 1021 items", *too_deep(cases.rows_of(cases.module(("With", 1, 1, items, [cases.PASS]))))
+
+
 def large_cases():
-    """Inputs at the limits of depth and of size."""
+    """Inputs at the limit of size."""
     nothing = Ended(DONE, NOTHING_LISTING, b"")
     yield "names, of size 2^22 - 1", names_of(2**22 - 3), nothing
     yield "names, of size 2^22", names_of(2**22 - 2), refused("-:- tree is too large: nodes")
     path = cases.module(cases.imported(".".join("a" * (2**22 - 3))))
     yield "a path, of size 2^22", cases.text_of(cases.rows_of(path)), refused("-:- tree is too large: nodes")
-    for deep in cases.deep_trees():
-        if deep.title in ("Set", "Lambda", "ClassDef", "tuple"):
-            deeper = deep.rows(cases.DEEPEST + 1)
-            yield deep.title + ", one too deep", cases.text_of(deeper), misread("row %d: too deep" % (len(deeper) - 1))
-    items = [("WithItem", cases.name(), None)] * 1021
-    deeper = cases.rows_of(cases.module(("With", 1, 1, items, [cases.PASS])))
-    yield "a `with` of 1021 items", cases.text_of(deeper), misread("row %d: too deep" % (len(deeper) - 1))
 
 
 def named(data):
@@ -267,8 +274,8 @@ def rows_cases():
         yield "a type in " + mode, [mode, "2", "m.py"], rows, refused("-:- malformed tree: WrongMode")
     yield "a prompt in eval", ["eval", "1", "m.py"], b'[["Interactive",[]]]', refused("-:- malformed tree: WrongMode")
     yield from long_cases()
-    for name, data, wanted in large_cases():
-        yield name, WORDS, data, wanted
+    for found in deeper_cases, large_cases:
+        yield from ((name, WORDS, data, wanted) for name, data, wanted in found())
 
 
 def check_rows(arguments):
@@ -966,7 +973,7 @@ def parser_of_words():
     files.add_argument("--source", type=pathlib.Path, metavar="FILE.py", help="the module whose code file is one of those that are changed (one of 16 lines)")
     add("devices", check_devices, "sources and sinks that fail, or are slow")
     stack = add("stack", check_stack, "the deepest trees, and the least stack that each takes")
-    stack.add_argument("--depth", type=positive, default=cases.DEEPEST, metavar="N", help="how deep they nest (%(default)s)")
+    stack.add_argument("--depth", type=positive, default=cases.DEEPEST, metavar="N", help="how deep they nest, as 1022 or 1023; rows has them at 1024 (%(default)s)")
     stack.add_argument("--limit", type=positive, default=8192, metavar="KB", help="the usual stack, in kilobytes (%(default)s)")
     stack.add_argument("--step", type=positive, default=32, metavar="KB", help="how exact the least stack is, in kilobytes (%(default)s)")
     stack.add_argument("--kind", metavar="TITLE", help="only the tree of this title")

@@ -123,8 +123,9 @@ class Hostile(unittest.TestCase):
 
     def test_inputs_come_by_each_command(self):
         runs = collections.defaultdict(set)
-        for _, words, data, _ in hostile.rows_cases():
-            runs[len(data), data[:300]].add(words[0])
+        with mock.patch.multiple(hostile, deeper_cases=list, large_cases=list):
+            for _, words, data, _ in hostile.rows_cases():
+                runs[len(data), data[:300]].add(words[0])
         readers = {words[0] for words in hostile.READERS}
         for data, _ in cases.INPUTS:
             self.assertLessEqual(readers | {"unpack"}, runs[len(data), data[:300]], data[:300])
@@ -176,8 +177,14 @@ class Hostile(unittest.TestCase):
         for number, deep in enumerate(DEEP):
             for depth in (30, 31) if number % 10 else (30, 31, cases.DEEPEST):
                 self.assertEqual(read_back.nests(deep.rows(depth)), depth, deep.title)
-            status, _, err, _ = model.run(hostile.WORDS, cases.text_of(deep.rows(24)))
+            data = cases.text_of(deep.rows(24))
+            status, _, err, _ = model.run(hostile.WORDS, data)
             self.assertEqual((status, err), (0, "") if deep.line is None else (1, deep.line + "\n"), deep.title)
+
+    def test_each_way_to_nest_is_tried_one_deeper(self):
+        titles = {name for name, _, _ in hostile.deeper_cases()}
+        self.assertLessEqual({deep.title + ", one too deep" for deep in DEEP}, titles)
+        self.assertEqual(len(DEEP), len({deep.title for deep in DEEP}))
 
     def test_what_differs_is_told(self):
         with contextlib.redirect_stdout(io.StringIO()) as out:
@@ -192,7 +199,7 @@ class Hostile(unittest.TestCase):
 
     def test_rows(self):
         program = self.program("#!/bin/sh\ncat >/dev/null; echo 'input: not JSON' >&2; exit 3\n")
-        with mock.patch.multiple(hostile, large_cases=list, long_cases=list), mock.patch.object(cases, "refused_trees", list):
+        with mock.patch.multiple(hostile, long_cases=list, deeper_cases=list, large_cases=list), mock.patch.object(cases, "refused_trees", list):
             status, out = self.called("rows", "--program", program)
         # each by four commands, and by `unpack`
         right = 4 * sum(text == "not JSON" for _, text in cases.INPUTS)
