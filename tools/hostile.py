@@ -717,7 +717,10 @@ def deep_inputs(depth):
     done = Ended(DONE, None, b"")
     for deep in cases.deep_trees():
         data = cases.text_of(deep.rows(depth))
-        yield deep.title, WORDS, data, done if deep.line is None else refused(deep.line)
+        compiled = done if deep.line is None else refused(deep.line)
+        yield deep.title, WORDS, data, compiled
+        yield deep.title + ", packed", ["pack", *WORDS], data, compiled
+        yield deep.title + ", reported", ["names", "m.py"], data, compiled if deep.by_scopes else done
         for answers, script in DEEP_SCRIPTS.items() if deep.line is None else ():
             yield "%s, run over %s" % (deep.title, answers), ["step", *WORDS, ",".join(script)], data, done
     before, behind = around_constant()

@@ -566,6 +566,11 @@ class Deep:
     def __init__(self, title, step, around, leaf=("Name", 1, 1, "a"), fill=("UnaryOp", 1, 1, "Not", HOLE), line=None):
         self.title, self.step, self.around, self.leaf, self.fill, self.line = title, step, around, leaf, fill, line
 
+    @property
+    def by_scopes(self):
+        """Whether its scopes refuse it, as they do a `match` alone."""
+        return self.step[0] == "Match"
+
     def rows(self, depth):
         """Its rows, which nest exactly so deep."""
         count, rest = (depth - levels(self.around) - nesting(self.leaf)) // levels(self.step), 0
@@ -599,7 +604,10 @@ def deep_trees():
     yield Deep("Await", ("Await", 1, 1, HOLE), loose, line="1:1 'await' outside async function")
     yield Deep("Starred", ("Starred", 1, 1, HOLE), loose, line="1:1 cannot use starred expression here")
     yield Deep("tuple", ("tuple", [HOLE]), valued(("Constant", 1, 1, HOLE)), ("none",), ("tuple", [HOLE]))
-    yield from (Deep(title, step, module(HOLE), PASS, ("If", 1, 1, name(), [HOLE], []), line) for title, step, line in WITHIN)
+    choice = ("If", 1, 1, name(), [HOLE], [])
+    yield from (Deep(title, step, module(HOLE), PASS, choice, line) for title, step, line in WITHIN)
+    outermost = module(function(HOLE, args=parameters(parameter("v"))))
+    yield Deep("FunctionDef, a name handed on", function(HOLE), outermost, ("Expr", 1, 1, name(text="v")), choice)
     target, unpacked = ("List", 1, 1, [HOLE]), ("Tuple", 1, 1, [("Starred", 1, 1, HOLE)])
     for title, step in ("target", target), ("target, starred", unpacked):
         yield Deep("Assign, " + title, step, module(("Assign", 1, 1, [HOLE], name())), fill=target)

@@ -180,11 +180,21 @@ class Hostile(unittest.TestCase):
             data = cases.text_of(deep.rows(24))
             status, _, err, _ = model.run(hostile.WORDS, data)
             self.assertEqual((status, err), (0, "") if deep.line is None else (1, deep.line + "\n"), deep.title)
+            reported = hostile.named(data)
+            self.assertEqual((reported.status, reported.err), (1, err.encode("utf-8")) if deep.by_scopes else (0, b""), deep.title)
 
     def test_each_way_to_nest_is_tried_one_deeper(self):
         titles = {name for name, _, _ in hostile.deeper_cases()}
         self.assertLessEqual({deep.title + ", one too deep" for deep in DEEP}, titles)
         self.assertEqual(len(DEEP), len({deep.title for deep in DEEP}))
+
+    def test_a_name_is_handed_on_through_each_function(self):
+        (deep,) = (it for it in DEEP if it.title == "FunctionDef, a name handed on")
+        rows = deep.rows(24)
+        # A statement, its name and the module nest beside the functions.
+        self.assertEqual(sum(row[0] == "FunctionDef" for row in rows), 21)
+        listing = model.run(hostile.WORDS, cases.text_of(rows))[1]
+        self.assertEqual([listing.count(it) for it in ("LoadClosure 0 'v'", "LoadDeref 0 'v'", "free: 'v'")], [20, 1, 20])
 
     def test_what_differs_is_told(self):
         with contextlib.redirect_stdout(io.StringIO()) as out:
@@ -240,12 +250,13 @@ class Hostile(unittest.TestCase):
         program = self.program(STACK)
         with mock.patch.object(cases, "deep_trees", lambda: [it for it in DEEP if it.title in ("Set", "Await")]):
             status, out = self.called("stack", "--program", program, "--depth", 20, "--step", 8)
-        # It refuses nothing, so the tree that is to be refused differs.
+        # It refuses nothing, so the tree that is to be refused differs, compiled and packed.
         self.assertEqual(status, 1)
-        for title in "Set", "Set, run over values", "Set, run over values and yes":
+        for title in "Set", "Set, packed", "Set, reported", "Set, run over values", "Set, run over values and yes", "Await, reported":
             self.assertRegex(out, r"(?m)^  100\d KB  %s$" % title)
-        self.assertIn("stack: Await\n", out)
-        self.assertRegex(out, r"stack: 6 runs, 1 differ; the most is 100\d KB, for [^\n]*\n$")
+        for title in "Await", "Await, packed":
+            self.assertIn("stack: %s\n" % title, out)
+        self.assertRegex(out, r"stack: 10 runs, 2 differ; the most is 100\d KB, for [^\n]*\n$")
 
     def compiled(self, early, status):
         """A program that asks for memory."""
