@@ -72,6 +72,36 @@ fn lent_stack(rt: HostRuntime) -> Result<(), Fail> {
     Ok(())
 }
 
+/// Whether the stack is empty, its first value, and its last.
+fn seen(stack: &mut StackStack<u32>) -> (bool, Option<u32>, Option<u32>)
+    ensures kept { stack.new ≡ stack.old }
+{
+    let first = stack.as_ref().first().copied();
+    (stack.is_empty(), first, stack.iter().last().copied())
+}
+
+/// Writes 8 in the place of the first value.
+fn write_eight(stack: &mut StackStack<u32>)
+    ensures kept { length stack.new ≡ length stack.old }
+{
+    if let Some(value) = stack.iter_mut().next() {
+        *value = 8;
+    }
+}
+
+#[test]
+fn the_values_of_a_stack(rt: HostRuntime) -> Result<(), Fail> {
+    let mut stack = StackStack::new(rt.alloc());
+    assert!(rt; stack.is_empty());
+    assert_eq!(rt;
+        stack.with_append(7u32, seen),
+        Ok(((false, Some(7), Some(7)), 7))
+    );
+    assert_eq!(rt; stack.with_append(7u32, write_eight), Ok(((), 8)));
+    assert!(rt; stack.is_empty());
+    Ok(())
+}
+
 /// The number after the last scope inside scope `i`.
 fn next_of<L: Ledger>(scopes: &FlatScopes, blank: Blank, i: usize) -> Option<usize>
     requires name { blank.name ≡ L.name }

@@ -8,4 +8,6 @@ mod programs;
 #[cfg(test)]
 mod scans;
 #[cfg(test)]
+mod symbols;
+#[cfg(test)]
 mod texts;
