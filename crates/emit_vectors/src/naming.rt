@@ -1,9 +1,9 @@
 //! Names as the class around writes them, and their places in the two tables of names. What may leave early borrows an
 //! emitter, and what owns one drops it by one call: its drop at a way out is many steps of a proof.
 
-use crate::emit::emitter;
+use crate::emit::{emitter, syntax_text};
 use crate::fixtures::text;
-use py_base::{CodegenError, CodegenErrorType, Text};
+use py_base::{CodegenError, Text};
 use py_emit::Emitter;
 use std::alloc::Global;
 use std::mem;
@@ -98,14 +98,6 @@ fn own_names_are_entered_once(rt: HostRuntime) -> Result<(), Fail> {
     let done = have_own_places(&rt, &mut em);
     mem::drop(em);
     Ok(done?)
-}
-
-/// The text of a SyntaxError, and nothing of another error.
-fn syntax_text(error: &CodegenErrorType) -> &str {
-    match error {
-        CodegenErrorType::SyntaxError(text) => text.as_str(),
-        _ => "",
-    }
 }
 
 #[test]

@@ -12,6 +12,7 @@ use py_emit::{CompileOpts, Emitter, ScopeHead};
 use py_scope::{Steps, SymbolTable, SymbolTableType, Symbols};
 use std::alloc::{AllocError, Global};
 use std::marker::Brand;
+use std::mem;
 use std::sync::ledger::{Blank, Ledger};
 use std::test::Fail;
 
@@ -69,19 +70,28 @@ fn drop_one<L: Ledger>(em: &mut Emitter, blank: Blank)
     em.drop_tables(1, &mut steps);
 }
 
-#[test]
-fn the_next_table_is_entered(rt: HostRuntime) -> Result<(), Fail> {
-    let mut em = emitter(rt.alloc())?;
-    let head = ScopeHead {
+/// The head of the function's scope.
+fn head(alloc: Global) -> Result<ScopeHead, AllocError> {
+    Ok(ScopeHead {
         flags: CodeFlags::from_bits_retain(0x21),
         posonlyarg_count: 0,
         arg_count: 0,
         kwonlyarg_count: 0,
-        obj_name: text(rt.alloc(), "f")?,
-    };
-    enter::<Brand>(&mut em, head, Blank::new(1))?;
-    assert!(rt; em.scope_type() == SymbolTableType::Function);
-    assert_eq!(rt; em.next_scope(), 2);
+        obj_name: text(alloc, "f")?,
+    })
+}
+
+#[test]
+fn the_next_table_is_entered(rt: HostRuntime) -> Result<(), Fail> {
+    let head = head(rt.alloc())?;
+    let mut em = emitter(rt.alloc())?;
+    let done = enter::<Brand>(&mut em, head, Blank::new(1));
+    let typ = em.scope_type();
+    let next = em.next_scope();
+    mem::drop(em);
+    done?;
+    assert!(rt; typ == SymbolTableType::Function);
+    assert_eq!(rt; next, 2);
     Ok(())
 }
 
@@ -89,7 +99,10 @@ fn the_next_table_is_entered(rt: HostRuntime) -> Result<(), Fail> {
 fn the_next_table_is_dropped(rt: HostRuntime) -> Result<(), Fail> {
     let mut em = emitter(rt.alloc())?;
     drop_one::<Brand>(&mut em, Blank::new(1));
-    assert!(rt; em.scope_type() == SymbolTableType::Module);
-    assert_eq!(rt; em.next_scope(), 2);
+    let typ = em.scope_type();
+    let next = em.next_scope();
+    mem::drop(em);
+    assert!(rt; typ == SymbolTableType::Module);
+    assert_eq!(rt; next, 2);
     Ok(())
 }
