@@ -21,6 +21,7 @@ fn texts_go_by_their_bytes(rt: HostRuntime) -> Result<(), Fail> {
     seen.insert(x)?;
     assert!(rt; seen.contains(&copy));
     assert!(rt; !seen.contains(&longer));
+    assert_eq!(rt; longer.into_string().as_str(), "xa");
     Ok(())
 }
 

@@ -131,7 +131,8 @@ fn only_none(alloc: Global) -> Result<ConstantSet, Fail> {
     Ok(constants)
 }
 
-fn code_info(alloc: Global, given: &str) -> Result<CodeInfo, Fail> {
+/// The code of these blocks, with the constant None and no names.
+pub fn code_info(alloc: Global, given: &str) -> Result<CodeInfo, Fail> {
     Ok(CodeInfo {
         flags: CodeFlags::from_bits_retain(0),
         posonlyarg_count: 0,

@@ -11,7 +11,8 @@ use std::alloc::Global;
 use std::hash::{DefaultHasher, Hash, Hasher};
 use std::test::Fail;
 
-fn texts(alloc: Global, names: &[&str]) -> Result<List<Text>, Fail> {
+/// These names.
+pub fn texts(alloc: Global, names: &[&str]) -> Result<List<Text>, Fail> {
     let mut list = Vec::new(alloc);
     for name in names {
         list.push(text(alloc, *name)?)?;
@@ -24,7 +25,7 @@ fn unit(op: Instruction, arg: u8) -> CodeUnit {
 }
 
 /// A code that returns None.
-fn returns_none(alloc: Global, name: &str) -> Result<CodeObject, Fail> {
+pub fn returns_none(alloc: Global, name: &str) -> Result<CodeObject, Fail> {
     Ok(CodeObject {
         flags: CodeFlags::from_bits_retain(0),
         posonlyarg_count: 0,

@@ -2,6 +2,8 @@
 #![tactic(auto)]
 
 #[cfg(test)]
+mod accesses;
+#[cfg(test)]
 mod base;
 #[cfg(test)]
 mod blocks;
@@ -12,8 +14,14 @@ mod emit;
 #[cfg(test)]
 mod fixtures;
 #[cfg(test)]
+mod instructions;
+#[cfg(test)]
 mod naming;
 #[cfg(test)]
 mod paths;
+#[cfg(test)]
+mod scopes;
+#[cfg(test)]
+mod sets;
 #[cfg(test)]
 mod tables;

@@ -4,10 +4,8 @@ ghost use Rattle.py_scope.specs.declared.table.SymbolTable.{out-SymbolTable};
 ghost use Rattle.py_emit.specs.States.{state};
 ghost use Rattle.py_emit.specs.Tables.{AreLeft};
 
-use crate::fixtures::text;
-use bitflags::Flags;
+use crate::fixtures::{head_of_function, text};
 use py_base::{CodegenError, List};
-use py_bytecode::CodeFlags;
 use py_emit::{CompileOpts, Emitter, ScopeHead};
 use py_scope::{Steps, SymbolTable, SymbolTableType, Symbols};
 use std::alloc::{AllocError, Global};
@@ -70,20 +68,9 @@ fn drop_one<L: Ledger>(em: &mut Emitter, blank: Blank)
     em.drop_tables(1, &mut steps);
 }
 
-/// The head of the function's scope.
-fn head(alloc: Global) -> Result<ScopeHead, AllocError> {
-    Ok(ScopeHead {
-        flags: CodeFlags::from_bits_retain(0x21),
-        posonlyarg_count: 0,
-        arg_count: 0,
-        kwonlyarg_count: 0,
-        obj_name: text(alloc, "f")?,
-    })
-}
-
 #[test]
 fn the_next_table_is_entered(rt: HostRuntime) -> Result<(), Fail> {
-    let head = head(rt.alloc())?;
+    let head = head_of_function(rt.alloc())?;
     let mut em = emitter(rt.alloc())?;
     let done = enter::<Brand>(&mut em, head, Blank::new(1));
     let typ = em.scope_type();
