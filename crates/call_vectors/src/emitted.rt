@@ -3,6 +3,7 @@ ghost use Rattle.py_emit.specs.States.{AreMade, rest};
 
 use crate::fixtures::{emitter, taken, tree};
 use bitflags::Flags;
+use py_base::{CodegenError, CodegenErrorType};
 use py_calls::{
     CallType, ComprehensionParts, compile_call_inner, compile_comprehension, compile_delete,
     compile_expression, compile_future_features, compile_jump_if, compile_statement,
@@ -12,6 +13,7 @@ use py_emit::Emitter;
 use py_scope::SymbolTableType;
 use py_tree::{Expr, Mod, Stmt, Stmts};
 use std::alloc::Global;
+use std::mem;
 use std::test::Fail;
 
 /// The call that a case is for.
@@ -27,6 +29,31 @@ enum Call {
     Statement,
     FromSecond,
     Features,
+}
+
+/// Emits a comprehension, and nothing of another expression.
+fn comprehend(em: &mut Emitter, expr: &Expr) -> Result<(), CodegenError> {
+    let parts = match expr {
+        Expr::ListComp(e) => ComprehensionParts::List {
+            elt: &e.elt,
+            generators: &e.generators,
+        },
+        Expr::SetComp(e) => ComprehensionParts::Set {
+            elt: &e.elt,
+            generators: &e.generators,
+        },
+        Expr::DictComp(e) => ComprehensionParts::Dict {
+            key: &e.key,
+            value: &e.value,
+            generators: &e.generators,
+        },
+        Expr::GeneratorExp(e) => ComprehensionParts::Generator {
+            elt: &e.elt,
+            generators: &e.generators,
+        },
+        _ => return Ok(()),
+    };
+    compile_comprehension(em, parts)
 }
 
 /// Makes a call that is handed an expression.
@@ -46,13 +73,7 @@ fn call_on_expr(em: &mut Emitter, call: Call, expr: &Expr) -> Result<(), Fail> {
                 return Err(Fail::from("another way to be called"));
             }
         }
-        (Call::Comprehension, Expr::ListComp(e)) => {
-            let parts = ComprehensionParts::List {
-                elt: &e.elt,
-                generators: &e.generators,
-            };
-            compile_comprehension(em, parts)?;
-        }
+        (Call::Comprehension, _) => comprehend(em, expr)?,
         (Call::Function, Expr::Lambda(e)) => {
             let flags = enter_function(em, "<lambda>", &e.args)?;
             if flags.bits() != 0x08 || em.scope_type() != SymbolTableType::Function {
@@ -124,11 +145,6 @@ fn each_call_emits_its_code(rt: HostRuntime) -> Result<(), Fail> {
             NAMED,
             "LoadConst 0; LoadNameAny 1; LoadNameAny 0; ",
         ),
-        (
-            Call::Comprehension,
-            LISTED,
-            "CallFunctionPositional 1; GetIter 0; LoadNameAny 0; MakeFunction 0; LoadConst 1; LoadConst 0; ",
-        ),
         (Call::Function, LAMBDA, ""),
         (Call::Statement, TWO, "Pop 0; LoadNameAny 0; "),
         (Call::FromSecond, TWO, "Pop 0; LoadNameAny 0; "),
@@ -139,5 +155,76 @@ fn each_call_emits_its_code(rt: HostRuntime) -> Result<(), Fail> {
         program.discard();
         assert_eq!(rt; given?.as_str(), want);
     }
+    Ok(())
+}
+
+/// `{x for x in a}`.
+const SET: &str =
+    r#"[["Name",1,2,"x"],["Name",1,8,"x"],["Name",1,13,"a"],["Comprehension",1,2,[],false],["SetComp",1,1,0,[3]],["Expression",4]]"#;
+
+/// `{x: x for x in a}`.
+const DICT: &str =
+    r#"[["Name",1,2,"x"],["Name",1,5,"x"],["Name",1,11,"x"],["Name",1,16,"a"],["Comprehension",2,3,[],false],["DictComp",1,1,0,1,[4]],["Expression",5]]"#;
+
+/// `(x for x in a)`.
+const GENERATOR: &str =
+    r#"[["Name",1,2,"x"],["Name",1,8,"x"],["Name",1,13,"a"],["Comprehension",1,2,[],false],["GeneratorExp",1,1,0,[3]],["Expression",4]]"#;
+
+/// Each calls its function with the iterator of what its first clause goes over.
+#[test]
+fn each_comprehension_is_called(rt: HostRuntime) -> Result<(), Fail> {
+    for rows in [LISTED, SET, DICT, GENERATOR] {
+        let program = tree(rt.alloc(), rows)?;
+        let given = answered(rt.alloc(), Call::Comprehension, &program);
+        program.discard();
+        assert_eq!(rt;
+            given?.as_str(),
+            "CallFunctionPositional 1; GetIter 0; LoadNameAny 0; MakeFunction 0; LoadConst 1; LoadConst 0; ",
+            "{rows}"
+        );
+    }
+    Ok(())
+}
+
+/// `from __future__ import foo`.
+const UNKNOWN: &str =
+    r#"[["Alias","foo",null],["ImportFrom",1,1,"__future__",[0],0],["Module",[1]]]"#;
+
+/// Takes what the file's first statement imports from the future.
+fn take_features(em: &mut Emitter, program: &Mod) -> Result<(), CodegenError> {
+    match program {
+        Mod::Module(m) => match m.body.get(0) {
+            Some(Stmt::ImportFrom(s)) => compile_future_features(em, &s.names),
+            _ => Ok(()),
+        },
+        _ => Ok(()),
+    }
+}
+
+/// Why the file's first statement is refused as an import from the future.
+fn refused_feature(alloc: Global, program: &Mod) -> Result<String, Fail> {
+    let mut em = emitter(alloc, program)?;
+    let answer = take_features(&mut em, program);
+    mem::drop(em);
+    match answer {
+        Ok(()) => Err(Fail::from("a feature")),
+        Err(error) => match &error.error {
+            CodegenErrorType::InvalidFutureFeature(name) => {
+                Ok(format!(in alloc; "{name:?}: {}", error.error)?)
+            }
+            _ => Err(Fail::from("another error")),
+        },
+    }
+}
+
+#[test]
+fn an_unknown_feature_is_refused(rt: HostRuntime) -> Result<(), Fail> {
+    let program = tree(rt.alloc(), UNKNOWN)?;
+    let given = refused_feature(rt.alloc(), &program);
+    program.discard();
+    assert_eq!(rt;
+        given?.as_str(),
+        "\"foo\": future feature foo is not defined"
+    );
     Ok(())
 }

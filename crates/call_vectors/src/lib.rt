@@ -1,4 +1,4 @@
-//! Tests of calls on an emitter one at a time, and of scans as calls of a symbol table.
+//! Tests of calls on an emitter one at a time, of scans as calls of a symbol table, and of what is asked of trees.
 #![tactic(auto)]
 
 #[cfg(test)]
@@ -7,5 +7,11 @@ mod asked;
 mod emitted;
 #[cfg(test)]
 mod fixtures;
+#[cfg(test)]
+mod limits;
+#[cfg(test)]
+mod parts;
+#[cfg(test)]
+mod samples;
 #[cfg(test)]
 mod scanned;

@@ -2,9 +2,8 @@
 //! emitter, and what owns one drops it by one call: its drop at a way out is many steps of a proof.
 
 use crate::bytecode::{returns_none, texts};
-use crate::emit::takes;
+use crate::emit::{syntax_text, takes};
 use crate::fixtures::{at, head_of_function, text};
-use crate::naming::syntax_text;
 use py_base::CodegenError;
 use py_bytecode::{CodeObject, Instruction};
 use py_emit::{CompileOpts, Emitter, NameUsage, Naming};
