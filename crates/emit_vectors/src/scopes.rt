@@ -15,6 +15,7 @@ use std::process::Abort;
 use std::test::Fail;
 
 /// Goes into a function.
+#[tactic(auto, using(py_emit::proofs::Within::inner))]
 fn open(em: &mut Emitter, head: ScopeHead) -> Result<(), CodegenError>
     ensures { OnOk result ((rest em.new).outer ≢ []) }
 {

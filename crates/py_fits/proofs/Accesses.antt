@@ -16,9 +16,11 @@ use Rattle.py_steps.specs.Children.{cell_loads, closure, free_names, load_cell, 
 use Rattle.py_steps.specs.Context.{Context, access_kind, cell_place, cells_among, frees_among, inside, mangled, outermost, symbols_in}
 use Rattle.py_steps.specs.Emitting.{Around, by_level, emit, emit_constant}
 use Rattle.py_steps.specs.EmissionParts.{in_turn}
+use Rattle.py_steps.specs.Everywhere.{Everywhere}
 use Rattle.py_steps.specs.Refused.{no_assignment, no_deletion}
 use Rattle.py_steps.specs.TableParts.{debug_constant, is_debug}
 use Rattle.py_steps.specs.Within.{some_flag}
+use Rattle.py_fits.specs.Fitting.{HasShortTables}
 use Rattle.py_fits.proofs.Fits.{Fits, constant_fits, count_fits, emit_fits, emits, if_fits, keep_fits, level_fits, name_fits, narrow, place_within, room, taken, then_fits, unless_debug_fits, varname_fits}
 
 -- each scope has few cells and names from outside
@@ -45,14 +47,20 @@ pub ready_outermost : (level : ℕ) (source : List ℕ) (scopes : List ScopeEntr
 unfolding inside
 ready_outermost level source scopes h = record { cells = refl; frees = refl; few = h }
 
+-- its cells and its free names are few together
+pub cells_few : (c : Around) → Ready c → length c.context.cells + length c.context.frees < 2 ^ 30
+cells_few c r =
+    let f = ap length r.cells in
+    let g = ap length r.frees in
+    let h = r.few c.context.here in
+    omega (arith, f, g, h)
+
 -- the place of a cell is small
 places_few : (c : Around) → Ready c → length (c.context.cells ++ c.context.frees) < 2 ^ 30
 places_few c r =
     let e = length-append c.context.cells c.context.frees in
-    let f = ap length r.cells in
-    let g = ap length r.frees in
-    let h = r.few c.context.here in
-    omega (arith, e, f, g, h)
+    let h = cells_few c r in
+    omega (arith, e, h)
 
 -- the place of one cell is
 place_few : (c : Around) → Ready c → (x : List ℕ) → cell_place c.context x < 2 ^ 32
@@ -103,7 +111,7 @@ deleted_fits r x = unless_debug_fits no_deletion x (accessed_fits r Delete x)
 
 -- `__debug__` is a constant
 pub debug_fits : {c : Around} {k : ℕ} (i : Instruction) → Fits c k k 1 (by_level (λ l. emit_constant i (debug_constant l)))
-debug_fits {c} i = level_fits (λ l. emit_constant i (debug_constant l)) (constant_fits i (debug_constant c.context.level))
+debug_fits {c} i = level_fits (λ l. emit_constant i (debug_constant l)) (constant_fits i (debug_constant c.context.level) tt)
 
 -- what loads a name
 pub load_fits : {c : Around} {k : ℕ} → Ready c → (x : List ℕ) → Fits c k k 1 (emission_of_name x)
@@ -152,8 +160,8 @@ flag_small : {A : Type 0} (xs : List A) → some_flag 0x01 xs ≤ 1
 flag_small [] = omega arith
 flag_small (x ∷ xs) = omega arith
 
--- a function of a code object whose names from outside are at hand
-pub made_fits : {c : Around} {k : ℕ} → Ready c → (flags : ℕ) (name : List ℕ) (o : Object) → flags < 2 ^ 31 → AtHand c (free_names o) → Fits c k k 2 (made flags name o)
-made_fits r flags name o small h =
+-- a function of a code object with short tables whose names from outside are at hand
+pub made_fits : {c : Around} {k : ℕ} → Ready c → (flags : ℕ) (name : List ℕ) (o : Object) → flags < 2 ^ 31 → AtHand c (free_names o) → Everywhere HasShortTables o → Fits c k k 2 (made flags name o)
+made_fits r flags name o small h short =
     let e = flag_small (free_names o) in
-    then_fits (closure_fits r (free_names o) h) (then_fits (constant_fits op.LoadConst (const.code o)) (then_fits (constant_fits op.LoadConst (const.str name)) (emit_fits op.MakeFunction (flags + some_flag 0x01 (free_names o)) (omega (arith, small, e)))))
+    then_fits (closure_fits r (free_names o) h) (then_fits (constant_fits op.LoadConst (const.code o) short) (then_fits (constant_fits op.LoadConst (const.str name) tt) (emit_fits op.MakeFunction (flags + some_flag 0x01 (free_names o)) (omega (arith, small, e)))))

@@ -131,7 +131,7 @@ module _ (c : Around) (ready : Ready c) where
   annotation_fits : {k : ℕ} (t : tree.Expr) → Fits c k k 2 (emission_of_annotation t)
   annotation_fits (tree.Name at id) =
       room (omega arith)
-      (then_fits (name_fits op.LoadNameAny (codes "__annotations__")) (then_fits (context_fits (λ d. emit_constant op.LoadConst (const.str (mangled d id))) (constant_fits op.LoadConst (const.str (mangled c.context id)))) (plain_fits op.StoreSubscript)))
+      (then_fits (name_fits op.LoadNameAny (codes "__annotations__")) (then_fits (context_fits (λ d. emit_constant op.LoadConst (const.str (mangled d id))) (constant_fits op.LoadConst (const.str (mangled c.context id)) tt)) (plain_fits op.StoreSubscript)))
   annotation_fits other = room (omega arith) (plain_fits op.Pop)
 
   -- a function does nothing with an annotation of its names
@@ -152,7 +152,7 @@ module _ (c : Around) (ready : Ready c) where
 
   -- what is returned
   pub returned_fits : (k : ℕ) (o : tree.OptExpr) → AllOf (Here c) (kids (return_form (told c) k o)) → Fits c k (k + scopes_in_opt p o) (64 * opt_expr_size o + 1) (emission_of_returned o)
-  returned_fits k tree.no_expr h = fits_as (omega arith) (omega arith) (constant_fits op.ReturnConst const.none)
+  returned_fits k tree.no_expr h = fits_as (omega arith) (omega arith) (constant_fits op.ReturnConst const.none tt)
   returned_fits k (tree.some_expr e) h = room (omega arith) (whole_returned_fits k e h)
 
   -- a break or a continue

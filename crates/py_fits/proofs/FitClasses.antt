@@ -31,6 +31,7 @@ use Rattle.py_meaning.specs.TableParams as forms
 use Rattle.py_meaning.specs.TableParams.{built_value, params_form}
 use Rattle.py_meaning.specs.TableScopes.{build_class, class_form}
 use Rattle.py_meaning.specs.TableStmts.{rest_form}
+use Rattle.py_fits.proofs.ShortTables.{doc_short}
 use Rattle.py_fits.proofs.Fits.{Fits, constant_fits, context_fits, fits_as, keep_fits, level_fits, name_fits, plain_fits, room, then_fits}
 use Rattle.py_fits.proofs.Accesses.{AtHand, Ready, cell_fits, made_fits, outside}
 use Rattle.py_fits.proofs.FitParts.{ElementFits, built_fits, call_fits, elements_fit}
@@ -57,15 +58,15 @@ module _ {c : Around} where
   names_fits : {k : ℕ} (doc : Option (List ℕ)) → Fits c k k 6 (class_names doc)
   names_fits doc =
       room (omega arith)
-      (then_fits (name_fits op.LoadGlobal (codes "__name__")) (then_fits (name_fits op.StoreLocal (codes "__module__")) (then_fits (context_fits (λ d. emit_constant op.LoadConst (const.str d.path)) (constant_fits op.LoadConst (const.str c.context.path)))
-      (then_fits (name_fits op.StoreLocal (codes "__qualname__")) (then_fits (constant_fits op.LoadConst (doc_const doc)) (name_fits op.StoreLocal (codes "__doc__")))))))
+      (then_fits (name_fits op.LoadGlobal (codes "__name__")) (then_fits (name_fits op.StoreLocal (codes "__module__")) (then_fits (context_fits (λ d. emit_constant op.LoadConst (const.str d.path)) (constant_fits op.LoadConst (const.str c.context.path) tt))
+      (then_fits (name_fits op.StoreLocal (codes "__qualname__")) (then_fits (constant_fits op.LoadConst (doc_const doc) (doc_short doc)) (name_fits op.StoreLocal (codes "__doc__")))))))
 
   -- its end, with the cell of `__class__` where it has one
   cell_end_fits : {k : ℕ} → Ready c → (b : Bool) → list_any (text_eq (codes "__class__")) c.context.cells ≡ b → Fits c k k 1 (cell_returned (if b then codes "__class__" ∷ [] else []))
   cell_end_fits r true e =
       room (omega arith)
       (then_fits (cell_fits r (codes "__class__") (in_front (codes "__class__") c.context.cells c.context.frees e)) (then_fits (plain_fits op.Duplicate) (then_fits (name_fits op.StoreLocal (codes "__classcell__")) (plain_fits op.ReturnValue))))
-  cell_end_fits r false e = constant_fits op.ReturnConst const.none
+  cell_end_fits r false e = constant_fits op.ReturnConst const.none tt
 
   -- so a class ends
   end_fits : {k : ℕ} → Ready c → Fits c k k 1 class_end
@@ -129,7 +130,7 @@ module _ (c : Around) (r : Ready c) (k : ℕ) (path name : List ℕ) (body : tre
 
   -- its function
   pub class_function_fits : (flags : ℕ) → flags < 2 ^ 31 → Here c class_own → Fits c k (k + suc (scopes_in_stmts p body)) (192 * stmts_size body + 10) (class_function path flags name body (emission_of_rest body))
-  class_function_fits flags small h = fits_as (omega arith) (omega arith) (child_fits (class_within path name) (class_shape name) (scope_fits h) (λ o e. made_fits r flags name o small (hand_as e (reach h))))
+  class_function_fits flags small h = fits_as (omega arith) (omega arith) (child_fits (class_within path name) (class_shape name) inner_ready (scope_fits h) (λ o e short. made_fits r flags name o small (hand_as e (reach h)) short))
 
 -- the call of what builds a class
 module _ (c : Around) (r : Ready c) where
@@ -148,7 +149,7 @@ module _ (c : Around) (r : Ready c) where
       let y = name_apart (Here c) form (VConst (const.str name)) fs z.1 in
       let es = elements (all_emissions bases) in
       let places = elements_fit c j i (64 * exprs_size bases) (all_emissions bases) (exprs_fit c r j bases (elements_in (Here c) (told c) j bases y.1)) in
-      let all = name_before c k j i u (64 * exprs_size bases) function text es some (x y.0) (constant_fits op.LoadConst (const.str name)) places in
+      let all = name_before c k j i u (64 * exprs_size bases) function text es some (x y.0) (constant_fits op.LoadConst (const.str name) tt) places in
       fits_as (omega arith) (omega arith)
       (call_fits c k k i l 0 (u + 64 * exprs_size bases + 1) (64 * keywords_size keywords) (Function (emit op.LoadBuildClass 0)) (behind_name (built op.BuildTuple) function text es) (keyword_emissions keywords) (plain_fits op.LoadBuildClass) all (keywords_fit c r i keywords z.2))
 

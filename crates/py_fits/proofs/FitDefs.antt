@@ -13,6 +13,7 @@ use Rattle.py_steps.specs.Children.{DefaultEmissions, decorated, decorations, do
 use Rattle.py_steps.specs.Context.{Context, head_of, inside, qualified, with_path}
 use Rattle.py_steps.specs.Emitting.{Around, Emission, ◌▸◌}
 use Rattle.py_steps.specs.EmissionParts.{in_turn}
+use Rattle.py_steps.specs.Everywhere.{Everywhere}
 use Rattle.py_steps.specs.Within.{function_inside, some_flag}
 use Rattle.py_emission.specs.Emission.{default_emissions}
 use Rattle.py_emission.specs.EmissionDefs.{emission_of_def, emission_of_end, ends_in_return, function_value, notes}
@@ -27,6 +28,7 @@ use Rattle.py_meaning.specs.TableNotes.{note_forms}
 use Rattle.py_meaning.specs.TableParams.{defined}
 use Rattle.py_meaning.specs.TableScopes.{default_flags, default_parts}
 use Rattle.py_meaning.specs.TableStmts.{ended_form, function_body, rest_form, stmt_form, stmts_form}
+use Rattle.py_fits.specs.Fitting.{HasShortTables}
 use Rattle.py_fits.proofs.Fits.{Fits, constant_fits, context_fits, count_fits, fits_as, if_fits, keep_fits, level_fits, name_fits, plain_fits, room, then_fits}
 use Rattle.py_fits.proofs.Accesses.{AtHand, Ready, made_fits, outside}
 use Rattle.py_fits.proofs.FitScopes.{child_fits, defaults_fit, hand_as, scope_fits}
@@ -78,12 +80,12 @@ default_flags_small d = let a = flag_below 8 d.positional in let b = flag_below 
 module _ {c : Around} where
   -- a return of None, where no return ends a function
   pub end_fits : {k : ℕ} (ss : tree.Stmts) → Fits c k k 1 (emission_of_end ss)
-  end_fits ss = if_fits (ends_in_return ss) (room (omega arith) keep_fits) (constant_fits op.ReturnConst const.none)
+  end_fits ss = if_fits (ends_in_return ss) (room (omega arith) keep_fits) (constant_fits op.ReturnConst const.none tt)
 
   -- a docstring
   pub documented_fits : {k : ℕ} (doc : Option (List ℕ)) → Fits c k k 2 (documented doc)
   documented_fits None = room (omega arith) keep_fits
-  documented_fits (Some text) = room (omega arith) (then_fits (plain_fits op.Duplicate) (then_fits (constant_fits op.LoadConst (const.str text)) (then_fits (plain_fits op.Rotate2) (name_fits op.StoreAttr (codes "__doc__")))))
+  documented_fits (Some text) = room (omega arith) (then_fits (plain_fits op.Duplicate) (then_fits (constant_fits op.LoadConst (const.str text) tt) (then_fits (plain_fits op.Rotate2) (name_fits op.StoreAttr (codes "__doc__")))))
 
   -- one call for each decorator
   decorations_fit : {k : ℕ} (ds : List Emission) → Fits c k k 0 (decorations ds)
@@ -95,10 +97,10 @@ module _ {c : Around} where
   decorated_fits ds x y = room (omega arith) (then_fits x (then_fits y (decorations_fit ds)))
 
   -- a function of a code object and its annotations
-  function_made_fits : {k l w : ℕ} → Ready c → (flags : ℕ) (vs : List Emission) (name : List ℕ) (o : Object) → flags < 2 ^ 30 → Turns c k l w vs → AtHand c (free_names o) → Fits c k l (w + 2) (function_made flags vs name o)
-  function_made_fits r flags vs name o small t h =
+  function_made_fits : {k l w : ℕ} → Ready c → (flags : ℕ) (vs : List Emission) (name : List ℕ) (o : Object) → flags < 2 ^ 30 → Turns c k l w vs → AtHand c (free_names o) → Everywhere HasShortTables o → Fits c k l (w + 2) (function_made flags vs name o)
+  function_made_fits r flags vs name o small t h short =
       let e = flag_below 2 vs in
-      then_fits (turns_some_built op.BuildMap vs t) (context_fits (λ d. made (flags + some_flag 0x02 vs) (qualified d name) o) (made_fits r (flags + some_flag 0x02 vs) (qualified c.context name) o (omega (arith, small, e)) h))
+      then_fits (turns_some_built op.BuildMap vs t) (context_fits (λ d. made (flags + some_flag 0x02 vs) (qualified d name) o) (made_fits r (flags + some_flag 0x02 vs) (qualified c.context name) o (omega (arith, small, e)) h short))
 
 module _ (c : Around) (r : Ready c) (k : ℕ) (name : List ℕ) (params : tree.Arguments) (body : tree.Stmts) (returns : tree.OptExpr) (rest : RestFits body) where
   -- whether annotations are postponed
@@ -142,7 +144,7 @@ module _ (c : Around) (r : Ready c) (k : ℕ) (name : List ℕ) (params : tree.A
       let noted = notes_fit c r m params returns h.notes_so in
       fits_as (omega arith) (omega (arith, few))
       (then_fits
-      (child_fits (function_inside name) (function_shape params name) (scope_fits inner (parameters params) (body_fits h.own)) (λ o e. function_made_fits r flags (notes params returns) name o small noted (hand_as e (reach h.own))))
+      (child_fits (function_inside name) (function_shape params name) inner_ready (scope_fits inner (parameters params) (body_fits h.own)) (λ o e short. function_made_fits r flags (notes params returns) name o small noted (hand_as e (reach h.own)) short))
       (level_fits (λ l. documented (doc_of l body)) (documented_fits (doc_of c.context.level body))))
 
 -- the defaults of a function

@@ -24,6 +24,7 @@ use Rattle.py_steps.specs.Refused.{lone_star, no_assignment}
 use Rattle.py_steps.specs.TableParts as table
 use Rattle.py_steps.specs.TableParts.{binary_case, constant_of, conversion_case}
 use Rattle.py_steps.specs.Within.{comprehension_inside, lambda_inside}
+use Rattle.py_fits.proofs.ShortTables.{literal_short}
 use Rattle.py_fits.proofs.Fits.{Fits, at_fits, constant_fits, emit_fits, fits_as, generating_fits, in_function_fits, mangled_fits, plain_fits, refuse_fits, room, then_fits, unless_debug_fits}
 use Rattle.py_fits.proofs.Accesses.{Ready, load_fits, outside, ready_inside, stored_fits}
 use Rattle.py_fits.proofs.Scopeless.{texts_scopeless}
@@ -147,12 +148,12 @@ mutual
       let o = opt_form (told c) k value in
       let x = opt_fits c r k value (value_or_in (Here c) const.none o (one_apart (Here c) (table.value_or const.none o) h)) in
       whole_fits at refl (omega arith)
-      (in_function_fits error.InvalidYield (then_fits generating_fits (then_fits (value_or_fits c k l (64 * opt_expr_size value) const.none (opt_emission value) x) (plain_fits op.YieldValue))))
+      (in_function_fits error.InvalidYield (then_fits generating_fits (then_fits (value_or_fits c k l (64 * opt_expr_size value) const.none tt (opt_emission value) x) (plain_fits op.YieldValue))))
   expr_fits c r k (tree.YieldFrom at value) h =
       let f = expr_form (told c) k value in
       let x = one_apart (Here c) f (apart (Here c) (kids_v f ++ []) [] h).0 in
       whole_fits at refl (omega arith)
-      (in_function_fits error.InvalidYieldFrom (then_fits generating_fits (then_fits (expr_fits c r k value x).value (then_fits (plain_fits op.GetIter) (then_fits (constant_fits op.LoadConst const.none) (plain_fits op.YieldFrom))))))
+      (in_function_fits error.InvalidYieldFrom (then_fits generating_fits (then_fits (expr_fits c r k value x).value (then_fits (plain_fits op.GetIter) (then_fits (constant_fits op.LoadConst const.none tt) (plain_fits op.YieldFrom))))))
   expr_fits c r k (tree.Compare at left ops others) h =
       let j = k + scopes_in c.context.postponed left in
       let l = j + scopes_in_all c.context.postponed others in
@@ -177,7 +178,7 @@ mutual
       let x = two_apart (Here c) (expr_form (told c) k value) (table.value_or (const.str []) o) h in
       let y = opt_fits c r j spec (value_or_in (Here c) (const.str []) o x.1) in
       whole_fits at (omega arith) (omega arith)
-      (then_fits (expr_fits c r k value x.0).value (then_fits (value_or_fits c j (j + scopes_in_opt c.context.postponed spec) (64 * opt_expr_size spec) (const.str []) (opt_emission spec) y) (emit_fits op.FormatValue (conversion_case d) (conversion_small d))))
+      (then_fits (expr_fits c r k value x.0).value (then_fits (value_or_fits c j (j + scopes_in_opt c.context.postponed spec) (64 * opt_expr_size spec) (const.str []) tt (opt_emission spec) y) (emit_fits op.FormatValue (conversion_case d) (conversion_small d))))
   expr_fits c r k (tree.JoinedStr at parts) h =
       let p = c.context.postponed in
       let l = k + scopes_in_all p parts in
@@ -188,7 +189,7 @@ mutual
       let own : AllOf (InForm (Here c)) fs → Thread (Takes c) k l w vs = λ g. values_fit c k l w (all_emissions parts) (exprs_fit c r k parts (values_in_forms (Here c) (all_forms (told c) k parts) g)) in
       by_return (at_fits at (room (omega arith) (joined_fits c k l w (texts_of parts) vs fs none own h))) (at_fits at (room (omega arith) (joined_returned c k l w (texts_of parts) vs fs none own h)))
   expr_fits c r k (tree.Constant at v) h =
-      by_return (at_fits at (fits_as (omega arith) (omega arith) (constant_fits op.LoadConst (constant_of v)))) (at_fits at (fits_as (omega arith) (omega arith) (constant_fits op.ReturnConst (constant_of v))))
+      by_return (at_fits at (fits_as (omega arith) (omega arith) (constant_fits op.LoadConst (constant_of v) (literal_short v)))) (at_fits at (fits_as (omega arith) (omega arith) (constant_fits op.ReturnConst (constant_of v) (literal_short v))))
   expr_fits c r k (tree.Attribute at value attr) h =
       let x = (expr_fits c r k value (one_apart (Here c) (expr_form (told c) k value) h)).value in
       let l = k + scopes_in c.context.postponed value in

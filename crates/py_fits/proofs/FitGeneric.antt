@@ -68,13 +68,13 @@ module _ (c : Around) (r : Ready c) where
   params_turn : (k : ℕ) (ts : tree.TypeParams) → AllOf (InValue (Here c)) (param_forms (told c) k ts) → Turns c k (k + scopes_in_params p ts) (64 * type_params_size ts) (param_emissions ts)
   params_turn k tree.no_type_params h = no_turns (omega arith)
   params_turn k (tree.more_type_params (tree.TypeVar at name tree.no_expr) ts) h =
-      turns_as (omega arith) (omega arith) (turn_more (lands (k + 0) (omega arith) (then_fits (constant_fits op.LoadConst (const.str name)) (then_fits (plain_fits op.TypeVar) (kept_fits r name)))) (params_turn (k + 0) ts h.1))
+      turns_as (omega arith) (omega arith) (turn_more (lands (k + 0) (omega arith) (then_fits (constant_fits op.LoadConst (const.str name) tt) (then_fits (plain_fits op.TypeVar) (kept_fits r name)))) (params_turn (k + 0) ts h.1))
   params_turn k (tree.more_type_params (tree.TypeVar at name (tree.some_expr e)) ts) h =
       let f = expr_form (told c) k e in
       let x = apart (Here c) (kids_v f ++ []) [] h.0 in
       let y = apart (Here c) (kids_v f) [] x.0 in
       turns_as (omega arith) (omega arith)
-      (turn_more (then_fits (value_fits c r k e y.0) (then_fits (constant_fits op.LoadConst (const.str name)) (then_fits (plain_fits op.TypeVarWithBound) (kept_fits r name)))) (params_turn (k + scopes_in p e) ts h.1))
+      (turn_more (then_fits (value_fits c r k e y.0) (then_fits (constant_fits op.LoadConst (const.str name) tt) (then_fits (plain_fits op.TypeVarWithBound) (kept_fits r name)))) (params_turn (k + scopes_in p e) ts h.1))
   params_turn k (tree.more_type_params (tree.ParamSpec at name) ts) h = turns_as (omega arith) (omega arith) (turn_more {v = 0} (at_fits at (refuse_fits error.NotImplementedYet)) (params_turn (k + 0) ts h.1))
   params_turn k (tree.more_type_params (tree.TypeVarTuple at name) ts) h = turns_as (omega arith) (omega arith) (turn_more {v = 0} (at_fits at (refuse_fits error.NotImplementedYet)) (params_turn (k + 0) ts h.1))
 
@@ -113,7 +113,7 @@ module _ (c : Around) (r : Ready c) (k : ℕ) where
       let count = length (handed d.positional d.keyword) in
       let two = two_handed d.positional d.keyword in
       room (omega arith)
-      (then_fits (child_fits hidden_inside (hidden_shape count name) (then_fits x (plain_fits op.ReturnValue)) (λ o e. made_fits r 0 (hidden_name name) o (omega arith) (hand_as e (reach f h))))
+      (then_fits (child_fits hidden_inside (hidden_shape count name) within_ready (then_fits x (plain_fits op.ReturnValue)) (λ o e short. made_fits r 0 (hidden_name name) o (omega arith) (hand_as e (reach f h)) short))
       (then_fits y (count_fits op.CallFunctionPositional count (omega (arith, two)))))
 
 -- nothing is handed to the hidden scope of a class or an alias
@@ -180,7 +180,7 @@ module _ (c : Around) (r : Ready c) where
   unfolding inside
   alias_value_fits k name tree.no_type_params e h =
       let x = apart (Here c) (kids_v (expr_form (told c) k e)) [] h in
-      fits_as (omega arith) (omega arith) (then_fits (value_fits c r k e x.0) (then_fits (count_fits op.BuildTuple 0 (omega arith)) (then_fits (constant_fits op.LoadConst (const.str name)) (plain_fits op.TypeAlias))))
+      fits_as (omega arith) (omega arith) (then_fits (value_fits c r k e x.0) (then_fits (count_fits op.BuildTuple 0 (omega arith)) (then_fits (constant_fits op.LoadConst (const.str name) tt) (plain_fits op.TypeAlias))))
   alias_value_fits k name (tree.more_type_params t ts) e h =
       let generic = tree.more_type_params t ts in
       let w = within c r k in
@@ -193,7 +193,7 @@ module _ (c : Around) (r : Ready c) where
       let u = apart (Here w) (kids_v (expr_form (told w) j e)) [] z.1 in
       fits_as (omega arith) (omega arith)
       (hidden_fits c r k name no_defaults form y.0
-      (then_fits (params_fits w ready (suc k) generic z.0) (then_fits (value_fits w ready j e u.0) (then_fits (plain_fits op.Rotate2) (then_fits (constant_fits op.LoadConst (const.str name)) (plain_fits op.TypeAlias)))))
+      (then_fits (params_fits w ready (suc k) generic z.0) (then_fits (value_fits w ready j e u.0) (then_fits (plain_fits op.Rotate2) (then_fits (constant_fits op.LoadConst (const.str name) tt) (plain_fits op.TypeAlias)))))
       none_handed)
 
   -- only a name is an alias

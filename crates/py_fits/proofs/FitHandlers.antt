@@ -27,7 +27,7 @@ module _ {c : Around} (ready : Ready c) where
 
   -- the name is set to None and deleted
   forgotten_fits : {k : ℕ} (name : List ℕ) → Fits c k k 3 (forgotten name)
-  forgotten_fits name = room (omega arith) (then_fits (constant_fits op.LoadConst const.none) (then_fits (accessed_fits ready Store name) (accessed_fits ready Delete name)))
+  forgotten_fits name = room (omega arith) (then_fits (constant_fits op.LoadConst const.none tt) (then_fits (accessed_fits ready Store name) (accessed_fits ready Delete name)))
 
   -- so it is on every way out of the body
   pub named_body_fits : {k l w : ℕ} {body : Emission} (name : Option (List ℕ)) → Fits c k l w body → Fits c k l (w + 4) (named_body name body)

@@ -16,6 +16,7 @@ use Rattle.py_emission.specs.Futures.{Future, is_feature}
 use Rattle.py_emission.specs.Imports.{asked, asked_all, from_future, further_segments, import_name, taken_name, takes_all}
 use Rattle.py_steps.specs.Context.{is_function}
 use Rattle.py_steps.specs.Emitting.{Around, Emission, ◌▸◌, emit, refuse}
+use Rattle.py_fits.proofs.ShortTables.{IsShort}
 use Rattle.py_fits.proofs.Fits.{Fits, at_fits, constant_fits, context_fits, if_fits, keep_fits, mangled_fits, plain_fits, refuse_fits, room, then_fits}
 use Rattle.py_fits.proofs.Accesses.{Ready, stored_fits}
 
@@ -35,8 +36,8 @@ module _ (c : Around) (ready : Ready c) (k : ℕ) where
   step_fits (Some path) = mangled_fits op.ImportName path
 
   -- asked for these names
-  module_fits : (path : Option (List ℕ)) (level : ℕ) (names : Const) → Fits c k k 3 (emission_of_module path level names)
-  module_fits path level names = room (omega arith) (then_fits (constant_fits op.LoadConst (const.integer (pos level))) (then_fits (constant_fits op.LoadConst names) (step_fits path)))
+  module_fits : (path : Option (List ℕ)) (level : ℕ) (names : Const) → IsShort names → Fits c k k 3 (emission_of_module path level names)
+  module_fits path level names short = room (omega arith) (then_fits (constant_fits op.LoadConst (const.integer (pos level)) tt) (then_fits (constant_fits op.LoadConst names short) (step_fits path)))
 
   -- each segment is an attribute of what stands before it
   attributes_fit : (xs : List (List ℕ)) → Fits c k k (length xs) (emission_of_attributes xs)
@@ -45,10 +46,10 @@ module _ (c : Around) (ready : Ready c) (k : ℕ) where
 
   -- the package of the first segment, or the module itself
   imported_fits : (path : List ℕ) (name : Option (List ℕ)) → Fits c k k (dots path + 3) (emission_of_imported path name)
-  imported_fits path None = room (omega arith) (module_fits (Some path) 0 const.none)
+  imported_fits path None = room (omega arith) (module_fits (Some path) 0 const.none tt)
   imported_fits path (Some name) =
       let e = further_are path in
-      room (omega (arith, e)) (then_fits (module_fits (Some path) 0 const.none) (attributes_fit (further_segments path)))
+      room (omega (arith, e)) (then_fits (module_fits (Some path) 0 const.none tt) (attributes_fit (further_segments path)))
 
   -- a module, and what stores it
   alias_fits : (a : Alias) → Fits c k k (dots a.name + 4) (emission_of_alias a)
@@ -68,12 +69,12 @@ module _ (c : Around) (ready : Ready c) (k : ℕ) where
   star_fits : (path : Option (List ℕ)) (level : ℕ) → Fits c k k 3 (emission_of_star path level)
   star_fits path level =
       let all : Emission = emission_of_module path level asked_all ▸ emit op.ImportStar 0 in
-      context_fits (λ d. if is_function d.typ then refuse error.FunctionImportStar else all) (if_fits (is_function c.context.typ) (refuse_fits error.FunctionImportStar) (room (omega arith) (then_fits (module_fits path level asked_all) (plain_fits op.ImportStar))))
+      context_fits (λ d. if is_function d.typ then refuse error.FunctionImportStar else all) (if_fits (is_function c.context.typ) (refuse_fits error.FunctionImportStar) (room (omega arith) (then_fits (module_fits path level asked_all tt) (plain_fits op.ImportStar))))
 
   -- all names of a module, or some
   pub from_fits : (path : Option (List ℕ)) (names : List Alias) (level : ℕ) → Fits c k k (4 * aliases_size names + 3) (emission_of_from path names level)
   from_fits path names level =
-      if_fits (takes_all names) (room (omega arith) (star_fits path level)) (room (omega arith) (then_fits (module_fits path level (asked names)) (names_fit names)))
+      if_fits (takes_all names) (room (omega arith) (star_fits path level)) (room (omega arith) (then_fits (module_fits path level (asked names) tt) (names_fit names)))
 
   -- an import among other statements
   pub import_from_fits : (path : Option (List ℕ)) (names : List Alias) (level : ℕ) → Fits c k k (4 * aliases_size names + 3) (emission_of_import_from path names level)

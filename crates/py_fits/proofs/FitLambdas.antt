@@ -6,11 +6,12 @@ use Rattle.py_counts.specs.Counts.{scopes_in_annotations}
 use Rattle.py_emission.specs.Emission.{lambda_value}
 use Rattle.py_emission.specs.Parameters.{arg_names, function_shape, names_with_default, names_without_default, opt_arg_names, parameters}
 use Rattle.py_limits.specs.Size.{args_size, arguments_size, opt_arg_size, opt_expr_size}
+use Rattle.py_scope.specs.declared.table_type.SymbolTableType.TheVariants as kind
 use Rattle.py_steps.specs.Children.{DefaultEmissions, flags_of_defaults}
 use Rattle.py_steps.specs.Within.{lambda_inside}
 use Rattle.py_steps.specs.Emitting.{Around, Emission}
 use Rattle.py_fits.proofs.Fits.{Fits, room, scopes_fit, then_fits}
-use Rattle.py_fits.proofs.Accesses.{AtHand, Ready, made_fits, outside}
+use Rattle.py_fits.proofs.Accesses.{AtHand, Ready, made_fits, outside, ready_inside}
 use Rattle.py_fits.proofs.FitScopes.{DefaultsFit, child_fits, default_flags_few, defaults_fit, hand_as, scope_fits}
 
 -- the sizes of the defaults of some parameters, with one more for each
@@ -61,5 +62,5 @@ unfolding lambda_value
 lambda_fits c k m l v w params d r hand x y =
     room (omega arith)
     (then_fits (defaults_fit c k m v d x)
-    (child_fits lambda_inside (function_shape params (codes "<lambda>")) (scope_fits (outside (lambda_inside c.context m)) (parameters params) y)
-    (λ o e. then_fits (scopes_fit (λ postponed. scopes_in_annotations postponed params)) (made_fits r (flags_of_defaults d) (codes "<lambda>") o (default_flags_few d) (hand_as e hand)))))
+    (child_fits lambda_inside (function_shape params (codes "<lambda>")) (ready_inside c kind.Function m r) (scope_fits (outside (lambda_inside c.context m)) (parameters params) y)
+    (λ o e short. then_fits (scopes_fit (λ postponed. scopes_in_annotations postponed params)) (made_fits r (flags_of_defaults d) (codes "<lambda>") o (default_flags_few d) (hand_as e hand) short))))

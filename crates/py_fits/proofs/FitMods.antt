@@ -43,7 +43,7 @@ module _ {c : Around} where
   -- a docstring is stored
   doc_fits : {k : ℕ} (text : Option (List ℕ)) → Fits c k k 2 (emission_of_doc text)
   doc_fits None = room (omega arith) keep_fits
-  doc_fits (Some text) = then_fits (constant_fits op.LoadConst (const.str text)) (name_fits op.StoreGlobal (codes "__doc__"))
+  doc_fits (Some text) = then_fits (constant_fits op.LoadConst (const.str text) tt) (name_fits op.StoreGlobal (codes "__doc__"))
 
   -- what a definition stores is returned too
   kept_fits : {k : ℕ} → Ready c → (name : List ℕ) → Fits c k k 1 (stored_and_returned name)
@@ -70,7 +70,7 @@ program_fits ss c r h =
     let z = apart (Here c) (kids behind) [] y in
     let body = behind_fits emission_of_stmts (λ d. stmts_form d 1) (λ us d q g. somehow (omega arith) (stmts_fit us d q 1 g)) rest c r z.0 in
     somehow (omega (arith, l))
-    (then_fits (level_fits (λ n. emission_of_doc (doc_of n ss)) (doc_fits (doc_of c.context.level ss))) (then_fits (setup_fits (annotated rest)) (then_fits body.fits (constant_fits op.ReturnConst const.none))))
+    (then_fits (level_fits (λ n. emission_of_doc (doc_of n ss)) (doc_fits (doc_of c.context.level ss))) (then_fits (setup_fits (annotated rest)) (then_fits body.fits (constant_fits op.ReturnConst const.none tt))))
 
 -- what is entered at a prompt: an expression is printed, and the last is returned too
 printed_fits : {c : Around} {k l m v w : ℕ} {value rest : Emission} (last : Bool) → Fits c k l v value → (last ≡ true → l ≡ m) → (last ≡ false → Fits c l m w rest) → Fits c k m (v + w) (emission_of_printed last value rest)
@@ -91,7 +91,7 @@ none_scopes z (tree.more_stmts s ss) e = absurd cc
 
 -- statements at a prompt behind others
 single_fits : (ss : tree.Stmts) (c : Around) → Ready c → (k : ℕ) → AllOf (Here c) (kids (single_form (told c) k ss)) → Fits c k (k + scopes_in_stmts c.context.postponed ss) (192 * stmts_size ss + 1) (emission_of_single ss)
-single_fits tree.no_stmts c r k h = fits_as (omega arith) (omega arith) (constant_fits op.ReturnConst const.none)
+single_fits tree.no_stmts c r k h = fits_as (omega arith) (omega arith) (constant_fits op.ReturnConst const.none tt)
 single_fits (tree.more_stmts (tree.StmtExpr at value) ss) c r k h =
     let p = c.context.postponed in
     let j = k + scopes_in p value in
@@ -124,7 +124,7 @@ more_room i x = somehow i x.fits
 
 -- statements at a prompt, where future imports may stand
 prompt_fits : (ss : tree.Stmts) (c : Around) → Ready c → (k : ℕ) → AllOf (Here c) (kids (prompt_form (told c) k ss)) → Somehow c k (192 * stmts_size ss + 8) (emission_of_prompt ss)
-prompt_fits tree.no_stmts c r k h = somehow (omega arith) (constant_fits op.ReturnConst const.none)
+prompt_fits tree.no_stmts c r k h = somehow (omega arith) (constant_fits op.ReturnConst const.none tt)
 prompt_fits (tree.more_stmts (tree.StmtExpr at value) ss) c r k h =
     let j = k + scopes_in c.context.postponed value in
     let x = printed_so (Here c) (none ss) (expr_form (told c) k value) (prompt_form (told c) j ss) h in
@@ -141,11 +141,11 @@ last_fits (tree.FunctionDef at name params body decorators returns generic) c r 
 last_fits (tree.ClassDef at name bases keywords body decorators generic) c r k h =
     somehow (omega arith)
     (at_fits at (then_fits (class_fits c r k name bases keywords body decorators generic (λ d q j g. rest_fits body d q j g) (apart (Here c) (kids_v (decorated_class c k name bases keywords body decorators generic)) [] h).0) (kept_fits r name)))
-last_fits other c r k h = let x = apart (Here c) (kids (stmt_form (told c) k other)) [] h in somehow (omega arith) (then_fits (stmt_fits other c r k x.0) (constant_fits op.ReturnConst const.none))
+last_fits other c r k h = let x = apart (Here c) (kids (stmt_form (told c) k other)) [] h in somehow (omega arith) (then_fits (stmt_fits other c r k x.0) (constant_fits op.ReturnConst const.none tt))
 
 -- statements whose last value is given
 block_fits : (ss : tree.Stmts) (c : Around) → Ready c → (k : ℕ) → AllOf (Here c) (kids (block_form (told c) k ss)) → Somehow c k (192 * stmts_size ss + 1) (emission_of_block ss)
-block_fits tree.no_stmts c r k h = somehow (omega arith) (constant_fits op.ReturnConst const.none)
+block_fits tree.no_stmts c r k h = somehow (omega arith) (constant_fits op.ReturnConst const.none tt)
 block_fits (tree.more_stmts s tree.no_stmts) c r k h = more_room (omega arith) (last_fits s c r k h)
 block_fits (tree.more_stmts s (tree.more_stmts t ts)) c r k h =
     let j = k + scopes_in_stmt c.context.postponed s in

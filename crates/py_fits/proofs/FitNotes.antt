@@ -40,7 +40,7 @@ module _ (c : Around) (ready : Ready c) where
   -- the text of an annotation
   text_fits : {k : ℕ} (text : Option (List ℕ)) → Fits c k k 1 (emission_of_text text)
   text_fits None = refuse_fits error.NotImplementedYet
-  text_fits (Some text) = constant_fits op.LoadConst (const.str text)
+  text_fits (Some text) = constant_fits op.LoadConst (const.str text) tt
 
   -- an annotation, or its text
   note_if : (z : Bool) (k : ℕ) (e : tree.Expr) → AllOf (Here c) (kids_v (if z then text_form (annotation e) else expr_form (told c) k e)) → Fits c k (k + (if z then 0 else scopes_in p e)) (64 * expr_size e + 1) (if z then emission_of_text (annotation e) else emission e)
@@ -53,7 +53,7 @@ module _ (c : Around) (ready : Ready c) where
 
   -- after its name
   noted_fits : {k l w : ℕ} {v : Emission} (name : List ℕ) → Fits c k l w v → Fits c k l (w + 1) (noted name v)
-  noted_fits name x = room (omega arith) (then_fits (context_fits (λ d. emit_constant op.LoadConst (const.str (mangled d name))) (constant_fits op.LoadConst (const.str (mangled c.context name)))) x)
+  noted_fits name x = room (omega arith) (then_fits (context_fits (λ d. emit_constant op.LoadConst (const.str (mangled d name))) (constant_fits op.LoadConst (const.str (mangled c.context name)) tt)) x)
 
   -- it is so of each scope in annotations by their names
   abbrev Noted : List (List ℕ × VForm) → Type 0

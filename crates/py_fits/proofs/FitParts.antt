@@ -13,6 +13,7 @@ use Rattle.py_steps.specs.Emitting.{Around, Emission, emit_constant}
 use Rattle.py_steps.specs.EmissionParts.{Emissions, Keywords, Stores, built, call_by, checked, dict_value, display, elements, emission_of_call, emission_of_dict, in_turn, joined_map, map_of, map_of_pairs, name_values, names_in, packed, packed_tuple, placed, slice_step, slice_value, unpack, unpack_starred, unpacking, updates, value_or, values, values_in}
 use Rattle.py_steps.specs.Refused.{few_aside, no_assignment}
 use Rattle.py_steps.specs.TableParts.{any}
+use Rattle.py_fits.proofs.ShortTables.{IsShort}
 use Rattle.py_fits.proofs.Fits.{Fits, at_fits, constant_fits, count_fits, emit_fits, few_so, fits_as, if_fits, if_so, keep_fits, mangled_fits, plain_fits, refuse_fits, room, then_fits, unless_debug_fits}
 use Rattle.py_fits.proofs.Threads.{OneOf, Thread, all_groups, bare_so, parted, thread_few}
 
@@ -141,7 +142,7 @@ module _ (c : Around) where
   name_values_fit : (k l w : ℕ) (ps : List (List ℕ × Emission)) → Thread NamedFits k l w ps → Thread Takes k l w (name_values ps)
   name_values_fit k l w [] h = h
   name_values_fit k l w (p ∷ ps) h =
-      let i = h.3.less in (h.0, h.1, h.2, room (omega (arith, i)) (then_fits (constant_fits op.LoadConst (const.str p.0)) h.3.fits), name_values_fit h.0 l h.2 ps h.4, h.5, h.6)
+      let i = h.3.less in (h.0, h.1, h.2, room (omega (arith, i)) (then_fits (constant_fits op.LoadConst (const.str p.0) tt) h.3.fits), name_values_fit h.0 l h.2 ps h.4, h.5, h.6)
 
   -- a map of named values
   pub map_fits : (k l w : ℕ) (ps : List (List ℕ × Emission)) → Thread NamedFits k l w ps → Fits c k l w (map_of ps)
@@ -191,7 +192,7 @@ module _ (c : Around) where
   placed_fits k j m l u v w f vs (p ∷ ps) x y z =
       let i = thread_few Takes j m v vs y in
       let e = thread_few KeywordFits m l w (p ∷ ps) z in
-      let names : Fits c l l 1 (emit_constant op.LoadConst (const.tuple (names_in (p ∷ ps)))) = constant_fits op.LoadConst (const.tuple (names_in (p ∷ ps))) in
+      let names : Fits c l l 1 (emit_constant op.LoadConst (const.tuple (names_in (p ∷ ps)))) = constant_fits op.LoadConst (const.tuple (names_in (p ∷ ps))) tt in
       let args = then_fits (turn_fits j m v vs y) (then_fits (checked_fits (p ∷ ps)) (then_fits (turn_fits m l w (values_in (p ∷ ps)) (values_in_fit m l w (p ∷ ps) z)) names)) in
       few_so (length vs + length (p ∷ ps)) (omega (arith, i, e)) (λ n. room (omega arith) (called_fits k j u f op.CallFunctionKeyword op.CallMethodKeyword (length vs + length (p ∷ ps)) n x args))
 
@@ -236,9 +237,9 @@ module _ (c : Around) where
   dict_fits k l w ks vs h = if_so (nat_eq (length ks) (length vs)) (λ e. dict_value_fits k l w (pairs ks vs) (h (search (rules, e)))) (λ e. refuse_fits (error.MalformedTree shape.UnevenLists))
 
   -- a value, or a constant where there is none
-  pub value_or_fits : (k l w : ℕ) (x : Const) (o : Option Emission) → SomeFits c k l w o → Fits c k l (w + 1) (value_or x o)
-  value_or_fits k l w x None h = fits_as h (omega arith) (constant_fits op.LoadConst x)
-  value_or_fits k l w x (Some v) h = room (omega arith) h
+  pub value_or_fits : (k l w : ℕ) (x : Const) → IsShort x → (o : Option Emission) → SomeFits c k l w o → Fits c k l (w + 1) (value_or x o)
+  value_or_fits k l w x short None h = fits_as h (omega arith) (constant_fits op.LoadConst x short)
+  value_or_fits k l w x short (Some v) h = room (omega arith) h
 
   -- the step of a slice
   slice_step_fits : (k l w : ℕ) (o : Option Emission) → SomeFits c k l w o → Fits c k l w (slice_step o)
@@ -247,7 +248,7 @@ module _ (c : Around) where
 
   -- a slice
   pub slice_fits : (k j m l u v w : ℕ) (lower upper step : Option Emission) → SomeFits c k j u lower → SomeFits c j m v upper → SomeFits c m l w step → Fits c k l (u + v + w + 2) (slice_value lower upper step)
-  slice_fits k j m l u v w lower upper step x y z = room (omega arith) (then_fits (value_or_fits k j u const.none lower x) (then_fits (value_or_fits j m v const.none upper y) (slice_step_fits m l w step z)))
+  slice_fits k j m l u v w lower upper step x y z = room (omega arith) (then_fits (value_or_fits k j u const.none tt lower x) (then_fits (value_or_fits j m v const.none tt upper y) (slice_step_fits m l w step z)))
 
   -- a value is unpacked to targets
   starred_fits : {k : ℕ} (at : SourceLocation) (es : List (Element Emission Emission)) → Fits c k k 0 (unpack_starred at es)

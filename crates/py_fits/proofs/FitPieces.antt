@@ -79,12 +79,12 @@ conversion_small other = omega arith
 
 -- one text, or what is built of the values
 pub joined_fits : (c : Around) (k l w : ℕ) (text : Option (List ℕ)) (vs : List Emission) (fs : List VForm) → ((t : List ℕ) → text ≡ Some t → k ≡ l) → (AllOf (InForm (Here c)) fs → Thread (Takes c) k l w vs) → InForm (Here c) (table.joined_form text fs) → Fits c k l (w + 1) (joined_value text vs)
-joined_fits c k l w (Some text) vs fs none h g = fits_as (none text refl) (omega arith) (constant_fits op.LoadConst (const.str text))
+joined_fits c k l w (Some text) vs fs none h g = fits_as (none text refl) (omega arith) (constant_fits op.LoadConst (const.str text) tt)
 joined_fits c k l w None vs fs none h g = room (omega arith) (built_fits c op.BuildString k l w vs (h (parts_in (Here c) fs g)))
 
 -- the same, returned
 pub joined_returned : (c : Around) (k l w : ℕ) (text : Option (List ℕ)) (vs : List Emission) (fs : List VForm) → ((t : List ℕ) → text ≡ Some t → k ≡ l) → (AllOf (InForm (Here c)) fs → Thread (Takes c) k l w vs) → InForm (Here c) (table.joined_form text fs) → Fits c k l (w + 1) (joined_return text vs)
-joined_returned c k l w (Some text) vs fs none h g = fits_as (none text refl) (omega arith) (constant_fits op.ReturnConst (const.str text))
+joined_returned c k l w (Some text) vs fs none h g = fits_as (none text refl) (omega arith) (constant_fits op.ReturnConst (const.str text) tt)
 joined_returned c k l w None vs fs none h g = room (omega arith) (value_returned (built_fits c op.BuildString k l w vs (h (parts_in (Here c) fs g))))
 
 -- a name that is returned

@@ -1,5 +1,5 @@
 -- Scopes within fit, each with room of its own that counts in the scope around too: functions, lambdas and comprehensions.
-use Rattle.std.proofs.Common.{◌≡◌, refl, sym, ◌∙◌, subst, ℕ, suc, ◌+◌, ◌<◌, ◌≤◌, ◌^◌, List, [], ◌∷◌, length, Bool, false, arith}
+use Rattle.std.proofs.Common.{◌≡◌, refl, sym, ap, ◌∙◌, subst, ℕ, suc, ◌+◌, ◌<◌, ◌≤◌, ◌^◌, List, [], ◌∷◌, length, Bool, false, arith}
 use Rattle.std.specs.Prelude.{codes}
 use Rattle.py_base.specs.declared.shapes.Malformed.TheVariants as shape
 use Rattle.py_base.specs.declared.errors.CodegenErrorType.TheVariants as error
@@ -7,16 +7,20 @@ use Rattle.py_bytecode.specs.declared.instruction.Instruction.{Instruction}
 use Rattle.py_bytecode.specs.declared.instruction.Instruction.TheVariants as op
 use Rattle.py_bytecode.specs.Objects as const
 use Rattle.py_bytecode.specs.Objects.{Object}
+use Rattle.py_scope.specs.declared.table_type.SymbolTableType.TheVariants as kind
 use Rattle.py_steps.specs.Children.{DefaultEmissions, behind_child, child, code_head, emission_of_defaults, enter_parameters, flags_of_defaults, free_names, function_scope, on_sealed, some_emitted}
 use Rattle.py_steps.specs.Comprehensions.{ClauseEmissions, as_element, called_at_once, clause, clauses, comprehension, comprehension_shape, conditions, further_clauses, gathered, generated, retold_in}
 use Rattle.py_steps.specs.Context.{Context}
 use Rattle.py_steps.specs.Emitting.{Around, Emission, Outcome, State, Done, TooWide, Refused, begun}
 use Rattle.py_steps.specs.EmissionParts.{Emissions, built, map_of}
+use Rattle.py_steps.specs.Everywhere.{Everywhere}
 use Rattle.py_steps.specs.Refused.{no_assignment}
 use Rattle.py_steps.specs.Sealed.{Head, sealed}
 use Rattle.py_steps.specs.Within.{Shape, comprehension_inside, some_flag}
-use Rattle.py_fits.proofs.Fits.{Fits, FitsIn, begin_fits, constant_added, constant_fits, count_fits, emit_fits, few_so, fits_as, fits_from, generating_fits, if_fits, jump_fits, keep_fits, more, new_fits, plain_fits, refuse_fits, room, taken, then_fits, unless_debug_fits, varname_added, varname_fits}
-use Rattle.py_fits.proofs.Accesses.{AtHand, Ready, made_fits, outside}
+use Rattle.py_fits.specs.Fitting.{HasShortTables}
+use Rattle.py_fits.proofs.ShortTables.{sealed_short}
+use Rattle.py_fits.proofs.Fits.{Fits, FitsIn, Stands, begin_fits, constant_added, constant_fits, count_fits, emit_fits, few_so, fits_as, fits_from, generating_fits, if_fits, jump_fits, keep_fits, more, new_fits, plain_fits, refuse_fits, room, taken, then_fits, unless_debug_fits, varname_added, varname_fits}
+use Rattle.py_fits.proofs.Accesses.{AtHand, Ready, cells_few, made_fits, outside, ready_inside}
 use Rattle.py_fits.proofs.FitParts.{FitsWell, NamedFits, Takes, built_fits, map_fits}
 use Rattle.py_fits.proofs.Threads.{Thread, thread_few}
 
@@ -25,23 +29,28 @@ sealed_frees : (level : ℕ) (h : Head) (t : State) → free_names (sealed level
 unfolding sealed
 sealed_frees level h t = refl
 
--- what a scope within comes to is sealed, and what follows goes on
-seals : {c : Around} {m w d : ℕ} {follow : Object → Emission} (inner : Around) (l b level : ℕ) (h : Head) (s : State) (o : Outcome) → s.around ≡ c → FitsIn inner l b o → taken s + w ≤ d → d < 2 ^ 30 → ((x : Object) → free_names x ≡ h.freevars → Fits c l m w (follow x)) → FitsIn c m d (on_sealed level h s o follow)
+-- what a scope within comes to is sealed, its tables are short, and what follows goes on
+seals : {c : Around} {k m w d : ℕ} {follow : Object → Emission} (inner : Around) (l b level : ℕ) (h : Head) (s : State) (o : Outcome) → Stands c k s → FitsIn inner l b o → b < 2 ^ 30 → length h.cellvars + length h.freevars < 2 ^ 30 → taken s + w ≤ d → d < 2 ^ 30 → ((x : Object) → free_names x ≡ h.freevars → Everywhere HasShortTables x → Fits c l m w (follow x)) → FitsIn c m d (on_sealed level h s o follow)
 unfolding taken
-seals {c} {m} {w} {d} {follow} inner l b level h s (Done t) e g i r y = more c m (taken (behind_child s t) + w) d (follow (sealed level h t) (behind_child s t)) i ((y (sealed level h t) (sealed_frees level h t)).fits (behind_child s t) (record { around = e; next = g.0.next }) (omega (arith, i, r)))
-seals inner l b level h s TooWide e g i r y = g
-seals inner l b level h s (Refused z at) e g i r y = tt
+seals {c} {k} {m} {w} {d} {follow} inner l b level h s (Done t) st g small cells i r y =
+    let e = g.1 in
+    let short = sealed_short level h t g.0.short (omega (arith, e, small)) cells in
+    more c m (taken (behind_child s t) + w) d (follow (sealed level h t) (behind_child s t)) i ((y (sealed level h t) (sealed_frees level h t) short).fits (behind_child s t) (record { around = st.around; next = g.0.next; short = st.short }) (omega (arith, i, r)))
+seals inner l b level h s TooWide st g small cells i r y = g
+seals inner l b level h s (Refused z at) st g small cells i r y = tt
 
--- a scope within, and what follows of its code object
-pub child_fits : {c : Around} {k l m v w : ℕ} {body : Emission} {follow : Object → Emission} (within : Context → ℕ → Context) (h : Shape) → Fits (outside (within c.context k)) (suc k) l v body → ((o : Object) → free_names o ≡ (within c.context k).frees → Fits c l m w (follow o)) → Fits c k m (v + w + 1) (child within h body follow)
+-- a scope within, and what follows of its code object, whose tables are short
+pub child_fits : {c : Around} {k l m v w : ℕ} {body : Emission} {follow : Object → Emission} (within : Context → ℕ → Context) (h : Shape) → Ready (outside (within c.context k)) → Fits (outside (within c.context k)) (suc k) l v body → ((o : Object) → free_names o ≡ (within c.context k).frees → Everywhere HasShortTables o → Fits c l m w (follow o)) → Fits c k m (v + w + 1) (child within h body follow)
 unfolding child taken
-child_fits {c} {k} {l} {m} {v} {w} {body} {follow} within h x y = record {
+child_fits {c} {k} {l} {m} {v} {w} {body} {follow} within h q x y = record {
   fits = λ s st r.
       let d = within s.around.context s.next in
+      let same : d ≡ within c.context k = λ j. within (st.around j).context (st.next j) in
+      let cells = subst (λ (z : Context). length z.cells + length z.frees < 2 ^ 30) (sym same) (cells_few (outside (within c.context k)) q) in
       let x1 = subst (λ (a : Around). Fits (outside (within a.context k)) (suc k) l v body) (sym st.around) x in
       let x2 = subst (λ n. Fits (outside (within s.around.context n)) (suc n) l v body) (sym st.next) x1 in
-      seals (outside d) l (taken (begun d s.location (suc s.next)) + v) d.level (code_head d h s.location) s (body (begun d s.location (suc s.next))) st.around (x2.fits (begun d s.location (suc s.next)) (record { around = refl; next = refl }) (omega (arith, r))) (omega arith) r
-      (λ o e. y o (e ∙ (λ j. (within (st.around j).context (st.next j)).frees)));
+      let own = x2.fits (begun d s.location (suc s.next)) (record { around = refl; next = refl; short = tt }) (omega (arith, r)) in
+      seals (outside d) l (taken (begun d s.location (suc s.next)) + v) d.level (code_head d h s.location) s (body (begun d s.location (suc s.next))) st own (omega (arith, r)) cells (omega arith) r (λ o e short. y o (e ∙ ap (λ (z : Context). z.frees) same) short);
 }
 
 -- the same names in other words
@@ -102,7 +111,7 @@ module _ (c : Around) where
 
   -- and what follows its parameters
   pub scope_fits : {k l w : ℕ} {body : Emission} (xs : List (List ℕ)) → Fits c k l w body → Fits c k l (length xs + w + 1) (function_scope xs body)
-  scope_fits xs x = room (omega arith) (then_fits (parameters_fit xs) (then_fits (constant_added const.none) x))
+  scope_fits xs x = room (omega arith) (then_fits (parameters_fit xs) (then_fits (constant_added const.none tt) x))
 
   -- what a clause stores its elements to, and its conditions
   pub record RestFits (k l w : ℕ) (x : ClauseEmissions) : Type 0 where
@@ -171,14 +180,14 @@ module _ (c : Around) where
   pub generated_fits : {element : Emission} (k m l v w : ℕ) (xs : List ClauseEmissions) → ClausesFit k m v xs → Fits c m l w element → Fits c k l (v + w + 1) (generated xs element)
   generated_fits k m l v w xs h y =
       room (omega arith)
-      (then_fits (clauses_fit k m l v w xs h (room (omega arith) (then_fits y (then_fits generating_fits (then_fits (plain_fits op.YieldValue) (plain_fits op.Pop)))))) (constant_fits op.ReturnConst const.none))
+      (then_fits (clauses_fit k m l v w xs h (room (omega arith) (then_fits y (then_fits generating_fits (then_fits (plain_fits op.YieldValue) (plain_fits op.Pop)))))) (constant_fits op.ReturnConst const.none tt))
 
   -- and what is made of them
   called_fits : {k m l v w : ℕ} {scope iterable : Emission} → Ready c → (name : List ℕ) → AtHand c (comprehension_inside c.context k).frees → Fits (outside (comprehension_inside c.context k)) (suc k) m v scope → Fits c m l w iterable → Fits c k l (v + w + 3) (called_at_once name scope iterable)
   unfolding called_at_once
-  called_fits r name hand x y =
+  called_fits {k} r name hand x y =
       room (omega arith)
-      (then_fits (child_fits comprehension_inside (comprehension_shape name) x (λ o e. made_fits r 0 name o (omega arith) (hand_as e hand)))
+      (then_fits (child_fits comprehension_inside (comprehension_shape name) (ready_inside c kind.Comprehension k r) x (λ o e short. made_fits r 0 name o (omega arith) (hand_as e hand) short))
       (then_fits y (then_fits (plain_fits op.GetIter) (count_fits op.CallFunctionPositional 1 (omega arith)))))
 
   -- the first iterable, where there is one

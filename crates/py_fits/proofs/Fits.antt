@@ -8,19 +8,22 @@ use Rattle.py_base.specs.declared.errors.CodegenErrorType.TheVariants as error
 use Rattle.py_bytecode.specs.declared.instruction.Instruction.{Instruction}
 use Rattle.py_bytecode.specs.Equality.{const_eq, text_eq, entered}
 use Rattle.py_bytecode.specs.Objects.{Const}
+use Rattle.py_forms.specs.Agree.{AllOf}
 use Rattle.py_steps.specs.Context.{Context, is_function, mangled}
 use Rattle.py_steps.specs.Emitting.{Around, State, Outcome, Done, TooWide, Refused, Emission, LoopBlocks, ◌▸◌, add_constant, add_varname, begin, by_context, by_level, by_loops, emit, emit_constant, emit_count, emit_mangled, emit_name, emit_varname, generating, go_on, in_loop, jump, keep, located, move, new_block, pass_over, place_in, postponing, Put, refuse, with_block, with_constant, with_loops, with_name, with_postponed, with_step, with_varname}
 use Rattle.py_steps.specs.EmissionParts.{only_in_function, pass_scopes, unless_debug}
 use Rattle.py_steps.specs.TableParts.{is_debug}
+use Rattle.py_fits.proofs.ShortTables.{IsShort, entered_short}
 
 -- how much is in the tables, and how many blocks there are
 unfoldable pub taken : State → ℕ
 taken s = length s.names + length s.varnames + length s.constants + s.blocks
 
--- this stands around, and the next scope has this number
+-- this stands around, the next scope has this number, and the code objects among the constants have short tables, as have those within them
 pub record Stands (c : Around) (k : ℕ) (s : State) : Type 0 where
   pub around : s.around ≡ c
   pub next : s.next ≡ k
+  pub short : AllOf IsShort s.constants
 
 -- it is not too wide; where it is done, c stands around, the next scope has the number l, and at most b is taken
 abbrev pub FitsIn : (c : Around) (l b : ℕ) → Outcome → Type 0
@@ -91,7 +94,7 @@ narrow c k b false o e h = absurd cc
 -- an instruction in such a state
 pub emits : {c : Around} {k b : ℕ} (i : Instruction) (n : ℕ) (s : State) → n < 2 ^ 32 → Stands c k s → taken s ≤ b → FitsIn c k b (emit i n s)
 unfolding emit with_step taken
-emits {c} {k} {b} i n s l h t = narrow c k b (nat_lt n (2 ^ 32)) (Done (with_step (Put i n None s.location) s)) (less_so n (2 ^ 32) l) (record { around = h.around; next = h.next }, t)
+emits {c} {k} {b} i n s l h t = narrow c k b (nat_lt n (2 ^ 32)) (Done (with_step (Put i n None s.location) s)) (less_so n (2 ^ 32) l) (record { around = h.around; next = h.next; short = h.short }, t)
 
 -- an instruction with such an operand
 pub emit_fits : {c : Around} {k : ℕ} (i : Instruction) (n : ℕ) → n < 2 ^ 32 → Fits c k k 0 (emit i n)
@@ -108,12 +111,12 @@ number_fits i n = record { fits = λ s h r. emits i n s (omega (arith, r)) h (om
 -- a jump
 pub jump_fits : {c : Around} {k : ℕ} (i : Instruction) (b : ℕ) → Fits c k k 0 (jump i b)
 unfolding jump with_step taken
-jump_fits i b = record { fits = λ s h r. (record { around = h.around; next = h.next }, omega arith) }
+jump_fits i b = record { fits = λ s h r. (record { around = h.around; next = h.next; short = h.short }, omega arith) }
 
 -- a block begins
 pub begin_fits : {c : Around} {k : ℕ} (b : ℕ) → Fits c k k 0 (begin b)
 unfolding begin with_step taken
-begin_fits b = record { fits = λ s h r. (record { around = h.around; next = h.next }, omega arith) }
+begin_fits b = record { fits = λ s h r. (record { around = h.around; next = h.next; short = h.short }, omega arith) }
 
 -- a count in such a state
 counts : {c : Around} {k b : ℕ} (i : Instruction) (n : ℕ) (s : State) → n < 2 ^ 30 → Stands c k s → taken s ≤ b → FitsIn c k b (emit_count i n s)
@@ -155,7 +158,7 @@ name_fits i x = record {
   fits = λ s h r.
       let p = place_within (text_eq x) s.names in
       let g = one_more text_eq s.names x in
-      emits i (place_in text_eq s.names x) (with_name x s) (omega (arith, p, r)) (record { around = h.around; next = h.next }) (omega (arith, g));
+      emits i (place_in text_eq s.names x) (with_name x s) (omega (arith, p, r)) (record { around = h.around; next = h.next; short = h.short }) (omega (arith, g));
 }
 
 -- a name of the code object's own
@@ -165,17 +168,17 @@ varname_fits i x = record {
   fits = λ s h r.
       let p = place_within (text_eq x) s.varnames in
       let g = one_more text_eq s.varnames x in
-      emits i (place_in text_eq s.varnames x) (with_varname x s) (omega (arith, p, r)) (record { around = h.around; next = h.next }) (omega (arith, g));
+      emits i (place_in text_eq s.varnames x) (with_varname x s) (omega (arith, p, r)) (record { around = h.around; next = h.next; short = h.short }) (omega (arith, g));
 }
 
--- and a constant
-pub constant_fits : {c : Around} {k : ℕ} (i : Instruction) (x : Const) → Fits c k k 1 (emit_constant i x)
+-- and a constant that holds no code object with long tables
+pub constant_fits : {c : Around} {k : ℕ} (i : Instruction) (x : Const) → IsShort x → Fits c k k 1 (emit_constant i x)
 unfolding emit_constant with_constant taken
-constant_fits i x = record {
+constant_fits i x q = record {
   fits = λ s h r.
       let p = place_within (const_eq x) s.constants in
       let g = one_more const_eq s.constants x in
-      emits i (place_in const_eq s.constants x) (with_constant x s) (omega (arith, p, r)) (record { around = h.around; next = h.next }) (omega (arith, g));
+      emits i (place_in const_eq s.constants x) (with_constant x s) (omega (arith, p, r)) (record { around = h.around; next = h.next; short = entered_short s.constants x h.short q }) (omega (arith, g));
 }
 
 -- a name as the innermost class writes it
@@ -186,22 +189,22 @@ mangled_fits i x = record { fits = λ s h r. (name_fits i (mangled s.around.cont
 -- a parameter
 pub varname_added : {c : Around} {k : ℕ} (x : List ℕ) → Fits c k k 1 (add_varname x)
 unfolding add_varname with_varname taken
-varname_added x = record { fits = λ s h r. let g = one_more text_eq s.varnames (mangled s.around.context x) in (record { around = h.around; next = h.next }, omega (arith, g)) }
+varname_added x = record { fits = λ s h r. let g = one_more text_eq s.varnames (mangled s.around.context x) in (record { around = h.around; next = h.next; short = h.short }, omega (arith, g)) }
 
 -- a constant that no instruction names yet
-pub constant_added : {c : Around} {k : ℕ} (x : Const) → Fits c k k 1 (add_constant x)
+pub constant_added : {c : Around} {k : ℕ} (x : Const) → IsShort x → Fits c k k 1 (add_constant x)
 unfolding add_constant with_constant taken
-constant_added x = record { fits = λ s h r. let g = one_more const_eq s.constants x in (record { around = h.around; next = h.next }, omega (arith, g)) }
+constant_added x q = record { fits = λ s h r. let g = one_more const_eq s.constants x in (record { around = h.around; next = h.next; short = entered_short s.constants x h.short q }, omega (arith, g)) }
 
 -- the code is a generator
 pub generating_fits : {c : Around} {k : ℕ} → Fits c k k 0 generating
 unfolding generating taken
-generating_fits = record { fits = λ s h r. (record { around = h.around; next = h.next }, omega arith) }
+generating_fits = record { fits = λ s h r. (record { around = h.around; next = h.next; short = h.short }, omega arith) }
 
 -- another place
 pub move_fits : {c : Around} {k : ℕ} (at : SourceLocation) → Fits c k k 0 (move at)
 unfolding move located taken
-move_fits at = record { fits = λ s h r. (record { around = h.around; next = h.next }, omega arith) }
+move_fits at = record { fits = λ s h r. (record { around = h.around; next = h.next; short = h.short }, omega arith) }
 
 -- from a place on
 pub at_fits : {c : Around} {k l w : ℕ} {a : Emission} (at : SourceLocation) → Fits c k l w a → Fits c k l w (move at ▸ a)
@@ -210,7 +213,7 @@ at_fits at x = room (omega arith) (then_fits (move_fits at) x)
 -- what goes on with a block takes one more
 pub new_fits : {c : Around} {k l w : ℕ} {a : ℕ → Emission} → ((b : ℕ) → Fits c k l w (a b)) → Fits c k l (1 + w) (new_block a)
 unfolding new_block with_block taken
-new_fits {c} {k} {l} {w} {a} x = record { fits = λ s h r. more c l (taken (with_block s) + w) (taken s + (1 + w)) (a s.blocks (with_block s)) (omega arith) ((x s.blocks).fits (with_block s) (record { around = h.around; next = h.next }) (omega (arith, r))) }
+new_fits {c} {k} {l} {w} {a} x = record { fits = λ s h r. more c l (taken (with_block s) + w) (taken s + (1 + w)) (a s.blocks (with_block s)) (omega arith) ((x s.blocks).fits (with_block s) (record { around = h.around; next = h.next; short = h.short }) (omega (arith, r))) }
 
 -- what goes on with the context, the level or the loops that stand around
 pub context_fits : {c : Around} {k l w : ℕ} (a : Context → Emission) → Fits c k l w (a c.context) → Fits c k l w (by_context a)
@@ -234,14 +237,14 @@ looping x c = record c { loops = Some x }
 -- behind the loop all is as it was
 leaves_loop : (c : Around) (l b : ℕ) (x : LoopBlocks) (before : Around) (o : Outcome) → before ≡ c → FitsIn (looping x c) l b o → FitsIn c l b (go_on o (λ t. Done (with_loops before.loops t)))
 unfolding with_loops taken
-leaves_loop c l b x before (Done t) e h = (record { around = ap (λ (u : Around). record u { loops = before.loops }) h.0.around ∙ ap (λ (u : Around). record c { loops = u.loops }) e; next = h.0.next }, h.1)
+leaves_loop c l b x before (Done t) e h = (record { around = ap (λ (u : Around). record u { loops = before.loops }) h.0.around ∙ ap (λ (u : Around). record c { loops = u.loops }) e; next = h.0.next; short = h.0.short }, h.1)
 leaves_loop c l b x before TooWide e h = h
 leaves_loop c l b x before (Refused z at) e h = tt
 
 -- what stands in a loop
 pub loop_fits : {c : Around} {k l w : ℕ} {a : Emission} (x : LoopBlocks) → Fits (looping x c) k l w a → Fits c k l w (in_loop x a)
 unfolding in_loop with_loops taken
-loop_fits {c} {k} {l} {w} {a} x y = record { fits = λ s h r. leaves_loop c l (taken s + w) x s.around (a (with_loops (Some x) s)) h.around (y.fits (with_loops (Some x) s) (record { around = ap (looping x) h.around; next = h.next }) r) }
+loop_fits {c} {k} {l} {w} {a} x y = record { fits = λ s h r. leaves_loop c l (taken s + w) x s.around (a (with_loops (Some x) s)) h.around (y.fits (with_loops (Some x) s) (record { around = ap (looping x) h.around; next = h.next; short = h.short }) r) }
 
 -- the same around, where annotations are postponed
 abbrev pub postponed_around : Around → Around
@@ -254,6 +257,7 @@ leaves_postponed c l b before (Done t) e h = (
   record {
     around = ap (λ (u : Around). record u { context = record u.context { postponed = before.context.postponed } }) h.0.around ∙ ap (λ (u : Around). record c { context = record c.context { postponed = u.context.postponed } }) e;
     next = h.0.next;
+    short = h.0.short;
   },
   h.1,
 )
@@ -263,12 +267,12 @@ leaves_postponed c l b before (Refused z at) e h = tt
 -- what postpones annotations
 pub postponing_fits : {c : Around} {k l w : ℕ} {a : Emission} → Fits (postponed_around c) k l w a → Fits c k l w (postponing a)
 unfolding postponing with_postponed taken
-postponing_fits {c} {k} {l} {w} {a} y = record { fits = λ s h r. leaves_postponed c l (taken s + w) s.around (a (with_postponed true s)) h.around (y.fits (with_postponed true s) (record { around = ap postponed_around h.around; next = h.next }) r) }
+postponing_fits {c} {k} {l} {w} {a} y = record { fits = λ s h r. leaves_postponed c l (taken s + w) s.around (a (with_postponed true s)) h.around (y.fits (with_postponed true s) (record { around = ap postponed_around h.around; next = h.next; short = h.short }) r) }
 
 -- scopes that are passed over
 pub pass_fits : {c : Around} {k : ℕ} (n : ℕ) → Fits c k (k + n) 0 (pass_over (λ j. j + n))
 unfolding pass_over taken
-pass_fits n = record { fits = λ s h r. (record { around = h.around; next = ap (λ j. j + n) h.next }, omega arith) }
+pass_fits n = record { fits = λ s h r. (record { around = h.around; next = ap (λ j. j + n) h.next; short = h.short }, omega arith) }
 
 -- as many as annotations that are postponed have
 pub scopes_fit : {c : Around} {k : ℕ} (count : (postponed : Bool) → ℕ) → Fits c k (k + count c.context.postponed) 0 (pass_scopes count)

@@ -1,3 +1,4 @@
+mod ShortTables
 mod Among
 mod Fits
 mod Threads

@@ -5,8 +5,11 @@ use Rattle.py_tree.specs.declared.modules.Mode.{Mode}
 use Rattle.py_limits.specs.Size.{size_of}
 use Rattle.py_scope.specs.declared.flat.ScopeEntry.{ScopeEntry}
 use Rattle.py_forms.specs.Agree.{AllOf, form_of, kids}
-use Rattle.py_steps.specs.Context.{inside, outermost}
+use Rattle.py_steps.specs.Context.{Context, inside, outermost}
 use Rattle.py_steps.specs.Emitting.{Done, Outcome, Refused, State, TooWide, nothing}
+use Rattle.py_steps.specs.Everywhere.{Everywhere}
+use Rattle.py_steps.specs.Sealed.{sealed}
+use Rattle.py_emit.specs.States.{module_head}
 use Rattle.py_emission.specs.EmissionMods.{emission_of_mod, emitted}
 use Rattle.py_meaning.specs.ExprFaults.{Fault}
 use Rattle.py_meaning.specs.Faults.{compile_faults}
@@ -15,9 +18,10 @@ use Rattle.py_meaning.specs.Scanned.{scopes_of}
 use Rattle.py_owners.proofs.EnteringPrograms.{parts_none}
 use Rattle.py_refusing.proofs.Ending.{refusal_heads}
 use Rattle.py_loads.specs.Uses.{UsesAreFew}
-use Rattle.py_fits.specs.Fitting.{IsSmall, TreesFit}
+use Rattle.py_fits.specs.Fitting.{HasShortTables, IsSmall, TreesFit}
+use Rattle.py_fits.proofs.ShortTables.{sealed_short}
 use Rattle.py_fits.proofs.Fits.{Fits, FitsIn, taken}
-use Rattle.py_fits.proofs.Accesses.{outside, ready_outermost}
+use Rattle.py_fits.proofs.Accesses.{Ready, cells_few, outside, ready_outermost}
 use Rattle.py_fits.proofs.FitMods.{mod_fits}
 use Rattle.py_fits.proofs.Premises.{few_everywhere, small_tree}
 use Rattle.py_fits.proofs.Standing.{AllStand, Here, told, tree_stands}
@@ -30,18 +34,23 @@ stands_there t m level path scopes h = h
 -- before anything one block is made, and the first scope within has the number 1
 begins : (t : tree.Mod) (m : Mode) (level : ℕ) (path : List ℕ) (scopes : List ScopeEntry) (l w : ℕ) → Fits (outside (outermost level path scopes)) 1 l w (emission_of_mod t m) → 1 + w < 2 ^ 30 → FitsIn (outside (outermost level path scopes)) l (1 + w) (emitted t m (outermost level path scopes))
 unfolding taken
-begins t m level path scopes l w x i = x.fits (nothing (outermost level path scopes)) (record { around = refl; next = refl }) i
+begins t m level path scopes l w x i = x.fits (nothing (outermost level path scopes)) (record { around = refl; next = refl; short = tt }) i
 
 -- what takes so little has small tables
 small_tables : (s : State) (b : ℕ) → taken s ≤ b → b < 2 ^ 30 → IsSmall s
 unfolding taken
 small_tables s b t i = record { names = omega (arith, t, i); varnames = omega (arith, t, i); constants = omega (arith, t, i); blocks = omega (arith, t, i) }
 
+-- its code object has short tables, as has each within
+short_tables : (c : Context) (level l b : ℕ) (s : State) → Ready (outside c) → FitsIn (outside c) l b (Done s) → b < 2 ^ 30 → Everywhere HasShortTables (sealed level (module_head c) s)
+unfolding taken
+short_tables c level l b s r f i = let t = f.1 in sealed_short level (module_head c) s f.0.short (omega (arith, t, i)) (cells_few (outside c) r)
+
 -- a list with a member is not empty
 some_none : {A : Type 0} (x : A) (xs ys : List A) → ys ≡ x ∷ xs → ys ≡ [] → ⊥
 some_none x xs ys e h = let z : x ∷ xs ≡ [] = sym e ∙ h in cc
 
--- so the emission of the whole tree is done
+-- so the emission of the whole tree is done, and all its code objects have short tables
 pub trees_fit : UsesAreFew → TreesFit
 trees_fit uses t m level path h =
     let scopes = scopes_of t in
@@ -51,8 +60,8 @@ trees_fit uses t m level path h =
     let i : 1 + 192 * size_of t < 2 ^ 30 = omega (arith, small) in
     go (emitted t m (outermost level path scopes)) refl x.next (1 + 192 * size_of t) i (begins t m level path scopes x.next (192 * size_of t) x.fits i)
   where
-    go : (o : Outcome) → emitted t m (outermost level path (scopes_of t)) ≡ o → (l b : ℕ) → b < 2 ^ 30 → FitsIn (outside (outermost level path (scopes_of t))) l b o → (s : State) × (emitted t m (outermost level path (scopes_of t)) ≡ Done s) × IsSmall s
-    go (Done s) e l b i f = (s, e, small_tables s b f.1 i)
+    go : (o : Outcome) → emitted t m (outermost level path (scopes_of t)) ≡ o → (l b : ℕ) → b < 2 ^ 30 → FitsIn (outside (outermost level path (scopes_of t))) l b o → (s : State) × (emitted t m (outermost level path (scopes_of t)) ≡ Done s) × IsSmall s × Everywhere HasShortTables (sealed level (module_head (outermost level path (scopes_of t))) s)
+    go (Done s) e l b i f = (s, e, small_tables s b f.1 i, short_tables (outermost level path (scopes_of t)) level l b s (ready_outermost level path (scopes_of t) (few_everywhere uses t m level h)) f i)
     go TooWide e l b i f = absurd f
     go (Refused r at) e l b i f =
         let z = parts_none t m level h in

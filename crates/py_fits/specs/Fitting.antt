@@ -1,9 +1,13 @@
--- The emission of a tree without faults is done, and its tables are small: no operand is too large, and no cell is missing.
+-- The emission of a tree without faults is done, and its tables are small, as are those of each code object within: no operand is too large, and no cell is missing.
 use Rattle.std.specs.Prelude.{◌≡◌, ℕ, ◌<◌, ◌^◌, List, [], length}
 use Rattle.py_tree.specs.Tree as tree
 use Rattle.py_tree.specs.declared.modules.Mode.{Mode}
+use Rattle.py_bytecode.specs.Objects.{Object, constants, head}
 use Rattle.py_steps.specs.Context.{outermost}
 use Rattle.py_steps.specs.Emitting.{Done, State}
+use Rattle.py_steps.specs.Everywhere.{Everywhere}
+use Rattle.py_steps.specs.Sealed.{sealed}
+use Rattle.py_emit.specs.States.{module_head}
 use Rattle.py_emission.specs.EmissionMods.{emitted}
 use Rattle.py_meaning.specs.Faults.{faults}
 use Rattle.py_meaning.specs.Scanned.{scopes_of}
@@ -15,6 +19,15 @@ pub record IsSmall (s : State) : Type 0 where
   pub constants : length s.constants < 2 ^ 30
   pub blocks : s.blocks < 2 ^ 30
 
--- what is emitted of a tree without faults is done, and its tables and blocks are so few, in each mode, at each level of optimization and from each path
+-- fewer than 2 ^ 30 names, names of its own, cells, names from outside and constants of a code object
+pub record HasShortTables (o : Object) : Type 0 where
+  pub names : length (head o).names < 2 ^ 30
+  pub varnames : length (head o).varnames < 2 ^ 30
+  pub cellvars : length (head o).cellvars < 2 ^ 30
+  pub freevars : length (head o).freevars < 2 ^ 30
+  pub constants : length (constants o) < 2 ^ 30
+
+-- what is emitted of a tree without faults is done, its tables and blocks are so few, and the tables of its code object and of each code object within are so short, in each mode, at each level of optimization and from each path
 abbrev pub TreesFit : Type 0
-TreesFit = (t : tree.Mod) (m : Mode) (level : ℕ) (path : List ℕ) → faults t m level ≡ [] → (s : State) × (emitted t m (outermost level path (scopes_of t)) ≡ Done s) × IsSmall s
+TreesFit =
+    (t : tree.Mod) (m : Mode) (level : ℕ) (path : List ℕ) → faults t m level ≡ [] → (s : State) × (emitted t m (outermost level path (scopes_of t)) ≡ Done s) × IsSmall s × Everywhere HasShortTables (sealed level (module_head (outermost level path (scopes_of t))) s)
