@@ -106,27 +106,32 @@ class Copies:
         self.free = list(self.roots)
 
     def __enter__(self):
-        if self.roots == [ROOT]:
-            return self
-        # What a call that was killed has left.
+        if self.roots != [ROOT]:
+            self.clear()
+            for root in self.roots:
+                self.copy(root)
+        return self
+
+    def clear(self):
+        """Removes what calls that were killed have left."""
         for old in self.place.parent.glob("lanes-*"):
             if not pathlib.Path("/proc", old.name.partition("-")[2]).exists():
                 shutil.rmtree(old, ignore_errors=True)
+
+    def copy(self, root):
+        """Copies the sources, with what is proved of them. rt wants the folder of each crate that is listed."""
+        root.mkdir(parents=True)
         lines = (ROOT / "crates.txt").read_text(encoding="utf-8").splitlines(True)
-        for root in self.roots:
-            root.mkdir(parents=True)
-            # rt wants the folder of each crate that is listed.
-            (root / "crates.txt").write_text("".join(it for it in lines if set(read_crates(it)) & set(self.names)), encoding="utf-8")
-            if (ROOT / "HANDLES").exists():
-                shutil.copy2(ROOT / "HANDLES", root)
-            for name in self.names:
-                own, its = ROOT / "crates" / name, root / "crates" / name
-                its.mkdir(parents=True)
-                for part in ("src", "specs", "proofs"):
-                    if (own / part).exists():
-                        shutil.copytree(own / part, its / part)
-                self.give(name, ROOT, root)
-        return self
+        (root / "crates.txt").write_text("".join(it for it in lines if set(read_crates(it)) & set(self.names)), encoding="utf-8")
+        if (ROOT / "HANDLES").exists():
+            shutil.copy2(ROOT / "HANDLES", root)
+        for name in self.names:
+            own, its = ROOT / "crates" / name, root / "crates" / name
+            its.mkdir(parents=True)
+            for part in ("src", "specs", "proofs"):
+                if (own / part).exists():
+                    shutil.copytree(own / part, its / part)
+            self.give(name, ROOT, root)
 
     def __exit__(self, *ended):
         if self.roots != [ROOT]:

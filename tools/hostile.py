@@ -55,7 +55,9 @@ DONE, REFUSED, USAGE, INPUT, READ_FAULT, WRITE_FAULT, MEMORY = range(7)
 WORDS = ["exec", "0", "m.py"]
 
 # The commands that read rows, and the one that reads a code file.
-READERS = [WORDS, ["pack", *WORDS], ["step", *WORDS, "g1"], ["names", "m.py"]]
+PACK = ["pack", *WORDS]
+NAMES = ["names", "m.py"]
+READERS = [WORDS, PACK, ["step", *WORDS, "g1"], NAMES]
 UNPACK = ["unpack"]
 USAGE_LINE = b"usage: pyc MODE LEVEL PATH\n"
 
@@ -268,7 +270,7 @@ def rows_cases():
     for tree, line in cases.refused_trees():
         data = cases.text_of(cases.rows_of(tree))
         for words in READERS:
-            yield "%s, by %s" % (line, words[0]), words, data, named(data) if words[0] == "names" else refused(line)
+            yield "%s, by %s" % (line, words[0]), words, data, named(data) if words is NAMES else refused(line)
     for mode in "eval", "single", "block":
         rows = cases.text_of(cases.rows_of(("FunctionType", [], cases.name())))
         yield "a type in " + mode, [mode, "2", "m.py"], rows, refused("-:- malformed tree: WrongMode")
@@ -366,7 +368,7 @@ def check_files(arguments):
     """The subcommand `files`."""
     tally, draw, read = Tally("files"), random.Random(arguments.seed), 0
     rows = rows_of_python.rows_text(source_of(arguments)).encode("utf-8")
-    files = [ended(arguments.program, rows, ["pack", *WORDS]).out, *code_files.FILES.values()]
+    files = [ended(arguments.program, rows, PACK).out, *code_files.FILES.values()]
     counts = [counts_of(it) for it in files]
     for number in range(arguments.count):
         at = number % len(files)
@@ -719,8 +721,8 @@ def deep_inputs(depth):
         data = cases.text_of(deep.rows(depth))
         compiled = done if deep.line is None else refused(deep.line)
         yield deep.title, WORDS, data, compiled
-        yield deep.title + ", packed", ["pack", *WORDS], data, compiled
-        yield deep.title + ", reported", ["names", "m.py"], data, compiled if deep.by_scopes else done
+        yield deep.title + ", packed", PACK, data, compiled
+        yield deep.title + ", reported", NAMES, data, compiled if deep.by_scopes else done
         for answers, script in DEEP_SCRIPTS.items() if deep.line is None else ():
             yield "%s, run over %s" % (deep.title, answers), ["step", *WORDS, ",".join(script)], data, done
     before, behind = around_constant()
@@ -826,9 +828,9 @@ def runs_to_refuse(source):
     data = rows_of_python.rows_text(source).encode("utf-8")
     late = rows_of_python.rows_text(source + b"break\n").encode("utf-8")
     yield "listing", WORDS, data, Ended(DONE, None, None)
-    yield "code file", ["pack", *WORDS], data, Ended(DONE, None, None)
+    yield "code file", PACK, data, Ended(DONE, None, None)
     yield "listing of a code file", UNPACK, code_files.FILES["one"], Ended(DONE, None, None)
-    yield "report on names", ["names", "m.py"], data, Ended(DONE, None, None)
+    yield "report on names", NAMES, data, Ended(DONE, None, None)
     yield "both runs", ["step", *WORDS, ANSWERS], data, Ended(DONE, None, None)
     yield "refused tree", WORDS, late, Ended(REFUSED, None, None)
     yield "wrong rows", WORDS, twice(data), Ended(INPUT, None, None)

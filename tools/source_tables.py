@@ -4,8 +4,8 @@ usage: source_tables.py [--python PYTHON]
 
 The listings and the reasons are those of tools/model.
 Each source below gives one case: a line with its mode, its level and its source, and a line with its rows; in stdout
-what the model writes over the rows stands in their place, also where they nest too deep. Kinds that the model compiles and this compiler does not yet
-are refused where they stand, as this compiler refuses them.
+what the model writes over the rows stands in their place, also where they nest too deep. Kinds that the model compiles
+and this compiler does not yet are refused where they stand, as this compiler refuses them.
 The levels 0, 1 and 2 follow one another in each table, unless an entry names its own.
 A source that Python's parser does not read as the tree that is wanted is a pair: what it is called, and its rows.
 The places of what stands in an f-string are those of Python before 3.12, so this runs under an older one; PYTHON is one of
