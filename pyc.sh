@@ -151,7 +151,7 @@ build() {
     all=$(crates)
     count=$(($(echo "$all" | wc -l)))
     say "the program is not built yet: this call proves its $count crates and builds it, in $root/crates"
-    say 'from nothing that took 63 minutes on a machine with 4 processors, one crate after the other, and up to 11 GB of memory'
+    say 'from nothing that took 46 minutes on a machine with 4 processors and 24 GB, and up to 11 GB of memory'
     say 'it may be stopped: the next call goes on with what is proved'
     say 'sh pyc.sh --try FILE.py compiles at once, without proof'
     start=$(date +%s)
