@@ -15,7 +15,7 @@ use Rattle.py_emit.specs.States.{IsTold, Rest, info, rest, state}
 use Rattle.codegen.specs.Compiled.{IsRefused}
 use Rattle.codegen.proofs.Firsts.{done_clean}
 use Rattle.codegen.proofs.Made.{goes_first, made_mod, unrefused_mod}
-use Rattle.codegen.proofs.compile.compile_mod.Goals as goal
+use Rattle.codegen.proofs.compile.compile_over.Goals as goal
 
 errs : {T E : Type 0} (r : Result T E) (e : E) → IsErrAnd r (λ y. y ≡ e) → r ≡ Err e
 errs r e is = let p = err_from_is_err_and r is in p.1 ∙ ap (λ y. Err y) p.2
