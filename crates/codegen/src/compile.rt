@@ -1,6 +1,6 @@
 //! The compile calls.
 
-ghost use Rattle.std.specs.Prelude.{◌≡◌, ◌≢◌, [], None, IfOk, IfErr, OnOk};
+ghost use Rattle.std.specs.Prelude.{◌≡◌, ◌≢◌, true, false, [], None, IfOk, IfErr, OnOk};
 ghost use Rattle.py_tree.specs.Tree as tree;
 ghost use Rattle.py_tree.specs.View.{expr_tree, mod_tree, stmts, stmt_tree};
 ghost use Rattle.py_uses.specs.Goes.{IsTextOrMemory};
@@ -228,14 +228,22 @@ fn compile_mod(
     ensures first { IfErr result (λ e. IsFirst e (compile_faults mode opts.optimize (tree_of program.now))) }
     ensures told { IfErr result (λ e. IsTold e source_path) }
 {
-    match compile_over(alloc, program, source_path, mode, opts, scopes) {
-        Err(LocatedError {
-            error: CodegenErrorType::MissingCell,
-            location: _,
-            source_path,
-        }) => Err(first_fault(alloc, program, source_path, mode, opts)),
-        answer => answer,
+    let error = match compile_over(alloc, program, source_path, mode, opts, scopes) {
+        Ok(code) => return Ok(code),
+        Err(error) => error,
+    };
+    if is_missing_cell(&error.error) {
+        return Err(first_fault(alloc, program, error.source_path, mode, opts));
     }
+    Err(error)
+}
+
+/// Whether the error says that a cell is not there.
+fn is_missing_cell(error: &CodegenErrorType) -> bool
+    ensures missing { result ≡ true → error.now ≡ CodegenErrorType.MissingCell }
+    ensures other { result ≡ false → error.now ≢ CodegenErrorType.MissingCell }
+{
+    matches!(error, CodegenErrorType::MissingCell)
 }
 
 /// The code of a program over these scopes.
