@@ -114,7 +114,7 @@ module _ (r : Result CodeObject (LocatedError CodegenErrorType)) (t : tree.Mod) 
   well_so : (Q : Object → Type 0) → ((o : Object) → WellMade path (scopes_of t) o → Q o) → IfOk r (λ code. Everywhere Q (object code))
   well_so Q f = made_so (Everywhere Q) (λ o h. everywhere_so (WellMade path (scopes_of t)) Q f o h.well)
 
-  pub answered : IfErr r (λ e. IsScanned e t m (around_tree t path l)) → IfErr r (λ e. IsTold e path) → IsCompiled r t path m l
+  pub answered : IfErr r (λ e. IsScanned e t m l) → IfErr r (λ e. IsTold e path) → IsCompiled r t path m l
   answered first told = record {
     agrees = made_so (λ o. Agree o scope) (λ o h. agree ground o scope h);
     agrees_full = made_so (λ o. AgreeFull o scope) (λ o h. agree_full ground o scope h);
@@ -133,7 +133,7 @@ module _ (r : Result CodeObject (LocatedError CodegenErrorType)) (t : tree.Mod) 
     tables = tabled;
     nested = on_ok r (λ code. IsEmitted code (around_tree t path l) (emitted t m (around_tree t path l))) (λ code. nesting (object code) < 2 ^ 11) (λ code h. nested_below code t m (around_tree t path l) w.0 h) e;
     clean = faultless;
-    first = on_err r (λ e. IsScanned e t m (around_tree t path l)) (λ e. IsFirst e (faults t m l)) (λ e h. refused_first e t m l path w h) first;
+    first = on_err r (λ e. IsScanned e t m l) (λ e. IsFirst e (faults t m l)) (λ e h. refused_first e t m l w h) first;
     path = on_err r (λ e. IsTold e path) (λ e. e.source_path ≡ path) (λ e h. h.0) told;
     nowhere = on_err r (λ e. IsTold e path) (λ e. e.error ≡ error.OutOfMemory → e.location ≡ None) (λ e h. h.1) told;
   }

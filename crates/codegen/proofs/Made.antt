@@ -1,5 +1,5 @@
 -- The code object of an emitter that emitted a tree.
-use Rattle.std.proofs.Common.{◌≡◌, ◌<◌, ◌^◌, ℕ, List, Result, refl, sym, ap, ◌∙◌, subst}
+use Rattle.std.proofs.Common.{◌≡◌, ◌<◌, ◌^◌, ℕ, List, [], Result, refl, sym, ap, ◌∙◌, subst}
 use Rattle.py_tree.specs.Tree as tree
 use Rattle.py_limits.specs.Size.{size_of}
 use Rattle.py_tree.specs.declared.modules.Mode.{Mode}
@@ -28,6 +28,10 @@ module _ (t : tree.Mod) (m : Mode) (opts : CompileOpts) (path : List ℕ) (scope
 
   pub goes_first : {A : Type 0} (x : Result A (LocatedError CodegenErrorType)) (after : State) → Goes x after (emission_of_mod t m (state first)) → Goes x after (emitted t m around)
   goes_first x after h = subst (λ q. Goes x after (emission_of_mod t m q)) s h
+
+  -- so it is over no scopes, where these are none
+  pub goes_without : scopes ≡ [] → {A : Type 0} (x : Result A (LocatedError CodegenErrorType)) (after : State) → Goes x after (emission_of_mod t m (state first)) → Goes x after (emitted t m (outermost opts.optimize path []))
+  goes_without none x after h = subst (λ q. Goes x after (emitted t m (outermost opts.optimize path q))) none (goes_first x after h)
 
   module _ (last : Emitter) (same : rest last ≡ rest first) (is : emitted t m around ≡ Done (state last)) where
     level_same : (rest last).opts.optimize ≡ opts.optimize

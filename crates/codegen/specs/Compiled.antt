@@ -12,7 +12,7 @@ use Rattle.py_scope.specs.declared.error.SymbolTableError.{SymbolTableError}
 use Rattle.py_scope.specs.declared.table.SymbolTable.{SymbolTable}
 use Rattle.symboltable.specs.Errors.{codegen_error}
 use Rattle.py_steps.specs.Context.{Context, outermost}
-use Rattle.py_emission.specs.EmissionMods.{emitted}
+use Rattle.py_meaning.specs.Faults.{compile_faults}
 use Rattle.py_meaning.specs.Scanned.{scan_faults, scopes_of}
 use Rattle.py_bytecode.specs.Objects.{Object, head}
 use Rattle.py_bytecode.specs.Values.{Answer}
@@ -91,9 +91,9 @@ IsSealed o c (Refused e at) = ⊥
 abbrev pub IsRefused : LocatedError CodegenErrorType → Outcome → Type 0
 IsRefused e o = e.error ≢ error.OutOfMemory → o ≡ Refused e.error e.location
 
--- the error is the first of what the scan refuses; or it refuses nothing, and the emission is refused so
-abbrev pub IsScanned : LocatedError CodegenErrorType → tree.Mod → Mode → Context → Type 0
-IsScanned e t m c = IsFirst e (scan_faults t) ⊎ ((scan_faults t ≡ []) × IsRefused e (emitted t m c))
+-- the error is the first of what the scan refuses; or it refuses nothing, and the error is the first fault of the nodes that are compiled
+abbrev pub IsScanned : LocatedError CodegenErrorType → tree.Mod → Mode → (level : ℕ) → Type 0
+IsScanned e t m l = IsFirst e (scan_faults t) ⊎ ((scan_faults t ≡ []) × IsFirst e (compile_faults m l t))
 
 -- the table is that of the tree's scopes, or the error is the first of what the scan refuses
 abbrev pub IsScan : tree.Mod → Result SymbolTable SymbolTableError → Type 0

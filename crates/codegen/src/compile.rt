@@ -1,14 +1,15 @@
 //! The compile calls.
 
-ghost use Rattle.std.specs.Prelude.{◌≡◌, [], None, IfOk, IfErr, OnOk};
+ghost use Rattle.std.specs.Prelude.{◌≡◌, ◌≢◌, true, false, [], None, IfOk, IfErr, OnOk};
 ghost use Rattle.py_tree.specs.Tree as tree;
 ghost use Rattle.py_tree.specs.View.{expr_tree, mod_tree, stmts, stmt_tree};
 ghost use Rattle.py_uses.specs.Goes.{IsTextOrMemory};
 ghost use Rattle.py_steps.specs.Context.{outermost};
 ghost use Rattle.py_emission.specs.EmissionMods.{emission_of_mod, emitted};
+ghost use Rattle.py_meaning.specs.Faults.{compile_faults};
 ghost use Rattle.py_meaning.specs.Scanned.{scan_faults, scopes_of};
 ghost use Rattle.codegen.specs.Calls.{IsCompiled, IsWhole, tree_of};
-ghost use Rattle.codegen.specs.Compiled.{IsRefused, IsScan, IsScanned, around_tree};
+ghost use Rattle.codegen.specs.Compiled.{IsFirst, IsRefused, IsScan, IsScanned, around_tree};
 ghost use Rattle.py_emit.specs.Emitted.{IsEmitted};
 ghost use Rattle.py_emit.specs.States.{AreMade, Emits, IsTold, rest};
 
@@ -197,7 +198,7 @@ fn compile_scanned(
     requires told { IfErr table IsTextOrMemory }
     ensures emission { IfOk result (λ code. IsEmitted code (around_tree (tree_of program.now) source_path opts.optimize) (emitted (tree_of program.now) mode (around_tree (tree_of program.now) source_path opts.optimize))) }
     ensures clean { OnOk result (scan_faults (tree_of program.now) ≡ []) }
-    ensures first { IfErr result (λ e. IsScanned e (tree_of program.now) mode (around_tree (tree_of program.now) source_path opts.optimize)) }
+    ensures first { IfErr result (λ e. IsScanned e (tree_of program.now) mode opts.optimize) }
     ensures told { IfErr result (λ e. IsTold e source_path) }
 {
     let table = match table {
@@ -210,8 +211,43 @@ fn compile_scanned(
     }
 }
 
-/// The code of a program with these scopes, which are those of its scan.
+/// The code of a program with these scopes, which are those of its scan. Where it has no fault, each cell is there; so
+/// where one is missing, its first fault is told, which is the same without scopes.
 fn compile_mod(
+    alloc: Global,
+    program: &Program<'_>,
+    source_path: Text,
+    mode: Mode,
+    opts: CompileOpts,
+    scopes: FlatScopes,
+) -> Result<CodeObject, CodegenError>
+    requires whole { IsWhole (tree_of program.now) mode }
+    requires clean { scan_faults (tree_of program.now) ≡ [] }
+    requires scanned { scopes ≡ scopes_of (tree_of program.now) }
+    ensures emission { IfOk result (λ code. IsEmitted code (outermost opts.optimize source_path scopes) (emitted (tree_of program.now) mode (outermost opts.optimize source_path scopes))) }
+    ensures first { IfErr result (λ e. IsFirst e (compile_faults mode opts.optimize (tree_of program.now))) }
+    ensures told { IfErr result (λ e. IsTold e source_path) }
+{
+    let error = match compile_over(alloc, program, source_path, mode, opts, scopes) {
+        Ok(code) => return Ok(code),
+        Err(error) => error,
+    };
+    if is_missing_cell(&error.error) {
+        return Err(first_fault(alloc, program, error.source_path, mode, opts));
+    }
+    Err(error)
+}
+
+/// Whether the error says that a cell is not there.
+fn is_missing_cell(error: &CodegenErrorType) -> bool
+    ensures missing { result ≡ true → error.now ≡ CodegenErrorType.MissingCell }
+    ensures other { result ≡ false → error.now ≢ CodegenErrorType.MissingCell }
+{
+    matches!(error, CodegenErrorType::MissingCell)
+}
+
+/// The code of a program over these scopes.
+fn compile_over(
     alloc: Global,
     program: &Program<'_>,
     source_path: Text,
@@ -229,6 +265,42 @@ fn compile_mod(
     let mut em = Emitter::over(alloc, opts, source_path, scopes)?;
     emit_mod(&mut em, program, mode)?;
     em.finish()
+}
+
+/// The first fault of a program that has one.
+fn first_fault(
+    alloc: Global,
+    program: &Program<'_>,
+    source_path: Text,
+    mode: Mode,
+    opts: CompileOpts,
+) -> CodegenError
+    requires whole { IsWhole (tree_of program.now) mode }
+    requires faulty { compile_faults mode opts.optimize (tree_of program.now) ≢ [] }
+    ensures first { IsFirst result (compile_faults mode opts.optimize (tree_of program.now)) }
+    ensures told { IsTold result source_path }
+{
+    match emit_without_scopes(alloc, program, source_path, mode, opts) {
+        Ok(()) => unreachable!(),
+        Err(error) => error,
+    }
+}
+
+/// Emits a program without scopes, where each name is looked up by name and no cell is asked for. Its faults are the same.
+fn emit_without_scopes(
+    alloc: Global,
+    program: &Program<'_>,
+    source_path: Text,
+    mode: Mode,
+    opts: CompileOpts,
+) -> Result<(), CodegenError>
+    requires { IsWhole (tree_of program.now) mode }
+    ensures ok { OnOk result (compile_faults mode opts.optimize (tree_of program.now) ≡ []) }
+    ensures first { IfErr result (λ e. IsFirst e (compile_faults mode opts.optimize (tree_of program.now))) }
+    ensures told { IfErr result (λ e. IsTold e source_path) }
+{
+    let mut em = Emitter::over(alloc, opts, source_path, FlatScopes::empty(alloc))?;
+    emit_mod(&mut em, program, mode)
 }
 
 /// Emits a whole program.

@@ -4,7 +4,7 @@
 use crate::bytecode::{returns_none, texts};
 use crate::emit::{syntax_text, takes};
 use crate::fixtures::{at, head_of_function, text};
-use py_base::CodegenError;
+use py_base::{CodegenError, CodegenErrorType};
 use py_bytecode::{CodeObject, Instruction};
 use py_emit::{CompileOpts, Emitter, NameUsage, Naming};
 use py_scope::{Role, ScopeBuilder, SymbolScope, SymbolTable, SymbolTableType};
@@ -154,9 +154,9 @@ fn symbols_of_the_present_scope(rt: HostRuntime) -> Result<(), Fail> {
     Ok(())
 }
 
-/// The code of a lambda to which x comes from outside.
-fn lambda(alloc: Global) -> Result<CodeObject, Fail> {
-    let frees = texts(alloc, &["x"])?;
+/// The code of a lambda to which this name comes from outside.
+fn lambda(alloc: Global, free: &str) -> Result<CodeObject, Fail> {
+    let frees = texts(alloc, &[free])?;
     let mut code = returns_none(alloc, "<lambda>")?;
     code.freevars = frees;
     Ok(code)
@@ -164,7 +164,7 @@ fn lambda(alloc: Global) -> Result<CodeObject, Fail> {
 
 /// The tuple of its cells is built.
 fn close_over(rt: &(impl Abort + AllocGlobal), em: &mut Emitter) -> Result<(), Fail> {
-    let code = lambda(rt.alloc())?;
+    let code = lambda(rt.alloc(), "x")?;
     let closed = em.build_closure(&code);
     mem::drop(code);
     assert!(rt; closed?);
@@ -177,6 +177,31 @@ fn close_over(rt: &(impl Abort + AllocGlobal), em: &mut Emitter) -> Result<(), F
 fn a_closure_of_one_cell(rt: HostRuntime) -> Result<(), Fail> {
     let mut em = in_function(rt.alloc())?;
     let done = close_over(&rt, &mut em);
+    mem::drop(em);
+    done
+}
+
+/// The name is no cell of the function.
+fn close_over_another(rt: &(impl Abort + AllocGlobal), em: &mut Emitter) -> Result<(), Fail> {
+    let code = lambda(rt.alloc(), "v")?;
+    em.set_location(at(7, 3));
+    let closed = em.build_closure(&code);
+    mem::drop(code);
+    match closed {
+        Ok(_) => panic!(rt; "a closure"),
+        Err(error) => {
+            assert!(rt; matches!(&error.error, CodegenErrorType::MissingCell));
+            assert_eq!(rt; error.location, Some(at(7, 3)));
+        }
+    }
+    assert!(rt; em.take_last().is_none());
+    Ok(())
+}
+
+#[test]
+fn a_closure_of_a_name_that_is_no_cell(rt: HostRuntime) -> Result<(), Fail> {
+    let mut em = in_function(rt.alloc())?;
+    let done = close_over_another(&rt, &mut em);
     mem::drop(em);
     done
 }

@@ -2,6 +2,7 @@
 use Rattle.std.proofs.Common.{◌≡◌, ℕ, suc, List, [], ◌∷◌, ◌++◌, length, Bool, true, false, Some, refl, sym, ap, ◌∙◌, subst, arith}
 use Rattle.std.specs.Prelude.{slice_get, if◌then◌else◌}
 use Rattle.std.specs.List.{list_any}
+use Rattle.py_base.specs.declared.errors.CodegenErrorType.TheVariants as error
 use Rattle.py_bytecode.specs.declared.instruction.Instruction.TheVariants as op
 use Rattle.py_bytecode.specs.Equality.{text_eq}
 use Rattle.py_bytecode.specs.Values.{Cells}
@@ -11,9 +12,10 @@ use Rattle.py_forms.specs.Form.{Scope}
 use Rattle.py_forms.specs.Code.{Item, Do, cell_codes, closure_code, tuple_of}
 use Rattle.py_forms.specs.Agree.{cells_of}
 use Rattle.py_steps.specs.Context.{cell_place}
-use Rattle.py_steps.specs.Emitting.{Around, Outcome, State, Done, TooWide, emit, emit_count}
+use Rattle.py_steps.specs.Emitting.{Around, State, Done, emit, emit_count, refuse}
 use Rattle.py_steps.specs.EmissionParts.{in_turn}
 use Rattle.py_steps.specs.Children.{cell_loads, closure, load_cell}
+use Rattle.py_emit.proofs.Joined.{granted}
 use Rattle.py_adds.proofs.Adding.{Added, added_join, added_nothing, settled_adds}
 use Rattle.py_adds.proofs.Adding as adding
 use Rattle.py_adds.proofs.Burden.{cells_in, cells-append}
@@ -30,19 +32,15 @@ pub record Quietly (s r : State) (is : List (Item Scope)) : Type 0 where
 pub quietly_then : (s m r : State) (is js : List (Item Scope)) → Quietly s m is → Quietly m r js → Quietly s r (is ++ js)
 quietly_then s m r is js a b = record { added = added_join s m r is js 0 0 [] [] a.added b.added; next_is = b.next_is ∙ a.next_is }
 
-held_if : (b : Bool) (o : Outcome) (r : State) → (if b then o else TooWide) ≡ Done r → (b ≡ true) × (o ≡ Done r)
-held_if true o r e = (refl, e)
-held_if false o r e = absurd cc
-
 module _ (c : Around) where
   abbrev place : List ℕ → ℕ
   place = cell_place c.context
 
   pub load_adds : (x : List ℕ) (s r : State) → Stands c s → load_cell x s ≡ Done r → Quietly s r (cell_codes (cells_of place (x ∷ [])))
-  unfolding load_cell
+  unfolding load_cell refuse
   load_adds x s r z e =
       let cells : List (List ℕ) = adding.cells_of s.around in
-      let here = held_if (list_any (text_eq x) cells) (emit op.LoadClosure (cell_place s.around.context x) s) r e in
+      let here = granted (list_any (text_eq x) cells) (emit op.LoadClosure (cell_place s.around.context x) s) error.MissingCell (Some s.location) r e in
       let at : slice_get cells (cell_place s.around.context x) ≡ Some x = stands x cells here.0 in
       let a = emit_read op.LoadClosure (cell_place s.around.context x) (Push (Cells (record { name = x; place = cell_place s.around.context x } ∷ []))) s r refl
       (λ d t b. ap (λ ys. for_some (slice_get ys (cell_place s.around.context x)) (λ y. Push (Cells (record { name = y; place = cell_place s.around.context x } ∷ [])))) b.cells_are ∙ ap (λ y. for_some y (λ w. Push (Cells (record { name = w; place = cell_place s.around.context x } ∷ [])))) at) here.1 in

@@ -52,6 +52,10 @@ pub enum CodegenErrorType {
     MalformedTree(Malformed),
     /// The tree reaches a limit.
     TooLarge(TreeLimit),
+    /// A function that is made has a name from outside which is no cell of the scope around, and does not come to that
+    /// from outside either. So it is where an emitter is over a table that is not the tree's. Never given by the compile
+    /// calls.
+    MissingCell,
     /// There was no memory. Alone of all, this says nothing of the tree.
     OutOfMemory,
 }
@@ -108,6 +112,9 @@ impl fmt::Display for CodegenErrorType {
             CodegenErrorType::TooLarge(TreeLimit::Nodes) => f.write_str("tree is too large: nodes"),
             CodegenErrorType::TooLarge(TreeLimit::Depth) => f.write_str(
                 "tree is too large: nesting",
+            ),
+            CodegenErrorType::MissingCell => f.write_str(
+                "a function has a name from outside that is no cell around it",
             ),
             CodegenErrorType::OutOfMemory => f.write_str("out of memory"),
         }

@@ -75,6 +75,11 @@ pub chosen_done : (b : Bool) (x r : State) → (if b then Done x else TooWide) �
 chosen_done true x r e = (refl, done_same x r e)
 chosen_done false x r e = absurd cc
 
+-- what is not refused by a test
+pub granted : (b : Bool) (o : Outcome) (x : CodegenErrorType) (at : Option SourceLocation) (r : State) → (if b then o else Refused x at) ≡ Done r → (b ≡ true) × (o ≡ Done r)
+granted true o x at r e = (refl, e)
+granted false o x at r e = absurd cc
+
 pub counted_done : (b : Bool) (o : Outcome) (r : State) → (if b then o else TooWide) ≡ Done r → o ≡ Done r
 counted_done true o r e = e
 counted_done false o r e = absurd cc

@@ -1,33 +1,45 @@
 //! Functions of the code objects of scopes within.
-ghost use Rattle.std.specs.Prelude.{◌≡◌, IfOk, length, if◌then◌else◌};
+ghost use Rattle.std.specs.Prelude.{◌≡◌, ◌++◌, false, Err, IfOk, length, if◌then◌else◌};
+ghost use Rattle.std.specs.List.{list_any};
+ghost use Rattle.py_bytecode.specs.Equality.{text_eq};
 ghost use Rattle.py_bytecode.specs.Objects.{code as code_constant};
 ghost use Rattle.py_bytecode.specs.View.{object};
 ghost use Rattle.py_steps.specs.Children.{cell_loads, closure, load_cell as cell_load, made};
 ghost use Rattle.py_steps.specs.Within.{some_flag};
 ghost use Rattle.py_steps.specs.EmissionParts.{in_turn};
 ghost use Rattle.py_steps.specs.Emitting.{◌▸◌, emit_constant, emit_count};
-ghost use Rattle.py_emit.specs.States.{Emits};
+ghost use Rattle.py_emit.specs.States.{Emits, placed_error, rest, state};
 
 use crate::emitter::Emitter;
+use crate::names::cell_position;
 use bitflags::Flags;
 use py_base::{CodegenError, CodegenErrorType, Text};
 use py_bytecode::{CodeObject, ConstantData, Instruction, MakeFunctionFlags};
 
 impl Emitter {
-    /// Appends the load of a cell. A name that is no cell of the scope and does not come to it from outside, which no
-    /// scanned tree comes to, counts as want of memory.
+    /// Appends the load of a cell.
     ///
     /// # Errors
-    /// OutOfMemory alone.
-    #[tactic(auto, unfolding(py_steps::specs::Children::load_cell), using(crate::proofs::CellPlaces::any_within))]
+    /// MissingCell where the name is no cell of the scope and does not come to it from outside, at the present location,
+    /// or OutOfMemory.
     pub fn load_cell(&mut self, name: &str) -> Result<(), CodegenError>
         ensures { Emits result (cell_load name.now) self.old self.new }
     {
-        let place = self.cell_place(name)?;
-        let count = self.cell_count();
-        if place as usize >= count {
-            return Err(self.error(CodegenErrorType::OutOfMemory));
+        let name = self.text(name)?;
+        self.load_cell_of(&name)
+    }
+
+    /// Appends the load of the cell of this name. Whether it is there is asked before there is anything to want memory for.
+    #[tactic(auto, unfolding(py_steps::specs::Children::load_cell, py_steps::specs::Emitting::refuse), using(crate::proofs::CellPlaces::any_within, crate::proofs::CellPlaces::none_within))]
+    fn load_cell_of(&mut self, name: &Text) -> Result<(), CodegenError>
+        ensures emits { Emits result (cell_load name.now) self.old self.new }
+        ensures missing { list_any (text_eq name.now) ((state self.old).around.context.cells ++ (state self.old).around.context.frees) ≡ false → result ≡ Err (placed_error CodegenErrorType.MissingCell (state self.old).location (rest self.old).path) }
+    {
+        let place = cell_position(&self.scope.code, name);
+        if place >= self.cell_count() {
+            return Err(self.error(CodegenErrorType::MissingCell));
         }
+        let place = self.narrow(place)?;
         self.emit_arg(Instruction::LoadClosure, place)
     }
 
@@ -36,7 +48,7 @@ impl Emitter {
         ensures { Emits result (in_turn (cell_loads names.now)) self.old self.new }
     {
         for name in names {
-            self.load_cell(name.as_str())?;
+            self.load_cell_of(name)?;
         }
         Ok(())
     }
@@ -45,7 +57,8 @@ impl Emitter {
     /// order, and one `BuildTuple`. False where there is none, and then nothing is appended.
     ///
     /// # Errors
-    /// OutOfMemory alone.
+    /// MissingCell, at the present location, where one of them is no cell of the scope and does not come to it from outside,
+    /// or OutOfMemory.
     #[tactic(auto, using(crate::proofs::Closures::closure_is))]
     pub fn build_closure(&mut self, code: &CodeObject) -> Result<bool, CodegenError>
         ensures emits { Emits result (closure code.now.freevars) self.old self.new }
@@ -71,7 +84,8 @@ impl Emitter {
     /// `MakeFunction` with these flags, and that of a closure where there is one.
     ///
     /// # Errors
-    /// OutOfMemory alone.
+    /// MissingCell, at the present location, where a name that the code object has from outside is no cell of the scope and
+    /// does not come to it from outside, or OutOfMemory.
     pub fn make_function(
         &mut self,
         flags: MakeFunctionFlags,

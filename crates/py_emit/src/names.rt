@@ -345,7 +345,7 @@ impl Emitter {
 
 /// The place of a name among cells and free names, or one past the last.
 #[tactic(auto, using(crate::proofs::CellPlaces::place_first, crate::proofs::CellPlaces::place_behind))]
-fn cell_position(code: &FlatCode, name: &Text) -> usize
+pub(crate) fn cell_position(code: &FlatCode, name: &Text) -> usize
     ensures { result ≡ position_or_len (text_eq name.now) (code.now.cellvar_cache ++ code.now.freevar_cache) }
 {
     let place = place_among(&code.cellvar_cache, name);

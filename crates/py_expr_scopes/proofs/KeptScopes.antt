@@ -1,5 +1,5 @@
 -- What is emitted of a scope within and of the function that is made of it keeps a block from beginning.
-use Rattle.std.proofs.Common.{◌≡◌, ℕ, suc, ◌+◌, List, [], ◌∷◌, ◌++◌, Bool, true, subst}
+use Rattle.std.proofs.Common.{◌≡◌, ℕ, suc, ◌+◌, List, [], ◌∷◌, ◌++◌, Bool, true, Some, subst}
 use Rattle.std.specs.Prelude.{if◌then◌else◌}
 use Rattle.std.specs.List.{list_any}
 use Rattle.py_bytecode.specs.Equality.{text_eq}
@@ -7,13 +7,14 @@ use Rattle.py_bytecode.specs.declared.instruction.Instruction.TheVariants as op
 use Rattle.py_bytecode.specs.Objects as const
 use Rattle.py_bytecode.specs.Objects.{Object}
 use Rattle.py_base.specs.declared.errors.CodegenErrorType.{CodegenErrorType}
+use Rattle.py_base.specs.declared.errors.CodegenErrorType.TheVariants as error
 use Rattle.py_steps.specs.Children.{DefaultEmissions, behind_child, cell_loads, child, closure, code_head, emission_of_defaults, free_names, load_cell, made, on_sealed, some_emitted}
 use Rattle.py_steps.specs.Within.{Shape, some_flag}
 use Rattle.py_steps.specs.Context.{Context, cell_place, is_function}
 use Rattle.py_steps.specs.Emitting.{Done, Emission, Outcome, Refused, State, TooWide, begun, emit, emit_constant, generating, pass_over, refuse}
 use Rattle.py_steps.specs.EmissionParts.{built, map_of, only_in_function, pass_scopes}
 use Rattle.py_steps.specs.Sealed.{Head, sealed}
-use Rattle.py_emit.proofs.Joined.{counted_done, done_same}
+use Rattle.py_emit.proofs.Joined.{done_same, granted}
 use Rattle.py_expr_scopes.proofs.OpenBlocks.{From, Grows, Keeps, constant_keeps, context_keeps, either_keeps, emit_keeps, idle_keeps, refuse_keeps, then_keeps}
 use Rattle.py_expr_scopes.proofs.KeptParts.{TurnsKeep}
 use Rattle.py_expr_scopes.proofs.KeptDisplays.{built_keeps}
@@ -32,10 +33,10 @@ child_keeps within h body k f z s r g e =
     sealed_from z s r c.level (code_head c h s.location) (body (begun c s.location (suc s.next))) k (λ x. f x z) g e
 
 cell_keeps : (x : List ℕ) → Keeps (load_cell x)
-unfolding load_cell
+unfolding load_cell refuse
 cell_keeps x z s r g e =
     let c = s.around.context in
-    emit_keeps op.LoadClosure (cell_place c x) z s r g (counted_done (list_any (text_eq x) (c.cells ++ c.frees)) (emit op.LoadClosure (cell_place c x) s) r e)
+    emit_keeps op.LoadClosure (cell_place c x) z s r g (granted (list_any (text_eq x) (c.cells ++ c.frees)) (emit op.LoadClosure (cell_place c x) s) error.MissingCell (Some s.location) r e).1
 
 cells_keep : (xs : List (List ℕ)) → TurnsKeep (cell_loads xs)
 cells_keep [] = tt

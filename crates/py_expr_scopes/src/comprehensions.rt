@@ -59,7 +59,7 @@ fn has_async(generators: &[Comprehension]) -> bool
 /// Makes a function of the scope's code, under the name of the scope.
 ///
 /// # Errors
-/// OutOfMemory alone.
+/// MissingCell, as `Emitter::make_function` has it, or OutOfMemory.
 pub fn make_named(
     em: &mut Emitter,
     element: &ComprehensionElement<'_>,

@@ -34,7 +34,7 @@ pub struct Defaults {
 /// Makes a function of a lambda's code, and passes the scopes of its annotations over.
 ///
 /// # Errors
-/// OutOfMemory alone.
+/// MissingCell, as `Emitter::make_function` has it, or OutOfMemory.
 pub fn make_lambda(
     em: &mut Emitter,
     params: &Arguments,

@@ -126,17 +126,19 @@ argument_calls answer class additional args keywords before after h shapes named
 abbrev Tells : List Fault → Outcome → Type 0
 Tells fs (Done r) = fs ≡ []
 Tells fs TooWide = Unit {0}
-Tells fs (Refused e at) = (rest : List Fault) × (fs ≡ record { error = e; location = at } ∷ rest)
+Tells fs (Refused e at) = e ≢ error.MissingCell → (rest : List Fault) × (fs ≡ record { error = e; location = at } ∷ rest)
 
 tells_by : (c : Around) (fs : List Fault) (q : SourceLocation) (o : Outcome) → Ends c fs q o → Tells fs o
 tells_by c fs q o (Wide e) = subst (Tells fs) (sym e) tt
-tells_by c fs q o (Stops x at rest f g) = subst (Tells fs) (sym f) (rest, g)
+tells_by c fs q o (Misses at e) = subst (Tells fs) (sym e) (λ n. absurd (n refl))
+tells_by c fs q o (Stops x at rest f g) = subst (Tells fs) (sym f) (λ n. (rest, g))
 tells_by c fs q o (GoesOn r at around f g) = subst (Tells fs) (sym f) g
 
 -- in another scope, which begins where this one leaves off
 tells_then : (c : Around) (fs gs : List Fault) (m : SourceLocation) (o : Outcome) (b : Emission) → Ends c fs m o → ((r : State) → r.location ≡ m → Tells gs (b r)) → Tells (fs ++ gs) (go_on o b)
 tells_then c fs gs m o b (Wide e) next = subst (λ x. Tells (fs ++ gs) (go_on x b)) (sym e) tt
-tells_then c fs gs m o b (Stops x at rest f g) next = subst (λ x. Tells (fs ++ gs) (go_on x b)) (sym f) (rest ++ gs, ap (λ l. l ++ gs) g)
+tells_then c fs gs m o b (Misses at e) next = subst (λ x. Tells (fs ++ gs) (go_on x b)) (sym e) (λ n. absurd (n refl))
+tells_then c fs gs m o b (Stops x at rest f g) next = subst (λ x. Tells (fs ++ gs) (go_on x b)) (sym f) (λ n. (rest ++ gs, ap (λ l. l ++ gs) g))
 tells_then c fs gs m o b (GoesOn r at around f g) next = subst (λ l. Tells (l ++ gs) (go_on o b)) (sym g) (subst (λ x. Tells gs (go_on x b)) (sym f) (next r at))
 
 parameters_end : {c : Around} {p : SourceLocation} (xs : List (List ℕ)) → EndsAs c (enter_parameters xs) p p (parameter_faults p xs)

@@ -46,6 +46,7 @@ told_so : (e : CodegenErrorType) → IsGiven e → IsGiven (retold e)
 told_so error.InvalidStarExpr h = tt
 told_so error.AsyncYieldFrom h = h
 told_so error.AsyncReturnValue h = h
+told_so error.MissingCell h = h
 told_so other h = tt
 
 pub retold_given : (fs : List Fault) → Given fs → Given (retold_faults fs)

@@ -3,7 +3,7 @@ use Rattle.std.proofs.Common.{refl, sym, subst, List}
 use Rattle.py_base.specs.declared.location.SourceLocation.{SourceLocation}
 use Rattle.py_steps.specs.Emitting.{Outcome, State}
 use Rattle.py_meaning.specs.ExprFaults.{Fault}
-use Rattle.py_refusing.proofs.Refusing.{Ends, GoesOn, Stops, Wide}
+use Rattle.py_refusing.proofs.Refusing.{Ends, GoesOn, Misses, Stops, Wide}
 use Rattle.py_refusing.proofs.RefusingChanges.{deletions_end}
 use Rattle.py_refusing.proofs.RefusingExprs.{expr_ends, store_ends}
 use Rattle.py_refusing.proofs.RefusingStmts.{stmt_ends, stmts_end_so}
@@ -11,7 +11,8 @@ use Rattle.py_faults.specs.Nodes.{BodiesEnd, DeletesEnd, EndsBy, ExprsEnd, State
 
 pub ends_by : (s : State) (fs : List Fault) (q : SourceLocation) (o : Outcome) → Ends s.around fs q o → EndsBy s fs q o
 ends_by s fs q o (Wide e) = subst (EndsBy s fs q) (sym e) tt
-ends_by s fs q o (Stops x at rest f g) = subst (EndsBy s fs q) (sym f) (rest, g)
+ends_by s fs q o (Misses at e) = subst (EndsBy s fs q) (sym e) (λ n. absurd (n refl))
+ends_by s fs q o (Stops x at rest f g) = subst (EndsBy s fs q) (sym f) (λ n. (rest, g))
 ends_by s fs q o (GoesOn r at around f g) = subst (EndsBy s fs q) (sym f) (g, at, around)
 
 pub exprs_end : ExprsEnd

@@ -13,10 +13,10 @@ use Rattle.py_meaning.specs.ExprFaults.{Fault, delete_faults, deletes_faults, ex
 use Rattle.py_meaning.specs.Faults.{stmt_faults, stmts_faults}
 use Rattle.py_faults.specs.Nodes.{in_function, in_loop, setting_in}
 
--- Ok only where there is no fault; an error is the first of them, with its location, unless it says that there was no memory
+-- Ok only where there is no fault; an error is the first of them, with its location, unless it says that there was no memory, or that a cell is not there
 abbrev pub TellsFirst : {A : Type 0} → Result A (LocatedError CodegenErrorType) → List Fault → Type 0
 TellsFirst (Ok a) fs = fs ≡ []
-TellsFirst (Err e) fs = e.error ≢ error.OutOfMemory → (rest : List Fault) × (fs ≡ record { error = e.error; location = e.location } ∷ rest)
+TellsFirst (Err e) fs = e.error ≢ error.OutOfMemory → e.error ≢ error.MissingCell → (rest : List Fault) × (fs ≡ record { error = e.error; location = e.location } ∷ rest)
 
 -- `compile_expression` and its like, `compile_jump_if`, `compile_store`, `compile_delete`, `compile_deletes`, `compile_statement` and `compile_statements`
 abbrev pub ExpressionCalls : Type 0

@@ -7,10 +7,11 @@ use Rattle.py_base.specs.declared.errors.CodegenErrorType.TheVariants as error
 use Rattle.py_forms.specs.Agree.{AllOf}
 use Rattle.py_meaning.specs.Faults.{faults}
 
--- no error of what stands in an async function, since async functions are refused themselves
+-- no error of what stands in an async function, since async functions are refused themselves, and none of a cell that is not there, which a tree's own scopes have
 abbrev pub IsGiven : CodegenErrorType → Type 0
 IsGiven error.AsyncYieldFrom = ⊥
 IsGiven error.AsyncReturnValue = ⊥
+IsGiven error.MissingCell = ⊥
 IsGiven _ = Unit {0}
 
 -- no fault of any tree has another one

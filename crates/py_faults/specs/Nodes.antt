@@ -1,6 +1,7 @@
 -- Where the emission of a node is refused, it is for the first of the node's faults, and where it is done there are none.
-use Rattle.std.specs.Prelude.{◌≡◌, ℕ, List, [], ◌∷◌, Bool, true, false, Option, Some, None}
+use Rattle.std.specs.Prelude.{◌≡◌, ◌≢◌, ℕ, List, [], ◌∷◌, Bool, true, false, Option, Some, None}
 use Rattle.py_tree.specs.Tree as tree
+use Rattle.py_base.specs.declared.errors.CodegenErrorType.TheVariants as error
 use Rattle.py_base.specs.declared.location.SourceLocation.{SourceLocation}
 use Rattle.py_shapes.specs.Valid.{expr_shapes, exprs_shapes, stmt_shapes, stmts_shapes}
 use Rattle.py_steps.specs.Context.{is_function}
@@ -13,11 +14,11 @@ use Rattle.py_meaning.specs.Faults.{stmt_faults, stmts_faults}
 use Rattle.py_meaning.specs.StmtEnds.{Setting, setting_of, stmt_end, stmts_end}
 
 -- From a state: the refusal is the first of these faults; or there are none, and what is emitted next stands there, with the same around it. Where an
--- operand is too large nothing is said.
+-- operand is too large, or a cell is not there, nothing is said.
 abbrev pub EndsBy : (before : State) → List Fault → (end : SourceLocation) → Outcome → Type 0
 EndsBy s fs q (Done r) = (fs ≡ []) × (r.location ≡ q) × (r.around ≡ s.around)
 EndsBy s fs q TooWide = Unit {0}
-EndsBy s fs q (Refused e at) = (rest : List Fault) × (fs ≡ record { error = e; location = at } ∷ rest)
+EndsBy s fs q (Refused e at) = e ≢ error.MissingCell → (rest : List Fault) × (fs ≡ record { error = e; location = at } ∷ rest)
 
 -- whether what is emitted stands in a function, and in a loop of its own scope
 abbrev pub in_function : State → Bool

@@ -1,6 +1,7 @@
 -- Accesses to names, cells that are handed on and functions fit, where what stands around is as its scope says and has few cells.
-use Rattle.std.proofs.Common.{◌≡◌, refl, sym, ap, subst, ℕ, ◌+◌, ◌<◌, ◌≤◌, ◌^◌, List, [], ◌∷◌, ◌++◌, length, true, None, arith, length-append}
+use Rattle.std.proofs.Common.{◌≡◌, refl, sym, ap, subst, ℕ, ◌+◌, ◌<◌, ◌≤◌, ◌^◌, List, [], ◌∷◌, ◌++◌, length, true, None, arith, length-append, Some}
 use Rattle.std.specs.List.{list_any}
+use Rattle.py_base.specs.declared.errors.CodegenErrorType.TheVariants as error
 use Rattle.py_bytecode.specs.declared.instruction.Instruction.{Instruction}
 use Rattle.py_bytecode.specs.declared.instruction.Instruction.TheVariants as op
 use Rattle.py_bytecode.specs.Equality.{text_eq}
@@ -14,7 +15,7 @@ use Rattle.py_forms.specs.Form.{Resolved}
 use Rattle.py_steps.specs.Accesses.{access_by, accessed, emission_of_deleted, emission_of_name, emission_of_stored}
 use Rattle.py_steps.specs.Children.{cell_loads, closure, free_names, load_cell, made}
 use Rattle.py_steps.specs.Context.{Context, access_kind, cell_place, cells_among, frees_among, inside, mangled, outermost, symbols_in}
-use Rattle.py_steps.specs.Emitting.{Around, by_level, emit, emit_constant}
+use Rattle.py_steps.specs.Emitting.{Around, by_level, emit, emit_constant, Refused, refuse}
 use Rattle.py_steps.specs.EmissionParts.{in_turn}
 use Rattle.py_steps.specs.Everywhere.{Everywhere}
 use Rattle.py_steps.specs.Refused.{no_assignment, no_deletion}
@@ -128,13 +129,13 @@ pub record AtHand (c : Around) (names : List (List ℕ)) : Type 0 where
 
 -- the cell of such a name
 pub cell_fits : {c : Around} {k : ℕ} → Ready c → (x : List ℕ) → InReach c x → Fits c k k 0 (load_cell x)
-unfolding load_cell
+unfolding load_cell refuse
 cell_fits {c} {k} r x i = record {
   fits = λ s h g.
       let d = s.around.context in
       let l = subst (λ (a : Around). cell_place a.context x < 2 ^ 32) (sym h.around) (place_few c r x) in
       let e = subst (λ (a : Around). list_any (text_eq x) (a.context.cells ++ a.context.frees) ≡ true) (sym h.around) i in
-      narrow c k (taken s + 0) (list_any (text_eq x) (d.cells ++ d.frees)) (emit op.LoadClosure (cell_place d x) s) e (emits op.LoadClosure (cell_place d x) s l h (omega arith));
+      narrow c k (taken s + 0) (list_any (text_eq x) (d.cells ++ d.frees)) (emit op.LoadClosure (cell_place d x) s) (Refused error.MissingCell (Some s.location)) e (emits op.LoadClosure (cell_place d x) s l h (omega arith));
 }
 
 -- the cells of some names

@@ -30,7 +30,7 @@ use Rattle.py_meaning.specs.StmtCounts.{scopes_in_items, scopes_in_raise, scopes
 use Rattle.py_meaning.specs.StmtParts.{annotated_form, annotation_target, assert_form, assertion, augment_form, declared_form, item_target, message_parts, raise_form, removal, removals, return_form, with_form}
 use Rattle.py_meaning.specs.Table.{expr_form, target_form, test_form}
 use Rattle.py_meaning.specs.TableNotes.{note_form}
-use Rattle.py_fits.proofs.Fits.{Fits, at_fits, constant_fits, context_fits, emit_fits, fits_as, fits_from, jump_fits, keep_fits, mangled_fits, name_fits, plain_fits, refuse_fits, room, scopes_fit, then_fits, unless_debug_fits}
+use Rattle.py_fits.proofs.Fits.{Fits, at_fits, constant_fits, context_fits, emit_fits, fits_as, fits_from, jump_fits, keep_fits, mangled_fits, name_fits, plain_fits, refuse_fits, room, scopes_fit, then_fits, unless_debug_fits, IsOfTree}
 use Rattle.py_fits.proofs.Accesses.{Ready, deleted_fits, load_fits, stored_fits}
 use Rattle.py_fits.proofs.FitExprs.{expr_fits, stores_fit}
 use Rattle.py_fits.proofs.FitPieces.{binary_small}
@@ -74,7 +74,7 @@ module _ (c : Around) (ready : Ready c) where
         fits_as (omega arith) (omega arith) (then_fits (value_fits k value x.0) (then_fits (value_fits j slice y.0) (plain_fits op.DeleteSubscript)))
     delete_fits k (tree.List at elts) h = room (omega arith) (deletes_fit k elts h)
     delete_fits k (tree.Tuple at elts) h = room (omega arith) (deletes_fit k elts h)
-    delete_fits k other h = refuse_fits (error.Delete (deletion_name other))
+    delete_fits k other h = refuse_fits (error.Delete (deletion_name other)) tt
 
     pub deletes_fit : (k : ℕ) (es : tree.Exprs) → AllOf (Here c) (kids (removals (told c) k es)) → Fits c k (k + scopes_in_all p es) (64 * exprs_size es) (emission_of_deletes es)
     deletes_fit k tree.no_exprs h = fits_as (omega arith) (omega arith) keep_fits
@@ -85,7 +85,7 @@ module _ (c : Around) (ready : Ready c) where
 
   -- a value is stored to each target
   pub assign_fits : (k : ℕ) (es : tree.Exprs) → TargetsStand (Here c) (told c) k es → Fits c k (k + scopes_in_all p es) (64 * exprs_size es) (emission_of_assign es)
-  assign_fits k tree.no_exprs h = refuse_fits (error.MalformedTree shape.NoTarget)
+  assign_fits k tree.no_exprs h = refuse_fits (error.MalformedTree shape.NoTarget) tt
   assign_fits k (tree.more_exprs e tree.no_exprs) h = fits_as (omega arith) (omega arith) (store_fits k e h.0)
   assign_fits k (tree.more_exprs e (tree.more_exprs g es)) h =
       let j = k + scopes_in p e in
@@ -117,7 +117,7 @@ module _ (c : Around) (ready : Ready c) where
       let y = apart (Here c) (kids_v (expr_form (told c) j slice)) (kids_v (expr_form (told c) i e)) x.1 in
       fits_as (omega arith) (omega arith)
       (then_fits (value_fits k value x.0) (then_fits (value_fits j slice y.0) (then_fits (plain_fits op.Duplicate2) (then_fits (plain_fits op.Subscript) (then_fits (operand_fits o (value_fits i e y.1)) (then_fits (plain_fits op.Rotate3) (plain_fits op.StoreSubscript)))))))
-  augment_fits k other o e h = refuse_fits (error.Assign (python_name other))
+  augment_fits k other o e h = refuse_fits (error.Assign (python_name other)) tt
 
   -- the value of an annotated target, which is only scanned without one
   pub declared_fits : (k : ℕ) (t : tree.Expr) (o : tree.OptExpr) → AllOf (Here c) (kids (declared_form (told c) k t o)) → Fits c k (k + (scopes_in_opt p o + scopes_in p t)) (64 * expr_size t + 64 * opt_expr_size o) (emission_of_declared t o)
@@ -156,9 +156,9 @@ module _ (c : Around) (ready : Ready c) where
   returned_fits k (tree.some_expr e) h = room (omega arith) (whole_returned_fits k e h)
 
   -- a break or a continue
-  pub leave_fits : {k : ℕ} (i : Instruction) (to : LoopBlocks → ℕ) (e : CodegenErrorType) (o : Option LoopBlocks) → Fits c k k 0 (leave_loop i to e o)
-  leave_fits i to e None = refuse_fits e
-  leave_fits i to e (Some loops) = jump_fits i (to loops)
+  pub leave_fits : {k : ℕ} (i : Instruction) (to : LoopBlocks → ℕ) (e : CodegenErrorType) → IsOfTree e → (o : Option LoopBlocks) → Fits c k k 0 (leave_loop i to e o)
+  leave_fits i to e n None = refuse_fits e n
+  leave_fits i to e n (Some loops) = jump_fits i (to loops)
 
   -- what a `with` manages
   item_fits : (k : ℕ) (o : tree.OptExpr) → AllOf (Here c) (kids_g (item_target (told c) k o)) → Fits c k (k + scopes_in_opt p o) (64 * opt_expr_size o) (emission_of_item o)

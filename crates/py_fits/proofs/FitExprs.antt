@@ -142,18 +142,18 @@ mutual
       let z = expr_fits d q m elt (one_apart (Here d) (expr_form (told d) m elt) y.1) in
       let scope = generated_fits d (suc k) m j (64 * rest_size gs) (64 * expr_size elt) (clause_emissions gs) y.0 (element_fits z.value) in
       well_as c _ refl (omega arith) (comprehended_fits c k (scopes_in p elt) (64 * expr_size elt + 1) at (some_async gs || awaits elt) (codes "<genexpr>") gs _ r (hand c r kind.Comprehension k f x.0) (room (omega arith) scope) (first_fits c r j gs x.1))
-  expr_fits c r k (tree.Await at value) h = tested_fits (at_fits at (refuse_fits error.InvalidAwait))
+  expr_fits c r k (tree.Await at value) h = tested_fits (at_fits at (refuse_fits error.InvalidAwait tt))
   expr_fits c r k (tree.Yield at value) h =
       let l = k + scopes_in_opt c.context.postponed value in
       let o = opt_form (told c) k value in
       let x = opt_fits c r k value (value_or_in (Here c) const.none o (one_apart (Here c) (table.value_or const.none o) h)) in
       whole_fits at refl (omega arith)
-      (in_function_fits error.InvalidYield (then_fits generating_fits (then_fits (value_or_fits c k l (64 * opt_expr_size value) const.none tt (opt_emission value) x) (plain_fits op.YieldValue))))
+      (in_function_fits error.InvalidYield tt (then_fits generating_fits (then_fits (value_or_fits c k l (64 * opt_expr_size value) const.none tt (opt_emission value) x) (plain_fits op.YieldValue))))
   expr_fits c r k (tree.YieldFrom at value) h =
       let f = expr_form (told c) k value in
       let x = one_apart (Here c) f (apart (Here c) (kids_v f ++ []) [] h).0 in
       whole_fits at refl (omega arith)
-      (in_function_fits error.InvalidYieldFrom (then_fits generating_fits (then_fits (expr_fits c r k value x).value (then_fits (plain_fits op.GetIter) (then_fits (constant_fits op.LoadConst const.none tt) (plain_fits op.YieldFrom))))))
+      (in_function_fits error.InvalidYieldFrom tt (then_fits generating_fits (then_fits (expr_fits c r k value x).value (then_fits (plain_fits op.GetIter) (then_fits (constant_fits op.LoadConst const.none tt) (plain_fits op.YieldFrom))))))
   expr_fits c r k (tree.Compare at left ops others) h =
       let j = k + scopes_in c.context.postponed left in
       let l = j + scopes_in_all c.context.postponed others in
@@ -201,7 +201,7 @@ mutual
       whole_fits at (omega arith) (omega arith) (then_fits (expr_fits c r k value x.0).value (then_fits (expr_fits c r j slice x.1).value (plain_fits op.Subscript)))
   expr_fits c r k (tree.Starred at value) h =
       let l = k + scopes_in c.context.postponed value in
-      let y : Fits c k l (64 * (expr_size value + 1)) (move at ▸ refuse error.InvalidStarExpr) = at_fits at (refuse_fits error.InvalidStarExpr) in
+      let y : Fits c k l (64 * (expr_size value + 1)) (move at ▸ refuse error.InvalidStarExpr) = at_fits at (refuse_fits error.InvalidStarExpr tt) in
       record { value = y; test = truth_fits y; element = room (omega arith) (expr_fits c r k value h).value; callee = y; returned = value_returned y }
   expr_fits c r k (tree.Name at x) h = by_return (at_fits at (fits_as (omega arith) (omega arith) (load_fits r x))) (at_fits at (fits_as (omega arith) (omega arith) (name_returned r x)))
   expr_fits c r k (tree.List at elts) h =
@@ -381,8 +381,8 @@ mutual
       let l = k + scopes_in_all c.context.postponed elts in
       let x : AllOf (Here c) (kids_gs (table.targets_of (bare (all_targets (told c) k elts)))) → Fits c k l (64 * (exprs_size elts + 1)) (unpack at (all_stores elts)) = λ h. room (omega arith) (unpack_fits c at k l (64 * exprs_size elts) (all_stores elts) (targets_fit c r k elts (targets_in (Here c) (all_targets (told c) k elts) h))) in
       record { alone = x; element = x }
-  target_fits c r k (tree.Starred at value) = record { alone = λ h. refuse_fits (error.SyntaxError lone_star); element = λ h. room (omega arith) ((target_fits c r k value).alone h) }
-  target_fits c r k other = record { alone = λ h. refuse_fits (error.Assign (python_name other)); element = λ h. refuse_fits (error.Assign (python_name other)) }
+  target_fits c r k (tree.Starred at value) = record { alone = λ h. refuse_fits (error.SyntaxError lone_star) tt; element = λ h. room (omega arith) ((target_fits c r k value).alone h) }
+  target_fits c r k other = record { alone = λ h. refuse_fits (error.Assign (python_name other)) tt; element = λ h. refuse_fits (error.Assign (python_name other)) tt }
 
   -- targets one after another, as elements
   targets_fit : (c : Around) → Ready c → (k : ℕ) (es : tree.Exprs) → AllOf (InTargetElement (Here c)) (all_targets (told c) k es) → Thread (ElementFits c) k (k + scopes_in_all c.context.postponed es) (64 * exprs_size es) (all_stores es)

@@ -75,8 +75,8 @@ module _ (c : Around) (r : Ready c) where
       let y = apart (Here c) (kids_v f) [] x.0 in
       turns_as (omega arith) (omega arith)
       (turn_more (then_fits (value_fits c r k e y.0) (then_fits (constant_fits op.LoadConst (const.str name) tt) (then_fits (plain_fits op.TypeVarWithBound) (kept_fits r name)))) (params_turn (k + scopes_in p e) ts h.1))
-  params_turn k (tree.more_type_params (tree.ParamSpec at name) ts) h = turns_as (omega arith) (omega arith) (turn_more {v = 0} (at_fits at (refuse_fits error.NotImplementedYet)) (params_turn (k + 0) ts h.1))
-  params_turn k (tree.more_type_params (tree.TypeVarTuple at name) ts) h = turns_as (omega arith) (omega arith) (turn_more {v = 0} (at_fits at (refuse_fits error.NotImplementedYet)) (params_turn (k + 0) ts h.1))
+  params_turn k (tree.more_type_params (tree.ParamSpec at name) ts) h = turns_as (omega arith) (omega arith) (turn_more {v = 0} (at_fits at (refuse_fits error.NotImplementedYet tt)) (params_turn (k + 0) ts h.1))
+  params_turn k (tree.more_type_params (tree.TypeVarTuple at name) ts) h = turns_as (omega arith) (omega arith) (turn_more {v = 0} (at_fits at (refuse_fits error.NotImplementedYet tt)) (params_turn (k + 0) ts h.1))
 
   -- the tuple of them
   pub params_fits : (k : ℕ) (ts : tree.TypeParams) → InValue (Here c) (params_form (told c) k ts) → Fits c k (k + scopes_in_params p ts) (64 * type_params_size ts) (emission_of_params ts)
@@ -201,4 +201,4 @@ module _ (c : Around) (r : Ready c) where
   alias_fits k (tree.Name at id) generic e h =
       let x = apart (Here c) (kids_v (forms.alias_value (told c) k id generic e)) [] h in
       fits_as (omega arith) (omega arith) (then_fits (alias_value_fits k id generic e x.0) (stored_fits r id))
-  alias_fits k other generic e h = refuse_fits (error.Assign (python_name other))
+  alias_fits k other generic e h = refuse_fits (error.Assign (python_name other)) tt

@@ -69,7 +69,7 @@ module _ (c : Around) (ready : Ready c) (k : ℕ) where
   star_fits : (path : Option (List ℕ)) (level : ℕ) → Fits c k k 3 (emission_of_star path level)
   star_fits path level =
       let all : Emission = emission_of_module path level asked_all ▸ emit op.ImportStar 0 in
-      context_fits (λ d. if is_function d.typ then refuse error.FunctionImportStar else all) (if_fits (is_function c.context.typ) (refuse_fits error.FunctionImportStar) (room (omega arith) (then_fits (module_fits path level asked_all tt) (plain_fits op.ImportStar))))
+      context_fits (λ d. if is_function d.typ then refuse error.FunctionImportStar else all) (if_fits (is_function c.context.typ) (refuse_fits error.FunctionImportStar tt) (room (omega arith) (then_fits (module_fits path level asked_all tt) (plain_fits op.ImportStar))))
 
   -- all names of a module, or some
   pub from_fits : (path : Option (List ℕ)) (names : List Alias) (level : ℕ) → Fits c k k (4 * aliases_size names + 3) (emission_of_from path names level)
@@ -78,12 +78,12 @@ module _ (c : Around) (ready : Ready c) (k : ℕ) where
 
   -- an import among other statements
   pub import_from_fits : (path : Option (List ℕ)) (names : List Alias) (level : ℕ) → Fits c k k (4 * aliases_size names + 3) (emission_of_import_from path names level)
-  import_from_fits path names level = if_fits (from_future path) (refuse_fits error.InvalidFuturePlacement) (from_fits path names level)
+  import_from_fits path names level = if_fits (from_future path) (refuse_fits error.InvalidFuturePlacement tt) (from_fits path names level)
 
   -- imports from the future
   features_fit : (names : List Alias) → Fits c k k 0 (check_features names)
   features_fit [] = keep_fits
-  features_fit (a ∷ rest) = if_fits (is_feature a.name) (features_fit rest) (refuse_fits (error.InvalidFutureFeature a.name))
+  features_fit (a ∷ rest) = if_fits (is_feature a.name) (features_fit rest) (refuse_fits (error.InvalidFutureFeature a.name) tt)
 
   -- each is also an import as any other
   pub future_fits : (f : Future) → Fits c k k (4 * aliases_size f.names + 3) (emission_of_future f)

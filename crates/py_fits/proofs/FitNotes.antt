@@ -39,7 +39,7 @@ module _ (c : Around) (ready : Ready c) where
 
   -- the text of an annotation
   text_fits : {k : ℕ} (text : Option (List ℕ)) → Fits c k k 1 (emission_of_text text)
-  text_fits None = refuse_fits error.NotImplementedYet
+  text_fits None = refuse_fits error.NotImplementedYet tt
   text_fits (Some text) = constant_fits op.LoadConst (const.str text) tt
 
   -- an annotation, or its text

@@ -234,7 +234,7 @@ module _ (c : Around) where
 
   -- as many keys, or stars in their places, as values
   pub dict_fits : (k l w : ℕ) (ks : List (Option Emission)) (vs : List Emission) → (length ks ≡ length vs → Thread EntryFits k l w (pairs ks vs)) → Fits c k l w (emission_of_dict ks vs)
-  dict_fits k l w ks vs h = if_so (nat_eq (length ks) (length vs)) (λ e. dict_value_fits k l w (pairs ks vs) (h (search (rules, e)))) (λ e. refuse_fits (error.MalformedTree shape.UnevenLists))
+  dict_fits k l w ks vs h = if_so (nat_eq (length ks) (length vs)) (λ e. dict_value_fits k l w (pairs ks vs) (h (search (rules, e)))) (λ e. refuse_fits (error.MalformedTree shape.UnevenLists) tt)
 
   -- a value, or a constant where there is none
   pub value_or_fits : (k l w : ℕ) (x : Const) → IsShort x → (o : Option Emission) → SomeFits c k l w o → Fits c k l (w + 1) (value_or x o)
@@ -253,8 +253,8 @@ module _ (c : Around) where
   -- a value is unpacked to targets
   starred_fits : {k : ℕ} (at : SourceLocation) (es : List (Element Emission Emission)) → Fits c k k 0 (unpack_starred at es)
   starred_fits at es =
-      if_so (few_aside es) (λ e. if_fits (nat_eq (stars es) 1) (emit_fits op.UnpackEx (before_star es + 256 * after_star es) (aside_few es e)) (refuse_fits error.MultipleStarArgs))
-      (λ e. at_fits at (refuse_fits error.TooManyStarUnpack))
+      if_so (few_aside es) (λ e. if_fits (nat_eq (stars es) 1) (emit_fits op.UnpackEx (before_star es + 256 * after_star es) (aside_few es e)) (refuse_fits error.MultipleStarArgs tt))
+      (λ e. at_fits at (refuse_fits error.TooManyStarUnpack tt))
 
   -- what unpacks a value
   unpacking_fits : {k : ℕ} (at : SourceLocation) (es : List (Element Emission Emission)) → length es < 2 ^ 30 → Fits c k k 0 (unpacking at es)

@@ -2,6 +2,7 @@
 use Rattle.std.proofs.Common.{◌≡◌, refl, sym, ap, ◌∙◌, subst, ℕ, suc, ◌+◌, ◌<◌, ◌≤◌, ◌^◌, List, [], ◌∷◌, length, Bool, false, arith}
 use Rattle.std.specs.Prelude.{codes}
 use Rattle.py_base.specs.declared.shapes.Malformed.TheVariants as shape
+use Rattle.py_base.specs.declared.errors.CodegenErrorType.{CodegenErrorType}
 use Rattle.py_base.specs.declared.errors.CodegenErrorType.TheVariants as error
 use Rattle.py_bytecode.specs.declared.instruction.Instruction.{Instruction}
 use Rattle.py_bytecode.specs.declared.instruction.Instruction.TheVariants as op
@@ -14,12 +15,12 @@ use Rattle.py_steps.specs.Context.{Context}
 use Rattle.py_steps.specs.Emitting.{Around, Emission, Outcome, State, Done, TooWide, Refused, begun}
 use Rattle.py_steps.specs.EmissionParts.{Emissions, built, map_of}
 use Rattle.py_steps.specs.Everywhere.{Everywhere}
-use Rattle.py_steps.specs.Refused.{no_assignment}
+use Rattle.py_steps.specs.Refused.{no_assignment, retold}
 use Rattle.py_steps.specs.Sealed.{Head, sealed}
 use Rattle.py_steps.specs.Within.{Shape, comprehension_inside, some_flag}
 use Rattle.py_fits.specs.Fitting.{HasShortTables}
 use Rattle.py_fits.proofs.ShortTables.{sealed_short}
-use Rattle.py_fits.proofs.Fits.{Fits, FitsIn, Stands, begin_fits, constant_added, constant_fits, count_fits, emit_fits, few_so, fits_as, fits_from, generating_fits, if_fits, jump_fits, keep_fits, more, new_fits, plain_fits, refuse_fits, room, taken, then_fits, unless_debug_fits, varname_added, varname_fits}
+use Rattle.py_fits.proofs.Fits.{Fits, FitsIn, Stands, begin_fits, constant_added, constant_fits, count_fits, emit_fits, few_so, fits_as, fits_from, generating_fits, if_fits, jump_fits, keep_fits, more, new_fits, plain_fits, refuse_fits, room, taken, then_fits, unless_debug_fits, varname_added, varname_fits, IsOfTree}
 use Rattle.py_fits.proofs.Accesses.{AtHand, Ready, cells_few, made_fits, outside, ready_inside}
 use Rattle.py_fits.proofs.FitParts.{FitsWell, NamedFits, Takes, built_fits, map_fits}
 use Rattle.py_fits.proofs.Threads.{Thread, thread_few}
@@ -37,7 +38,7 @@ seals {c} {k} {m} {w} {d} {follow} inner l b level h s (Done t) st g small cells
     let short = sealed_short level h t g.0.short (omega (arith, e, small)) cells in
     more c m (taken (behind_child s t) + w) d (follow (sealed level h t) (behind_child s t)) i ((y (sealed level h t) (sealed_frees level h t) short).fits (behind_child s t) (record { around = st.around; next = g.0.next; short = st.short }) (omega (arith, i, r)))
 seals inner l b level h s TooWide st g small cells i r y = g
-seals inner l b level h s (Refused z at) st g small cells i r y = tt
+seals inner l b level h s (Refused z at) st g small cells i r y = g
 
 -- a scope within, and what follows of its code object, whose tables are short
 pub child_fits : {c : Around} {k l m v w : ℕ} {body : Emission} {follow : Object → Emission} (within : Context → ℕ → Context) (h : Shape) → Ready (outside (within c.context k)) → Fits (outside (within c.context k)) (suc k) l v body → ((o : Object) → free_names o ≡ (within c.context k).frees → Everywhere HasShortTables o → Fits c l m w (follow o)) → Fits c k m (v + w + 1) (child within h body follow)
@@ -57,11 +58,16 @@ child_fits {c} {k} {l} {m} {v} {w} {body} {follow} within h q x y = record {
 pub hand_as : {c : Around} {names others : List (List ℕ)} → names ≡ others → AtHand c others → AtHand c names
 hand_as {c} e h = subst (AtHand c) (sym e) h
 
--- a refusal in other words is one
+-- a refusal in other words says no more that a cell is missing
+told_so : (e : CodegenErrorType) → IsOfTree e → IsOfTree (retold e)
+told_so error.InvalidStarExpr h = tt
+told_so error.MissingCell h = h
+told_so other h = tt
+
 done_element : (c : Around) (l b : ℕ) (o : Outcome) → FitsIn c l b o → FitsIn c l b (retold_in o)
 done_element c l b (Done s) h = h
 done_element c l b TooWide h = h
-done_element c l b (Refused e at) h = h
+done_element c l b (Refused e at) h = told_so e h
 
 -- an element of a comprehension
 pub element_fits : {c : Around} {k l w : ℕ} {a : Emission} → Fits c k l w a → Fits c k l w (as_element a)
@@ -197,5 +203,5 @@ module _ (c : Around) where
 
   -- a comprehension
   pub comprehension_fits : {scope : Emission} (k m l v w : ℕ) (awaited : Bool) (name : List ℕ) (xs : List ClauseEmissions) → Ready c → AtHand c (comprehension_inside c.context k).frees → Fits (outside (comprehension_inside c.context k)) (suc k) m v scope → FirstFits m l w xs → Fits c k l (v + w + 3) (comprehension awaited name xs scope)
-  comprehension_fits k m l v w awaited name [] r hand x y = refuse_fits (error.MalformedTree shape.NoGenerator)
-  comprehension_fits k m l v w awaited name (z ∷ zs) r hand x y = if_fits awaited (refuse_fits error.NotImplementedYet) (called_fits r name hand x y)
+  comprehension_fits k m l v w awaited name [] r hand x y = refuse_fits (error.MalformedTree shape.NoGenerator) tt
+  comprehension_fits k m l v w awaited name (z ∷ zs) r hand x y = if_fits awaited (refuse_fits error.NotImplementedYet tt) (called_fits r name hand x y)

@@ -32,7 +32,7 @@ use Rattle.py_fits.proofs.StandingForms.{assigned_apart}
 
 -- a node that is not compiled
 unsupported_fits : {c : Around} {k l w : ℕ} (at : SourceLocation) → Fits c k l w (unsupported at)
-unsupported_fits at = at_fits at (refuse_fits error.NotImplementedYet)
+unsupported_fits at = at_fits at (refuse_fits error.NotImplementedYet tt)
 
 module _ (c : Around) (ready : Ready c) where
   -- whether annotations are postponed
@@ -68,7 +68,7 @@ mutual
       at_fits at (fits_as (omega arith) (omega arith) (then_fits (def_fits c r k name params body decorators returns generic (λ d q j g. rest_fits body d q j g) (apart (Here c) (kids_v (decorated_function c k name params body decorators returns generic)) [] h).0) (stored_fits r name)))
   stmt_fits (tree.ClassDef at name bases keywords body decorators generic) c r k h =
       at_fits at (fits_as (omega arith) (omega arith) (then_fits (class_fits c r k name bases keywords body decorators generic (λ d q j g. rest_fits body d q j g) (apart (Here c) (kids_v (decorated_class c k name bases keywords body decorators generic)) [] h).0) (stored_fits r name)))
-  stmt_fits (tree.Return at value) c r k h = room (omega arith) (at_fits at (in_function_fits error.InvalidReturn (returned_fits c r k value h)))
+  stmt_fits (tree.Return at value) c r k h = room (omega arith) (at_fits at (in_function_fits error.InvalidReturn tt (returned_fits c r k value h)))
   stmt_fits (tree.Delete at targets) c r k h = room (omega arith) (at_fits at (deletes_fit c r k targets h))
   stmt_fits (tree.Assign at targets value) c r k h = room (omega arith) (at_fits at (assigned_fits c r k value targets h))
   stmt_fits (tree.TypeAlias at name generic value) c r k h = room (omega arith) (at_fits at (alias_fits c r k name generic value h))
@@ -109,7 +109,7 @@ mutual
   stmt_fits (tree.With at items body) c r k h =
       let j = k + scopes_in_items c.context.postponed items in
       at_fits at (fits_as (omega arith) (omega arith)
-      (if_fits (itemless items) (refuse_fits error.EmptyWithItems) (items_fit c r at k items (stmts_form (told c) j body) h (λ g. if_fits (none body) (refuse_fits error.EmptyWithBody) (stmts_fit body c r j g)))))
+      (if_fits (itemless items) (refuse_fits error.EmptyWithItems tt) (items_fit c r at k items (stmts_form (told c) j body) h (λ g. if_fits (none body) (refuse_fits error.EmptyWithBody tt) (stmts_fit body c r j g)))))
   stmt_fits (tree.Raise at exc cause) c r k h = room (omega arith) (at_fits at (raise_fits c r k exc cause h))
   stmt_fits (tree.Try at body excepts orelse tree.no_stmts) c r k h =
       let p = c.context.postponed in
@@ -137,8 +137,8 @@ mutual
   stmt_fits (tree.Global at names) c r k h = fits_as (omega arith) (omega arith) (move_fits at)
   stmt_fits (tree.Nonlocal at names) c r k h = fits_as (omega arith) (omega arith) (move_fits at)
   stmt_fits (tree.StmtExpr at value) c r k h = room (omega arith) (at_fits at (then_fits (value_fits c r k value (apart (Here c) (kids_v (expr_form (told c) k value)) [] h).0) (plain_fits op.Pop)))
-  stmt_fits (tree.Break at) c r k h = fits_as (omega arith) (omega arith) (at_fits at (loops_fit (leave_loop op.Break (λ x. x.on_break) error.InvalidBreak) (leave_fits c r op.Break (λ x. x.on_break) error.InvalidBreak c.loops)))
-  stmt_fits (tree.Continue at) c r k h = fits_as (omega arith) (omega arith) (at_fits at (loops_fit (leave_loop op.Continue (λ x. x.on_continue) error.InvalidContinue) (leave_fits c r op.Continue (λ x. x.on_continue) error.InvalidContinue c.loops)))
+  stmt_fits (tree.Break at) c r k h = fits_as (omega arith) (omega arith) (at_fits at (loops_fit (leave_loop op.Break (λ x. x.on_break) error.InvalidBreak) (leave_fits c r op.Break (λ x. x.on_break) error.InvalidBreak tt c.loops)))
+  stmt_fits (tree.Continue at) c r k h = fits_as (omega arith) (omega arith) (at_fits at (loops_fit (leave_loop op.Continue (λ x. x.on_continue) error.InvalidContinue) (leave_fits c r op.Continue (λ x. x.on_continue) error.InvalidContinue tt c.loops)))
   stmt_fits (tree.Pass at) c r k h = fits_as (omega arith) (omega arith) (move_fits at)
   stmt_fits other c r k h = unsupported_fits (tree.stmt_location other)
 

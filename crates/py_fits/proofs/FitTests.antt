@@ -96,7 +96,7 @@ module _ (c : Around) where
 
   -- as a value
   bool_value_fits : (o : BoolOp) (k l w : ℕ) (es : List Emissions) → Thread (FitsWell c) k l w es → Fits c k l (w + 1) (bool_value o es)
-  bool_value_fits o k l w es h = if_fits (nat_eq (length es) 0) (refuse_fits (error.MalformedTree shape.NoOperand)) (some_values_fit o k l w es h)
+  bool_value_fits o k l w es h = if_fits (nat_eq (length es) 0) (refuse_fits (error.MalformedTree shape.NoOperand) tt) (some_values_fit o k l w es h)
 
   -- tests one after another
   tests_fit : (stop : Bool) (out : ℕ) (truth : Bool) (to k l w : ℕ) (es : List Emissions) → Thread (FitsWell c) k l w es → Fits c k l w (tests stop out truth to es)
@@ -117,7 +117,7 @@ module _ (c : Around) where
 
   -- as a test
   bool_test_fits : (o : BoolOp) (k l w : ℕ) (es : List Emissions) → Thread (FitsWell c) k l w es → TestFits c k l (w + 1) (bool_test o es)
-  bool_test_fits o k l w es h truth to = if_fits (nat_eq (length es) 0) (refuse_fits (error.MalformedTree shape.NoOperand)) (some_test_fits (deciding o) truth to k l w es h)
+  bool_test_fits o k l w es h truth to = if_fits (nat_eq (length es) 0) (refuse_fits (error.MalformedTree shape.NoOperand) tt) (some_test_fits (deciding o) truth to k l w es h)
 
   -- in each way
   pub bool_fits : (at : SourceLocation) (o : BoolOp) (k l w : ℕ) (es : List Emissions) → Thread (FitsWell c) k l w es → FitsWell c k l (w + 1) (bool_emissions at o es)
@@ -164,7 +164,7 @@ module _ (c : Around) where
   -- comparisons, which are refused where they are not as many as the values
   pub compare_fits : {left : Emission} (k m l v w : ℕ) (ops : List CmpOp) (es : List Emissions) → (0 < length ops → length ops ≡ length es → Fits c k m v left × Thread (FitsWell c) m l w es) → Fits c k l (v + w + 2) (emission_of_compare left ops es)
   compare_fits k m l v w ops es h =
-      if_so (nat_eq (length ops) 0) (λ e. refuse_fits (error.MalformedTree shape.NoOperand))
+      if_so (nat_eq (length ops) 0) (λ e. refuse_fits (error.MalformedTree shape.NoOperand) tt)
       (λ some. if_so (nat_eq (length ops) (length es))
       (λ e. let even : length ops ≡ length es = search (rules, e) in let x = h (above (length ops) some) even in comparisons_fit k m l v w ops es even x.0 x.1)
-      (λ e. refuse_fits (error.MalformedTree shape.UnevenLists)))
+      (λ e. refuse_fits (error.MalformedTree shape.UnevenLists) tt))

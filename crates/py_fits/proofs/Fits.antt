@@ -1,4 +1,4 @@
--- Emissions that are not too wide: how much they take in the tables, where the next scope then has its number, and what stands around.
+-- Emissions that are not too wide and miss no cell: how much they take in the tables, where the next scope then has its number, and what stands around.
 use Rattle.std.proofs.Common.{◌≡◌, refl, sym, ap, ◌∙◌, subst, ℕ, ◌+◌, ◌<◌, ◌≤◌, ◌^◌, List, [], ◌∷◌, ◌++◌, length, Bool, true, false, not, Option, Some, None, arith, rules, length-append}
 use Rattle.std.specs.Prelude.{cond, nat_lt, if◌then◌else◌}
 use Rattle.std.specs.List.{list_any, position_or_len}
@@ -25,11 +25,16 @@ pub record Stands (c : Around) (k : ℕ) (s : State) : Type 0 where
   pub next : s.next ≡ k
   pub short : AllOf IsShort s.constants
 
--- it is not too wide; where it is done, c stands around, the next scope has the number l, and at most b is taken
+-- an error that does not say that a cell is not there
+abbrev pub IsOfTree : CodegenErrorType → Type 0
+IsOfTree error.MissingCell = ⊥
+IsOfTree other = Unit {0}
+
+-- it is not too wide, and no cell is missing; where it is done, c stands around, the next scope has the number l, and at most b is taken
 abbrev pub FitsIn : (c : Around) (l b : ℕ) → Outcome → Type 0
 FitsIn c l b (Done t) = Stands c l t × (taken t ≤ b)
 FitsIn c l b TooWide = ⊥
-FitsIn c l b (Refused e at) = Unit {0}
+FitsIn c l b (Refused e at) = IsOfTree e
 
 -- so it is from each state around which c stands, where the next scope has the number k and there is room for w more; at most w more is taken
 pub record Fits (c : Around) (k l w : ℕ) (a : Emission) : Type 0 where
@@ -39,13 +44,13 @@ pub record Fits (c : Around) (k l w : ℕ) (a : Emission) : Type 0 where
 pub more : (c : Around) (l b d : ℕ) (o : Outcome) → b ≤ d → FitsIn c l b o → FitsIn c l d o
 more c l b d (Done t) e h = (h.0, let g = h.1 in omega (arith, e, g))
 more c l b d TooWide e h = h
-more c l b d (Refused x at) e h = tt
+more c l b d (Refused x at) e h = h
 
 -- what follows goes on where it is done
 pub goes_on : (c : Around) (l m b w d : ℕ) (o : Outcome) (x : Emission) → FitsIn c l b o → b + w ≤ d → d < 2 ^ 30 → Fits c l m w x → FitsIn c m d (go_on o x)
 goes_on c l m b w d (Done t) x h e r y = let g = h.1 in more c m (taken t + w) d (x t) (omega (arith, e, g)) (y.fits t h.0 (omega (arith, e, g, r)))
 goes_on c l m b w d TooWide x h e r y = h
-goes_on c l m b w d (Refused z at) x h e r y = tt
+goes_on c l m b w d (Refused z at) x h e r y = h
 
 -- one and then another
 pub then_fits : {c : Around} {k l m v w : ℕ} {a b : Emission} → Fits c k l v a → Fits c l m w b → Fits c k m (v + w) (a ▸ b)
@@ -67,10 +72,10 @@ room i x = fits_as refl i x
 pub keep_fits : {c : Around} {k : ℕ} → Fits c k k 0 keep
 keep_fits = record { fits = λ s h r. (h, omega arith) }
 
--- what is refused
-pub refuse_fits : {c : Around} {k l w : ℕ} (e : CodegenErrorType) → Fits c k l w (refuse e)
+-- what is refused for another cause
+pub refuse_fits : {c : Around} {k l w : ℕ} (e : CodegenErrorType) → IsOfTree e → Fits c k l w (refuse e)
 unfolding refuse
-refuse_fits e = record { fits = λ s h r. tt }
+refuse_fits e n = record { fits = λ s h r. n }
 
 -- one of two
 pub if_fits : {c : Around} {k l w : ℕ} {v u : Emission} (b : Bool) → Fits c k l w v → Fits c k l w u → Fits c k l w (if b then v else u)
@@ -86,15 +91,15 @@ if_so false x y = y refl
 pub less_so : (m n : ℕ) → m < n → nat_lt m n ≡ true
 less_so m n h = search (rules, h)
 
--- what is not too wide by a test
-pub narrow : (c : Around) (k b : ℕ) (x : Bool) (o : Outcome) → x ≡ true → FitsIn c k b o → FitsIn c k b (if x then o else TooWide)
-narrow c k b true o e h = h
-narrow c k b false o e h = absurd cc
+-- what goes on by a test
+pub narrow : (c : Around) (k b : ℕ) (x : Bool) (o z : Outcome) → x ≡ true → FitsIn c k b o → FitsIn c k b (if x then o else z)
+narrow c k b true o z e h = h
+narrow c k b false o z e h = absurd cc
 
 -- an instruction in such a state
 pub emits : {c : Around} {k b : ℕ} (i : Instruction) (n : ℕ) (s : State) → n < 2 ^ 32 → Stands c k s → taken s ≤ b → FitsIn c k b (emit i n s)
 unfolding emit with_step taken
-emits {c} {k} {b} i n s l h t = narrow c k b (nat_lt n (2 ^ 32)) (Done (with_step (Put i n None s.location) s)) (less_so n (2 ^ 32) l) (record { around = h.around; next = h.next; short = h.short }, t)
+emits {c} {k} {b} i n s l h t = narrow c k b (nat_lt n (2 ^ 32)) (Done (with_step (Put i n None s.location) s)) TooWide (less_so n (2 ^ 32) l) (record { around = h.around; next = h.next; short = h.short }, t)
 
 -- an instruction with such an operand
 pub emit_fits : {c : Around} {k : ℕ} (i : Instruction) (n : ℕ) → n < 2 ^ 32 → Fits c k k 0 (emit i n)
@@ -121,7 +126,7 @@ begin_fits b = record { fits = λ s h r. (record { around = h.around; next = h.n
 -- a count in such a state
 counts : {c : Around} {k b : ℕ} (i : Instruction) (n : ℕ) (s : State) → n < 2 ^ 30 → Stands c k s → taken s ≤ b → FitsIn c k b (emit_count i n s)
 unfolding emit_count
-counts {c} {k} {b} i n s l h t = narrow c k b (nat_lt n (2 ^ 30)) (emit i n s) (less_so n (2 ^ 30) l) (emits i n s (omega (arith, l)) h t)
+counts {c} {k} {b} i n s l h t = narrow c k b (nat_lt n (2 ^ 30)) (emit i n s) TooWide (less_so n (2 ^ 30) l) (emits i n s (omega (arith, l)) h t)
 
 -- an instruction that counts so many
 pub count_fits : {c : Around} {k : ℕ} (i : Instruction) (n : ℕ) → n < 2 ^ 30 → Fits c k k 0 (emit_count i n)
@@ -239,7 +244,7 @@ leaves_loop : (c : Around) (l b : ℕ) (x : LoopBlocks) (before : Around) (o : O
 unfolding with_loops taken
 leaves_loop c l b x before (Done t) e h = (record { around = ap (λ (u : Around). record u { loops = before.loops }) h.0.around ∙ ap (λ (u : Around). record c { loops = u.loops }) e; next = h.0.next; short = h.0.short }, h.1)
 leaves_loop c l b x before TooWide e h = h
-leaves_loop c l b x before (Refused z at) e h = tt
+leaves_loop c l b x before (Refused z at) e h = h
 
 -- what stands in a loop
 pub loop_fits : {c : Around} {k l w : ℕ} {a : Emission} (x : LoopBlocks) → Fits (looping x c) k l w a → Fits c k l w (in_loop x a)
@@ -262,7 +267,7 @@ leaves_postponed c l b before (Done t) e h = (
   h.1,
 )
 leaves_postponed c l b before TooWide e h = h
-leaves_postponed c l b before (Refused z at) e h = tt
+leaves_postponed c l b before (Refused z at) e h = h
 
 -- what postpones annotations
 pub postponing_fits : {c : Around} {k l w : ℕ} {a : Emission} → Fits (postponed_around c) k l w a → Fits c k l w (postponing a)
@@ -279,12 +284,12 @@ pub scopes_fit : {c : Around} {k : ℕ} (count : (postponed : Bool) → ℕ) →
 scopes_fit {c} count = context_fits (λ z. pass_over (λ n. n + count z.postponed)) (pass_fits (count c.context.postponed))
 
 -- what only a function may hold
-pub in_function_fits : {c : Around} {k l w : ℕ} {v : Emission} (e : CodegenErrorType) → Fits c k l w v → Fits c k l w (only_in_function e v)
-in_function_fits {c} {v = v} e x = context_fits (λ z. if is_function z.typ then v else refuse e) (if_fits (is_function c.context.typ) x (refuse_fits e))
+pub in_function_fits : {c : Around} {k l w : ℕ} {v : Emission} (e : CodegenErrorType) → IsOfTree e → Fits c k l w v → Fits c k l w (only_in_function e v)
+in_function_fits {c} {v = v} e n x = context_fits (λ z. if is_function z.typ then v else refuse e) (if_fits (is_function c.context.typ) x (refuse_fits e n))
 
 -- what may not be `__debug__`
 pub unless_debug_fits : {c : Around} {k l w : ℕ} {v : Emission} (text name : List ℕ) → Fits c k l w v → Fits c k l w (unless_debug text name v)
-unless_debug_fits text name x = if_fits (is_debug name) (refuse_fits (error.SyntaxError text)) x
+unless_debug_fits text name x = if_fits (is_debug name) (refuse_fits (error.SyntaxError text) tt) x
 
 -- what is no more than there is room for is small
 pub few_so : {c : Around} {k l w : ℕ} {a : Emission} (n : ℕ) → n ≤ w → (n < 2 ^ 30 → Fits c k l w a) → Fits c k l w a

@@ -29,3 +29,4 @@ mod FitFutures
 mod FitMods
 mod Premises
 pub mod Whole
+pub mod WithoutScopes

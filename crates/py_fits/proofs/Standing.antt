@@ -42,7 +42,7 @@ pub postponed_ready : {c : Around} → Ready c → Ready (postponed_around c)
 postponed_ready r = record { cells = r.cells; frees = r.frees; few = r.few }
 
 -- what is so of all at each depth is so at each depth of all
-deep_all : {A : Type 0} (P : ℕ → A → Type 0) (xs : List A) → ((n : ℕ) → AllOf (P n) xs) → AllOf (λ x. (n : ℕ) → P n x) xs
+pub deep_all : {A : Type 0} (P : ℕ → A → Type 0) (xs : List A) → ((n : ℕ) → AllOf (P n) xs) → AllOf (λ x. (n : ℕ) → P n x) xs
 deep_all P [] h = tt
 deep_all P (x ∷ xs) h = (λ n. (h n).0, deep_all P xs (λ n. (h n).1))
 

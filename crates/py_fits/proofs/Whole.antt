@@ -1,5 +1,7 @@
 -- The emission of a tree without faults is done, and its tables are small.
-use Rattle.std.proofs.Common.{◌≡◌, refl, sym, ◌∙◌, ℕ, ◌+◌, ◌*◌, ◌<◌, ◌≤◌, ◌^◌, List, [], ◌∷◌, arith}
+use Rattle.std.proofs.Common.{◌≡◌, ◌≢◌, refl, sym, ◌∙◌, subst, ℕ, ◌+◌, ◌*◌, ◌<◌, ◌≤◌, ◌^◌, List, [], ◌∷◌, arith}
+use Rattle.py_base.specs.declared.errors.CodegenErrorType.{CodegenErrorType}
+use Rattle.py_base.specs.declared.errors.CodegenErrorType.TheVariants as error
 use Rattle.py_tree.specs.Tree as tree
 use Rattle.py_tree.specs.declared.modules.Mode.{Mode}
 use Rattle.py_limits.specs.Size.{size_of}
@@ -20,19 +22,19 @@ use Rattle.py_refusing.proofs.Ending.{refusal_heads}
 use Rattle.py_loads.specs.Uses.{UsesAreFew}
 use Rattle.py_fits.specs.Fitting.{HasShortTables, IsSmall, TreesFit}
 use Rattle.py_fits.proofs.ShortTables.{sealed_short}
-use Rattle.py_fits.proofs.Fits.{Fits, FitsIn, taken}
+use Rattle.py_fits.proofs.Fits.{Fits, FitsIn, IsOfTree, taken}
 use Rattle.py_fits.proofs.Accesses.{Ready, cells_few, outside, ready_outermost}
 use Rattle.py_fits.proofs.FitMods.{mod_fits}
 use Rattle.py_fits.proofs.Premises.{few_everywhere, small_tree}
 use Rattle.py_fits.proofs.Standing.{AllStand, Here, told, tree_stands}
 
 -- what stands around the outermost scope finds the cells that the form of the tree wants
-stands_there : (t : tree.Mod) (m : Mode) (level : ℕ) (path : List ℕ) (scopes : List ScopeEntry) → AllStand scopes 0 (kids (form_of (body scopes t m level))) → AllOf (Here (outside (outermost level path scopes))) (kids (mod_form (told (outside (outermost level path scopes))) t m))
+pub stands_there : (t : tree.Mod) (m : Mode) (level : ℕ) (path : List ℕ) (scopes : List ScopeEntry) → AllStand scopes 0 (kids (form_of (body scopes t m level))) → AllOf (Here (outside (outermost level path scopes))) (kids (mod_form (told (outside (outermost level path scopes))) t m))
 unfolding inside
 stands_there t m level path scopes h = h
 
 -- before anything one block is made, and the first scope within has the number 1
-begins : (t : tree.Mod) (m : Mode) (level : ℕ) (path : List ℕ) (scopes : List ScopeEntry) (l w : ℕ) → Fits (outside (outermost level path scopes)) 1 l w (emission_of_mod t m) → 1 + w < 2 ^ 30 → FitsIn (outside (outermost level path scopes)) l (1 + w) (emitted t m (outermost level path scopes))
+pub begins : (t : tree.Mod) (m : Mode) (level : ℕ) (path : List ℕ) (scopes : List ScopeEntry) (l w : ℕ) → Fits (outside (outermost level path scopes)) 1 l w (emission_of_mod t m) → 1 + w < 2 ^ 30 → FitsIn (outside (outermost level path scopes)) l (1 + w) (emitted t m (outermost level path scopes))
 unfolding taken
 begins t m level path scopes l w x i = x.fits (nothing (outermost level path scopes)) (record { around = refl; next = refl; short = tt }) i
 
@@ -45,6 +47,10 @@ small_tables s b t i = record { names = omega (arith, t, i); varnames = omega (a
 short_tables : (c : Context) (level l b : ℕ) (s : State) → Ready (outside c) → FitsIn (outside c) l b (Done s) → b < 2 ^ 30 → Everywhere HasShortTables (sealed level (module_head c) s)
 unfolding taken
 short_tables c level l b s r f i = let t = f.1 in sealed_short level (module_head c) s f.0.short (omega (arith, t, i)) (cells_few (outside c) r)
+
+-- an error that does not say that a cell is not there is another one
+pub another : (e : CodegenErrorType) → IsOfTree e → e ≢ error.MissingCell
+another e h q = subst IsOfTree q h
 
 -- a list with a member is not empty
 some_none : {A : Type 0} (x : A) (xs ys : List A) → ys ≡ x ∷ xs → ys ≡ [] → ⊥
@@ -65,6 +71,6 @@ trees_fit uses t m level path h =
     go TooWide e l b i f = absurd f
     go (Refused r at) e l b i f =
         let z = parts_none t m level h in
-        let heads = refusal_heads t m level path (scopes_of t) r at z.0 e in
+        let heads = refusal_heads t m level path (scopes_of t) r at z.0 e (another r f) in
         let first : Fault = record { error = r; location = at } in
         absurd (some_none first heads.0 (compile_faults m level t) heads.1 z.2)

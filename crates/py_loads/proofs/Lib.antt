@@ -4,7 +4,7 @@ mod UsedParams
 mod UsedExprs
 mod UsedDefs
 mod UsedStmts
-mod Whole
+pub mod Whole
 mod Needed
 mod Sharing
 pub mod Distinct

@@ -238,12 +238,14 @@ comparison_nests comparison.IsNot = emit_nests op.TestOperation 3
 pub link_nests : {k : ℕ} (o : CmpOp) (out : ℕ) → Nests k (emission_of_link o out)
 link_nests o out = then_nests (emit_nests op.Duplicate 0) (then_nests (emit_nests op.Rotate3 0) (then_nests (comparison_nests o) (jump_nests op.JumpIfFalseOrPop out)))
 
--- a cell, which the scope has or not
+-- a cell, which the scope has, or that is refused
 pub cell_nests : {k : ℕ} (x : List ℕ) → Nests k (load_cell x)
-unfolding load_cell
-cell_nests {k = k} x = record {
-  nests = λ s h. done_or_wide k (list_any (text_eq x) (s.around.context.cells ++ s.around.context.frees)) (emit op.LoadClosure (cell_place s.around.context x) s) (emits k op.LoadClosure (cell_place s.around.context x) s h);
-}
+unfolding load_cell refuse
+cell_nests {k = k} x = record { nests = λ s h. go (list_any (text_eq x) (s.around.context.cells ++ s.around.context.frees)) s (emits k op.LoadClosure (cell_place s.around.context x) s h) }
+  where
+    go : (b : Bool) (s : State) → DoneNests k (emit op.LoadClosure (cell_place s.around.context x) s) → DoneNests k (if b then emit op.LoadClosure (cell_place s.around.context x) s else Refused error.MissingCell (Some s.location))
+    go true s h = h
+    go false s h = tt
 
 -- a code object nests one deeper than its constants
 sealed_nests : (j level : ℕ) (h : Head) (s : State) → AllNest j s.constants → nesting (sealed level h s) ≤ j + 1

@@ -57,7 +57,7 @@ free_of_hidden c n (tree.ClassDef at name bases ks body decorators (tree.more_ty
 free_of_hidden c n (tree.TypeAlias at (tree.Name p id) (tree.more_type_params t ts) value) = refl
 free_of_hidden c n other = tt
 
-free_told : (c : Context) (o : Owner) (s : Scope) → IsScopeOf c o s → (head_of s).free ≡ wanted_at c.scopes (number_of s)
+pub free_told : (c : Context) (o : Owner) (s : Scope) → IsScopeOf c o s → (head_of s).free ≡ wanted_at c.scopes (number_of s)
 free_told c Whole s i = absurd i
 free_told c (Value e) s i = subst (FreeOf c (number_of s)) i (free_of_value c (number_of s) e)
 free_told c (Own st) s i = subst (FreeOf c (number_of s)) i.1 (free_of_own c i.0 (number_of s) st)

@@ -19,7 +19,7 @@ mod Kept
 mod KeptForms
 mod KeptScopes
 mod KeptStmts
-mod OwnScopes
+pub mod OwnScopes
 mod OwnExprs
 mod OwnNotes
 mod OwnParts

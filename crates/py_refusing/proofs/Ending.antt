@@ -1,5 +1,5 @@
 -- The emission of a tree with no wrong shapes ends as its faults say.
-use Rattle.std.proofs.Common.{◌≡◌, ℕ, List, [], ◌∷◌, Option, Some, None, codes, refl, sym, ap, ◌∙◌, subst}
+use Rattle.std.proofs.Common.{◌≡◌, ◌≢◌, ℕ, List, [], ◌∷◌, Option, Some, None, codes, refl, sym, ap, ◌∙◌, subst}
 use Rattle.py_tree.specs.Tree as tree
 use Rattle.py_shapes.specs.Valid.{expr_shapes, is_prompt, stmt_shapes, stmts_shapes, shapes, when}
 use Rattle.std.specs.Prelude.{not}
@@ -21,7 +21,7 @@ use Rattle.py_base.specs.declared.errors.CodegenErrorType.TheVariants as error
 use Rattle.py_scope.specs.declared.flat.ScopeEntry.{ScopeEntry}
 use Rattle.py_steps.specs.Context.{Context, inside, outermost}
 use Rattle.py_steps.specs.Emitting.{Around, State, Outcome, Done, Refused, nothing}
-use Rattle.py_refusing.proofs.Refusing.{Ends, Wide, Stops, GoesOn, Passes, constant_passes, last_ends, level_ends, name_passes, nothing_passes, outside, then_ends}
+use Rattle.py_refusing.proofs.Refusing.{Ends, Wide, Misses, Stops, GoesOn, Passes, constant_passes, last_ends, level_ends, name_passes, nothing_passes, outside, then_ends}
 use Rattle.py_refusing.proofs.ClassEnds.{setup_passes}
 use Rattle.py_refusing.proofs.FutureEnds.{behind_ends, end_behind}
 use Rattle.py_refusing.proofs.InteractiveEnds.{interactive_ends}
@@ -69,24 +69,26 @@ module _ (k : Context) (m : Mode) where
   value_ends : (e : tree.Expr) → expr_shapes None e ≡ [] → Ends (outside k) (faults_with m (setting_of k) (tree.Expression e)) (expr_end e) (emitted (tree.Expression e) m k)
   value_ends e h = ((expr_ends None (outside k) e h).returned (nothing k).location).ends (nothing k) refl refl
 
-refused_by : (c : Around) (q : SourceLocation) (fs : List Fault) (o : Outcome) (e : CodegenErrorType) (at : Option SourceLocation) → Ends c fs q o → o ≡ Refused e at → (rest : List Fault) × (fs ≡ record { error = e; location = at } ∷ rest)
-refused_by c q fs o e at (Wide p) r = absurd cc
-refused_by c q fs o e at (Stops d there rest p f) r =
+refused_by : (c : Around) (q : SourceLocation) (fs : List Fault) (o : Outcome) (e : CodegenErrorType) (at : Option SourceLocation) → Ends c fs q o → o ≡ Refused e at → e ≢ error.MissingCell → (rest : List Fault) × (fs ≡ record { error = e; location = at } ∷ rest)
+refused_by c q fs o e at (Wide p) r n = absurd cc
+refused_by c q fs o e at (Misses there p) r n = let same : e ≡ error.MissingCell = cc in absurd (n same)
+refused_by c q fs o e at (Stops d there rest p f) r n =
     let same : d ≡ e = cc in
     let place : Some there ≡ at = cc in
     (rest, f ∙ (λ i. record { error = same i; location = place i } ∷ rest))
-refused_by c q fs o e at (GoesOn t p z d f) r = absurd cc
+refused_by c q fs o e at (GoesOn t p z d f) r n = absurd cc
 
 done_by : (c : Around) (q : SourceLocation) (fs : List Fault) (o : Outcome) (r : State) → Ends c fs q o → o ≡ Done r → fs ≡ []
 done_by c q fs o r (Wide p) d = absurd cc
+done_by c q fs o r (Misses at p) d = absurd cc
 done_by c q fs o r (Stops e there rest p f) d = absurd cc
 done_by c q fs o r (GoesOn t p z g f) d = f
 
-heads : (t : tree.Mod) (m : Mode) (k : Context) (e : CodegenErrorType) (at : Option SourceLocation) → shapes t m ≡ [] → emitted t m k ≡ Refused e at → (rest : List Fault) × (faults_with m (setting_of k) t ≡ record { error = e; location = at } ∷ rest)
-heads (tree.Module ts) m k e at h r = refused_by (outside k) _ _ _ e at (file_ends k m ts h) r
-heads (tree.Interactive ts) m k e at h r = refused_by (outside k) _ _ _ e at (prompt_ends k m ts (both_none (when (not (is_prompt m)) WrongMode) (stmts_shapes None ts) h).1).1 r
-heads (tree.Expression v) m k e at h r = refused_by (outside k) _ _ _ e at (value_ends k m v h) r
-heads other m k e at h r =
+heads : (t : tree.Mod) (m : Mode) (k : Context) (e : CodegenErrorType) (at : Option SourceLocation) → shapes t m ≡ [] → emitted t m k ≡ Refused e at → e ≢ error.MissingCell → (rest : List Fault) × (faults_with m (setting_of k) t ≡ record { error = e; location = at } ∷ rest)
+heads (tree.Module ts) m k e at h r n = refused_by (outside k) _ _ _ e at (file_ends k m ts h) r n
+heads (tree.Interactive ts) m k e at h r n = refused_by (outside k) _ _ _ e at (prompt_ends k m ts (both_none (when (not (is_prompt m)) WrongMode) (stmts_shapes None ts) h).1).1 r n
+heads (tree.Expression v) m k e at h r n = refused_by (outside k) _ _ _ e at (value_ends k m v h) r n
+heads other m k e at h r n =
     let same : error.NotImplementedYet ≡ e = cc in
     let place : None ≡ at = cc in
     ([], λ i. record { error = same i; location = place i } ∷ [])
@@ -110,9 +112,9 @@ faults_are : (t : tree.Mod) (m : Mode) (l : ℕ) (path : List ℕ) (scopes : Lis
 faults_are t m l path scopes = ap (λ s. faults_with m s t) (setting_is l path scopes) ∙ faults_first m l t
 
 module _ (t : tree.Mod) (m : Mode) (l : ℕ) (path : List ℕ) (scopes : List ScopeEntry) where
-  -- a refusal is the first fault
-  pub refusal_heads : (e : CodegenErrorType) (at : Option SourceLocation) → shapes t m ≡ [] → emitted t m (outermost l path scopes) ≡ Refused e at → (rest : List Fault) × (compile_faults m l t ≡ record { error = e; location = at } ∷ rest)
-  refusal_heads e at h r = subst (λ fs. (rest : List Fault) × (fs ≡ record { error = e; location = at } ∷ rest)) (faults_are t m l path scopes) (heads t m (outermost l path scopes) e at h r)
+  -- a refusal is the first fault, unless a cell is not there
+  pub refusal_heads : (e : CodegenErrorType) (at : Option SourceLocation) → shapes t m ≡ [] → emitted t m (outermost l path scopes) ≡ Refused e at → e ≢ error.MissingCell → (rest : List Fault) × (compile_faults m l t ≡ record { error = e; location = at } ∷ rest)
+  refusal_heads e at h r n = subst (λ fs. (rest : List Fault) × (fs ≡ record { error = e; location = at } ∷ rest)) (faults_are t m l path scopes) (heads t m (outermost l path scopes) e at h r n)
 
   -- what is emitted to its end has none
   pub done_faultless : (r : State) → shapes t m ≡ [] → emitted t m (outermost l path scopes) ≡ Done r → compile_faults m l t ≡ []

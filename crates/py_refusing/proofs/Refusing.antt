@@ -51,15 +51,17 @@ postponed_around c = record c { context = record c.context { postponed = true } 
 abbrev pub in_function : Around → Bool
 in_function c = is_function c.context.typ
 
--- an operand is too large; or it is refused as the first of these faults says; or there are none, and it goes on in this context, from that place
+-- an operand is too large; or a cell is not there; or it is refused as the first of these faults says; or there are none, and it goes on in this context, from that place
 pub data Ends (c : Around) (fs : List Fault) (q : SourceLocation) (o : Outcome) : Type 0 where
   Wide : o ≡ TooWide → Ends c fs q o
+  Misses : (at : SourceLocation) → o ≡ Refused error.MissingCell (Some at) → Ends c fs q o
   Stops : (e : CodegenErrorType) (at : SourceLocation) (rest : List Fault) → o ≡ Refused e (Some at) → fs ≡ fault_at e at ∷ rest → Ends c fs q o
   GoesOn : (r : State) → r.location ≡ q → r.around ≡ c → o ≡ Done r → fs ≡ [] → Ends c fs q o
 
 -- one emission after another
 ends_then : (c d : Around) (b : Emission) (fs gs : List Fault) (m q : SourceLocation) (o : Outcome) → Ends c fs m o → ((r : State) → r.location ≡ m → r.around ≡ c → Ends d gs q (b r)) → Ends d (fs ++ gs) q (go_on o b)
 ends_then c d b fs gs m q o (Wide e) next = Wide (ap (λ x. go_on x b) e)
+ends_then c d b fs gs m q o (Misses at e) next = Misses at (ap (λ x. go_on x b) e)
 ends_then c d b fs gs m q o (Stops e at rest f g) next = Stops e at (rest ++ gs) (ap (λ x. go_on x b) f) (ap (λ l. l ++ gs) g)
 ends_then c d b fs gs m q o (GoesOn r at z f g) next = subst (λ l. Ends d (l ++ gs) q (go_on o b)) (sym g) (subst (λ x. Ends d gs q (go_on x b)) (sym f) (next r at z))
 
@@ -198,10 +200,14 @@ unfolding generating
 generating_passes = record { ends = λ s h z. GoesOn _ h z refl refl }
 
 -- a cell, which the scope has or not
+cell_or : (b : Bool) (c : Around) (o : Outcome) (p at : SourceLocation) → Ends c [] p o → Ends c [] p (if b then o else Refused error.MissingCell (Some at))
+cell_or true c o p at h = h
+cell_or false c o p at h = Misses at refl
+
 pub cell_passes : {c : Around} {p : SourceLocation} (x : List ℕ) → Passes c (load_cell x) p
-unfolding load_cell
+unfolding load_cell refuse
 cell_passes {c = c} {p = p} x = record {
-  ends = λ s h z. either_ends (list_any (text_eq x) (s.around.context.cells ++ s.around.context.frees)) c (emit op.LoadClosure (cell_place s.around.context x) s) p (emit_ends op.LoadClosure (cell_place s.around.context x) c s p h z);
+  ends = λ s h z. cell_or (list_any (text_eq x) (s.around.context.cells ++ s.around.context.frees)) c (emit op.LoadClosure (cell_place s.around.context x) s) p s.location (emit_ends op.LoadClosure (cell_place s.around.context x) c s p h z);
 }
 
 -- what its own context decides, or its own level
@@ -297,6 +303,7 @@ scopes_passed count = record { ends = λ s h z. GoesOn _ h z refl refl }
 -- what comes of a scope within, in a context that stands there, and then of what follows, which begins where the scope leaves off
 sealed_ends : (c : Around) (k : Context) (level : ℕ) (h : Head) (s : State) (follow : Object → Emission) (fs gs : List Fault) (m q : SourceLocation) (o : Outcome) → s.around ≡ c → Ends (outside k) fs m o → ((x : Object) → EndsAs c (follow x) m q gs) → Ends c (fs ++ gs) q (on_sealed level h s o follow)
 sealed_ends c k level h s follow fs gs m q o z (Wide e) next = Wide (ap (λ x. on_sealed level h s x follow) e)
+sealed_ends c k level h s follow fs gs m q o z (Misses at e) next = Misses at (ap (λ x. on_sealed level h s x follow) e)
 sealed_ends c k level h s follow fs gs m q o z (Stops e at rest f g) next = Stops e at (rest ++ gs) (ap (λ x. on_sealed level h s x follow) f) (ap (λ l. l ++ gs) g)
 sealed_ends c k level h s follow fs gs m q o z (GoesOn r at y f g) next =
     subst (λ l. Ends c (l ++ gs) q (on_sealed level h s o follow)) (sym g) (subst (λ x. Ends c gs q (on_sealed level h s x follow)) (sym f) ((next (sealed level h r)).ends (behind_child s r) at z))

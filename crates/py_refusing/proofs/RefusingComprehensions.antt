@@ -18,7 +18,7 @@ use Rattle.py_steps.specs.Within.{comprehension_inside}
 use Rattle.py_steps.specs.Context.{Context, inside}
 use Rattle.py_steps.specs.Emitting.{Around, Emission, Outcome, ◌▸◌, begin, jump, new_block}
 use Rattle.py_emission.specs.Emission.{all_emissions, clause_emissions, emissions, stores}
-use Rattle.py_refusing.proofs.Refusing.{Ends, EndsAs, GoesOn, Stops, Wide, begin_passes, child_ends, constant_passes, count_passes, emit_passes, ends_so, generating_passes, guarded_ends, in_function, jump_passes, last_ends, new_ends, nothing_passes, outside, then_ends, varname_passes}
+use Rattle.py_refusing.proofs.Refusing.{Ends, EndsAs, GoesOn, Misses, Stops, Wide, begin_passes, child_ends, constant_passes, count_passes, emit_passes, ends_so, generating_passes, guarded_ends, in_function, jump_passes, last_ends, new_ends, nothing_passes, outside, then_ends, varname_passes}
 use Rattle.py_refusing.proofs.RefusingTests.{AllEnding, EndsWell}
 use Rattle.py_refusing.proofs.RefusingTargets.{Storing}
 use Rattle.py_refusing.proofs.RefusingDefaults.{made_passes}
@@ -26,6 +26,7 @@ use Rattle.py_refusing.proofs.RefusingDefaults.{made_passes}
 -- a star in an element is told in other words, and stands where it stands
 retold_so : (c : Around) (fs : List Fault) (q : SourceLocation) (o : Outcome) → Ends c fs q o → Ends c (retold_faults fs) q (retold_in o)
 retold_so c fs q o (Wide e) = Wide (ap retold_in e)
+retold_so c fs q o (Misses at e) = Misses at (ap retold_in e)
 retold_so c fs q o (Stops e at rest f g) = Stops (retold e) at (retold_faults rest) (ap retold_in f) (ap retold_faults g)
 retold_so c fs q o (GoesOn r at z f g) = GoesOn r at z (ap retold_in f) (ap retold_faults g)
 

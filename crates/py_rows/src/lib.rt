@@ -19,7 +19,7 @@ use reading::read_all;
 use std::alloc::Global;
 
 /// The tree whose rows the bytes are. Work is linear in the rows: each node is moved once, into its parent, and the JSON
-/// of each row is let go once the row is read.
+/// of rows is let go as they are read, some thousand rows at a time.
 ///
 /// # Errors
 /// The first thing that is wrong with the bytes, `row` being the row that is at fault. Want of memory is

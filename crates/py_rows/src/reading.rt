@@ -12,7 +12,12 @@ use py_rows_slots::Nodes;
 use serde_json::Value;
 use std::alloc::Global;
 
-/// Reads the rows from 0 up, and lets each go once it is read.
+/// The number of rows whose JSON is let go together. Where each went alone, the nodes would come to lie among the rows that
+/// are still to be read, far from one another. A new list is taken for each group: before it gives that much, the allocator
+/// of the C library joins the pieces that have been let go.
+const GROUP: usize = 4096;
+
+/// Reads the rows from 0 up, and lets them go in groups once they are read.
 pub(crate) fn read_all(
     alloc: Global,
     mut rows: Vec<Value>,
@@ -22,11 +27,16 @@ pub(crate) fn read_all(
     ensures { Gives (λ _. nodes_view nodes.new) result (rows_from 0 (items_view rows.items) (nodes_view nodes.old)) }
 {
     let mut parts = Vec::new(alloc);
+    let mut read = Vec::with_capacity(alloc, GROUP)?;
     let mut number = 0u32;
     rows.reverse();
     while let Some(row) = rows.pop() {
         read_row(alloc, &row, number, &mut parts, nodes)?;
         number += 1;
+        if read.len() == GROUP {
+            read = Vec::with_capacity(alloc, GROUP)?;
+        }
+        read.push(row)?;
     }
     Ok(())
 }

@@ -1,12 +1,12 @@
 //! The scan of statements.
 ghost use Rattle.std.specs.Prelude.{◌≡◌, IfErr};
-ghost use Rattle.py_tree.specs.View.{arguments, async_for_tree, async_function_def_tree, async_with_tree, class_def_tree, expr_tree, exprs, for_tree, function_def_tree, handlers, if_tree, keywords, opt_box, stmt_tree, stmts, try_star_tree, try_tree, type_params, while_tree, with_tree};
+ghost use Rattle.py_tree.specs.View.{arguments, async_function_def_tree, class_def_tree, expr_tree, exprs, function_def_tree, handlers, if_tree, keywords, opt_box, stmt_tree, stmts, try_star_tree, try_tree, type_params, while_tree, with_items};
 ghost use Rattle.py_scope.specs.declared.table_type.SymbolTableType.TheVariants as scope;
-ghost use Rattle.py_uses.specs.declared.usage.Usage.TheVariants.{Load};
+ghost use Rattle.py_uses.specs.declared.usage.Usage.TheVariants.{Load, Store};
 ghost use Rattle.py_uses.specs.Goes.{Goes, IsTextOrMemory, state};
 ghost use Rattle.py_uses.specs.Steps.{◌▸◌, inside};
 ghost use Rattle.py_uses.specs.Parts.{in_type_params, use_first_names, use_opt_name, use_parameters};
-ghost use Rattle.py_scan.specs.Scan.{scan_class_scope, scan_class_parts, scan_function_scope, scan_handed_function, scan_handlers, scan_opt, scan_stmt, scan_stmts};
+ghost use Rattle.py_scan.specs.Scan.{scan_class_scope, scan_class_parts, scan_expr, scan_function, scan_function_scope, scan_handed_function, scan_handlers, scan_items, scan_opt, scan_stmt, scan_stmts};
 
 use crate::expressions::{scan_annotations, scan_expr, scan_exprs, scan_keywords, scan_opt};
 use crate::simple::{
@@ -17,8 +17,8 @@ use crate::type_params::scan_type_params;
 use py_base::SourceLocation;
 use py_scope::{Role, SymbolTableError, SymbolTableType};
 use py_tree::{
-    ExceptHandler, Stmt, StmtAsyncFor, StmtAsyncFunctionDef, StmtAsyncWith, StmtClassDef, StmtFor,
-    StmtFunctionDef, StmtIf, StmtTry, StmtTryStar, StmtWhile, StmtWith,
+    Arguments, ExceptHandler, Expr, List, Stmt, StmtAsyncFunctionDef, StmtClassDef,
+    StmtFunctionDef, StmtIf, StmtTry, StmtTryStar, StmtWhile, Stmts, Text, TypeParam, WithItem,
 };
 use py_uses::names::{use_aliases, use_each, use_first_names, use_opt_name};
 use py_uses::parameters::use_parameters;
@@ -26,6 +26,18 @@ use py_uses::type_params::{
     check_type_params, enter_type_params, is_generic, leave_type_params, use_handed_defaults,
 };
 use py_uses::{Scan, Usage};
+
+/// The parts of a function's statement, which are lent: those of a `def` and of an `async def` are scanned alike.
+#[derive(Clone, Copy)]
+struct FunctionParts<'a> {
+    location: SourceLocation,
+    name: &'a Text,
+    args: &'a Arguments,
+    body: &'a Stmts,
+    decorator_list: &'a List<Expr>,
+    returns: &'a Option<Box<Expr>>,
+    type_params: &'a List<TypeParam>,
+}
 
 /// Scans a statement.
 ///
@@ -47,12 +59,12 @@ fn scan_stmt(scan: &mut Scan, stmt: &Stmt) -> Result<(), SymbolTableError>
         Stmt::TypeAlias(s) => scan_type_alias(scan, s),
         Stmt::AugAssign(s) => scan_aug_assign(scan, s),
         Stmt::AnnAssign(s) => scan_ann_assign(scan, s),
-        Stmt::For(s) => scan_for(scan, s),
-        Stmt::AsyncFor(s) => scan_async_for(scan, s),
+        Stmt::For(s) => scan_for(scan, &s.target, &s.iter, &s.body, &s.orelse),
+        Stmt::AsyncFor(s) => scan_for(scan, &s.target, &s.iter, &s.body, &s.orelse),
         Stmt::While(s) => scan_while(scan, s),
         Stmt::If(s) => scan_if(scan, s),
-        Stmt::With(s) => scan_with(scan, s),
-        Stmt::AsyncWith(s) => scan_async_with(scan, s),
+        Stmt::With(s) => scan_with(scan, &s.items, &s.body),
+        Stmt::AsyncWith(s) => scan_with(scan, &s.items, &s.body),
         Stmt::Match(s) => scan_match(scan, s),
         Stmt::Raise(s) => scan_raise(scan, s),
         Stmt::Try(s) => scan_try(scan, s),
@@ -87,64 +99,16 @@ fn scan_function_def(scan: &mut Scan, s: &StmtFunctionDef) -> Result<(), SymbolT
     ensures goes { Goes result (state scan.new) (scan_stmt (function_def_tree s.now) (state scan.old)) }
     ensures told { IfErr result IsTextOrMemory }
 {
-    check_type_params(scan, s.type_params.as_slice())?;
-    scan_exprs(scan, Usage::Load, s.decorator_list.as_slice())?;
-    let generic = is_generic(s.type_params.as_slice());
-    scan_defaults_if(scan, !generic, &s.args)?;
-    scan_generic_function(scan, generic, s)?;
-    scan_defaults_if(scan, generic, &s.args)?;
-    scan.use_name(Role::Assigned, &s.name, s.location)
-}
-
-/// A function with the scope of its type parameters around it, where it has some.
-#[cycle(scan)]
-fn scan_generic_function(
-    scan: &mut Scan,
-    generic: bool,
-    s: &StmtFunctionDef,
-) -> Result<(), SymbolTableError>
-    ensures goes { Goes result (state scan.new) (in_type_params generic s.now.name s.now.location (scan_handed_function generic s.now.location s.now.name (arguments expr_tree s.now.args.value) (scan_stmts (stmts stmt_tree s.now.body)) (opt_box expr_tree s.now.returns) (type_params s.now.type_params)) (state scan.old)) }
-    ensures told { IfErr result IsTextOrMemory }
-{
-    enter_type_params(scan, generic, s.name.as_str(), s.location)?;
-    scan_handed_function(scan, generic, s)?;
-    leave_type_params(scan, generic)
-}
-
-#[cycle(scan)]
-fn scan_handed_function(
-    scan: &mut Scan,
-    generic: bool,
-    s: &StmtFunctionDef,
-) -> Result<(), SymbolTableError>
-    ensures goes { Goes result (state scan.new) (scan_handed_function generic s.now.location s.now.name (arguments expr_tree s.now.args.value) (scan_stmts (stmts stmt_tree s.now.body)) (opt_box expr_tree s.now.returns) (type_params s.now.type_params) (state scan.old)) }
-    ensures told { IfErr result IsTextOrMemory }
-{
-    use_handed_defaults(scan, generic, &s.args, &s.location)?;
-    scan_type_params(scan, s.type_params.as_slice())?;
-    scan_function_scope(scan, s)
-}
-
-#[cycle(scan)]
-fn scan_function_scope(scan: &mut Scan, s: &StmtFunctionDef) -> Result<(), SymbolTableError>
-    ensures goes { Goes result (state scan.new) (scan_function_scope s.now.location s.now.name (arguments expr_tree s.now.args.value) (scan_stmts (stmts stmt_tree s.now.body)) (opt_box expr_tree s.now.returns) (state scan.old)) }
-    ensures told { IfErr result IsTextOrMemory }
-{
-    scan_function_body(scan, s)?;
-    scan_returns(scan, &s.returns)?;
-    scan_annotations(scan, &s.args)
-}
-
-/// The scope of a function.
-#[cycle(scan)]
-fn scan_function_body(scan: &mut Scan, s: &StmtFunctionDef) -> Result<(), SymbolTableError>
-    ensures goes { Goes result (state scan.new) (inside scope.Function s.now.name s.now.location (use_parameters (arguments expr_tree s.now.args.value) ▸ scan_stmts (stmts stmt_tree s.now.body)) (state scan.old)) }
-    ensures told { IfErr result IsTextOrMemory }
-{
-    scan.enter(SymbolTableType::Function, s.name.as_str(), s.location)?;
-    use_parameters(scan, &s.args)?;
-    scan_stmts(scan, s.body.as_slice())?;
-    scan.leave()
+    let function = FunctionParts {
+        location: s.location,
+        name: &s.name,
+        args: &s.args,
+        body: &s.body,
+        decorator_list: &s.decorator_list,
+        returns: &s.returns,
+        type_params: &s.type_params,
+    };
+    scan_function(scan, &function)
 }
 
 #[cycle(scan)]
@@ -155,69 +119,87 @@ fn scan_async_function_def(
     ensures goes { Goes result (state scan.new) (scan_stmt (async_function_def_tree s.now) (state scan.old)) }
     ensures told { IfErr result IsTextOrMemory }
 {
-    check_type_params(scan, s.type_params.as_slice())?;
-    scan_exprs(scan, Usage::Load, s.decorator_list.as_slice())?;
-    let generic = is_generic(s.type_params.as_slice());
-    scan_defaults_if(scan, !generic, &s.args)?;
-    scan_generic_async_function(scan, generic, s)?;
-    scan_defaults_if(scan, generic, &s.args)?;
-    scan.use_name(Role::Assigned, &s.name, s.location)
+    let function = FunctionParts {
+        location: s.location,
+        name: &s.name,
+        args: &s.args,
+        body: &s.body,
+        decorator_list: &s.decorator_list,
+        returns: &s.returns,
+        type_params: &s.type_params,
+    };
+    scan_function(scan, &function)
+}
+
+#[cycle(scan)]
+fn scan_function(scan: &mut Scan, function: &FunctionParts<'_>) -> Result<(), SymbolTableError>
+    ensures goes { Goes result (state scan.new) (scan_function function.now.location function.now.name.now (arguments expr_tree function.now.args.now) (scan_stmts (stmts stmt_tree function.now.body.now)) (exprs expr_tree function.now.decorator_list.now) (opt_box expr_tree function.now.returns.now) (type_params function.now.type_params.now) (state scan.old)) }
+    ensures told { IfErr result IsTextOrMemory }
+{
+    check_type_params(scan, function.type_params.as_slice())?;
+    scan_exprs(scan, Usage::Load, function.decorator_list.as_slice())?;
+    let generic = is_generic(function.type_params.as_slice());
+    scan_defaults_if(scan, !generic, function.args)?;
+    scan_generic_function(scan, generic, function)?;
+    scan_defaults_if(scan, generic, function.args)?;
+    scan.use_name(Role::Assigned, function.name, function.location)
 }
 
 /// A function with the scope of its type parameters around it, where it has some.
 #[cycle(scan)]
-fn scan_generic_async_function(
+fn scan_generic_function(
     scan: &mut Scan,
     generic: bool,
-    s: &StmtAsyncFunctionDef,
+    function: &FunctionParts<'_>,
 ) -> Result<(), SymbolTableError>
-    ensures goes { Goes result (state scan.new) (in_type_params generic s.now.name s.now.location (scan_handed_function generic s.now.location s.now.name (arguments expr_tree s.now.args.value) (scan_stmts (stmts stmt_tree s.now.body)) (opt_box expr_tree s.now.returns) (type_params s.now.type_params)) (state scan.old)) }
+    ensures goes { Goes result (state scan.new) (in_type_params generic function.now.name.now function.now.location (scan_handed_function generic function.now.location function.now.name.now (arguments expr_tree function.now.args.now) (scan_stmts (stmts stmt_tree function.now.body.now)) (opt_box expr_tree function.now.returns.now) (type_params function.now.type_params.now)) (state scan.old)) }
     ensures told { IfErr result IsTextOrMemory }
 {
-    enter_type_params(scan, generic, s.name.as_str(), s.location)?;
-    scan_handed_async_function(scan, generic, s)?;
+    enter_type_params(scan, generic, function.name.as_str(), function.location)?;
+    scan_handed_function(scan, generic, function)?;
     leave_type_params(scan, generic)
 }
 
 #[cycle(scan)]
-fn scan_handed_async_function(
+fn scan_handed_function(
     scan: &mut Scan,
     generic: bool,
-    s: &StmtAsyncFunctionDef,
+    function: &FunctionParts<'_>,
 ) -> Result<(), SymbolTableError>
-    ensures goes { Goes result (state scan.new) (scan_handed_function generic s.now.location s.now.name (arguments expr_tree s.now.args.value) (scan_stmts (stmts stmt_tree s.now.body)) (opt_box expr_tree s.now.returns) (type_params s.now.type_params) (state scan.old)) }
+    ensures goes { Goes result (state scan.new) (scan_handed_function generic function.now.location function.now.name.now (arguments expr_tree function.now.args.now) (scan_stmts (stmts stmt_tree function.now.body.now)) (opt_box expr_tree function.now.returns.now) (type_params function.now.type_params.now) (state scan.old)) }
     ensures told { IfErr result IsTextOrMemory }
 {
-    use_handed_defaults(scan, generic, &s.args, &s.location)?;
-    scan_type_params(scan, s.type_params.as_slice())?;
-    scan_async_function_scope(scan, s)
+    use_handed_defaults(scan, generic, function.args, &function.location)?;
+    scan_type_params(scan, function.type_params.as_slice())?;
+    scan_function_scope(scan, function)
 }
 
 #[cycle(scan)]
-fn scan_async_function_scope(
+fn scan_function_scope(
     scan: &mut Scan,
-    s: &StmtAsyncFunctionDef,
+    function: &FunctionParts<'_>,
 ) -> Result<(), SymbolTableError>
-    ensures goes { Goes result (state scan.new) (scan_function_scope s.now.location s.now.name (arguments expr_tree s.now.args.value) (scan_stmts (stmts stmt_tree s.now.body)) (opt_box expr_tree s.now.returns) (state scan.old)) }
+    ensures goes { Goes result (state scan.new) (scan_function_scope function.now.location function.now.name.now (arguments expr_tree function.now.args.now) (scan_stmts (stmts stmt_tree function.now.body.now)) (opt_box expr_tree function.now.returns.now) (state scan.old)) }
     ensures told { IfErr result IsTextOrMemory }
 {
-    scan_async_function_body(scan, s)?;
-    scan_returns(scan, &s.returns)?;
-    scan_annotations(scan, &s.args)
+    scan_function_body(scan, function)?;
+    scan_returns(scan, function.returns)?;
+    scan_annotations(scan, function.args)
 }
 
 /// The scope of a function.
 #[cycle(scan)]
-fn scan_async_function_body(
-    scan: &mut Scan,
-    s: &StmtAsyncFunctionDef,
-) -> Result<(), SymbolTableError>
-    ensures goes { Goes result (state scan.new) (inside scope.Function s.now.name s.now.location (use_parameters (arguments expr_tree s.now.args.value) ▸ scan_stmts (stmts stmt_tree s.now.body)) (state scan.old)) }
+fn scan_function_body(scan: &mut Scan, function: &FunctionParts<'_>) -> Result<(), SymbolTableError>
+    ensures goes { Goes result (state scan.new) (inside scope.Function function.now.name.now function.now.location (use_parameters (arguments expr_tree function.now.args.now) ▸ scan_stmts (stmts stmt_tree function.now.body.now)) (state scan.old)) }
     ensures told { IfErr result IsTextOrMemory }
 {
-    scan.enter(SymbolTableType::Function, s.name.as_str(), s.location)?;
-    use_parameters(scan, &s.args)?;
-    scan_stmts(scan, s.body.as_slice())?;
+    scan.enter(
+        SymbolTableType::Function,
+        function.name.as_str(),
+        function.location,
+    )?;
+    use_parameters(scan, function.args)?;
+    scan_stmts(scan, function.body.as_slice())?;
     scan.leave()
 }
 
@@ -284,26 +266,22 @@ fn scan_class_body(scan: &mut Scan, s: &StmtClassDef) -> Result<(), SymbolTableE
     scan.leave()
 }
 
+/// Scans a `for` or an `async for`.
 #[cycle(scan)]
-fn scan_for(scan: &mut Scan, s: &StmtFor) -> Result<(), SymbolTableError>
-    ensures goes { Goes result (state scan.new) (scan_stmt (for_tree s.now) (state scan.old)) }
+fn scan_for(
+    scan: &mut Scan,
+    target: &Expr,
+    iter: &Expr,
+    body: &Stmts,
+    orelse: &Stmts,
+) -> Result<(), SymbolTableError>
+    ensures goes { Goes result (state scan.new) ((scan_expr Load (expr_tree iter.now) ▸ scan_expr Store (expr_tree target.now) ▸ scan_stmts (stmts stmt_tree body.now) ▸ scan_stmts (stmts stmt_tree orelse.now)) (state scan.old)) }
     ensures told { IfErr result IsTextOrMemory }
 {
-    scan_expr(scan, Usage::Load, &s.iter)?;
-    scan_expr(scan, Usage::Store, &s.target)?;
-    scan_stmts(scan, s.body.as_slice())?;
-    scan_stmts(scan, s.orelse.as_slice())
-}
-
-#[cycle(scan)]
-fn scan_async_for(scan: &mut Scan, s: &StmtAsyncFor) -> Result<(), SymbolTableError>
-    ensures goes { Goes result (state scan.new) (scan_stmt (async_for_tree s.now) (state scan.old)) }
-    ensures told { IfErr result IsTextOrMemory }
-{
-    scan_expr(scan, Usage::Load, &s.iter)?;
-    scan_expr(scan, Usage::Store, &s.target)?;
-    scan_stmts(scan, s.body.as_slice())?;
-    scan_stmts(scan, s.orelse.as_slice())
+    scan_expr(scan, Usage::Load, iter)?;
+    scan_expr(scan, Usage::Store, target)?;
+    scan_stmts(scan, body.as_slice())?;
+    scan_stmts(scan, orelse.as_slice())
 }
 
 #[cycle(scan)]
@@ -326,22 +304,14 @@ fn scan_if(scan: &mut Scan, s: &StmtIf) -> Result<(), SymbolTableError>
     scan_stmts(scan, s.orelse.as_slice())
 }
 
+/// Scans a `with` or an `async with`.
 #[cycle(scan)]
-fn scan_with(scan: &mut Scan, s: &StmtWith) -> Result<(), SymbolTableError>
-    ensures goes { Goes result (state scan.new) (scan_stmt (with_tree s.now) (state scan.old)) }
+fn scan_with(scan: &mut Scan, items: &List<WithItem>, body: &Stmts) -> Result<(), SymbolTableError>
+    ensures goes { Goes result (state scan.new) ((scan_items (with_items items.now) ▸ scan_stmts (stmts stmt_tree body.now)) (state scan.old)) }
     ensures told { IfErr result IsTextOrMemory }
 {
-    scan_items(scan, s.items.as_slice())?;
-    scan_stmts(scan, s.body.as_slice())
-}
-
-#[cycle(scan)]
-fn scan_async_with(scan: &mut Scan, s: &StmtAsyncWith) -> Result<(), SymbolTableError>
-    ensures goes { Goes result (state scan.new) (scan_stmt (async_with_tree s.now) (state scan.old)) }
-    ensures told { IfErr result IsTextOrMemory }
-{
-    scan_items(scan, s.items.as_slice())?;
-    scan_stmts(scan, s.body.as_slice())
+    scan_items(scan, items.as_slice())?;
+    scan_stmts(scan, body.as_slice())
 }
 
 #[cycle(scan)]

@@ -1,5 +1,5 @@
 //! The scopes of a table in one flat list.
-ghost use Rattle.std.specs.Prelude.{◌≡◌, ◌++◌, ◌+◌, ◌<◌, length, slice_get, IfOk, OnOk, Some};
+ghost use Rattle.std.specs.Prelude.{◌≡◌, ◌++◌, ◌+◌, ◌<◌, [], length, slice_get, IfOk, OnOk, Some};
 ghost use Rattle.py_scope.specs.Flat.{flat_table, symbols_at, typ_at, next_at};
 
 use crate::steps::Steps;
@@ -70,6 +70,15 @@ impl FlatScopes {
         let mut entries = Vec::new(alloc);
         push_table(&mut entries, table)?;
         Ok(FlatScopes { entries })
+    }
+
+    /// No scopes.
+    pub fn empty(alloc: Global) -> FlatScopes
+        ensures { result ≡ [] }
+    {
+        FlatScopes {
+            entries: Vec::new(alloc),
+        }
     }
 
     /// How many scopes there are.

@@ -1,13 +1,14 @@
 -- What is emitted of a scope within: it begins where its parent stands, its code object is a constant of the parent, and the parent goes on where it leaves off.
 use Rattle.std.specs.Prelude.{ℕ, suc, ◌+◌, List, [], ◌∷◌, ◌++◌, Option, Some, None, codes, if◌then◌else◌}
 use Rattle.std.specs.List.{list_any}
+use Rattle.py_base.specs.declared.errors.CodegenErrorType.TheVariants as error
 use Rattle.py_base.specs.declared.location.SourceLocation.{SourceLocation}
 use Rattle.py_bytecode.specs.declared.instruction.Instruction.TheVariants as op
 use Rattle.py_bytecode.specs.Equality.{text_eq}
 use Rattle.py_bytecode.specs.Objects as const
 use Rattle.py_bytecode.specs.Objects.{Object}
 use Rattle.py_steps.specs.Context.{Context, cell_place, mangled, qualified}
-use Rattle.py_steps.specs.Emitting.{Emission, Outcome, State, ◌▸◌, Done, TooWide, Refused, add_constant, add_varname, begun, by_context, emit, emit_constant, emit_count, emit_name, keep}
+use Rattle.py_steps.specs.Emitting.{Emission, Outcome, State, ◌▸◌, Done, TooWide, Refused, add_constant, add_varname, begun, by_context, emit, emit_constant, emit_count, emit_name, keep, refuse}
 use Rattle.py_steps.specs.EmissionParts.{built, in_turn, map_of, unless_debug}
 use Rattle.py_steps.specs.Refused.{no_assignment}
 use Rattle.py_steps.specs.Sealed.{Head, sealed}
@@ -43,11 +44,11 @@ child within h body k s =
     let c = within s.around.context s.next in
     on_sealed c.level (code_head c h s.location) s (body (begun c s.location (suc s.next))) k
 
--- a cell that a function is made of, which is one of the present scope's or comes to it from outside
+-- a cell that a function is made of, which is one of the present scope's or comes to it from outside; where it is not there, that is refused
 unfoldable pub load_cell : List ℕ → Emission
 load_cell x s =
     if list_any (text_eq x) (s.around.context.cells ++ s.around.context.frees) then emit op.LoadClosure (cell_place s.around.context x) s
-    else TooWide
+    else refuse error.MissingCell s
 
 abbrev pub cell_loads : List (List ℕ) → List Emission
 cell_loads [] = []

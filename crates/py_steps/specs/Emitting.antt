@@ -37,7 +37,7 @@ pub record State : Type 0 where
   pub next : ℕ
   pub around : Around
 
--- all is emitted; or an operand is too large, or a cell is not there; or the tree is refused
+-- all is emitted; or an operand is too large; or the tree is refused
 pub data Outcome : Type 0 where
   Done : State → Outcome
   TooWide : Outcome

@@ -22,7 +22,7 @@ use py_tree::{Stmts, Text};
 /// Emits what makes a function of the code of a class, under the name of the class.
 ///
 /// # Errors
-/// OutOfMemory alone.
+/// MissingCell, as `Emitter::make_function` has it, or OutOfMemory.
 pub fn make_class(
     em: &mut Emitter,
     name: &str,

@@ -66,7 +66,7 @@ fn is_return(statement: &Stmt) -> bool
 /// Emits what makes a function of its code, under its qualified name.
 ///
 /// # Errors
-/// OutOfMemory alone.
+/// MissingCell, as `Emitter::make_function` has it, or OutOfMemory.
 #[tactic(auto, unfolding(py_steps::specs::Emitting::by_context))]
 pub fn make_named(
     em: &mut Emitter,

@@ -157,7 +157,7 @@ pub fn enter_hidden(em: &mut Emitter, name: &str, count: u32) -> Result<(), Code
 /// Makes a function of the code of a hidden scope, under the name of the scope.
 ///
 /// # Errors
-/// OutOfMemory alone.
+/// MissingCell, as `Emitter::make_function` has it, or OutOfMemory.
 pub fn make_hidden(em: &mut Emitter, name: &str, code: CodeObject) -> Result<(), CodegenError>
     ensures { Emits result (made 0 (hidden_name name.now) (object code)) em.old em.new }
 {

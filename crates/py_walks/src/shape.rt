@@ -145,7 +145,7 @@ pub fn with_top(
 ) -> Result<Vec<Mark>, AllocError>
     ensures { IfOk result (λ shape. shape.items ≡ opened top height below.now) }
 {
-    let mut shape = Vec::with_capacity(alloc, below.len() + 1)?;
+    let mut shape = Vec::with_capacity(alloc, below.len() + top.is_some() as usize)?;
     if let Some(opening) = top {
         shape.push(Mark {
             kind: opening.kind,

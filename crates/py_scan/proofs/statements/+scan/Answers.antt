@@ -1,4 +1,4 @@
-use Rattle.std.proofs.Common.{◌≡◌, Err, arith}
+use Rattle.std.proofs.Common.{◌≡◌, Err, arith, sym}
 use Rattle.py_tree.specs.View.{arguments, expr_tree, exprs, keywords, opt_box, stmt_tree, stmts, type_params}
 use Rattle.py_uses.specs.Goes.{state}
 use Rattle.py_scan.specs.Scan.{scan_class_parts, scan_handed_function, scan_stmts}
@@ -13,60 +13,39 @@ scan_class_body-leave-requires t c =
     let named = first_names_within c.args.s.now.location (state c.enter.new.self) (state c.use_first_names.new.scan) c.in_ok-enter.ensures.within c.in_ok-use_first_names.ensures.goes in
     stmts_within (stmts stmt_tree c.as_slice.result.now) (state c.use_first_names.new.scan) (state c.scan_stmts.new.scan) named c.in_ok-scan_stmts.ensures.goes
 
+pub scan_function_def-returns-clause-goes : goal.scan_function_def-returns-clause-goes
+scan_function_def-returns-clause-goes t c = rw (sym c.deref.ensures) c.scan_function.ensures.goes
+
+pub scan_async_function_def-returns-clause-goes : goal.scan_async_function_def-returns-clause-goes
+scan_async_function_def-returns-clause-goes t c = rw (sym c.deref.ensures) c.scan_function.ensures.goes
+
 pub scan_function_body-leave-requires : goal.scan_function_body-leave-requires
 scan_function_body-leave-requires t c =
-    let named = parameters_within (arguments expr_tree c.deref.result.now) (state c.enter.new.self) (state c.use_parameters.new.scan) c.in_ok-enter.ensures.within c.in_ok-use_parameters.ensures.goes in
+    let function = c.args.function.now in
+    let named = parameters_within (arguments expr_tree function.args.now) (state c.enter.new.self) (state c.use_parameters.new.scan) c.in_ok-enter.ensures.within c.in_ok-use_parameters.ensures.goes in
     stmts_within (stmts stmt_tree c.as_slice.result.now) (state c.use_parameters.new.scan) (state c.scan_stmts.new.scan) named c.in_ok-scan_stmts.ensures.goes
 
 pub scan_generic_function-leave_type_params-requires : goal.scan_generic_function-leave_type_params-requires
 scan_generic_function-leave_type_params-requires t c =
-    let s = c.args.s.now in
-    step_open _ (handed_function_closed stays c.args.generic s.location s.name (arguments expr_tree s.args.value) (scan_stmts (stmts stmt_tree s.body)) (opt_box expr_tree s.returns) (type_params s.type_params) (stmts_closed stays (stmts stmt_tree s.body)))
+    let function = c.args.function.now in
+    step_open _ (handed_function_closed stays c.args.generic function.location function.name.now (arguments expr_tree function.args.now) (scan_stmts (stmts stmt_tree function.body.now)) (opt_box expr_tree function.returns.now) (type_params function.type_params.now) (stmts_closed stays (stmts stmt_tree function.body.now)))
     c.args.generic (state c.enter_type_params.new.scan) (state c.scan_handed_function.new.scan) c.in_ok-enter_type_params.ensures.open c.in_ok-scan_handed_function.ensures.goes
 
 pub scan_generic_function-returns-in_err-scan_handed_function-clause-goes : goal.scan_generic_function-returns-in_err-scan_handed_function-clause-goes
 scan_generic_function-returns-in_err-scan_handed_function-clause-goes t c =
-    let s = c.args.s.now in
-    let f : Step = scan_handed_function c.args.generic s.location s.name (arguments expr_tree s.args.value) (scan_stmts (stmts stmt_tree s.body)) (opt_box expr_tree s.returns) (type_params s.type_params) in
+    let function = c.args.function.now in
+    let f : Step = scan_handed_function c.args.generic function.location function.name.now (arguments expr_tree function.args.now) (scan_stmts (stmts stmt_tree function.body.now)) (opt_box expr_tree function.returns.now) (type_params function.type_params.now) in
     let x = c.in_err-scan_handed_function.field-0.0 in
     let r : c.from_residual-in_err-scan_handed_function.result ≡ Err x = grind arith in
     refuses_as c.from_residual-in_err-scan_handed_function.result x (state c.scan_handed_function.new.scan) _ r
-    (generic_refuses c.args.generic s.name s.location f (state c.args.scan.now) (state c.enter_type_params.new.scan) (entered_as c.args.generic c.as_str.result.now s.name s.location (state c.args.scan.now) (state c.enter_type_params.new.scan) c.as_str.ensures c.in_ok-enter_type_params.ensures.goes) x c.in_err-scan_handed_function.ensures.goes)
+    (generic_refuses c.args.generic function.name.now function.location f (state c.args.scan.now) (state c.enter_type_params.new.scan) (entered_as c.args.generic c.as_str.result.now function.name.now function.location (state c.args.scan.now) (state c.enter_type_params.new.scan) c.as_str.ensures c.in_ok-enter_type_params.ensures.goes) x c.in_err-scan_handed_function.ensures.goes)
 
 pub scan_generic_function-returns-clause-goes : goal.scan_generic_function-returns-clause-goes
 scan_generic_function-returns-clause-goes t c =
-    let s = c.args.s.now in
-    let f : Step = scan_handed_function c.args.generic s.location s.name (arguments expr_tree s.args.value) (scan_stmts (stmts stmt_tree s.body)) (opt_box expr_tree s.returns) (type_params s.type_params) in
+    let function = c.args.function.now in
+    let f : Step = scan_handed_function c.args.generic function.location function.name.now (arguments expr_tree function.args.now) (scan_stmts (stmts stmt_tree function.body.now)) (opt_box expr_tree function.returns.now) (type_params function.type_params.now) in
     goes_as c.leave_type_params.result (state c.leave_type_params.new.scan) _ _
-    (generic_leaves c.args.generic s.name s.location f (state c.args.scan.now) (state c.enter_type_params.new.scan) (entered_as c.args.generic c.as_str.result.now s.name s.location (state c.args.scan.now) (state c.enter_type_params.new.scan) c.as_str.ensures c.in_ok-enter_type_params.ensures.goes) (state c.scan_handed_function.new.scan) c.in_ok-scan_handed_function.ensures.goes)
-    c.leave_type_params.ensures.goes
-
-pub scan_async_function_body-leave-requires : goal.scan_async_function_body-leave-requires
-scan_async_function_body-leave-requires t c =
-    let named = parameters_within (arguments expr_tree c.deref.result.now) (state c.enter.new.self) (state c.use_parameters.new.scan) c.in_ok-enter.ensures.within c.in_ok-use_parameters.ensures.goes in
-    stmts_within (stmts stmt_tree c.as_slice.result.now) (state c.use_parameters.new.scan) (state c.scan_stmts.new.scan) named c.in_ok-scan_stmts.ensures.goes
-
-pub scan_generic_async_function-leave_type_params-requires : goal.scan_generic_async_function-leave_type_params-requires
-scan_generic_async_function-leave_type_params-requires t c =
-    let s = c.args.s.now in
-    step_open _ (handed_function_closed stays c.args.generic s.location s.name (arguments expr_tree s.args.value) (scan_stmts (stmts stmt_tree s.body)) (opt_box expr_tree s.returns) (type_params s.type_params) (stmts_closed stays (stmts stmt_tree s.body)))
-    c.args.generic (state c.enter_type_params.new.scan) (state c.scan_handed_async_function.new.scan) c.in_ok-enter_type_params.ensures.open c.in_ok-scan_handed_async_function.ensures.goes
-
-pub scan_generic_async_function-returns-in_err-scan_handed_async_function-clause-goes : goal.scan_generic_async_function-returns-in_err-scan_handed_async_function-clause-goes
-scan_generic_async_function-returns-in_err-scan_handed_async_function-clause-goes t c =
-    let s = c.args.s.now in
-    let f : Step = scan_handed_function c.args.generic s.location s.name (arguments expr_tree s.args.value) (scan_stmts (stmts stmt_tree s.body)) (opt_box expr_tree s.returns) (type_params s.type_params) in
-    let x = c.in_err-scan_handed_async_function.field-0.0 in
-    let r : c.from_residual-in_err-scan_handed_async_function.result ≡ Err x = grind arith in
-    refuses_as c.from_residual-in_err-scan_handed_async_function.result x (state c.scan_handed_async_function.new.scan) _ r
-    (generic_refuses c.args.generic s.name s.location f (state c.args.scan.now) (state c.enter_type_params.new.scan) (entered_as c.args.generic c.as_str.result.now s.name s.location (state c.args.scan.now) (state c.enter_type_params.new.scan) c.as_str.ensures c.in_ok-enter_type_params.ensures.goes) x c.in_err-scan_handed_async_function.ensures.goes)
-
-pub scan_generic_async_function-returns-clause-goes : goal.scan_generic_async_function-returns-clause-goes
-scan_generic_async_function-returns-clause-goes t c =
-    let s = c.args.s.now in
-    let f : Step = scan_handed_function c.args.generic s.location s.name (arguments expr_tree s.args.value) (scan_stmts (stmts stmt_tree s.body)) (opt_box expr_tree s.returns) (type_params s.type_params) in
-    goes_as c.leave_type_params.result (state c.leave_type_params.new.scan) _ _
-    (generic_leaves c.args.generic s.name s.location f (state c.args.scan.now) (state c.enter_type_params.new.scan) (entered_as c.args.generic c.as_str.result.now s.name s.location (state c.args.scan.now) (state c.enter_type_params.new.scan) c.as_str.ensures c.in_ok-enter_type_params.ensures.goes) (state c.scan_handed_async_function.new.scan) c.in_ok-scan_handed_async_function.ensures.goes)
+    (generic_leaves c.args.generic function.name.now function.location f (state c.args.scan.now) (state c.enter_type_params.new.scan) (entered_as c.args.generic c.as_str.result.now function.name.now function.location (state c.args.scan.now) (state c.enter_type_params.new.scan) c.as_str.ensures c.in_ok-enter_type_params.ensures.goes) (state c.scan_handed_function.new.scan) c.in_ok-scan_handed_function.ensures.goes)
     c.leave_type_params.ensures.goes
 
 pub scan_generic_class-leave_type_params-requires : goal.scan_generic_class-leave_type_params-requires

@@ -1,26 +1,23 @@
+use denote.Param.Weighed.{most}
 use Rattle.std.proofs.Common.{◌≡◌, ◌+◌, ◌*◌, drop}
+use Rattle.std.specs.Prelude.{max}
 use Rattle.py_tree.specs.View.{handlers, stmt_tree, stmts}
+use Rattle.py_tree.proofs.statements.Stmt.TheLaws.{the_size}
 use Rattle.py_uses.specs.Goes.{state}
 use Rattle.py_scan.specs.Scan.{scan_handlers, scan_stmts}
 use Rattle.py_scan.proofs.statements.+scan.Given as goal
 
+abbrev pub decreases-scan_function : goal.decreases-scan_function
+decreases-scan_function l = 8 * most the_size l.function.now.body.now + 6
+
 abbrev pub decreases-scan_generic_function : goal.decreases-scan_generic_function
-decreases-scan_generic_function l = 8 * goal.size-scan_generic_function l + 6
+decreases-scan_generic_function l = 8 * most the_size l.function.now.body.now + 5
 
 abbrev pub decreases-scan_handed_function : goal.decreases-scan_handed_function
-decreases-scan_handed_function l = 8 * goal.size-scan_handed_function l + 5
+decreases-scan_handed_function l = 8 * most the_size l.function.now.body.now + 4
 
 abbrev pub decreases-scan_function_scope : goal.decreases-scan_function_scope
-decreases-scan_function_scope l = 8 * goal.size-scan_function_scope l + 4
-
-abbrev pub decreases-scan_generic_async_function : goal.decreases-scan_generic_async_function
-decreases-scan_generic_async_function l = 8 * goal.size-scan_generic_async_function l + 6
-
-abbrev pub decreases-scan_handed_async_function : goal.decreases-scan_handed_async_function
-decreases-scan_handed_async_function l = 8 * goal.size-scan_handed_async_function l + 5
-
-abbrev pub decreases-scan_async_function_scope : goal.decreases-scan_async_function_scope
-decreases-scan_async_function_scope l = 8 * goal.size-scan_async_function_scope l + 4
+decreases-scan_function_scope l = 8 * most the_size l.function.now.body.now + 3
 
 abbrev pub decreases-scan_generic_class : goal.decreases-scan_generic_class
 decreases-scan_generic_class l = 8 * goal.size-scan_generic_class l + 6
@@ -41,10 +38,7 @@ abbrev pub decreases-scan_async_function_def : goal.decreases-scan_async_functio
 decreases-scan_async_function_def l = 8 * goal.size-scan_async_function_def l + 7
 
 abbrev pub decreases-scan_function_body : goal.decreases-scan_function_body
-decreases-scan_function_body l = 8 * goal.size-scan_function_body l + 3
-
-abbrev pub decreases-scan_async_function_body : goal.decreases-scan_async_function_body
-decreases-scan_async_function_body l = 8 * goal.size-scan_async_function_body l + 3
+decreases-scan_function_body l = 8 * most the_size l.function.now.body.now + 2
 
 abbrev pub decreases-scan_class_def : goal.decreases-scan_class_def
 decreases-scan_class_def l = 8 * goal.size-scan_class_def l + 7
@@ -56,10 +50,7 @@ abbrev pub decreases-scan_class_body : goal.decreases-scan_class_body
 decreases-scan_class_body l = 8 * goal.size-scan_class_body l + 3
 
 abbrev pub decreases-scan_for : goal.decreases-scan_for
-decreases-scan_for l = 8 * goal.size-scan_for l + 7
-
-abbrev pub decreases-scan_async_for : goal.decreases-scan_async_for
-decreases-scan_async_for l = 8 * goal.size-scan_async_for l + 7
+decreases-scan_for l = 8 * max (most the_size l.body.now) (most the_size l.orelse.now) + 7
 
 abbrev pub decreases-scan_while : goal.decreases-scan_while
 decreases-scan_while l = 8 * goal.size-scan_while l + 7
@@ -68,10 +59,7 @@ abbrev pub decreases-scan_if : goal.decreases-scan_if
 decreases-scan_if l = 8 * goal.size-scan_if l + 7
 
 abbrev pub decreases-scan_with : goal.decreases-scan_with
-decreases-scan_with l = 8 * goal.size-scan_with l + 7
-
-abbrev pub decreases-scan_async_with : goal.decreases-scan_async_with
-decreases-scan_async_with l = 8 * goal.size-scan_async_with l + 7
+decreases-scan_with l = 8 * most the_size l.body.now + 7
 
 abbrev pub decreases-scan_try : goal.decreases-scan_try
 decreases-scan_try l = 8 * goal.size-scan_try l + 7
