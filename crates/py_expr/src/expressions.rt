@@ -20,10 +20,9 @@ use py_base::CodegenError;
 use py_bytecode::Instruction;
 use py_emit::{Emitter, emit};
 use py_expr_parts::conditions::JumpIf;
-use py_expr_parts::expressions::{
-    case_of, compile_await, compile_name, compile_starred, unary_case_of,
-};
+use py_expr_parts::expressions::{compile_await, compile_name, compile_starred};
 use py_expr_parts::texts::compile_constant;
+use py_node_values::operators::{case_of, unary_case_of};
 use py_tree::{Expr, ExprAttribute, ExprBinOp, ExprIfExp, ExprSubscript, ExprUnaryOp};
 
 /// Emits the code that pushes an expression's value.

@@ -11,7 +11,8 @@ use crate::expressions::{compile_expression, compile_expressions};
 use py_base::CodegenError;
 use py_bytecode::{ConstantData, Instruction};
 use py_emit::{Emitter, emit};
-use py_expr_parts::texts::{conversion_case_of, whole_text};
+use py_expr_parts::texts::whole_text;
+use py_node_values::operators::conversion_case_of;
 use py_tree::{Expr, ExprFormattedValue, ExprJoinedStr, Text};
 
 #[cycle(code)]

@@ -4,7 +4,6 @@ pub mod Groups
 pub mod Pairs
 pub mod Dicts
 pub mod Otherwise
-pub mod JoinedTexts
 pub mod Stores
 pub mod KeywordMaps
 pub mod CallOperands

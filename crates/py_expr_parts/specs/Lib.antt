@@ -1,5 +1,4 @@
 pub mod Turns
 pub mod Dicts
-pub mod Texts
 pub mod Targets
 pub mod Calls

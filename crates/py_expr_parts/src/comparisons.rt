@@ -1,6 +1,5 @@
 //! The instructions of comparisons.
-ghost use Rattle.std.specs.Prelude.{◌≡◌, ◌<◌, length};
-ghost use Rattle.py_steps.specs.Emitting.{emit as emitting};
+ghost use Rattle.std.specs.Prelude.{◌<◌, length};
 ghost use Rattle.py_steps.specs.EmissionParts.{emission_of_comparison, emission_of_link, first_comparison};
 ghost use Rattle.py_emit.specs.States.{Emits};
 
@@ -8,6 +7,7 @@ use py_base::CodegenError;
 use py_bytecode::Instruction;
 use py_emit::{Emitter, emit};
 use py_ir::BlockIdx;
+use py_node_values::operators::comparison_case;
 use py_tree::CmpOp;
 
 /// Emits the first of some comparisons.
@@ -47,22 +47,4 @@ pub fn compile_comparison(em: &mut Emitter, op: CmpOp) -> Result<(), CodegenErro
     let (instr, case) = comparison_case(op);
     emit!(em, instr, case);
     Ok(())
-}
-
-/// The instruction of a comparison, with the number of its case.
-fn comparison_case(op: CmpOp) -> (Instruction, u32)
-    ensures { emission_of_comparison op ≡ emitting result.0 result.1 }
-{
-    match op {
-        CmpOp::Lt => (Instruction::CompareOperation, 0),
-        CmpOp::Gt => (Instruction::CompareOperation, 1),
-        CmpOp::NotEq => (Instruction::CompareOperation, 2),
-        CmpOp::Eq => (Instruction::CompareOperation, 3),
-        CmpOp::LtE => (Instruction::CompareOperation, 4),
-        CmpOp::GtE => (Instruction::CompareOperation, 5),
-        CmpOp::In => (Instruction::TestOperation, 0),
-        CmpOp::NotIn => (Instruction::TestOperation, 1),
-        CmpOp::Is => (Instruction::TestOperation, 2),
-        CmpOp::IsNot => (Instruction::TestOperation, 3),
-    }
 }

@@ -1,14 +1,13 @@
-//! The cases of operators, names, and expressions that are refused.
+//! Names, and expressions that are refused.
 ghost use Rattle.std.specs.Prelude.{◌≡◌};
 ghost use Rattle.py_tree.specs.View.{name_tree, starred_tree, await_tree};
-ghost use Rattle.py_steps.specs.TableParts.{binary_case, unary_case};
 ghost use Rattle.py_steps.specs.Emitting.{refuse};
 ghost use Rattle.py_emission.specs.Emission.{emission};
 ghost use Rattle.py_emit.specs.States.{Emits, state};
 
 use py_base::{CodegenError, CodegenErrorType};
 use py_emit::{Emitter, NameUsage, refuse};
-use py_tree::{ExprAwait, ExprName, ExprStarred, Operator, UnaryOp};
+use py_tree::{ExprAwait, ExprName, ExprStarred};
 
 /// Refuses a node of a kind that is not supported.
 ///
@@ -19,39 +18,6 @@ pub fn refuse_unsupported(em: &mut Emitter) -> Result<(), CodegenError>
     ensures { Emits result (refuse CodegenErrorType.NotImplementedYet) em.old em.new }
 {
     refuse!(em, CodegenErrorType::NotImplementedYet);
-}
-
-/// The number of a binary operator's case.
-pub fn case_of(op: Operator) -> u32
-    ensures { result ≡ binary_case op }
-{
-    match op {
-        Operator::Add => 0,
-        Operator::Sub => 1,
-        Operator::Mult => 2,
-        Operator::MatMult => 3,
-        Operator::Div => 4,
-        Operator::FloorDiv => 5,
-        Operator::Mod => 6,
-        Operator::Pow => 7,
-        Operator::LShift => 8,
-        Operator::RShift => 9,
-        Operator::BitOr => 10,
-        Operator::BitXor => 11,
-        Operator::BitAnd => 12,
-    }
-}
-
-/// The number of a unary operator's case.
-pub fn unary_case_of(op: UnaryOp) -> u32
-    ensures { result ≡ unary_case op }
-{
-    match op {
-        UnaryOp::UAdd => 0,
-        UnaryOp::USub => 1,
-        UnaryOp::Not => 2,
-        UnaryOp::Invert => 3,
-    }
 }
 
 /// Refuses a starred expression that is no element.

@@ -12,10 +12,10 @@ ghost use Rattle.py_emit.specs.States.{Emits};
 ghost use Rattle.py_expr_parts.specs.Calls.{checked_name, closed_map, keyword_emission};
 ghost use Rattle.py_expr_parts.specs.Turns.{run_behind, runs};
 
-use crate::texts::str_data;
 use py_base::{CodegenError, CodegenErrorType};
 use py_bytecode::{ConstantData, Instruction};
 use py_emit::{Emitter, is_debug, refuse};
+use py_node_values::constants::text_data;
 use py_tree::{Keyword, List, Text};
 use std::alloc::{AllocError, Global};
 
@@ -83,7 +83,7 @@ fn name_tuple(alloc: Global, keywords: &[Keyword]) -> Result<ConstantData, Alloc
     let mut names = Vec::new(alloc);
     for keyword in keywords {
         if let Some(name) = &keyword.arg {
-            names.push(str_data(alloc, name)?)?;
+            names.push(text_data(alloc, name)?)?;
         }
     }
     let elements = List::from_vec(names);

@@ -3,5 +3,4 @@ pub mod Managing
 pub mod LastReturn
 pub mod Leading
 pub mod Handing
-pub mod Segments
 pub mod ClassParts

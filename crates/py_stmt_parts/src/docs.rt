@@ -1,10 +1,10 @@
 //! Docstrings.
-ghost use Rattle.std.specs.Prelude.{Some, ◌≡◌, ◌≤◌, length, drop, IfOk};
+ghost use Rattle.std.specs.Prelude.{◌≡◌, ◌≤◌, length, drop, IfOk};
 ghost use Rattle.py_tree.specs.View.{stmt_tree, stmts};
-ghost use Rattle.py_emission.specs.Texts.{after_doc, below_two, doc_of, first_text};
+ghost use Rattle.py_emission.specs.Texts.{after_doc, doc_of};
 
 use py_emit::CompileOpts;
-use py_expr_parts::texts::text_of;
+use py_node_values::texts::doc_and_rest;
 use py_tree::{Stmt, Stmts, Text};
 use std::alloc::{AllocError, Global};
 
@@ -22,28 +22,7 @@ pub fn split_doc(
     ensures from { IfOk result (λ r. stmts stmt_tree (drop r.1 body.now) ≡ after_doc (stmts stmt_tree body.now)) }
     ensures within { IfOk result (λ r. r.1 ≤ length body.now) }
 {
-    match text_of_first(alloc, body.as_slice())? {
-        None => Ok((None, 0)),
-        Some(text) => Ok((kept(text, opts), 1)),
-    }
-}
-
-/// A docstring, below level 2.
-fn kept(text: Text, opts: CompileOpts) -> Option<Text>
-    ensures { result ≡ below_two opts.optimize (Some text) }
-{
-    if opts.optimize < 2 { Some(text) } else { None }
-}
-
-/// The text of the first statement, where it is nothing else.
-#[tactic(auto, using(py_tree::proofs::View::trees))]
-fn text_of_first(alloc: Global, body: &[Stmt]) -> Result<Option<Text>, AllocError>
-    ensures { IfOk result (λ t. t ≡ first_text (stmts stmt_tree body.now)) }
-{
-    match body.first() {
-        Some(Stmt::Expr(s)) => text_of(alloc, &s.value),
-        _ => Ok(None),
-    }
+    doc_and_rest(alloc, opts.optimize, body.as_slice())
 }
 
 /// The statements of a body from a place on, which is at most its length.

@@ -1,21 +1,23 @@
 //! Imports.
-ghost use Rattle.std.specs.Prelude.{◌≡◌, ◌<◌, Some, None, [], ◌∷◌, length, pos, IfOk, IfSome, MatchOption};
-ghost use Rattle.py_bytecode.specs.Objects.{consts_of, integer, none, str, tuple};
+ghost use Rattle.std.specs.Prelude.{Some, None, pos};
+ghost use Rattle.py_bytecode.specs.Objects.{integer, none};
 ghost use Rattle.py_bytecode.specs.View.{constant};
 ghost use Rattle.py_steps.specs.Accesses.{emission_of_stored};
 ghost use Rattle.py_steps.specs.Emitting.{◌▸◌, emit as emitting, emit_constant};
 ghost use Rattle.py_emission.specs.EmissionImports.{emission_of_alias, emission_of_attributes, emission_of_from, emission_of_import, emission_of_imported, emission_of_module, emission_of_names, emission_of_star, emission_of_taken};
 ghost use Rattle.py_emission.specs.EmissionStmts.{emission_of_import_from};
-ghost use Rattle.py_emission.specs.Imports.{asked, asked_all, further_segments, is_star, package_name, taken_name, takes_all};
+ghost use Rattle.py_emission.specs.Imports.{asked, asked_all, further_segments, package_name};
 ghost use Rattle.py_emit.specs.States.{Emits};
 
 use py_base::{CodegenError, CodegenErrorType};
 use py_bytecode::{ConstantData, Instruction};
 use py_emit::{Emitter, NameUsage, emit, refuse};
 use py_expr_parts::yields::is_function;
-use py_tree::{Alias, List, StmtImportFrom, Text};
+use py_node_values::paths::{
+    asked_names, behind_dot, first_segment, has_star, name_taken, single_name,
+};
+use py_tree::{Alias, StmtImportFrom, Text};
 use py_uses::names::is_future;
-use std::alloc::{AllocError, Global};
 
 /// Emits the imports of modules one after the other.
 ///
@@ -82,28 +84,6 @@ fn load_segments(em: &mut Emitter, path: &str) -> Result<(), CodegenError>
         left = behind;
     }
     Ok(())
-}
-
-/// What stands behind the first dot of a path.
-#[tactic(auto, using(crate::proofs::Segments::behind_is, crate::proofs::Segments::none_further, crate::proofs::Segments::is_nearer))]
-fn behind_dot(path: &str) -> Option<&str>
-    ensures parts { MatchOption result (further_segments path.now ≡ []) (λ behind. further_segments path.now ≡ package_name behind.now ∷ further_segments behind.now) }
-    ensures nearer { IfSome result (λ behind. length behind.now < length path.now) }
-{
-    match path.split_once('.') {
-        Some((_, behind)) => Some(behind),
-        None => None,
-    }
-}
-
-/// What stands before the first dot of a path.
-fn first_segment(path: &str) -> &str
-    ensures { result.now ≡ package_name path.now }
-{
-    match path.split_once('.') {
-        Some((first, _)) => first,
-        None => path,
-    }
 }
 
 /// Emits the import of a module by its path, so many packages further out, which is asked for these names.
@@ -180,24 +160,6 @@ pub(crate) fn import_from(em: &mut Emitter, s: &StmtImportFrom) -> Result<(), Co
     import_names(em, s)
 }
 
-/// Whether all names of a module are asked for.
-fn has_star(names: &[Alias]) -> bool
-    ensures { result ≡ takes_all names.now }
-{
-    for alias in names {
-        if is_star(alias) {
-            return true;
-        }
-    }
-    false
-}
-
-fn is_star(alias: &Alias) -> bool
-    ensures { result ≡ is_star alias.now }
-{
-    alias.name.as_str() == "*"
-}
-
 /// Emits the import of all names of a module, and refuses it in a function.
 #[tactic(auto, using(py_expr_parts::proofs::Steps::refuse_goes), unfolding(py_steps::specs::Emitting::by_context))]
 fn import_star(em: &mut Emitter, s: &StmtImportFrom) -> Result<(), CodegenError>
@@ -229,17 +191,6 @@ fn ask_all(em: &mut Emitter, s: &StmtImportFrom) -> Result<(), CodegenError>
     }
 }
 
-/// The tuple of one name.
-#[tactic(auto, using(py_bytecode::proofs::View::views))]
-fn single_name(alloc: Global, value: Text) -> Result<ConstantData, AllocError>
-    ensures { IfOk result (λ c. constant c ≡ tuple (consts_of (str value ∷ []))) }
-{
-    let mut names = Vec::new(alloc);
-    names.push(ConstantData::Str { value })?;
-    let elements = List::from_vec(names);
-    Ok(ConstantData::Tuple { elements })
-}
-
 /// Emits the import of a module that is asked for some names, and takes each of them from it.
 fn import_names(em: &mut Emitter, s: &StmtImportFrom) -> Result<(), CodegenError>
     ensures { Emits result (emission_of_module s.now.«module» s.now.level (asked s.now.names) ▸ emission_of_names s.now.names) em.old em.new }
@@ -258,28 +209,6 @@ fn ask_names(em: &mut Emitter, s: &StmtImportFrom) -> Result<(), CodegenError>
     }
 }
 
-/// The tuple of the names that a module is asked for.
-#[tactic(auto, using(py_bytecode::proofs::View::views))]
-fn asked_names(alloc: Global, names: &[Alias]) -> Result<ConstantData, AllocError>
-    ensures { IfOk result (λ c. constant c ≡ asked names.now) }
-{
-    let mut texts = Vec::new(alloc);
-    for alias in names {
-        texts.push(name_data(alloc, alias)?)?;
-    }
-    let elements = List::from_vec(texts);
-    Ok(ConstantData::Tuple { elements })
-}
-
-/// A name as a constant.
-#[tactic(auto, using(py_bytecode::proofs::View::views))]
-fn name_data(alloc: Global, alias: &Alias) -> Result<ConstantData, AllocError>
-    ensures { IfOk result (λ c. constant c ≡ str alias.now.name) }
-{
-    let value = alias.name.try_clone(alloc)?;
-    Ok(ConstantData::Str { value })
-}
-
 /// Emits what takes names from the module that lies there, and drops it.
 fn take_names(em: &mut Emitter, names: &[Alias]) -> Result<(), CodegenError>
     ensures { Emits result (emission_of_names names.now) em.old em.new }
@@ -296,15 +225,5 @@ fn take_name(em: &mut Emitter, alias: &Alias) -> Result<(), CodegenError>
     ensures { Emits result (emission_of_taken alias.now) em.old em.new }
 {
     em.emit_mangled(Instruction::ImportFrom, alias.name.as_str())?;
-    em.compile_name(NameUsage::Store, name_taken(alias))
-}
-
-/// The name that one of a module is stored to.
-fn name_taken(alias: &Alias) -> &str
-    ensures { result.now ≡ taken_name alias.now }
-{
-    match &alias.asname {
-        Some(name) => name.as_str(),
-        None => alias.name.as_str(),
-    }
+    em.compile_name(NameUsage::Store, name_taken(alias).as_str())
 }

@@ -11,9 +11,9 @@ use py_base::{CodegenError, CodegenErrorType};
 use py_bytecode::Instruction;
 use py_emit::{Emitter, NameUsage, emit, is_debug, refuse};
 use py_expr::{compile_expression, compile_store};
-use py_expr_parts::expressions::case_of;
 use py_expr_parts::targets::refuse_store;
 use py_expr_parts::yields::is_function;
+use py_node_values::operators::case_of;
 use py_stmt_parts::{compile_annotation, pass_annotation, pass_expression};
 use py_tree::{
     Expr, ExprAttribute, ExprName, ExprSubscript, Malformed, StmtAnnAssign, StmtAssign,

@@ -5,6 +5,5 @@ pub mod Closings
 pub mod Chains
 pub mod Stars
 pub mod Otherwise
-pub mod JoinedTexts
 pub mod Callings
 pub mod DefaultPlaces

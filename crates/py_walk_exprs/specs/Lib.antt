@@ -2,4 +2,3 @@ pub mod Keywords
 pub mod Options
 pub mod Parts
 pub mod Starred
-pub mod Texts

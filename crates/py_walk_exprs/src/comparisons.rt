@@ -13,10 +13,9 @@ use crate::expressions::walk_expression;
 use py_script::{Halt, Log, StepValue};
 use py_tree::{CmpOp, Expr, ExprCompare};
 use py_walk::Around;
-use py_walk_values::cases::comparison;
 use py_walk_values::constants::none;
 use py_walk_values::operands::copy_value;
-use py_walk_values::operations::{does_two, truth};
+use py_walk_values::operations::{comparison, does_two, truth};
 
 #[cycle(walk)]
 pub(crate) fn walk_compare(

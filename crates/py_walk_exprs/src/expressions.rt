@@ -18,13 +18,13 @@ use crate::functions::{walk_comprehension, walk_lambda};
 use crate::targets::walk_target;
 use crate::texts::whole_text;
 use py_bytecode::Instruction;
+use py_node_values::operators::{case_of, conversion_case_of, unary_case_of};
 use py_script::{Halt, Log, Operand, Operation, StepValue};
 use py_tree::{
     Expr, ExprAttribute, ExprBinOp, ExprFormattedValue, ExprIfExp, ExprJoinedStr, ExprNamedExpr,
     ExprSubscript, ExprUnaryOp, ExprYield, ExprYieldFrom,
 };
 use py_walk::Around;
-use py_walk_values::cases::{case_of, conversion_case_of, unary_case_of};
 use py_walk_values::constants::{empty_text, literal, none};
 use py_walk_values::names::name_value;
 use py_walk_values::operands::copy_value;

@@ -13,7 +13,7 @@ pub mod groups;
 pub mod keywords;
 pub mod making;
 mod targets;
-pub mod texts;
+mod texts;
 
 pub use conditions::walk_test;
 pub use expressions::walk_expression;

@@ -3,4 +3,3 @@ pub mod Decorating
 pub mod Noting
 pub mod ClassCalls
 pub mod Defining
-pub mod Segments

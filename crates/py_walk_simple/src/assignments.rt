@@ -14,6 +14,7 @@ ghost use Rattle.py_walk_simple.specs.Ends.{Ends, flow_of, goes_on};
 use crate::flow::Flow;
 use crate::notes::walk_note;
 use py_bytecode::Instruction;
+use py_node_values::operators::case_of;
 use py_script::{Halt, Log, Operand, Operation, StepValue};
 use py_tree::{
     Expr, ExprAttribute, ExprName, ExprSubscript, Operator, StmtAnnAssign, StmtAssign,
@@ -22,7 +23,6 @@ use py_tree::{
 use py_walk::Around;
 use py_walk_exprs::functions::fixed_name;
 use py_walk_exprs::{walk_expression, walk_target};
-use py_walk_values::cases::case_of;
 use py_walk_values::constants::text;
 use py_walk_values::names::{load, name_value, store};
 use py_walk_values::operands::{copy_value, three, two};

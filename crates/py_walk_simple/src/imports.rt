@@ -1,13 +1,12 @@
 //! Imports.
-ghost use Rattle.std.specs.Prelude.{[], ◌≡◌, ◌<◌, ◌∷◌, false, length, pos, IfErr, IfOk, IfSome, MatchOption};
-ghost use Rattle.py_bytecode.specs.Objects.{consts_of, str, tuple};
+ghost use Rattle.std.specs.Prelude.{[], ◌≡◌, ◌∷◌, false, pos, IfErr, IfOk};
 ghost use Rattle.py_bytecode.specs.declared.instruction.Instruction.TheVariants as op;
 ghost use Rattle.py_bytecode.specs.Objects as object;
 ghost use Rattle.py_bytecode.specs.Values as values;
 ghost use Rattle.py_bytecode.specs.Values.{Bare, Operates, for_none, operation, then_get};
 ghost use Rattle.py_steps.specs.TableParts.{named};
 ghost use Rattle.py_bytecode.specs.View.{constant};
-ghost use Rattle.py_emission.specs.Imports.{asked, asked_all, further_segments, import_name, is_star, package_name, taken_name, takes_all};
+ghost use Rattle.py_emission.specs.Imports.{asked, asked_all, further_segments, import_name, package_name, taken_name};
 ghost use Rattle.py_script.specs.Log.{Gets, world_of};
 ghost use Rattle.py_script.specs.Told.{value_of};
 ghost use Rattle.py_walk.specs.Acting.{get_attributes, get_module, import_all, import_from, import_value, into, store, take_each};
@@ -15,15 +14,18 @@ ghost use Rattle.py_walk.specs.Doing.{does};
 ghost use Rattle.py_walk_simple.specs.Ends.{Ends, flow_of, goes_on};
 
 use crate::flow::Flow;
-use py_base::{List, Text};
+use py_base::Text;
 use py_bytecode::{ConstantData, Instruction};
+use py_node_values::paths::{
+    asked_names, behind_dot, first_segment, has_star, name_taken, single_name,
+};
 use py_script::{Halt, Log, Operand, Operation, StepValue};
 use py_tree::{Alias, StmtImportFrom};
 use py_walk_exprs::functions::fixed_name;
 use py_walk_values::names::store;
 use py_walk_values::operands::{copy_value, one};
 use py_walk_values::operations::{bare, does_none, does_one, does_two};
-use std::alloc::{AllocError, Global};
+use std::alloc::Global;
 
 /// Imports modules one after the other.
 ///
@@ -105,28 +107,6 @@ fn load_segment(log: &mut Log<'_>, segment: &str, object: StepValue) -> Result<S
     does_one(log, operation, object)
 }
 
-// What stands behind the first dot of a path.
-#[tactic(auto, using(crate::proofs::Segments::behind_is, crate::proofs::Segments::none_further, crate::proofs::Segments::is_nearer))]
-fn behind_dot(path: &str) -> Option<&str>
-    ensures parts { MatchOption result (further_segments path.now ≡ []) (λ behind. further_segments path.now ≡ package_name behind.now ∷ further_segments behind.now) }
-    ensures nearer { IfSome result (λ behind. length behind.now < length path.now) }
-{
-    match path.split_once('.') {
-        Some((_, behind)) => Some(behind),
-        None => None,
-    }
-}
-
-// What stands before the first dot of a path.
-fn first_segment(path: &str) -> &str
-    ensures { result.now ≡ package_name path.now }
-{
-    match path.split_once('.') {
-        Some((first, _)) => first,
-        None => path,
-    }
-}
-
 // Imports a module by its path, so many packages further out, which is asked for these names.
 fn import_path(
     log: &mut Log<'_>,
@@ -202,24 +182,6 @@ pub fn import_names(log: &mut Log<'_>, s: &StmtImportFrom) -> Result<(), Halt>
     import_some(log, s)
 }
 
-// Whether all names of a module are asked for.
-fn has_star(names: &[Alias]) -> bool
-    ensures { result ≡ takes_all names.now }
-{
-    for alias in names {
-        if is_star(alias) {
-            return true;
-        }
-    }
-    false
-}
-
-fn is_star(alias: &Alias) -> bool
-    ensures { result ≡ is_star alias.now }
-{
-    alias.name.as_str() == "*"
-}
-
 // Imports all names of a module.
 fn import_star(log: &mut Log<'_>, s: &StmtImportFrom) -> Result<(), Halt>
     ensures { Ends goes_on result (world_of log.new) (into (import_value s.now.«module» s.now.level asked_all) (λ m w1. for_none (Operates (operation op.ImportStar Bare) (m ∷ [])) false w1) (world_of log.old)) }
@@ -263,16 +225,6 @@ fn take(log: &mut Log<'_>, alias: &Alias, source: &StepValue) -> Result<(), Halt
     store(log, name_taken(alias), value)
 }
 
-// The name that one of a module is stored to.
-fn name_taken(alias: &Alias) -> &Text
-    ensures { result.now ≡ taken_name alias.now }
-{
-    match &alias.asname {
-        Some(name) => name,
-        None => &alias.name,
-    }
-}
-
 // The tuple of the name that stands for all names of a module.
 fn all_asked(alloc: Global) -> Result<ConstantData, Halt>
     ensures ok { IfOk result (λ c. constant c ≡ asked_all) }
@@ -285,17 +237,6 @@ fn all_asked(alloc: Global) -> Result<ConstantData, Halt>
     }
 }
 
-// The tuple of one name.
-#[tactic(auto, using(py_bytecode::proofs::View::views))]
-fn single_name(alloc: Global, value: Text) -> Result<ConstantData, AllocError>
-    ensures { IfOk result (λ c. constant c ≡ tuple (consts_of (str value ∷ []))) }
-{
-    let mut names = Vec::new(alloc);
-    names.push(ConstantData::Str { value })?;
-    let elements = List::from_vec(names);
-    Ok(ConstantData::Tuple { elements })
-}
-
 // The tuple of the names that a module is asked for.
 fn some_asked(alloc: Global, names: &[Alias]) -> Result<ConstantData, Halt>
     ensures ok { IfOk result (λ c. constant c ≡ asked names.now) }
@@ -305,25 +246,4 @@ fn some_asked(alloc: Global, names: &[Alias]) -> Result<ConstantData, Halt>
         Ok(names) => Ok(names),
         Err(_) => Err(Halt::OutOfMemory),
     }
-}
-
-#[tactic(auto, using(py_bytecode::proofs::View::views))]
-fn asked_names(alloc: Global, names: &[Alias]) -> Result<ConstantData, AllocError>
-    ensures { IfOk result (λ c. constant c ≡ asked names.now) }
-{
-    let mut texts = Vec::new(alloc);
-    for alias in names {
-        texts.push(name_data(alloc, alias)?)?;
-    }
-    let elements = List::from_vec(texts);
-    Ok(ConstantData::Tuple { elements })
-}
-
-// A name as a constant.
-#[tactic(auto, using(py_bytecode::proofs::View::views))]
-fn name_data(alloc: Global, alias: &Alias) -> Result<ConstantData, AllocError>
-    ensures { IfOk result (λ c. constant c ≡ str alias.now.name) }
-{
-    let value = alias.name.try_clone(alloc)?;
-    Ok(ConstantData::Str { value })
 }

@@ -16,7 +16,7 @@ mod raises;
 
 pub use aliases::walk_type_alias;
 pub use assignments::{walk_ann_assign, walk_assign, walk_aug_assign, walk_expr_statement};
-pub use bodies::{has_annotation, split_doc};
+pub use bodies::split_doc;
 pub use classes::{walk_class, walk_class_def};
 pub use deletes::walk_delete;
 pub use flow::Flow;

@@ -1,7 +1,6 @@
 //! Values of a run of a tree, and what is done with them.
 #![tactic(auto)]
 
-pub mod cases;
 pub mod constants;
 pub mod names;
 pub mod operands;

@@ -1,7 +1,7 @@
 //! Operations on values, each of which gives one or none.
 ghost use Rattle.std.specs.Prelude.{◌≡◌, ◌∷◌, [], false, IfErr, IfOk};
 ghost use Rattle.py_bytecode.specs.Values.{Bare, Operates, for_none, operation as operation_with, truth_of};
-ghost use Rattle.py_steps.specs.TableParts.{counted};
+ghost use Rattle.py_steps.specs.TableParts.{comparison_operation, counted};
 ghost use Rattle.py_script.specs.Log.{Gets, operation_of, world_of};
 ghost use Rattle.py_script.specs.Told.{value_of, values_of};
 ghost use Rattle.py_walk.specs.Doing.{add_map, build, build_map, does};
@@ -9,7 +9,9 @@ ghost use Rattle.py_walk.specs.Doing.{add_map, build, build_map, does};
 use crate::operands::{copy_value, one, three, two};
 use py_base::List;
 use py_bytecode::Instruction;
+use py_node_values::operators::comparison_case;
 use py_script::{Halt, Log, Operand, Operation, StepValue};
+use py_tree::CmpOp;
 
 /// An operation with a number.
 pub fn numbered(op: Instruction, number: u32) -> Operation<'static>
@@ -19,6 +21,14 @@ pub fn numbered(op: Instruction, number: u32) -> Operation<'static>
         op,
         operand: Operand::Number(number),
     }
+}
+
+/// The operation of a comparison.
+pub fn comparison(op: CmpOp) -> Operation<'static>
+    ensures { operation_of result ≡ comparison_operation op }
+{
+    let (instr, case) = comparison_case(op);
+    numbered(instr, case)
 }
 
 /// An operation with nothing beside it.

@@ -1,0 +1,3 @@
+mod JoinedTexts
+mod Literals
+mod Segments
