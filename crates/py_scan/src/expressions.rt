@@ -1,6 +1,6 @@
 //! The scan of expressions.
 ghost use Rattle.std.specs.Prelude.{◌≡◌, IfErr, OnOk};
-ghost use Rattle.py_tree.specs.View.{arg, args, arguments, attribute_tree, await_tree, bin_op_tree, bool_op_tree, call_tree, compare_tree, dict_comp_tree, dict_tree, expr_tree, exprs, formatted_value_tree, generator_exp_tree, generators, if_exp_tree, joined_str_tree, keywords, lambda_tree, list_comp_tree, list_tree, name_tree, named_expr_tree, opt_arg, opt_box, opt_expr, opt_exprs, set_comp_tree, set_tree, slice_tree, starred_tree, subscript_tree, tuple_tree, unary_op_tree, yield_from_tree, yield_tree};
+ghost use Rattle.py_tree.specs.View.{arg, args, arguments, attribute_tree, await_tree, bin_op_tree, bool_op_tree, call_tree, compare_tree, dict_comp_tree, dict_tree, expr_tree, exprs, formatted_value_tree, generators as clause_trees, if_exp_tree, joined_str_tree, keywords, lambda_tree, list_tree, name_tree, named_expr_tree, opt_arg, opt_box, opt_expr, opt_exprs, set_tree, slice_tree, starred_tree, subscript_tree, tuple_tree, unary_op_tree, yield_from_tree, yield_tree};
 ghost use Rattle.py_uses.specs.declared.usage.Usage.TheVariants.{Load, Iterable, Target, Walrus};
 ghost use Rattle.py_scope.specs.Scanned.{IsWithin};
 ghost use Rattle.py_uses.specs.Goes.{Goes, IsTextOrMemory, state};
@@ -12,9 +12,8 @@ use py_base::SourceLocation;
 use py_scope::{Role, SymbolTableError, SymbolTableType};
 use py_tree::{
     Arg, ArgWithDefault, Arguments, Comprehension, Expr, ExprBinOp, ExprCall, ExprCompare,
-    ExprDict, ExprDictComp, ExprFormattedValue, ExprGeneratorExp, ExprIfExp, ExprLambda,
-    ExprListComp, ExprNamedExpr, ExprSetComp, ExprSlice, ExprSubscript, ExprYield, ExprYieldFrom,
-    Keyword,
+    ExprDict, ExprDictComp, ExprFormattedValue, ExprIfExp, ExprLambda, ExprNamedExpr, ExprSlice,
+    ExprSubscript, ExprYield, ExprYieldFrom, Keyword, List,
 };
 use py_uses::parameters::use_parameters;
 use py_uses::{Scan, Usage};
@@ -38,10 +37,10 @@ pub fn scan_expr(scan: &mut Scan, usage: Usage, expr: &Expr) -> Result<(), Symbo
         Expr::IfExp(e) => scan_if_exp(scan, e),
         Expr::Dict(e) => scan_dict(scan, usage, e),
         Expr::Set(e) => scan_exprs(scan, usage, e.elts.as_slice()),
-        Expr::ListComp(e) => scan_list_comp(scan, e),
-        Expr::SetComp(e) => scan_set_comp(scan, e),
+        Expr::ListComp(e) => scan_comprehension(scan, e.location, &e.elt, &e.generators),
+        Expr::SetComp(e) => scan_comprehension(scan, e.location, &e.elt, &e.generators),
         Expr::DictComp(e) => scan_dict_comp(scan, e),
-        Expr::GeneratorExp(e) => scan_generator_exp(scan, e),
+        Expr::GeneratorExp(e) => scan_comprehension(scan, e.location, &e.elt, &e.generators),
         Expr::Await(e) => scan_expr(scan, usage, &e.value),
         Expr::Yield(e) => scan_yield(scan, usage, e),
         Expr::YieldFrom(e) => scan_yield_from(scan, usage, e),
@@ -190,40 +189,22 @@ fn scan_key(scan: &mut Scan, usage: Usage, key: &Option<Expr>) -> Result<(), Sym
     }
 }
 
+/// Scans a list, a set or a generator that a comprehension makes.
 #[cycle(scan)]
-fn scan_list_comp(scan: &mut Scan, e: &ExprListComp) -> Result<(), SymbolTableError>
-    ensures goes { Goes result (state scan.new) (scan_expr Load (list_comp_tree e.now) (state scan.old)) }
+fn scan_comprehension(
+    scan: &mut Scan,
+    at: SourceLocation,
+    elt: &Expr,
+    generators: &List<Comprehension>,
+) -> Result<(), SymbolTableError>
+    ensures goes { Goes result (state scan.new) (comprehension at (scan_clauses (clause_trees expr_tree generators.now)) (scan_expr Load (expr_tree elt.now)) (scan_outermost (clause_trees expr_tree generators.now)) (state scan.old)) }
     ensures told { IfErr result IsTextOrMemory }
 {
-    begin_comprehension(scan, e.location)?;
-    scan_clauses(scan, e.generators.as_slice())?;
-    scan_expr(scan, Usage::Load, &e.elt)?;
+    begin_comprehension(scan, at)?;
+    scan_clauses(scan, generators.as_slice())?;
+    scan_expr(scan, Usage::Load, elt)?;
     scan.leave()?;
-    scan_outermost(scan, e.generators.as_slice())
-}
-
-#[cycle(scan)]
-fn scan_set_comp(scan: &mut Scan, e: &ExprSetComp) -> Result<(), SymbolTableError>
-    ensures goes { Goes result (state scan.new) (scan_expr Load (set_comp_tree e.now) (state scan.old)) }
-    ensures told { IfErr result IsTextOrMemory }
-{
-    begin_comprehension(scan, e.location)?;
-    scan_clauses(scan, e.generators.as_slice())?;
-    scan_expr(scan, Usage::Load, &e.elt)?;
-    scan.leave()?;
-    scan_outermost(scan, e.generators.as_slice())
-}
-
-#[cycle(scan)]
-fn scan_generator_exp(scan: &mut Scan, e: &ExprGeneratorExp) -> Result<(), SymbolTableError>
-    ensures goes { Goes result (state scan.new) (scan_expr Load (generator_exp_tree e.now) (state scan.old)) }
-    ensures told { IfErr result IsTextOrMemory }
-{
-    begin_comprehension(scan, e.location)?;
-    scan_clauses(scan, e.generators.as_slice())?;
-    scan_expr(scan, Usage::Load, &e.elt)?;
-    scan.leave()?;
-    scan_outermost(scan, e.generators.as_slice())
+    scan_outermost(scan, generators.as_slice())
 }
 
 #[cycle(scan)]
@@ -254,7 +235,7 @@ fn begin_comprehension(scan: &mut Scan, at: SourceLocation) -> Result<(), Symbol
 /// The first iterable stands outside the comprehension.
 #[cycle(scan)]
 fn scan_outermost(scan: &mut Scan, clauses: &[Comprehension]) -> Result<(), SymbolTableError>
-    ensures goes { Goes result (state scan.new) (scan_outermost (generators expr_tree clauses.now) (state scan.old)) }
+    ensures goes { Goes result (state scan.new) (scan_outermost (clause_trees expr_tree clauses.now) (state scan.old)) }
     ensures told { IfErr result IsTextOrMemory }
 {
     match clauses {
@@ -266,7 +247,7 @@ fn scan_outermost(scan: &mut Scan, clauses: &[Comprehension]) -> Result<(), Symb
 /// Scans the clauses without the first iterable.
 #[cycle(scan)]
 fn scan_clauses(scan: &mut Scan, clauses: &[Comprehension]) -> Result<(), SymbolTableError>
-    ensures goes { Goes result (state scan.new) (scan_clauses (generators expr_tree clauses.now) (state scan.old)) }
+    ensures goes { Goes result (state scan.new) (scan_clauses (clause_trees expr_tree clauses.now) (state scan.old)) }
     ensures told { IfErr result IsTextOrMemory }
 {
     match clauses {
@@ -290,7 +271,7 @@ fn scan_clause(scan: &mut Scan, clause: &Comprehension) -> Result<(), SymbolTabl
 
 #[cycle(scan)]
 fn scan_inner_clauses(scan: &mut Scan, clauses: &[Comprehension]) -> Result<(), SymbolTableError>
-    ensures goes { Goes result (state scan.new) (scan_inner_clauses (generators expr_tree clauses.now) (state scan.old)) }
+    ensures goes { Goes result (state scan.new) (scan_inner_clauses (clause_trees expr_tree clauses.now) (state scan.old)) }
     ensures told { IfErr result IsTextOrMemory }
 {
     for clause in clauses {

@@ -1,6 +1,6 @@
 //! The scan of statements.
 ghost use Rattle.std.specs.Prelude.{◌≡◌, IfErr};
-ghost use Rattle.py_tree.specs.View.{arguments, async_function_def_tree, class_def_tree, expr_tree, exprs, function_def_tree, handlers, if_tree, keywords, opt_box, stmt_tree, stmts, try_star_tree, try_tree, type_params, while_tree, with_items};
+ghost use Rattle.py_tree.specs.View.{arguments, async_function_def_tree, class_def_tree, expr_tree, exprs, function_def_tree, handlers as handler_trees, keywords, opt_box, stmt_tree, stmts, type_params, with_items};
 ghost use Rattle.py_scope.specs.declared.table_type.SymbolTableType.TheVariants as scope;
 ghost use Rattle.py_uses.specs.declared.usage.Usage.TheVariants.{Load, Store};
 ghost use Rattle.py_uses.specs.Goes.{Goes, IsTextOrMemory, state};
@@ -18,7 +18,7 @@ use py_base::SourceLocation;
 use py_scope::{Role, SymbolTableError, SymbolTableType};
 use py_tree::{
     Arguments, ExceptHandler, Expr, List, Stmt, StmtAsyncFunctionDef, StmtClassDef,
-    StmtFunctionDef, StmtIf, StmtTry, StmtTryStar, StmtWhile, Stmts, Text, TypeParam, WithItem,
+    StmtFunctionDef, Stmts, Text, TypeParam, WithItem,
 };
 use py_uses::names::{use_aliases, use_each, use_first_names, use_opt_name};
 use py_uses::parameters::use_parameters;
@@ -61,14 +61,20 @@ fn scan_stmt(scan: &mut Scan, stmt: &Stmt) -> Result<(), SymbolTableError>
         Stmt::AnnAssign(s) => scan_ann_assign(scan, s),
         Stmt::For(s) => scan_for(scan, &s.target, &s.iter, &s.body, &s.orelse),
         Stmt::AsyncFor(s) => scan_for(scan, &s.target, &s.iter, &s.body, &s.orelse),
-        Stmt::While(s) => scan_while(scan, s),
-        Stmt::If(s) => scan_if(scan, s),
+        Stmt::While(s) => scan_branches(scan, &s.test, &s.body, &s.orelse),
+        Stmt::If(s) => scan_branches(scan, &s.test, &s.body, &s.orelse),
         Stmt::With(s) => scan_with(scan, &s.items, &s.body),
         Stmt::AsyncWith(s) => scan_with(scan, &s.items, &s.body),
         Stmt::Match(s) => scan_match(scan, s),
         Stmt::Raise(s) => scan_raise(scan, s),
-        Stmt::Try(s) => scan_try(scan, s),
-        Stmt::TryStar(s) => scan_try_star(scan, s),
+        Stmt::Try(s) => {
+            let at = &s.location;
+            scan_try(scan, at, &s.body, &s.handlers, &s.orelse, &s.finalbody)
+        }
+        Stmt::TryStar(s) => {
+            let at = &s.location;
+            scan_try(scan, at, &s.body, &s.handlers, &s.orelse, &s.finalbody)
+        }
         Stmt::Assert(s) => scan_assert(scan, s),
         Stmt::Import(s) => use_aliases(scan, s.names.as_slice(), &s.location),
         Stmt::ImportFrom(s) => scan_import_from(scan, s),
@@ -284,24 +290,20 @@ fn scan_for(
     scan_stmts(scan, orelse.as_slice())
 }
 
+/// Scans a `while` or an `if`.
 #[cycle(scan)]
-fn scan_while(scan: &mut Scan, s: &StmtWhile) -> Result<(), SymbolTableError>
-    ensures goes { Goes result (state scan.new) (scan_stmt (while_tree s.now) (state scan.old)) }
+fn scan_branches(
+    scan: &mut Scan,
+    test: &Expr,
+    body: &Stmts,
+    orelse: &Stmts,
+) -> Result<(), SymbolTableError>
+    ensures goes { Goes result (state scan.new) ((scan_expr Load (expr_tree test.now) ▸ scan_stmts (stmts stmt_tree body.now) ▸ scan_stmts (stmts stmt_tree orelse.now)) (state scan.old)) }
     ensures told { IfErr result IsTextOrMemory }
 {
-    scan_expr(scan, Usage::Load, &s.test)?;
-    scan_stmts(scan, s.body.as_slice())?;
-    scan_stmts(scan, s.orelse.as_slice())
-}
-
-#[cycle(scan)]
-fn scan_if(scan: &mut Scan, s: &StmtIf) -> Result<(), SymbolTableError>
-    ensures goes { Goes result (state scan.new) (scan_stmt (if_tree s.now) (state scan.old)) }
-    ensures told { IfErr result IsTextOrMemory }
-{
-    scan_expr(scan, Usage::Load, &s.test)?;
-    scan_stmts(scan, s.body.as_slice())?;
-    scan_stmts(scan, s.orelse.as_slice())
+    scan_expr(scan, Usage::Load, test)?;
+    scan_stmts(scan, body.as_slice())?;
+    scan_stmts(scan, orelse.as_slice())
 }
 
 /// Scans a `with` or an `async with`.
@@ -314,26 +316,23 @@ fn scan_with(scan: &mut Scan, items: &List<WithItem>, body: &Stmts) -> Result<()
     scan_stmts(scan, body.as_slice())
 }
 
+/// Scans a `try` or a `try` with `except*`.
 #[cycle(scan)]
-fn scan_try(scan: &mut Scan, s: &StmtTry) -> Result<(), SymbolTableError>
-    ensures goes { Goes result (state scan.new) (scan_stmt (try_tree s.now) (state scan.old)) }
+fn scan_try(
+    scan: &mut Scan,
+    at: &SourceLocation,
+    body: &Stmts,
+    handlers: &List<ExceptHandler>,
+    orelse: &Stmts,
+    finalbody: &Stmts,
+) -> Result<(), SymbolTableError>
+    ensures goes { Goes result (state scan.new) ((scan_stmts (stmts stmt_tree body.now) ▸ scan_handlers at.now (handler_trees stmt_tree handlers.now) ▸ scan_stmts (stmts stmt_tree orelse.now) ▸ scan_stmts (stmts stmt_tree finalbody.now)) (state scan.old)) }
     ensures told { IfErr result IsTextOrMemory }
 {
-    scan_stmts(scan, s.body.as_slice())?;
-    scan_handlers(scan, &s.location, s.handlers.as_slice())?;
-    scan_stmts(scan, s.orelse.as_slice())?;
-    scan_stmts(scan, s.finalbody.as_slice())
-}
-
-#[cycle(scan)]
-fn scan_try_star(scan: &mut Scan, s: &StmtTryStar) -> Result<(), SymbolTableError>
-    ensures goes { Goes result (state scan.new) (scan_stmt (try_star_tree s.now) (state scan.old)) }
-    ensures told { IfErr result IsTextOrMemory }
-{
-    scan_stmts(scan, s.body.as_slice())?;
-    scan_handlers(scan, &s.location, s.handlers.as_slice())?;
-    scan_stmts(scan, s.orelse.as_slice())?;
-    scan_stmts(scan, s.finalbody.as_slice())
+    scan_stmts(scan, body.as_slice())?;
+    scan_handlers(scan, at, handlers.as_slice())?;
+    scan_stmts(scan, orelse.as_slice())?;
+    scan_stmts(scan, finalbody.as_slice())
 }
 
 /// Scans the handlers of a `try`, which stores their names.
@@ -343,7 +342,7 @@ fn scan_handlers(
     at: &SourceLocation,
     items: &[ExceptHandler],
 ) -> Result<(), SymbolTableError>
-    ensures goes { Goes result (state scan.new) (scan_handlers at.now (handlers stmt_tree items.now) (state scan.old)) }
+    ensures goes { Goes result (state scan.new) (scan_handlers at.now (handler_trees stmt_tree items.now) (state scan.old)) }
     ensures told { IfErr result IsTextOrMemory }
 {
     for handler in items {

@@ -1,4 +1,7 @@
+use denote.Param.Weighed.{most}
 use Rattle.std.proofs.Common.{◌≡◌, ◌+◌, ◌*◌, drop}
+use Rattle.std.specs.Prelude.{max}
+use Rattle.py_tree.proofs.expressions.Expr.TheLaws.{the_size}
 use Rattle.py_tree.specs.View.{args, expr_tree, exprs, generators, keywords}
 use Rattle.py_uses.specs.Goes.{state}
 use Rattle.py_scan.proofs.Pairs.{pairs_of}
@@ -35,14 +38,8 @@ decreases-scan_dict l = 8 * goal.size-scan_dict l + 7
 abbrev pub decreases-scan_key : goal.decreases-scan_key
 decreases-scan_key l = 8 * goal.size-scan_key l + 1
 
-abbrev pub decreases-scan_list_comp : goal.decreases-scan_list_comp
-decreases-scan_list_comp l = 8 * goal.size-scan_list_comp l + 7
-
-abbrev pub decreases-scan_set_comp : goal.decreases-scan_set_comp
-decreases-scan_set_comp l = 8 * goal.size-scan_set_comp l + 7
-
-abbrev pub decreases-scan_generator_exp : goal.decreases-scan_generator_exp
-decreases-scan_generator_exp l = 8 * goal.size-scan_generator_exp l + 7
+abbrev pub decreases-scan_comprehension : goal.decreases-scan_comprehension
+decreases-scan_comprehension l = 8 * max (the_size l.elt.now) (most (λ g. max (the_size g.target.value) (max (the_size g.iter.value) (most the_size g.ifs))) l.generators.now) + 7
 
 abbrev pub decreases-scan_dict_comp : goal.decreases-scan_dict_comp
 decreases-scan_dict_comp l = 8 * goal.size-scan_dict_comp l + 7

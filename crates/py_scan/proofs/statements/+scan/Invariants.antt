@@ -52,20 +52,16 @@ decreases-scan_class_body l = 8 * goal.size-scan_class_body l + 3
 abbrev pub decreases-scan_for : goal.decreases-scan_for
 decreases-scan_for l = 8 * max (most the_size l.body.now) (most the_size l.orelse.now) + 7
 
-abbrev pub decreases-scan_while : goal.decreases-scan_while
-decreases-scan_while l = 8 * goal.size-scan_while l + 7
-
-abbrev pub decreases-scan_if : goal.decreases-scan_if
-decreases-scan_if l = 8 * goal.size-scan_if l + 7
+abbrev pub decreases-scan_branches : goal.decreases-scan_branches
+decreases-scan_branches l = 8 * max (most the_size l.body.now) (most the_size l.orelse.now) + 7
 
 abbrev pub decreases-scan_with : goal.decreases-scan_with
 decreases-scan_with l = 8 * most the_size l.body.now + 7
 
 abbrev pub decreases-scan_try : goal.decreases-scan_try
-decreases-scan_try l = 8 * goal.size-scan_try l + 7
-
-abbrev pub decreases-scan_try_star : goal.decreases-scan_try_star
-decreases-scan_try_star l = 8 * goal.size-scan_try_star l + 7
+decreases-scan_try l =
+    let handled = max (most the_size l.body.now) (most (λ h. most the_size h.body) l.handlers.now) in
+    8 * max handled (max (most the_size l.orelse.now) (most the_size l.finalbody.now)) + 7
 
 abbrev pub decreases-scan_handlers : goal.decreases-scan_handlers
 decreases-scan_handlers l = 8 * goal.size-scan_handlers l + 3
