@@ -6,6 +6,8 @@ use Rattle.py_bytecode.specs.Objects.{Object, head}
 use Rattle.py_bytecode.specs.declared.operand.OpArg.{OpArg}
 use Rattle.py_bytecode.specs.Units.{Read}
 use Rattle.py_bytecode.specs.Table.{row_of, is_label}
+use Rattle.py_units.specs.declared.reading.UnitRead.{UnitRead}
+use Rattle.py_units.specs.Reading.{read_at, read_of}
 use Rattle.py_walks.specs.declared.flow.Branch.{Branch}
 use Rattle.py_walks.specs.declared.flow.Flow.{Flow}
 use Rattle.py_walks.specs.declared.info.InstructionInfo.{InstructionInfo}
@@ -19,11 +21,9 @@ use Rattle.py_walks.specs.Shown.{Shown}
 use Rattle.py_walks.specs.Sound.{code_look}
 use Rattle.py_walks.proofs.Reaching.{some_walk}
 use Rattle.py_walks.proofs.Refusing.{lacks, falls_outside, jumps_outside}
-use Rattle.py_verify.specs.declared.reading.UnitRead.{UnitRead}
 use Rattle.py_verify.specs.declared.verdict.FlawKind.{FlawKind}
 use Rattle.py_verify.specs.declared.walk.Exits.{Exits}
-use Rattle.py_verify.specs.Flaws.{read_at, operand_fits, WalkFlaw}
-use Rattle.py_verify.specs.Reading.{read_of}
+use Rattle.py_verify.specs.Flaws.{operand_fits, WalkFlaw}
 use Rattle.py_verify.specs.Stepping.{Comes, Goes, HaltsAt, halted, FallsOn, JumpsOn, IsExits}
 use Rattle.py_verify.proofs.Comings.{outside, lower_limit}
 use Rattle.py_verify.proofs.Seeing.{sees_of, fit}

@@ -4,7 +4,7 @@ mod Seeing
 mod Comings
 mod Exiting
 mod Listing
-mod Prefixes
+mod Places
 mod Settling
 mod Sounding
 mod Lawful

@@ -18,7 +18,7 @@ abbrev pub IsThere : {A : Type 0} → Bool → Option A → Type 0
 IsThere true o = o ≢ None
 IsThere false o = o ≡ None
 
-lower : (a b : ℕ) → nat_lt a b ≡ true → a < b
+pub lower : (a b : ℕ) → nat_lt a b ≡ true → a < b
 lower a b h = grind (arith, nat_tests)
 
 not_lower : (a b : ℕ) → nat_lt a b ≡ false → b ≤ a

@@ -10,11 +10,12 @@ use Rattle.py_bytecode.specs.Objects.{Object, head}
 use Rattle.py_bytecode.specs.Machine.{Instr}
 use Rattle.py_bytecode.specs.Decode.{tables, instr_of}
 use Rattle.py_bytecode.specs.Units.{is_prefix, Read, read_from, place_in, found, fetched}
+use Rattle.py_units.specs.Reading.{read_at}
 use Rattle.py_walks.specs.Flow.{flow_at, target_of}
 use Rattle.py_walks.specs.Walks.{Seen, seen}
 use Rattle.py_walks.specs.Sound.{code_look}
 use Rattle.py_walks.proofs.Rows.{RowIs, row_is}
-use Rattle.py_verify.specs.Flaws.{unit_count, read_at, in_range, operand_fits}
+use Rattle.py_verify.specs.Flaws.{unit_count, in_range, operand_fits}
 use Rattle.py_verify.proofs.Ranges.{IsThere, decodes}
 
 -- what is seen of an instruction whose operand is in its range

@@ -4,6 +4,7 @@ use Rattle.std.specs.Option.{IfSome}
 use Rattle.std.proofs.lemmas.Bool.{cases_eq}
 use Rattle.std.proofs.lemmas.Option.{same_Some}
 use Rattle.py_bytecode.specs.Objects.{Object, head}
+use Rattle.py_units.specs.Reading.{read_at}
 use Rattle.py_walks.specs.declared.known.KnownState.{KnownState}
 use Rattle.py_walks.specs.declared.known.Change.{Change}
 use Rattle.py_walks.specs.declared.known.Refused.{Refused}
@@ -14,7 +15,7 @@ use Rattle.py_walks.specs.Sound.{code_look}
 use Rattle.py_walks.proofs.Stepping.{moves_combine, arrives_covers, arrives_grows, arrives_shown, refused_at}
 use Rattle.py_verify.specs.declared.walk.Exits.{Exits}
 use Rattle.py_verify.specs.declared.walk.Progress.{Progress}
-use Rattle.py_verify.specs.Flaws.{unit_count, read_at}
+use Rattle.py_verify.specs.Flaws.{unit_count}
 use Rattle.py_verify.specs.Stepping.{Comes, KnownIn, IsListed, Steps, Settled, IsWorking, HaltsAt, halted, FallsOn, JumpsOn, IsExits}
 use Rattle.py_verify.proofs.Comings.{comes_shown, halts_at}
 use Rattle.py_verify.proofs.Listing.{listed_split}

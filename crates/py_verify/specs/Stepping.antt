@@ -1,6 +1,7 @@
 -- What is known while a code is walked.
 use Rattle.std.specs.Prelude.{◌≡◌, ◌≢◌, ℕ, ◌≤◌, ◌⊎◌, [], ◌∷◌, List, true, false, Option, Some, None}
 use Rattle.py_bytecode.specs.Objects.{Object, head}
+use Rattle.py_units.specs.Reading.{read_at}
 use Rattle.py_walks.specs.declared.known.KnownState.{KnownState}
 use Rattle.py_walks.specs.declared.known.Change.{Change}
 use Rattle.py_walks.specs.declared.known.Refused.{Refused}
@@ -12,7 +13,7 @@ use Rattle.py_verify.specs.declared.verdict.FlawKind.{FlawKind}
 use Rattle.py_verify.specs.declared.walk.Exits.{Exits}
 use Rattle.py_verify.specs.declared.walk.Halt.{Halt}
 use Rattle.py_verify.specs.declared.walk.Progress.{Progress}
-use Rattle.py_verify.specs.Flaws.{unit_count, read_at, WalkFlaw}
+use Rattle.py_verify.specs.Flaws.{unit_count, WalkFlaw}
 
 -- a walk comes to a place in a state: it begins there, or an edge leads there from a unit
 pub data Comes (o : Object) (from : ℕ) : ℕ → State → Type 0 where

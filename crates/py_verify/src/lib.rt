@@ -4,7 +4,6 @@
 
 pub mod laws;
 mod operands;
-mod reading;
 mod search;
 pub mod verdict;
 pub mod verifier;

@@ -3,19 +3,19 @@
 ghost use Rattle.std.specs.Prelude.{ℕ, ◌≡◌, ◌≢◌, ◌<◌, ◌^◌, ◌⊎◌, [], None, Some, true, false, IfErr, IfOk, length, replicate};
 ghost use Rattle.std.specs.Option.{IfNone, IfSome};
 ghost use Rattle.py_bytecode.specs.View.{object};
+ghost use Rattle.py_units.specs.Reading.{IsReading, read_at, reading_at};
 ghost use Rattle.py_walks.specs.Known.{Moves, state_at, state_of, unknown};
 ghost use Rattle.py_walks.specs.Shown.{Covered, Grows, Shown};
 ghost use Rattle.py_walks.specs.Sound.{code_look, sound};
 ghost use Rattle.py_walks.specs.Walks.{state};
-ghost use Rattle.py_verify.specs.Flaws.{WalkFlaw, read_at, unit_count};
-ghost use Rattle.py_verify.specs.Reading.{IsReading};
+ghost use Rattle.py_verify.specs.Flaws.{WalkFlaw, unit_count};
 ghost use Rattle.py_verify.specs.Stepping.{Comes, HaltsAt, IsExits, IsListed, IsWorking, KnownIn, Settled, Steps, halted};
 
 use crate::operands::operand_fits;
-use crate::reading::{UnitRead, begins_in, read_all, read_in};
 use crate::verdict::{FlawKind, Spot};
 use py_base::SourceLocation;
 use py_bytecode::CodeObject;
+use py_units::{UnitRead, read_all, read_in};
 use py_walks::known::{Change, KnownState, arrive, combine, first_known, nexts_of, unknown_states};
 use py_walks::{BlockIdx, InstructionInfo, Refused};
 use std::alloc::{AllocError, Global};
@@ -24,7 +24,7 @@ use std::alloc::{AllocError, Global};
 #[derive(Clone, Copy, Debug)]
 pub enum Halt {
     /// A flaw, and the place of its unit.
-    Flawed { kind: FlawKind, unit: u32 },
+    Flawed { kind: FlawKind, unit: usize },
     /// There was no memory for what is known of a unit.
     OutOfMemory,
 }
@@ -35,16 +35,16 @@ pub struct Progress {
     /// What is known of each unit; None until a walk is known to come there.
     pub states: Vec<Option<KnownState>>,
     /// The units to go on from: those whose state changed since a walk last went on from there. The last comes first.
-    pub work: Vec<u32>,
+    pub work: Vec<usize>,
 }
 
 /// Where an instruction leads to, and what is known there.
 #[derive(Drop)]
 pub struct Exits {
     /// The place of the next unit.
-    pub next: u32,
+    pub next: usize,
     /// The operand: the place of the target, if it is a jump.
-    pub target: u32,
+    pub target: usize,
     /// What is known of the next unit, if it may follow.
     pub fall: Option<KnownState>,
     /// What is known of the target, if it is a jump.
@@ -52,7 +52,7 @@ pub struct Exits {
 }
 
 /// What a refusal of py_walks at a unit is here.
-fn halt_of(refused: Refused, unit: u32) -> Halt
+fn halt_of(refused: Refused, unit: usize) -> Halt
     ensures { result ≡ halted refused unit }
 {
     let kind = match refused {
@@ -80,7 +80,7 @@ fn info_of(read: UnitRead) -> InstructionInfo
 }
 
 // Puts a unit on the work list, if its state changed.
-fn note(work: &mut Vec<u32>, unit: u32, change: Change) -> Result<(), Halt>
+fn note(work: &mut Vec<usize>, unit: usize, change: Change) -> Result<(), Halt>
     ensures listed { IfOk result (λ _. change ≢ Change.Nothing → IsListed work.new.items unit) }
     ensures kept { IfOk result (λ _. (k : ℕ) → IsListed work.old.items k → IsListed work.new.items k) }
     ensures still { change ≡ Change.Nothing → work.new.items ≡ work.old.items }
@@ -95,14 +95,25 @@ fn note(work: &mut Vec<u32>, unit: u32, change: Change) -> Result<(), Halt>
     }
 }
 
+// Whether an instruction begins at a unit.
+fn begins_in(reads: &[Option<UnitRead>], unit: usize) -> bool
+    ensures yes { result ≡ true → reading_at reads.now unit ≢ None }
+    ensures no { result ≡ false → reading_at reads.now unit ≡ None }
+{
+    match read_in(reads, unit) {
+        Some(_) => true,
+        None => false,
+    }
+}
+
 // A walk goes on from a unit to another.
 fn reach(
     alloc: Global,
     code: &CodeObject,
     reads: &[Option<UnitRead>],
     progress: &mut Progress,
-    from: u32,
-    to: u32,
+    from: usize,
+    to: usize,
     arriving: KnownState,
 ) -> Result<Change, Halt>
     requires reading { IsReading (object code.now) reads.now }
@@ -124,7 +135,7 @@ fn reach(
             unit: from,
         });
     }
-    match arrive(alloc, &mut progress.states, to as usize, arriving) {
+    match arrive(alloc, &mut progress.states, to, arriving) {
         Ok(change) => {
             note(&mut progress.work, to, change)?;
             Ok(change)
@@ -139,8 +150,8 @@ fn reach_if(
     code: &CodeObject,
     reads: &[Option<UnitRead>],
     progress: &mut Progress,
-    from: u32,
-    to: u32,
+    from: usize,
+    to: usize,
     arriving: Option<KnownState>,
 ) -> Result<Change, Halt>
     requires reading { IsReading (object code.now) reads.now }
@@ -161,7 +172,7 @@ fn exits_of(
     alloc: Global,
     code: &CodeObject,
     reads: &[Option<UnitRead>],
-    unit: u32,
+    unit: usize,
     known: &KnownState,
 ) -> Result<Exits, Halt>
     requires reading { IsReading (object code.now) reads.now }
@@ -188,7 +199,7 @@ fn exits_of(
     match nexts_of(alloc, &info_of(read), known) {
         Ok(nexts) => Ok(Exits {
             next: read.next,
-            target: read.arg.0,
+            target: read.arg.0 as usize,
             fall: nexts.fall,
             jump: nexts.jump,
         }),
@@ -197,11 +208,10 @@ fn exits_of(
 }
 
 // What is known of a unit.
-fn known_of(states: &[Option<KnownState>], unit: u32) -> Option<&KnownState>
+fn known_of(states: &[Option<KnownState>], unit: usize) -> Option<&KnownState>
     ensures none { IfNone result (state_at states.now unit ≡ None) }
     ensures some { IfSome result (λ known. state_at states.now unit ≡ Some (state_of known.now)) }
 {
-    let unit = unit as usize;
     if unit < states.len() {
         states[unit].as_ref()
     } else {
@@ -215,7 +225,7 @@ fn visit(
     code: &CodeObject,
     reads: &[Option<UnitRead>],
     progress: &mut Progress,
-    unit: u32,
+    unit: usize,
 ) -> Result<Change, Halt>
     requires reading { IsReading (object code.now) reads.now }
     requires known { KnownIn (object code.now) progress.old.states.items }
@@ -332,7 +342,10 @@ pub fn walk_flaw(alloc: Global, code: &CodeObject) -> Result<Option<Spot>, Alloc
     };
     match walk_all(alloc, code, &reads, &mut progress) {
         Ok(()) => Ok(None),
-        Err(Halt::Flawed { kind, unit }) => Ok(Some(Spot { unit, kind })),
+        Err(Halt::Flawed { kind, unit }) => Ok(Some(Spot {
+            unit: unit as u32,
+            kind,
+        })),
         Err(Halt::OutOfMemory) => Err(AllocError),
     }
 }

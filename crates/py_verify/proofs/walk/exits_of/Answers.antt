@@ -1,8 +1,8 @@
 use Rattle.std.proofs.Common.{◌<◌, ◌^◌, refl, sym, ◌∙◌, subst, arith}
 use Rattle.py_bytecode.specs.Objects.{head}
 use Rattle.py_bytecode.specs.View.{object}
+use Rattle.py_units.specs.Reading.{read_of}
 use Rattle.py_walks.specs.Known.{state_of}
-use Rattle.py_verify.specs.Reading.{read_of}
 use Rattle.py_verify.specs.Stepping.{HaltsAt}
 use Rattle.py_verify.proofs.Objects.{depth_is}
 use Rattle.py_verify.proofs.Exiting.{operand_outside, exits, fails}
