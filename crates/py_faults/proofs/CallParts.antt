@@ -1,6 +1,6 @@
 -- What calls that emit parts of nodes answer: comprehensions by their parts, the arguments of calls, the scope of a function behind its defaults, and the names that are
 -- taken from the future.
-use Rattle.std.proofs.Common.{◌≡◌, ℕ, List, [], ◌∷◌, ◌++◌, length, Bool, true, false, Option, Some, None, refl, sym, ap, ◌∙◌, subst, append-nil, append_assoc}
+use Rattle.std.proofs.Common.{◌≡◌, ◌≢◌, ℕ, List, [], ◌∷◌, ◌++◌, length, Bool, true, false, Option, Some, None, refl, sym, ap, ◌∙◌, subst, append-nil, append_assoc}
 use Rattle.std.specs.Prelude.{zero, suc, ◌||◌, Ok, Err}
 use Rattle.py_tree.specs.Tree as tree
 use Rattle.py_tree.specs.View.{expr_tree}
@@ -26,7 +26,7 @@ use Rattle.py_meaning.specs.ExprFaults.{Fault, all_faults, expr_faults, faults_i
 use Rattle.py_meaning.specs.ExprFaults as fault
 use Rattle.py_meaning.specs.Faults.{feature_faults}
 use Rattle.py_meaning.specs.StmtEnds.{default_ends}
-use Rattle.py_refusing.proofs.Refusing.{Ends, EndsAs, GoesOn, Passes, Stops, Wide, constant_added, constant_passes, count_passes, ends_so, function_or, if_ends, in_function, last_ends, nothing_passes, outside, then_ends, unkept_ends, unless_debug_last, varname_added}
+use Rattle.py_refusing.proofs.Refusing.{Ends, EndsAs, GoesOn, Misses, Passes, Stops, Wide, constant_added, constant_passes, count_passes, ends_so, function_or, if_ends, in_function, last_ends, nothing_passes, outside, then_ends, unkept_ends, unless_debug_last, varname_added}
 use Rattle.py_refusing.proofs.RefusingCalls.{KeywordsEnding}
 use Rattle.py_refusing.proofs.RefusingDefaults.{defaults_end}
 use Rattle.py_refusing.proofs.RefusingDisplays.{bare_ends, tuples_end}
