@@ -36,7 +36,7 @@ but_doc_given None xs ys a b = b
 but_doc_given (Some text) xs ys a b = a
 
 mutual
-  stmt_given : (c : Setting) (b : Bool) (t : tree.Stmt) → Given (stmt_faults c b t)
+  pub stmt_given : (c : Setting) (b : Bool) (t : tree.Stmt) → Given (stmt_faults c b t)
   stmt_given c b (tree.FunctionDef at name params body decorators returns generic) =
       let p = last_of at (ends_of decorators) in
       let q = rest_end (scope_setting true c) (function_start p params generic) body in
@@ -78,7 +78,7 @@ mutual
   stmt_given c b (tree.Pass at) = tt
   stmt_given c b other = (tt, tt)
 
-  stmts_given : (c : Setting) (b : Bool) (ts : tree.Stmts) → Given (stmts_faults c b ts)
+  pub stmts_given : (c : Setting) (b : Bool) (ts : tree.Stmts) → Given (stmts_faults c b ts)
   stmts_given c b tree.no_stmts = tt
   stmts_given c b (tree.more_stmts s ss) = joined (stmt_faults c b s) (stmts_faults c b ss) (stmt_given c b s) (stmts_given c b ss)
 

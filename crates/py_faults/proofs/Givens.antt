@@ -10,10 +10,10 @@ use Rattle.py_steps.specs.Elements.{pairs, flat}
 use Rattle.py_steps.specs.Refused.{no_assignment, retold}
 use Rattle.py_steps.specs.TableParts.{is_debug}
 use Rattle.py_meaning.specs.ExprFaults.{ExprFaults, Fault, TargetFaults, debug_faults, elements, fault_at, if_any, in_order, joined_faults, keyword_faults, parameter_faults, retold_faults, values, when}
-use Rattle.py_faults.specs.Given.{IsGiven}
+use Rattle.py_faults.specs.Given.{AreGiven, IsGiven}
 
 abbrev pub Given : List Fault → Type 0
-Given fs = AllOf (λ f. IsGiven f.error) fs
+Given fs = AreGiven fs
 
 pub joined : (xs ys : List Fault) → Given xs → Given ys → Given (xs ++ ys)
 joined [] ys a b = b

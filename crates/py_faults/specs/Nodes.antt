@@ -1,4 +1,4 @@
--- Where the emission of a node is refused, it is for the first of the node's faults, and where it is done there are none.
+-- Where the emission of a node is refused for anything but a missing cell, it is for the first of the node's faults, and where it is done there are none.
 use Rattle.std.specs.Prelude.{◌≡◌, ◌≢◌, ℕ, List, [], ◌∷◌, Bool, true, false, Option, Some, None}
 use Rattle.py_tree.specs.Tree as tree
 use Rattle.py_base.specs.declared.errors.CodegenErrorType.TheVariants as error

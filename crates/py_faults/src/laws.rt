@@ -1,9 +1,9 @@
 //! Laws of the faults of nodes and of trees. Their bodies do nothing.
 ghost use Rattle.py_faults.specs.Nodes.{BodiesEnd, DeletesEnd, ExprsEnd, StatementsEnd, TargetsEnd, TestsEnd};
-ghost use Rattle.py_faults.specs.Given.{NeverGiven};
+ghost use Rattle.py_faults.specs.Given.{NeverGiven, NeverOfBodies, NeverOfDeletes, NeverOfExprs, NeverOfStatements, NeverOfTargets};
 
-/// Where the emission of a node of the right shapes is refused, it is for the first of the node's faults, with its location;
-/// where it is done there are none.
+/// Where the emission of a node of the right shapes is refused for anything but a missing cell, it is for the first of
+/// the node's faults, with its location; where it is done there are none.
 pub fn nodes_refused_first()
     ensures expressions { ExprsEnd }
     ensures tests { TestsEnd }
@@ -13,7 +13,12 @@ pub fn nodes_refused_first()
     ensures bodies { BodiesEnd }
 {}
 
-/// No fault of any tree has an error of async functions.
+/// No fault of any tree, and none of any node, has an error of async functions, or of a cell that is not there.
 pub fn errors_that_never_come()
-    ensures { NeverGiven }
+    ensures trees { NeverGiven }
+    ensures expressions { NeverOfExprs }
+    ensures targets { NeverOfTargets }
+    ensures deletions { NeverOfDeletes }
+    ensures statements { NeverOfStatements }
+    ensures bodies { NeverOfBodies }
 {}

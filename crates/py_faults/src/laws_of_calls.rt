@@ -3,7 +3,7 @@ ghost use Rattle.py_faults.specs.Calls.{BodyCalls, DeleteCalls, DeletionCalls, E
 ghost use Rattle.py_faults.specs.CallParts.{ArgumentCalls, ComprehensionCalls, EnteringCalls, FeatureCalls};
 
 /// A call that emits a node of the right shapes answers Ok only where the node has no fault, and else the first of its
-/// faults, or that there is no memory.
+/// faults, or that there is no memory, or that a cell is not there.
 pub fn calls_refused_first()
     ensures expressions { ExpressionCalls }
     ensures tests { TestCalls }
