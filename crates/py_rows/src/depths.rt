@@ -1,24 +1,26 @@
 //! How deep the rows of a tree nest.
-ghost use Rattle.std.specs.Prelude.{◌≡◌, ◌≤◌, length};
-ghost use Rattle.py_rows_fields.specs.Gives.{Gives};
-ghost use Rattle.py_rows.specs.Rows.{further_levels, is_item, is_with, item_count, whole_depth};
+ghost use Rattle.std.specs.Prelude.{◌≡◌, ◌≤◌, ◌+◌, ◌^◌, length, nat_lt};
+ghost use Rattle.py_rows_fields.specs.declared.error.RowsError.TheVariants.{TooDeep};
+ghost use Rattle.py_rows_fields.specs.Gives.{Gives, where_holds, ◌>>=◌ as ◌and_then◌};
+ghost use Rattle.py_rows.specs.Rows.{further_levels, is_item, is_with, item_count};
 
 use py_base::NESTING_LIMIT;
-use py_rows_fields::{Kind, Part, Row, RowsError, Sort, StmtKind, depth_of};
+use py_rows_fields::{Kind, Part, RowsError, Sort, StmtKind, depth_over};
 
-/// How deep a row nests: one deeper than the deepest row that it names, and its further levels.
+/// How deep a row nests: one deeper than the deepest row that it names, which nests `below` deep, and its further
+/// levels.
 ///
 /// # Errors
 /// `TooDeep` where that is 2^10 or more.
 pub(crate) fn whole_depth(
     kind: Kind,
     parts: &[Part],
-    rows: &[Row],
+    below: u32,
     number: u32,
 ) -> Result<u32, RowsError>
-    ensures { Gives (λ x. x) result (whole_depth number kind parts.now rows.now) }
+    ensures { Gives (λ x. x) result (where_holds (nat_lt (below + 1) (2 ^ 10)) (TooDeep number) (below + 1) and_then (λ depth. where_holds (nat_lt (depth + further_levels kind parts.now) (2 ^ 10)) (TooDeep number) (depth + further_levels kind parts.now))) }
 {
-    let depth = depth_of(parts, rows, number)?;
+    let depth = depth_over(below, number)?;
     let whole = u64::from(depth) + further_levels(kind, parts);
     if whole >= u64::from(NESTING_LIMIT) {
         return Err(RowsError::TooDeep { row: number });

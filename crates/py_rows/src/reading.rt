@@ -1,7 +1,8 @@
 //! The rows, read one by one.
-ghost use Rattle.std.specs.Prelude.{◌<◌, ◌^◌, length};
+ghost use Rattle.std.specs.Prelude.{◌≡◌, ◌<◌, ◌^◌, IfOk, length};
 ghost use Rattle.serde_json.specs.View.{view, items_view};
 ghost use Rattle.py_rows_fields.specs.Gives.{Gives};
+ghost use Rattle.py_rows_fields.specs.Outline.{deepest};
 ghost use Rattle.py_rows_slots.specs.Nodes.{nodes_view};
 ghost use Rattle.py_rows.specs.Rows.{add_row, outline, row_read, rows_from};
 
@@ -51,38 +52,41 @@ fn read_row(
 ) -> Result<(), RowsError>
     ensures { Gives (λ _. nodes_view nodes.new) result (row_read number (view row.now) (nodes_view nodes.old)) }
 {
-    let (kind, fields) = outline(row, number, parts, nodes.rows.as_slice())?;
+    let (kind, fields, below) = outline(row, number, parts, nodes.rows.as_slice())?;
     let index = make(alloc, kind, fields, nodes, number)?;
-    add_row(kind, index, parts.as_slice(), nodes, number)
+    add_row(kind, index, parts.as_slice(), below, nodes, number)
 }
 
 /// The kind of a row and what follows its kind word, where it may name the rows that it names, which stand in
-/// `parts` then.
+/// `parts` then, and how deep the deepest of these nests.
 fn outline<'a>(
     row: &'a Value,
     number: u32,
     parts: &mut Vec<Part>,
     rows: &[Row],
-) -> Result<(Kind, &'a [Value]), RowsError>
-    ensures { Gives (λ t. (t.0, items_view t.1.now, parts.new.items)) result (outline number (view row.now) rows.now) }
+) -> Result<(Kind, &'a [Value], u32), RowsError>
+    ensures allowed { Gives (λ t. (t.0, items_view t.1.now, parts.new.items)) result (outline number (view row.now) rows.now) }
+    ensures nesting { IfOk result (λ t. t.2 ≡ deepest rows.now parts.new.items) }
 {
     let (kind, fields) = kind_at(row, number)?;
     find_parts(kind, fields, number, parts)?;
-    check_parts(parts.as_slice(), rows, number)?;
-    Ok((kind, fields))
+    let below = check_parts(parts.as_slice(), rows, number)?;
+    Ok((kind, fields, below))
 }
 
-/// Adds the row that made the node at `index`.
+/// Adds the row that made the node at `index`, where the deepest row that it names nests `below` deep.
 fn add_row(
     kind: Kind,
     index: usize,
     parts: &[Part],
+    below: u32,
     nodes: &mut Nodes,
     number: u32,
 ) -> Result<(), RowsError>
+    requires { below ≡ deepest nodes.old.rows.items parts.now }
     ensures { Gives (λ _. nodes_view nodes.new) result (add_row number kind index parts.now (nodes_view nodes.old)) }
 {
-    let depth = whole_depth(kind, parts, nodes.rows.as_slice(), number)?;
+    let depth = whole_depth(kind, parts, below, number)?;
     let sort = kind.sort();
     nodes.rows.push(Row { sort, depth, index })?;
     Ok(())

@@ -24,5 +24,5 @@ pub use json_rows::{read_json, rows_of};
 pub use kinds::{ConstantKind, ExprKind, Kind, ModKind, Sort, StmtKind, TypeParamKind, kind_of};
 pub use numerals::integer;
 pub use operators::{bool_operator, comparisons, conversion, operator, unary_operator};
-pub use outline::{Row, check_parts, depth_of};
+pub use outline::{Row, check_parts, depth_over};
 pub use parts::{Part, find_parts, kind_at};

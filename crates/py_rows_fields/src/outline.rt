@@ -1,7 +1,8 @@
 //! What is known of a row before its node is made: its kind, and how deep it nests.
-ghost use Rattle.std.specs.Prelude.{◌≡◌};
-ghost use Rattle.py_rows_fields.specs.Gives.{Gives};
-ghost use Rattle.py_rows_fields.specs.Outline.{all_earlier, all_fit, checked, deepest, depth_at, depth_of, fits};
+ghost use Rattle.std.specs.Prelude.{◌≡◌, ◌+◌, ◌^◌, IfOk, nat_lt};
+ghost use Rattle.py_rows_fields.specs.declared.error.RowsError.TheVariants.{TooDeep};
+ghost use Rattle.py_rows_fields.specs.Gives.{Gives, where_holds};
+ghost use Rattle.py_rows_fields.specs.Outline.{checked, deepest, depth_at, fits};
 
 use crate::error::RowsError;
 use crate::kinds::Sort;
@@ -17,50 +18,53 @@ pub struct Row {
     pub index: usize,
 }
 
-/// The rows that row `row` names are earlier ones, and of the sorts that its fields take.
+/// The rows that row `row` names are earlier ones, and of the sorts that its fields take. It tells the nesting of the
+/// deepest of them, and 0 where the row names none.
 ///
 /// # Errors
 /// `LaterRow`, or else `WrongKind`.
-pub fn check_parts(parts: &[Part], rows: &[Row], row: u32) -> Result<(), RowsError>
-    ensures { Gives (λ x. x) result (checked row parts.now rows.now) }
+pub fn check_parts(parts: &[Part], rows: &[Row], row: u32) -> Result<u32, RowsError>
+    ensures allowed { Gives (λ _. tt) result (checked row parts.now rows.now) }
+    ensures nesting { IfOk result (λ depth. depth ≡ deepest rows.now parts.now) }
 {
-    if !all_earlier(u64::from(row), parts) {
-        return Err(RowsError::LaterRow { row });
+    let mut fit = true;
+    let mut deepest = 0;
+    for part in parts {
+        if !is_earlier(part, row) {
+            return Err(RowsError::LaterRow { row });
+        }
+        fit = fit && fits(rows, part);
+        deepest = depth_at(rows, part.number).max(deepest);
     }
-    if !all_fit(rows, parts) {
-        return Err(RowsError::WrongKind { row });
+    if fit {
+        Ok(deepest)
+    } else {
+        Err(RowsError::WrongKind { row })
     }
-    Ok(())
 }
 
-/// The nesting of row `row`, one more than that of the deepest row that it names.
+/// The nesting of row `row`, one more than that of the deepest row that it names, which nests `below` deep.
 ///
 /// # Errors
 /// `TooDeep` where that is 2^10 or more.
-pub fn depth_of(parts: &[Part], rows: &[Row], row: u32) -> Result<u32, RowsError>
-    ensures { Gives (λ x. x) result (depth_of row parts.now rows.now) }
+pub fn depth_over(below: u32, row: u32) -> Result<u32, RowsError>
+    ensures { Gives (λ x. x) result (where_holds (nat_lt (below + 1) (2 ^ 10)) (TooDeep row) (below + 1)) }
 {
-    let depth = u64::from(deepest(rows, parts)) + 1;
+    let depth = u64::from(below) + 1;
     if depth >= u64::from(NESTING_LIMIT) {
         return Err(RowsError::TooDeep { row });
     }
     Ok(depth as u32)
 }
 
-/// Whether each row that is named stands before row `row`.
-fn all_earlier(row: u64, parts: &[Part]) -> bool
-    ensures { result ≡ all_earlier row parts.now }
+/// Whether the row that is named stands before row `row`.
+fn is_earlier(part: &Part, row: u32) -> bool
+    ensures { result ≡ nat_lt part.now.number row }
 {
-    parts.iter().all(|part| part.number < row)
+    part.number < u64::from(row)
 }
 
-/// Whether each row that is named is what it has to be.
-fn all_fit(rows: &[Row], parts: &[Part]) -> bool
-    ensures { result ≡ all_fit rows.now parts.now }
-{
-    parts.iter().all(|part| fits(rows, part))
-}
-
+/// Whether the row that is named is what it has to be.
 fn fits(rows: &[Row], part: &Part) -> bool
     ensures { result ≡ fits rows.now part.now }
 {
@@ -68,17 +72,6 @@ fn fits(rows: &[Row], part: &Part) -> bool
         Some(found) => found.sort.number() == part.sort.number(),
         None => false,
     }
-}
-
-/// The nesting of the deepest row that is named, and 0 where none is.
-fn deepest(rows: &[Row], parts: &[Part]) -> u32
-    ensures { result ≡ deepest rows.now parts.now }
-{
-    let mut deepest = 0;
-    for part in parts {
-        deepest = depth_at(rows, part.number).max(deepest);
-    }
-    deepest
 }
 
 fn depth_at(rows: &[Row], number: u64) -> u32
