@@ -8,7 +8,7 @@ ghost use Rattle.py_steps.specs.Context.{outermost};
 ghost use Rattle.py_emission.specs.EmissionMods.{emission_of_mod, emitted};
 ghost use Rattle.py_meaning.specs.Faults.{compile_faults};
 ghost use Rattle.py_meaning.specs.Scanned.{scan_faults, scopes_of};
-ghost use Rattle.codegen.specs.Calls.{IsCompiled, IsWhole, tree_of};
+ghost use Rattle.codegen.specs.Calls.{IsChecked, IsCompiled, IsWhole, tree_of};
 ghost use Rattle.codegen.specs.Compiled.{IsFirst, IsRefused, IsScan, IsScanned, around_tree};
 ghost use Rattle.py_emit.specs.Emitted.{IsEmitted};
 ghost use Rattle.py_emit.specs.States.{AreMade, Emits, IsTold, rest};
@@ -72,13 +72,9 @@ pub fn compile_program(
 ) -> Result<CodeObject, CodegenError>
     ensures { IsCompiled result (tree.Module (stmts stmt_tree ast.now)) source_path Mode.Exec opts.optimize }
 {
-    match body_fault(ast) {
-        Some(error) => Err(refused(error, source_path)),
-        None => {
-            let program = Program::Module(ast);
-            compile_valid(alloc, &program, source_path, Mode::Exec, opts)
-        }
-    }
+    let program = Program::Module(ast);
+    let fault = body_fault(ast);
+    compile_checked(alloc, fault, &program, source_path, Mode::Exec, opts)
 }
 
 /// Compiles what is entered at a prompt, as `compile_top` does an Interactive in Single: each value is printed.
@@ -93,13 +89,9 @@ pub fn compile_program_single(
 ) -> Result<CodeObject, CodegenError>
     ensures { IsCompiled result (tree.Interactive (stmts stmt_tree ast.now)) source_path Mode.Single opts.optimize }
 {
-    match body_fault(ast) {
-        Some(error) => Err(refused(error, source_path)),
-        None => {
-            let program = Program::Interactive(ast);
-            compile_valid(alloc, &program, source_path, Mode::Single, opts)
-        }
-    }
+    let program = Program::Interactive(ast);
+    let fault = body_fault(ast);
+    compile_checked(alloc, fault, &program, source_path, Mode::Single, opts)
 }
 
 /// Compiles a file whose last value is given, as `compile_top` does an Interactive in BlockExpr.
@@ -114,13 +106,9 @@ pub fn compile_block_expression(
 ) -> Result<CodeObject, CodegenError>
     ensures { IsCompiled result (tree.Interactive (stmts stmt_tree ast.now)) source_path Mode.BlockExpr opts.optimize }
 {
-    match body_fault(ast) {
-        Some(error) => Err(refused(error, source_path)),
-        None => {
-            let program = Program::Interactive(ast);
-            compile_valid(alloc, &program, source_path, Mode::BlockExpr, opts)
-        }
-    }
+    let program = Program::Interactive(ast);
+    let fault = body_fault(ast);
+    compile_checked(alloc, fault, &program, source_path, Mode::BlockExpr, opts)
 }
 
 /// Compiles one expression, whose value is given, as `compile_top` does an Expression in each mode.
@@ -135,12 +123,26 @@ pub fn compile_expression(
 ) -> Result<CodeObject, CodegenError>
     ensures { IsCompiled result (tree.Expression (expr_tree ast.now)) source_path Mode.Eval opts.optimize }
 {
-    match expr_fault(ast) {
+    let program = Program::Expression(ast);
+    let fault = expr_fault(ast);
+    compile_checked(alloc, fault, &program, source_path, Mode::Eval, opts)
+}
+
+/// The code of a program whose first fault as a whole is this one, or which has none.
+fn compile_checked(
+    alloc: Global,
+    fault: Option<CodegenErrorType>,
+    program: &Program<'_>,
+    source_path: Text,
+    mode: Mode,
+    opts: CompileOpts,
+) -> Result<CodeObject, CodegenError>
+    requires { IsChecked fault (tree_of program.now) mode }
+    ensures { IsCompiled result (tree_of program.now) source_path mode opts.optimize }
+{
+    match fault {
         Some(error) => Err(refused(error, source_path)),
-        None => {
-            let program = Program::Expression(ast);
-            compile_valid(alloc, &program, source_path, Mode::Eval, opts)
-        }
+        None => compile_valid(alloc, program, source_path, mode, opts),
     }
 }
 

@@ -1,5 +1,5 @@
 -- Names that stand once and are used somewhere are no more than all uses.
-use Rattle.std.proofs.Common.{◌≡◌, refl, sym, ap, ◌∙◌, ℕ, zero, suc, ◌≤◌, Bool, true, false, ◌||◌, ◌&&◌, nat_eq, List, [], ◌∷◌, ◌++◌, length, if◌then◌else◌, slice_get, Option, Some, None, ◌⊎◌, inl, inr, arith}
+use Rattle.std.proofs.Common.{◌≡◌, refl, sym, ap, ◌∙◌, ℕ, zero, suc, ◌≤◌, Bool, true, false, ◌||◌, ◌&&◌, nat_eq, List, [], ◌∷◌, ◌++◌, length, if◌then◌else◌, slice_get, Option, Some, None, ◌⊎◌, inl, inr}
 use Rattle.std.specs.Prelude.{is_some}
 use Rattle.std.specs.List.{list_any}
 use Rattle.std.specs.Map.{keys_of}
@@ -13,58 +13,10 @@ use Rattle.py_scope.specs.Names.{Name, lookup, same_name}
 use Rattle.py_scope.specs.Needs.{entry_at, entry_of}
 use Rattle.py_scope.specs.Resolve.{among, goes_through, holder, is_free_in, is_free_past, is_held, is_used, kind_at, needs, scopes, stores, way}
 use Rattle.py_scope.specs.Scanned.{is_function}
-use Rattle.py_scope.proofs.NameLemmas.{equal_names, names_same}
 use Rattle.py_scope.proofs.Truth.{any_scope, both, either, left_or, right_or}
 use Rattle.py_steps.specs.Context.{names_of_those}
-
--- a name is among these
-abbrev pub Has : Name → List Name → Type 0
-Has x xs = list_any (same_name x) xs ≡ true
-
--- none of these names stands twice
-abbrev pub Once : List Name → Type 0
-Once [] = Unit {0}
-Once (x ∷ xs) = (list_any (same_name x) xs ≡ false) × Once xs
-
--- the list without the first that is this name
-without : Name → List Name → List Name
-without x [] = []
-without x (y ∷ ys) = if same_name x y then ys else y ∷ without x ys
-
--- it is one shorter
-one_less : (x : Name) (ys : List Name) → Has x ys → length ys ≡ suc (length (without x ys))
-unfolding without
-one_less x [] h = absurd cc
-one_less x (y ∷ ys) h = by (same_name x y) h (one_less x ys)
-  where
-    by : (b : Bool) → b || list_any (same_name x) ys ≡ true → (Has x ys → length ys ≡ suc (length (without x ys))) → suc (length ys) ≡ suc (length (if b then ys else y ∷ without x ys))
-    by true g ih = refl
-    by false g ih = ap suc (ih g)
-
--- another name stays
-stays : (x z : Name) (ys : List Name) → same_name x z ≡ false → Has z ys → Has z (without x ys)
-unfolding without
-stays x z [] d h = h
-stays x z (y ∷ ys) d h = by (same_name x y) refl (either (same_name z y) _ h) (stays x z ys d)
-  where
-    by : (b : Bool) → same_name x y ≡ b → (same_name z y ≡ true) ⊎ Has z ys → (Has z ys → Has z (without x ys)) → Has z (if b then ys else y ∷ without x ys)
-    by true e (inl g) ih = let q : true ≡ false = sym e ∙ ap (same_name x) (sym (equal_names z y g)) ∙ d in absurd cc
-    by true e (inr g) ih = g
-    by false e (inl g) ih = left_or (same_name z y) _ g
-    by false e (inr g) ih = right_or (same_name z y) _ (ih g)
-
--- names that stand once, and each among others, are no more than those
-no_more : (xs ys : List Name) → Once xs → ((z : Name) → Has z xs → Has z ys) → length xs ≤ length ys
-no_more [] ys once each = omega arith
-no_more (x ∷ xs) ys once each =
-    let here : Has x ys = each x (left_or (same_name x x) (list_any (same_name x) xs) (names_same x)) in
-    let rest = no_more xs (without x ys) once.1 (λ z h. stays x z ys (apart z h (same_name x z) refl) (each z (right_or (same_name z x) (list_any (same_name z) xs) h))) in
-    let e = one_less x ys here in
-    omega (arith, rest, e)
-  where
-    apart : (z : Name) → Has z xs → (b : Bool) → same_name x z ≡ b → same_name x z ≡ false
-    apart z h true e = let q : true ≡ false = sym h ∙ ap (λ w. list_any (same_name w) xs) (sym (equal_names x z e)) ∙ once.0 in absurd cc
-    apart z h false e = e
+use Rattle.py_adds.specs.Distinct.{AreDistinct}
+use Rattle.py_loads.proofs.Sharing.{Has, no_more}
 
 -- the names that are used in some scope
 abbrev pub all_names : List Row → List Name
@@ -168,5 +120,5 @@ one_symbol p n (t ∷ ts) h = by (p t) h (one_symbol p n ts)
     by false g ih = right_or (same_name n t.name) _ (ih g)
 
 -- so the names of some symbols of a scope, where they stand once, are no more than all that are used
-pub few_of_those : (rows : List Row) (k : ℕ) (ts : List Symbol) (p : Symbol → Bool) → SymbolsFollow rows k ts → Once (names_of_those p ts) → length (names_of_those p ts) ≤ length (all_names rows)
+pub few_of_those : (rows : List Row) (k : ℕ) (ts : List Symbol) (p : Symbol → Bool) → SymbolsFollow rows k ts → AreDistinct (names_of_those p ts) → length (names_of_those p ts) ≤ length (all_names rows)
 few_of_those rows k ts p follow once = no_more (names_of_those p ts) (all_names rows) once (λ n h. symbol_there rows k ts follow n (one_symbol p n ts h))
