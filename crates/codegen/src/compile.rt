@@ -288,7 +288,7 @@ fn first_fault(
     }
 }
 
-/// Emits a program without scopes, where each name is looked up by name and no cell is asked for. Its faults are the same.
+/// Emits a program without scopes, where no name comes from outside, so no cell is asked for. Its faults are the same.
 fn emit_without_scopes(
     alloc: Global,
     program: &Program<'_>,

@@ -53,8 +53,8 @@ pub enum CodegenErrorType {
     /// The tree reaches a limit.
     TooLarge(TreeLimit),
     /// A function that is made has a name from outside which is no cell of the scope around, and does not come to that
-    /// from outside either. So it is where an emitter is over a table that is not the tree's. Never given by the compile
-    /// calls.
+    /// from outside either. So it may be where an emitter is over a table that is not the tree's, or where the next
+    /// scope is not the node's. Never given by the compile calls.
     MissingCell,
     /// There was no memory. Alone of all, this says nothing of the tree.
     OutOfMemory,

@@ -37,8 +37,8 @@ pub enum ComprehensionParts<'a> {
 /// Emits a comprehension: a function of its scope, and its call with the iterator of what the first clause goes over.
 ///
 /// # Errors
-/// MalformedTree where there is no clause, NotImplementedYet where a clause is async or the element of a generator awaits,
-/// the first compile fault of the parts, or OutOfMemory.
+/// MalformedTree where there is no clause; NotImplementedYet where a clause is async or the element of a generator
+/// awaits; the first compile fault of the parts, with its location; MissingCell; or OutOfMemory.
 pub fn compile_comprehension(
     em: &mut Emitter,
     parts: ComprehensionParts<'_>,

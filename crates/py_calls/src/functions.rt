@@ -20,7 +20,8 @@ use py_tree::Arguments;
 /// takes for the defaults.
 ///
 /// # Errors
-/// The first compile fault of a default, SyntaxError where a parameter is named `__debug__`, or OutOfMemory.
+/// The first compile fault of a default, with its location; SyntaxError where a parameter is named `__debug__`;
+/// MissingCell; or OutOfMemory.
 pub fn enter_function(
     em: &mut Emitter,
     name: &str,

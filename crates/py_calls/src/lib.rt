@@ -1,4 +1,6 @@
 //! Calls on an emitter one at a time, and what is asked of a tree before: for users that take the compiler apart.
+//! No call asks that nodes are of the right shapes. One of a wrong shape may be refused with MalformedTree, at the
+//! present location, and that is no compile fault.
 #![tactic(auto)]
 
 mod comprehensions;

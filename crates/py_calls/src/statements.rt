@@ -13,7 +13,7 @@ use std::slice;
 /// Emits one statement. The context has the blocks to which the innermost loop of this scope goes.
 ///
 /// # Errors
-/// The first compile fault of the statement, or OutOfMemory.
+/// The first compile fault of the statement, with its location; MissingCell; or OutOfMemory.
 #[tactic(auto, using(py_emit::proofs::Joined::keep_last))]
 pub fn compile_statement(em: &mut Emitter, statement: &Stmt) -> Result<(), CodegenError>
     requires loops { AreMade (rest em.old).context.loop_blocks }
@@ -26,7 +26,7 @@ pub fn compile_statement(em: &mut Emitter, statement: &Stmt) -> Result<(), Codeg
 /// innermost loop of this scope goes.
 ///
 /// # Errors
-/// The first compile fault of these statements, or OutOfMemory.
+/// The first compile fault of these statements, with its location; MissingCell; or OutOfMemory.
 pub fn compile_statements(em: &mut Emitter, body: &Stmts, from: usize) -> Result<(), CodegenError>
     requires loops { AreMade (rest em.old).context.loop_blocks }
     requires within { from ≤ length body.now }

@@ -74,8 +74,8 @@ pub(crate) fn compile_generator_exp(
 /// goes over.
 ///
 /// # Errors
-/// MalformedTree where there is no clause, NotImplementedYet where a clause is async or something in it is awaited, the first
-/// compile fault of the parts, or OutOfMemory.
+/// MalformedTree where there is no clause; NotImplementedYet where a clause is async or the element of a generator
+/// awaits; the first compile fault of the parts, with its location; MissingCell; or OutOfMemory.
 #[cycle(code)]
 pub fn compile_comprehension(
     em: &mut Emitter,

@@ -53,7 +53,7 @@ fn compile_lambda_scope(
 /// there are any.
 ///
 /// # Errors
-/// The first compile fault of a default, or OutOfMemory.
+/// The first compile fault of a default, with its location; MissingCell; or OutOfMemory.
 #[cycle(code)]
 pub fn compile_defaults(em: &mut Emitter, params: &Arguments) -> Result<Defaults, CodegenError>
     ensures flags { IfOk result (λ d. flags_of_defaults (default_emissions (arguments expr_tree params.now)) ≡ flag_if 0x08 d.positional + flag_if 0x04 d.keyword) }

@@ -1,4 +1,6 @@
 //! The code of expressions.
+//! No call asks that nodes are of the right shapes. One of a wrong shape may be refused with MalformedTree, at the
+//! present location, and that is no compile fault.
 #![tactic(auto)]
 
 mod calls;

@@ -16,7 +16,7 @@ use py_tree::Stmt;
 /// Emits the statements of a file, future imports first.
 ///
 /// # Errors
-/// The first compile fault of the statements, or OutOfMemory.
+/// The first compile fault of the statements, with its location; MissingCell; or OutOfMemory.
 pub fn compile_file(em: &mut Emitter, body: &[Stmt]) -> Result<(), CodegenError>
     requires loops { AreMade (rest em.old).context.loop_blocks }
     ensures { Emits result (emission_behind emission_of_stmts (stmts stmt_tree body.now)) em.old em.new }
@@ -31,7 +31,7 @@ pub fn compile_file(em: &mut Emitter, body: &[Stmt]) -> Result<(), CodegenError>
 /// Emits a block behind future imports: the value of its last statement is returned.
 ///
 /// # Errors
-/// The first compile fault of the statements, or OutOfMemory.
+/// The first compile fault of the statements, with its location; MissingCell; or OutOfMemory.
 pub fn compile_whole_block(em: &mut Emitter, body: &[Stmt]) -> Result<(), CodegenError>
     requires loops { AreMade (rest em.old).context.loop_blocks }
     ensures { Emits result (emission_behind emission_of_block (stmts stmt_tree body.now)) em.old em.new }
@@ -47,7 +47,7 @@ pub fn compile_whole_block(em: &mut Emitter, body: &[Stmt]) -> Result<(), Codege
 /// another last statement None is returned. Future imports stand before all but expressions.
 ///
 /// # Errors
-/// The first compile fault of the statements, or OutOfMemory.
+/// The first compile fault of the statements, with its location; MissingCell; or OutOfMemory.
 pub fn compile_prompt(em: &mut Emitter, body: &[Stmt]) -> Result<(), CodegenError>
     requires loops { AreMade (rest em.old).context.loop_blocks }
     ensures { Emits result (emission_of_prompt (stmts stmt_tree body.now)) em.old em.new }

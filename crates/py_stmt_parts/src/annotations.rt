@@ -24,7 +24,7 @@ pub fn find_ann(body: &Stmts, from: usize) -> bool
 /// Emits the instruction that makes room for annotations, where there are any.
 ///
 /// # Errors
-/// OutOfMemory.
+/// OutOfMemory alone.
 pub fn emit_setup(em: &mut Emitter, annotated: bool) -> Result<(), CodegenError>
     ensures { Emits result (emission_of_setup annotated) em.old em.new }
 {

@@ -10,10 +10,10 @@ use py_emit::{Emitter, refuse};
 use py_texts::{TextError, annotation_text};
 use py_tree::{Expr, Text};
 
-/// Emits the load of the text of an annotation, and refuses an f-string, which has none.
+/// Emits the load of the text of an annotation, and refuses one in which an f-string stands, which has none.
 ///
 /// # Errors
-/// NotImplementedYet for an f-string, or OutOfMemory.
+/// NotImplementedYet where an f-string stands in it, or OutOfMemory.
 #[tactic(auto, using(py_bytecode::proofs::View::views, py_expr_parts::proofs::Steps::refuse_goes))]
 pub fn load_annotation(em: &mut Emitter, annotation: &Expr) -> Result<(), CodegenError>
     ensures { Emits result (emission_of_text (annotation_of (expr_tree annotation.now))) em.old em.new }

@@ -14,7 +14,7 @@ use py_tree::{Exprs, Keyword, List};
 /// are the other arguments, with its keywords.
 ///
 /// # Errors
-/// The first compile fault of the bases and the keywords, or OutOfMemory.
+/// The first compile fault of the bases and the keywords, with its location; MissingCell; or OutOfMemory.
 pub fn call_builder(
     em: &mut Emitter,
     name: &str,

@@ -17,7 +17,8 @@ use py_tree::{Expr, Text};
 /// Emits what goes on behind a handler where the exception is of another type, and else stores or drops it.
 ///
 /// # Errors
-/// The first compile fault of the type, SyntaxError where the name is `__debug__`, or OutOfMemory.
+/// The first compile fault of the type, with its location; SyntaxError where there is a type and the name is
+/// `__debug__`; MissingCell; or OutOfMemory.
 pub fn compile_match(
     em: &mut Emitter,
     type_: &Option<Box<Expr>>,
