@@ -1,20 +1,18 @@
-//! What a listing writes behind an operand.
+//! What a listing writes behind an operand, and the end of the line.
 ghost use Rattle.std.specs.Prelude.{◌≡◌, ◌++◌, codes, decimal, slice_get, string_bytes, OnOk};
-ghost use Rattle.py_listing.specs.Listing.{constant_text, detail, entry};
+ghost use Rattle.py_listing.specs.Listing.{case_text, constant_text, detail, entry};
 ghost use Rattle.py_quote.specs.Quote.{quote};
 ghost use Rattle.py_bytecode.specs.View.{constant, object};
 
-use crate::cases::{
-    push_binary, push_compare, push_conversion, push_raise_kind, push_test, push_unary,
-};
+use crate::cases::push_case;
 use crate::constants::push_constant;
-use crate::texts::{push_mark, push_number};
+use crate::quotes::push_quote_line;
+use crate::texts::push_number;
 use py_base::Text;
 use py_bytecode::{CodeObject, ConstantData, OperandKind};
-use py_quote::push_quote;
 use std::alloc::AllocError;
 
-/// Appends what a whole operand names, after a space: a constant, a name, a place or a case.
+/// Appends what a whole operand names, after a space, and the line's end: a constant, a name, a place or a case.
 ///
 /// # Errors
 /// There is no memory for it.
@@ -25,7 +23,7 @@ pub fn push_detail(
     kind: OperandKind,
     whole: u32,
 ) -> Result<(), AllocError>
-    ensures { OnOk result (string_bytes out.new ≡ string_bytes out.old ++ detail (object code.now) kind whole) }
+    ensures { OnOk result (string_bytes out.new ≡ string_bytes out.old ++ (detail (object code.now) kind whole ++ codes "\n")) }
 {
     match kind {
         OperandKind::Const => push_constant_entry(out, code.constants.as_slice(), whole),
@@ -33,25 +31,33 @@ pub fn push_detail(
         OperandKind::Var => push_name_entry(out, code.varnames.as_slice(), whole as usize),
         OperandKind::Cell => push_cell_entry(out, code, whole as usize),
         OperandKind::Label => push_label(out, whole),
-        OperandKind::Unary => push_unary(out, whole),
-        OperandKind::Binary => push_binary(out, whole),
-        OperandKind::Compare => push_compare(out, whole),
-        OperandKind::Test => push_test(out, whole),
-        OperandKind::RaiseKind => push_raise_kind(out, whole),
-        OperandKind::Conversion => push_conversion(out, whole),
+        OperandKind::Unary
+        | OperandKind::Binary
+        | OperandKind::Compare
+        | OperandKind::Test
+        | OperandKind::RaiseKind
+        | OperandKind::Conversion => push_case_line(out, kind, whole),
         OperandKind::None
         | OperandKind::Count
         | OperandKind::Flags
         | OperandKind::Pair
-        | OperandKind::Bit => Ok(()),
+        | OperandKind::Bit => out.push_str("\n"),
     }
 }
 
+fn push_case_line(out: &mut String, kind: OperandKind, case: u32) -> Result<(), AllocError>
+    ensures { OnOk result (string_bytes out.new ≡ string_bytes out.old ++ (case_text kind case ++ codes "\n")) }
+{
+    push_case(out, kind, case)?;
+    out.push_str("\n")
+}
+
 fn push_label(out: &mut String, whole: u32) -> Result<(), AllocError>
-    ensures { OnOk result (string_bytes out.new ≡ string_bytes out.old ++ codes " to " ++ decimal whole) }
+    ensures { OnOk result (string_bytes out.new ≡ string_bytes out.old ++ (codes " to " ++ decimal whole ++ codes "\n")) }
 {
     out.push_str(" to ")?;
-    push_number(out, whole)
+    push_number(out, whole)?;
+    out.push_str("\n")
 }
 
 fn push_constant_entry(
@@ -59,32 +65,39 @@ fn push_constant_entry(
     constants: &[ConstantData],
     place: u32,
 ) -> Result<(), AllocError>
-    ensures { OnOk result (string_bytes out.new ≡ string_bytes out.old ++ entry (λ c. constant_text (constant c)) (slice_get constants.now place)) }
+    ensures { OnOk result (string_bytes out.new ≡ string_bytes out.old ++ (entry (λ c. constant_text (constant c)) (slice_get constants.now place) ++ codes "\n")) }
 {
     match constants.get(place as usize) {
-        Some(item) => {
-            push_mark(out, ' ')?;
-            push_constant(out, item)
-        }
-        None => out.push_str(" ?"),
+        Some(item) => push_constant_line(out, item),
+        None => out.push_str(" ?\n"),
     }
 }
 
+/// Appends a constant after a space, and the line's end.
+#[tactic(auto, using(py_bytecode::proofs::View::views))]
+fn push_constant_line(out: &mut String, item: &ConstantData) -> Result<(), AllocError>
+    ensures { OnOk result (string_bytes out.new ≡ string_bytes out.old ++ (codes " " ++ constant_text (constant item.now) ++ codes "\n")) }
+{
+    if let ConstantData::Str { value } = item {
+        return push_quote_line(out, value.as_str());
+    }
+    out.push_str(" ")?;
+    push_constant(out, item)?;
+    out.push_str("\n")
+}
+
 fn push_name_entry(out: &mut String, names: &[Text], place: usize) -> Result<(), AllocError>
-    ensures { OnOk result (string_bytes out.new ≡ string_bytes out.old ++ entry quote (slice_get names.now place)) }
+    ensures { OnOk result (string_bytes out.new ≡ string_bytes out.old ++ (entry quote (slice_get names.now place) ++ codes "\n")) }
 {
     match names.get(place) {
-        Some(name) => {
-            push_mark(out, ' ')?;
-            push_quote(out, name.as_str())
-        }
-        None => out.push_str(" ?"),
+        Some(name) => push_quote_line(out, name.as_str()),
+        None => out.push_str(" ?\n"),
     }
 }
 
 #[tactic(auto, using(py_bytecode::proofs::Tables::get_left, py_bytecode::proofs::Tables::get_right))]
 fn push_cell_entry(out: &mut String, code: &CodeObject, place: usize) -> Result<(), AllocError>
-    ensures { OnOk result (string_bytes out.new ≡ string_bytes out.old ++ entry quote (slice_get (code.now.cellvars ++ code.now.freevars) place)) }
+    ensures { OnOk result (string_bytes out.new ≡ string_bytes out.old ++ (entry quote (slice_get (code.now.cellvars ++ code.now.freevars) place) ++ codes "\n")) }
 {
     let cells = code.cellvars.len();
     if place < cells {

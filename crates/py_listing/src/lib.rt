@@ -7,6 +7,7 @@ mod details;
 mod disassembly;
 mod lines;
 mod numbers;
+mod quotes;
 mod texts;
 
 pub use cases::push_case;

@@ -177,11 +177,11 @@ fn push_unit(
 ) -> Result<(), AllocError>
     ensures { OnOk result (string_bytes out.new ≡ string_bytes out.old ++ unit_line (object code.now) at whole unit) }
 {
+    let kind = unit.op.operand_kind();
     push_front(out, at, code.locations.as_slice())?;
     push_text(out, unit.op.name())?;
-    push_byte(out, unit.op.operand_kind(), unit.arg)?;
-    push_detail(out, code, unit.op.operand_kind(), whole)?;
-    push_mark(out, '\n')?;
+    push_byte(out, kind, unit.arg)?;
+    push_detail(out, code, kind, whole)?;
     Ok(())
 }
 
