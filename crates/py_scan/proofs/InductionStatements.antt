@@ -50,7 +50,7 @@ module _ {P : Step → Type 0} (c : Closed P) where
   check_params_closed (tree.more_type_params (tree.ParamSpec at n) ps) = c.refused (λ s. refusal.TypeParamKind) at
   check_params_closed (tree.more_type_params (tree.TypeVarTuple at n) ps) = c.refused (λ s. refusal.TypeParamKind) at
 
-  param_closed : (earlier : List Name) (p : tree.TypeParam) → P (scan_type_param earlier p)
+  pub param_closed : (earlier : List Name) (p : tree.TypeParam) → P (scan_type_param earlier p)
   param_closed earlier (tree.TypeVar at n bound) =
       c.sequence (scan_opt Load bound) _ (opt_closed c Load bound)
       (c.sequence (check_new earlier n at) (use_name role.Assigned n at) (refuse_if_closed c (λ s. is_among s earlier n) (λ s. refusal.SameTypeParam (written s n)) at) (c.used role.Assigned n at))

@@ -1,3 +1,4 @@
+mod Classes
 pub mod Generic
 pub mod Induction
 pub mod InductionStatements

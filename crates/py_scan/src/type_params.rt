@@ -1,15 +1,16 @@
 //! Type parameters in the scope that holds them.
-ghost use Rattle.std.specs.Prelude.{◌≡◌, IfErr, []};
+ghost use Rattle.std.specs.Prelude.{◌≡◌, IfErr, List, []};
 ghost use Rattle.py_tree.specs.View.{type_param_tree, type_params, type_var_tree};
+ghost use Rattle.py_scope.specs.Names.{Name};
 ghost use Rattle.py_uses.specs.Goes.{Goes, IsTextOrMemory, state};
-ghost use Rattle.py_uses.specs.Parts.{type_names};
+ghost use Rattle.py_uses.specs.Written.{AreWritten};
 ghost use Rattle.py_scan.specs.Scan.{scan_type_param, scan_type_params};
 
 use crate::expressions::scan_opt;
 use py_scope::{Role, SymbolTableError};
 use py_tree::{TypeParam, TypeParamTypeVar};
-use py_uses::type_params::check_new;
-use py_uses::{Scan, Usage};
+use py_uses::type_params::{check_new, note_name};
+use py_uses::{Scan, TypeNames, Usage};
 
 /// Registers the type parameters, each behind its bound.
 pub(crate) fn scan_type_params(
@@ -19,18 +20,20 @@ pub(crate) fn scan_type_params(
     ensures goes { Goes result (state scan.new) (scan_type_params [] (type_params params.now) (state scan.old)) }
     ensures told { IfErr result IsTextOrMemory }
 {
-    for i in 0..params.len() {
-        scan_type_param(scan, &params[..i], &params[i])?;
+    let mut earlier = TypeNames::new(scan.alloc);
+    for param in params {
+        scan_type_param(scan, &earlier, param)?;
+        note_name(scan, &mut earlier, param)?;
     }
     Ok(())
 }
 
 fn scan_type_param(
     scan: &mut Scan,
-    earlier: &[TypeParam],
+    earlier: &TypeNames,
     param: &TypeParam,
 ) -> Result<(), SymbolTableError>
-    ensures goes { Goes result (state scan.new) (scan_type_param (type_names (type_params earlier.now)) (type_param_tree param.now) (state scan.old)) }
+    ensures goes { (names : List Name) → AreWritten (state scan.old).class names earlier.now → Goes result (state scan.new) (scan_type_param names (type_param_tree param.now) (state scan.old)) }
     ensures told { IfErr result IsTextOrMemory }
 {
     match param {
@@ -41,10 +44,10 @@ fn scan_type_param(
 
 fn scan_type_var(
     scan: &mut Scan,
-    earlier: &[TypeParam],
+    earlier: &TypeNames,
     param: &TypeParamTypeVar,
 ) -> Result<(), SymbolTableError>
-    ensures goes { Goes result (state scan.new) (scan_type_param (type_names (type_params earlier.now)) (type_var_tree param.now) (state scan.old)) }
+    ensures goes { (names : List Name) → AreWritten (state scan.old).class names earlier.now → Goes result (state scan.new) (scan_type_param names (type_var_tree param.now) (state scan.old)) }
     ensures told { IfErr result IsTextOrMemory }
 {
     scan_opt(scan, Usage::Load, &param.bound)?;

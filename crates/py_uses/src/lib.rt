@@ -4,8 +4,10 @@
 pub mod names;
 pub mod parameters;
 pub mod scan;
+pub mod type_names;
 pub mod type_params;
 pub mod usage;
 
 pub use scan::Scan;
+pub use type_names::TypeNames;
 pub use usage::Usage;

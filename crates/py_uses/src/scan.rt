@@ -1,14 +1,13 @@
 //! The state of a scan, and its steps.
 ghost use Rattle.std.specs.Prelude.{◌≡◌, IfErr, IfOk, OnOk, Some};
 ghost use Rattle.py_base.specs.Mangle.{mangled};
-ghost use Rattle.py_scope.specs.Names.{same_name};
 ghost use Rattle.py_scope.specs.Scanned.{IsWithin};
 ghost use Rattle.py_uses.specs.Goes.{Goes, IsMemory, IsTextOrMemory, state};
 ghost use Rattle.py_uses.specs.declared.usage.Usage.TheVariants.{Load, Delete};
 ghost use Rattle.py_uses.specs.Steps.{check_holder, check_iterable, check_yield, enter, leave, noted, set_class, super_cell, use_as, use_name, written};
 
 use crate::usage::Usage;
-use py_base::{SourceLocation, Text, mangle_name, same_mangled};
+use py_base::{SourceLocation, Text, mangle_name};
 use py_scope::refusal::Refusal;
 use py_scope::{Role, ScopeBuilder, SymbolTableError, SymbolTableType};
 use std::alloc::Global;
@@ -80,17 +79,6 @@ impl Scan {
             Some(mangled) => Ok(mangled),
             None => copy(self.alloc, name.as_str()),
         }
-    }
-
-    /// Whether the innermost class writes both names alike.
-    pub fn writes_alike(&self, left: &Text, right: &Text) -> bool
-        ensures { result ≡ same_name (written (state self.now) left.now) (written (state self.now) right.now) }
-    {
-        let class = match &self.class {
-            Some(class) => Some(class.as_str()),
-            None => None,
-        };
-        same_mangled(class, left.as_str(), right.as_str())
     }
 
     /// A use of a name as it is written in the program. It is copied only where it is mangled, and where the scope has

@@ -1,15 +1,19 @@
 //! Type parameters, and the scope that holds them.
-ghost use Rattle.std.specs.Prelude.{◌≡◌, IfErr, IfOk, OnOk, Some, [], ◌∷◌, ◌++◌, string_bytes};
+ghost use Rattle.std.specs.Prelude.{◌≡◌, IfErr, IfOk, OnOk, Some, List, [], ◌∷◌, ◌++◌, string_bytes};
+ghost use Rattle.std.specs.List.{list_any};
 ghost use Rattle.py_tree.specs.View.{args, arguments, expr_tree, type_param_tree, type_params};
 ghost use Rattle.py_scope.specs.declared.table_type.SymbolTableType.TheVariants as scope;
 ghost use Rattle.py_scope.specs.declared.roles.Role.TheVariants as role;
 ghost use Rattle.py_scope.specs.declared.refusal.Refusal.TheVariants.{TypeParamKind};
 ghost use Rattle.py_scope.specs.Faults.{TellsRefusal};
+ghost use Rattle.py_scope.specs.Names.{Name, same_name};
 ghost use Rattle.py_uses.specs.Goes.{Goes, IsMemory, IsOpen, IsTextOrMemory, state};
-ghost use Rattle.py_uses.specs.Steps.{enter, leave, use_name, when};
-ghost use Rattle.py_uses.specs.Parts.{check_new, check_type_params, generic_name, has_default, is_among, is_generic, type_name, type_names, use_handed_defaults};
+ghost use Rattle.py_uses.specs.Steps.{enter, leave, use_name, when, written};
+ghost use Rattle.py_uses.specs.Parts.{check_new, check_type_params, generic_name, has_default, is_generic, type_name, use_handed_defaults};
+ghost use Rattle.py_uses.specs.Written.{AreWritten};
 
 use crate::scan::Scan;
+use crate::type_names::TypeNames;
 use py_base::{SourceLocation, Text};
 use py_scope::refusal::Refusal;
 use py_scope::{Role, SymbolTableError, SymbolTableType};
@@ -178,16 +182,15 @@ fn type_name(param: &TypeParam) -> &Text
     }
 }
 
-/// Whether one of these has the name, as the class writes them.
-fn is_among(scan: &Scan, earlier: &[TypeParam], name: &Text) -> bool
-    ensures { result ≡ is_among (state scan.now) (type_names (type_params earlier.now)) name.now }
+/// Whether one of these is the name, as the class writes it. It is copied only where it is mangled.
+fn is_among(scan: &Scan, earlier: &TypeNames, name: &Text) -> Result<bool, SymbolTableError>
+    ensures among { IfOk result (λ among. among ≡ list_any (same_name (written (state scan.now) name.now)) earlier.now) }
+    ensures memory { IfErr result IsMemory }
 {
-    for other in earlier {
-        if scan.writes_alike(type_name(other), name) {
-            return true;
-        }
+    match scan.mangled(name)? {
+        Some(mangled) => Ok(earlier.contains(&mangled)),
+        None => Ok(earlier.contains(name)),
     }
-    false
 }
 
 /// Refuses a second type parameter of one name.
@@ -196,16 +199,35 @@ fn is_among(scan: &Scan, earlier: &[TypeParam], name: &Text) -> bool
 /// One of those before it has the name, or there is no memory.
 pub fn check_new(
     scan: &Scan,
-    earlier: &[TypeParam],
+    earlier: &TypeNames,
     name: &Text,
     at: &SourceLocation,
 ) -> Result<(), SymbolTableError>
-    ensures goes { Goes result (state scan.now) (check_new (type_names (type_params earlier.now)) name.now at.now (state scan.now)) }
+    ensures goes { (names : List Name) → AreWritten (state scan.now).class names earlier.now → Goes result (state scan.now) (check_new names name.now at.now (state scan.now)) }
     ensures told { IfErr result IsTextOrMemory }
 {
-    if !is_among(scan, earlier, name) {
+    if !is_among(scan, earlier, name)? {
         return Ok(());
     }
     let written = scan.written(name)?;
     Err(SymbolTableError::refused(scan.alloc, &Refusal::SameTypeParam(written), Some(*at)))
+}
+
+/// Notes the name of a type parameter behind those before it.
+///
+/// # Errors
+/// There is no memory for it.
+pub fn note_name(
+    scan: &Scan,
+    earlier: &mut TypeNames,
+    param: &TypeParam,
+) -> Result<(), SymbolTableError>
+    ensures noted { OnOk result ((names : List Name) → AreWritten (state scan.now).class names earlier.old → AreWritten (state scan.now).class (names ++ type_name (type_param_tree param.now) ∷ []) earlier.new) }
+    ensures memory { IfErr result IsMemory }
+{
+    let written = scan.written(type_name(param))?;
+    match earlier.add(written) {
+        Ok(()) => Ok(()),
+        Err(_) => Err(SymbolTableError::out_of_memory()),
+    }
 }
