@@ -217,8 +217,9 @@ pub fn optional_text(alloc: Global, value: &Value, row: u32) -> Result<Option<Te
 pub fn texts(alloc: Global, value: &Value, row: u32) -> Result<Names, RowsError>
     ensures { Gives (λ x. x) result (texts_at row (view value.now)) }
 {
-    let mut found = Vec::new(alloc);
-    for entry in entries(value, row)? {
+    let entries = entries(value, row)?;
+    let mut found = Vec::with_capacity(alloc, entries.len())?;
+    for entry in entries {
         found.push(text(alloc, entry, row)?)?;
     }
     Ok(List::from_vec(found))

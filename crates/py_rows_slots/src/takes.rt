@@ -105,8 +105,9 @@ pub(crate) fn take_list<T: Made + Drop>(
 ) -> Result<List<T>, RowsError>
     ensures { Gives (λ xs. (map T.seen xs, map (option_map T.seen) nodes.new.items)) result (take_list row (view field.now) rows.now (map (option_map T.seen) nodes.old.items)) }
 {
-    let mut found = Vec::new(alloc);
-    for entry in entries(field, row)? {
+    let entries = entries(field, row)?;
+    let mut found = Vec::with_capacity(alloc, entries.len())?;
+    for entry in entries {
         found.push(take(entry, rows, nodes, row)?)?;
     }
     Ok(List::from_vec(found))
@@ -122,8 +123,9 @@ pub(crate) fn take_optionals<T: Made + Drop>(
 ) -> Result<List<Option<T>>, RowsError>
     ensures { Gives (λ xs. (map (option_map T.seen) xs, map (option_map T.seen) nodes.new.items)) result (take_optionals row (view field.now) rows.now (map (option_map T.seen) nodes.old.items)) }
 {
-    let mut found = Vec::new(alloc);
-    for entry in entries(field, row)? {
+    let entries = entries(field, row)?;
+    let mut found = Vec::with_capacity(alloc, entries.len())?;
+    for entry in entries {
         found.push(take_optional(entry, rows, nodes, row)?)?;
     }
     Ok(List::from_vec(found))

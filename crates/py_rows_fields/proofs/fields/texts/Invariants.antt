@@ -5,4 +5,4 @@ use Rattle.py_rows_fields.proofs.Sofar.{with_front}
 use Rattle.py_rows_fields.proofs.fields.texts.Given as goal
 
 abbrev pub invariant-loop-entry : goal.invariant-loop-entry
-invariant-loop-entry l = with_front l.found.items (texts_in l.row (items_view (drop l.entry-index l.entry-items))) ≡ texts_in l.row (items_view l.entry-items)
+invariant-loop-entry l = with_front l.found.items (texts_in l.row (items_view (drop l.entry-index l.entries))) ≡ texts_in l.row (items_view l.entries)

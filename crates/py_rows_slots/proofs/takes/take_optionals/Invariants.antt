@@ -6,5 +6,5 @@ use Rattle.py_rows_slots.proofs.takes.take_optionals.Given as goal
 
 abbrev pub invariant-loop-entry : goal.invariant-loop-entry
 invariant-loop-entry g l =
-    with_taken (map (option_map g.T.Made.seen) l.found.items) (take_each_optional l.row (items_view (drop l.entry-index l.entry-items)) l.rows (map (option_map g.T.Made.seen) l.nodes.items))
-    ≡ take_each_optional l.row (items_view l.entry-items) l.rows (map (option_map g.T.Made.seen) l.initial.nodes.items)
+    with_taken (map (option_map g.T.Made.seen) l.found.items) (take_each_optional l.row (items_view (drop l.entry-index l.entries)) l.rows (map (option_map g.T.Made.seen) l.nodes.items))
+    ≡ take_each_optional l.row (items_view l.entries) l.rows (map (option_map g.T.Made.seen) l.initial.nodes.items)
