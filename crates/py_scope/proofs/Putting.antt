@@ -1,14 +1,9 @@
 -- A name that is there takes a value in its place.
-use Rattle.std.proofs.Common.{◌≡◌, refl, ap, Bool, true, false, List, [], ◌∷◌, if◌then◌else◌, Some, is_some}
-use Rattle.std.specs.Map.{set_value}
-use Rattle.py_scope.specs.Names.{Name, same_name, lookup, put}
+use Rattle.std.proofs.Common.{◌≡◌, sym, ℕ, List, Some}
+use Rattle.indexmap.specs.IndexMap.{set_value_at}
+use Rattle.indexmap.proofs.MapLemmas.{Found-position, insert_entry-first}
+use Rattle.py_scope.specs.Names.{Name, same_name, put}
+use Rattle.py_scope.specs.Making.{place_of}
 
-module _ {V : Type 0} where
-  pub set_value-put : (es : List (Name × V)) (n : Name) (v : V) → is_some (lookup n es) ≡ true → set_value (same_name n) es v ≡ put es n v
-  set_value-put [] n v h = cc
-  set_value-put (e ∷ es) n v h = by (same_name n e.0) refl h (set_value-put es n v)
-    where
-      by : (b : Bool) → same_name n e.0 ≡ b → is_some (if b then Some e.1 else lookup n es) ≡ true → (is_some (lookup n es) ≡ true → set_value (same_name n) es v ≡ put es n v)
-          → (if b then (e.0, v) ∷ es else e ∷ set_value (same_name n) es v) ≡ (if b then (e.0, v) ∷ es else e ∷ put es n v)
-      by true g q f = refl
-      by false g q f = ap (λ x. e ∷ x) (f q)
+pub set_at-put : {V : Type 0} (es : List (Name × V)) (n : Name) (i : ℕ) → place_of n es ≡ Some i → (v : V) → set_value_at es i v ≡ put es n v
+set_at-put es n i at v = sym (insert_entry-first same_name n v es i (Found-position (same_name n) es i at).first)

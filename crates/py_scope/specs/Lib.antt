@@ -26,3 +26,4 @@ pub mod SymbolList
 pub mod Registered
 pub mod Texts
 pub mod InOrder
+pub mod Making

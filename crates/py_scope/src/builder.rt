@@ -1,19 +1,20 @@
 //! The scopes of a program as a scan meets them, and the tables that follow from them.
 ghost use Rattle.std.specs.Prelude.{◌≡◌, ◌<◌, IfOk, OnOk, OnErr, IfErr, Some, None, IsTrue, ◌↔◌, ◌∷◌, length, slice_get};
+ghost use Rattle.py_scope.specs.Declarations.{refused_use};
 ghost use Rattle.py_scope.specs.Scanned.{begun, entered, with_use, gone_out, order_of, role_in, used_in, inner, nests, refused_in, refused_here, kind_here, holder_here, holder_in, IsWithin};
 ghost use Rattle.py_scope.specs.Outward.{enclosing, parents, IsNumbered};
 ghost use Rattle.py_scope.specs.Lifts.{kind_of};
 ghost use Rattle.py_scope.specs.declared.table_type.SymbolTableType.TheVariants.{Module};
 ghost use Rattle.py_scope.specs.Resolved.{first_fault, resolved};
 ghost use Rattle.py_scope.specs.Laws.{TableFollows};
-ghost use Rattle.py_scope.specs.Faults.{Tells, TellsRefusal, TellsNone};
+ghost use Rattle.py_scope.specs.Faults.{Tells, TellsRefusal};
 
 use crate::declarations::refused_use;
 use crate::error::SymbolTableError;
 use crate::refusal::{Fault, Refusal};
 use crate::resolution::{close, resolve_rows};
-use crate::roles::{Role, register};
-use crate::rows::{Entries, Head, Row};
+use crate::roles::{Role, register_at};
+use crate::rows::{Entries, Entry, Head, Row};
 use crate::table::SymbolTable;
 use crate::table_type::SymbolTableType;
 use py_base::{SourceLocation, Text};
@@ -57,19 +58,19 @@ fn role_in(kind: SymbolTableType, role: Role) -> Role
     }
 }
 
-/// Whether this scope may use the name so.
+/// Whether a scope of this kind, which holds this of the name, may use it so.
 fn allow(
     alloc: Global,
-    row: &Row,
+    kind: SymbolTableType,
+    held: Option<Entry>,
     name: &Text,
     role: Role,
     location: SourceLocation,
 ) -> Result<(), SymbolTableError>
-    ensures allowed { OnOk result (refused_in row.now name.now role ≡ None) }
-    ensures refused { IfErr result (λ e. Tells e (refused_in row.now name.now role) (Some location)) }
+    ensures allowed { OnOk result (refused_use kind held name.now role ≡ None) }
+    ensures refused { IfErr result (λ e. Tells e (refused_use kind held name.now role) (Some location)) }
 {
-    let role = role_in(row.kind, role);
-    match refused_use(alloc, row.kind, row.entries.get(name), name, role) {
+    match refused_use(alloc, kind, held, name, role) {
         Ok(None) => Ok(()),
         Ok(Some(refusal)) => Err(refuse(alloc, refusal, Some(location))),
         Err(_) => Err(SymbolTableError::out_of_memory()),
@@ -83,13 +84,23 @@ fn refuse(alloc: Global, refusal: Refusal, location: Option<SourceLocation>) -> 
     SymbolTableError::refused(alloc, &refusal, location)
 }
 
-/// Notes a use of the name in this scope.
-fn use_in(alloc: Global, row: &mut Row, name: &Text, role: Role) -> Result<(), SymbolTableError>
+/// Notes a use of the name in this scope, if the scope may use it so. The name is looked for once.
+fn use_in(
+    alloc: Global,
+    row: &mut Row,
+    name: &Text,
+    role: Role,
+    location: SourceLocation,
+) -> Result<(), SymbolTableError>
     ensures ok { OnOk result (row.new ≡ used_in name.now role row.old) }
+    ensures allowed { OnOk result (refused_in row.old name.now role ≡ None) }
     ensures err { OnErr result (row.new ≡ row.old) }
-    ensures memory { IfErr result (λ e. TellsNone e) }
+    ensures refused { IfErr result (λ e. Tells e (refused_in row.old name.now role) (Some location)) }
 {
-    match register(alloc, &mut row.entries, name, role_in(row.kind, role)) {
+    let role = role_in(row.kind, role);
+    let (place, held) = row.entries.find(name);
+    allow(alloc, row.kind, held, name, role, location)?;
+    match register_at(alloc, &mut row.entries, place, held, name, role) {
         Ok(()) => Ok(()),
         Err(_) => Err(SymbolTableError::out_of_memory()),
     }
@@ -196,8 +207,13 @@ impl ScopeBuilder {
         ensures err { OnErr result (self.new ≡ self.old) }
         ensures refused { IfErr result (λ e. Tells e (refused_here self.old name.now role) (Some location)) }
     {
-        allow(self.alloc, &self.rows[self.current], name, role, location)?;
-        use_in(self.alloc, &mut self.rows[self.current], name, role)?;
+        use_in(
+            self.alloc,
+            &mut self.rows[self.current],
+            name,
+            role,
+            location,
+        )?;
         Ok(())
     }
 

@@ -68,7 +68,8 @@ fn hold_as(alloc: Global, row: &mut Row, name: &Text, holds: Holds) -> Result<()
     ensures ok { OnOk result (row.new ≡ after_lift Through holds name.now row.old) }
     ensures err { IfErr result (λ e. IsRefusal e None) }
 {
-    let entry = or_absent(row.entries.get(name));
+    let (place, before) = row.entries.find(name);
+    let entry = or_absent(before);
     let held = Entry {
         holds,
         roles: entry.roles,
@@ -76,7 +77,7 @@ fn hold_as(alloc: Global, row: &mut Row, name: &Text, holds: Holds) -> Result<()
         free_class: entry.free_class,
         captured: entry.captured,
     };
-    match row.entries.put(alloc, name, held) {
+    match row.entries.put_at(alloc, place, name, held) {
         Ok(()) => Ok(()),
         Err(_) => Err(Fault::OutOfMemory),
     }
@@ -87,7 +88,8 @@ fn hold(alloc: Global, row: &mut Row, name: &Text) -> Result<Holds, Fault>
     ensures ok { IfOk result (λ held. (held ≡ as_in (or_absent (lookup name.now row.old.entries)).holds) × (row.new ≡ after_lift Holder held name.now row.old)) }
     ensures err { IfErr result (λ e. IsRefusal e None) }
 {
-    let entry = or_absent(row.entries.get(name));
+    let (place, before) = row.entries.find(name);
+    let entry = or_absent(before);
     let held = Entry {
         holds: entry.holds,
         roles: entry.roles,
@@ -95,7 +97,7 @@ fn hold(alloc: Global, row: &mut Row, name: &Text) -> Result<Holds, Fault>
         free_class: entry.free_class,
         captured: true,
     };
-    match row.entries.put(alloc, name, held) {
+    match row.entries.put_at(alloc, place, name, held) {
         Ok(()) => Ok(as_in(entry.holds)),
         Err(_) => Err(Fault::OutOfMemory),
     }

@@ -38,7 +38,8 @@ fn is_class(kind: SymbolTableType) -> bool
 fn pass_on(alloc: Global, row: &mut Row, name: &Text) -> Result<(), AllocError>
     ensures { OnOk result (row.new ≡ after Passes name.now row.old) }
 {
-    let entry = or_new(row.entries.get(name));
+    let (place, held) = row.entries.find(name);
+    let entry = or_new(held);
     let free_class = entry.free_class || is_class(row.kind);
     let passed = Entry {
         holds: entry.holds,
@@ -47,14 +48,15 @@ fn pass_on(alloc: Global, row: &mut Row, name: &Text) -> Result<(), AllocError>
         free_class,
         captured: entry.captured,
     };
-    row.entries.put(alloc, name, passed)
+    row.entries.put_at(alloc, place, name, passed)
 }
 
 /// A look ends here.
 fn capture(alloc: Global, row: &mut Row, name: &Text) -> Result<(), AllocError>
     ensures { OnOk result (row.new ≡ after Captures name.now row.old) }
 {
-    let entry = or_new(row.entries.get(name));
+    let (place, held) = row.entries.find(name);
+    let entry = or_new(held);
     let captured = Entry {
         holds: entry.holds,
         roles: entry.roles,
@@ -62,7 +64,7 @@ fn capture(alloc: Global, row: &mut Row, name: &Text) -> Result<(), AllocError>
         free_class: entry.free_class,
         captured: true,
     };
-    row.entries.put(alloc, name, captured)
+    row.entries.put_at(alloc, place, name, captured)
 }
 
 /// Looks for the name in this scope and outward, and marks the scopes met.

@@ -1,5 +1,7 @@
 //! The entries of a scope from the uses of names in it.
 ghost use Rattle.std.specs.Prelude.{◌≡◌, OnOk, OnErr};
+ghost use Rattle.py_scope.specs.Names.{lookup};
+ghost use Rattle.py_scope.specs.Making.{place_of};
 ghost use Rattle.py_scope.specs.Roles.{flags_of, declares, register};
 
 use crate::flags::SymbolFlags;
@@ -56,6 +58,34 @@ fn declares(role: Role, holds: Holds) -> Holds
     }
 }
 
+/// Notes one use of the name, which has this place and this entry if it is there.
+///
+/// # Errors
+/// There is no memory for it; nothing has changed.
+pub(crate) fn register_at(
+    alloc: Global,
+    entries: &mut Entries,
+    place: Option<usize>,
+    held: Option<Entry>,
+    name: &Text,
+    role: Role,
+) -> Result<(), AllocError>
+    requires place { place ≡ place_of name.now entries.old }
+    requires held { held ≡ lookup name.now entries.old }
+    ensures ok { OnOk result (entries.new ≡ register entries.old name.now role) }
+    ensures err { OnErr result (entries.new ≡ entries.old) }
+{
+    let old = or_absent(held);
+    let entry = Entry {
+        holds: declares(role, old.holds),
+        roles: old.roles | role.flags(),
+        assigned_within: old.assigned_within,
+        free_class: old.free_class,
+        captured: old.captured,
+    };
+    entries.put_at(alloc, place, name, entry)
+}
+
 /// Notes one use of the name.
 ///
 /// # Errors
@@ -69,13 +99,6 @@ pub fn register(
     ensures ok { OnOk result (entries.new ≡ register entries.old name.now role) }
     ensures err { OnErr result (entries.new ≡ entries.old) }
 {
-    let old = or_absent(entries.get(name));
-    let entry = Entry {
-        holds: declares(role, old.holds),
-        roles: old.roles | role.flags(),
-        assigned_within: old.assigned_within,
-        free_class: old.free_class,
-        captured: old.captured,
-    };
-    entries.put(alloc, name, entry)
+    let (place, held) = entries.find(name);
+    register_at(alloc, entries, place, held, name, role)
 }

@@ -1,10 +1,10 @@
 //! The scopes while they are collected and resolved: one list in preorder, each with the number of the scope around it.
-ghost use Rattle.std.specs.Prelude.{◌≡◌, List, length, slice_get, [], is_some, OnOk, OnErr};
+ghost use Rattle.std.specs.Prelude.{◌≡◌, ◌<◌, List, length, slice_get, [], OnOk, OnErr};
 ghost use Rattle.std.specs.Option.{option_map};
 ghost use Rattle.std.specs.Map.Iter.{deref_pair};
-ghost use Rattle.std.specs.Bool.{OnTrue, OnFalse};
-ghost use Rattle.std.specs.Map.{set_value};
-ghost use Rattle.py_scope.specs.Names.{same_name, lookup, put};
+ghost use Rattle.indexmap.specs.IndexMap.{set_value_at, index_map_len};
+ghost use Rattle.py_scope.specs.Names.{lookup, put};
+ghost use Rattle.py_scope.specs.Making.{place_of};
 ghost use Rattle.py_scope.specs.Bits.{is_bound, is_stored_by_walrus, is_iterated};
 
 use crate::flags::SymbolFlags;
@@ -87,19 +87,12 @@ impl Model for Entries {
     ghost view = { λ a. a.map.entries };
 }
 
-/// Gives a name that is there this entry. The answer is whether it is there.
-fn write(map: &mut IndexMap<Text, Entry>, name: &Text, entry: Entry) -> bool
-    ensures found { result ≡ is_some (lookup name.now map.old.entries) }
-    ensures here { OnTrue result (map.new.entries ≡ set_value (same_name name.now) map.old.entries entry) }
-    ensures absent { OnFalse result (map.new.entries ≡ map.old.entries) }
+/// Gives the name at this place this entry. It is not looked for.
+fn write(map: &mut IndexMap<Text, Entry>, place: usize, entry: Entry)
+    requires { place < index_map_len map.old }
+    ensures { map.new.entries ≡ set_value_at map.old.entries place entry }
 {
-    match map.get_mut(name) {
-        Some(place) => {
-            *place = entry;
-            true
-        }
-        None => false,
-    }
+    map[place] = entry;
 }
 
 impl Entries {
@@ -133,6 +126,42 @@ impl Entries {
         self.map.get_index(i)
     }
 
+    /// The place of a name and its entry, if it is there. The name is looked for once.
+    pub(crate) fn find(&self, name: &Text) -> (Option<usize>, Option<Entry>)
+        ensures place { result.0 ≡ place_of name.now self.now }
+        ensures entry { result.1 ≡ lookup name.now self.now }
+    {
+        match self.map.get_full(name) {
+            Some((place, _, entry)) => (Some(place), Some(*entry)),
+            None => (None, None),
+        }
+    }
+
+    /// Gives the name, which has this place if it is there, this entry, in that place or at the end. Only a new name is
+    /// looked for, and copied.
+    ///
+    /// # Errors
+    /// There is no memory for it; nothing has changed.
+    pub(crate) fn put_at(
+        &mut self,
+        alloc: Global,
+        place: Option<usize>,
+        name: &Text,
+        entry: Entry,
+    ) -> Result<(), AllocError>
+        requires { place ≡ place_of name.now self.old }
+        ensures ok { OnOk result (self.new ≡ put self.old name.now entry) }
+        ensures err { OnErr result (self.new ≡ self.old) }
+    {
+        if let Some(place) = place {
+            write(&mut self.map, place, entry);
+            return Ok(());
+        }
+        let name = name.try_clone(alloc)?;
+        self.map.insert(name, entry)?;
+        Ok(())
+    }
+
     /// Gives the name this entry, in the place that it has or at the end.
     ///
     /// # Errors
@@ -141,12 +170,8 @@ impl Entries {
         ensures ok { OnOk result (self.new ≡ put self.old name.now entry) }
         ensures err { OnErr result (self.new ≡ self.old) }
     {
-        if write(&mut self.map, name, entry) {
-            return Ok(());
-        }
-        let name = name.try_clone(alloc)?;
-        self.map.insert(name, entry)?;
-        Ok(())
+        let (place, _) = self.find(name);
+        self.put_at(alloc, place, name, entry)
     }
 }
 

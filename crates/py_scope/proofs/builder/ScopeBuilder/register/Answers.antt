@@ -18,5 +18,5 @@ invariant_of-self-2 c =
 pub returns-clause-allowed : goal.returns-clause-allowed
 returns-clause-allowed c =
     let s : Scanned = scanned c.self.inside.rows.items c.self.inside.current c.self.inside.left.items in
-    let read : slice_get s.rows s.current ≡ Some c.index.result.now = slice_get_read s.rows (length s.rows) s.current c.index.result.now refl c.self.invariant.inside c.index.ensures in
-    ap (λ t. refused_here t c.args.name.now c.args.role) (sym c.self.view_is) ∙ ap (λ o. refused_in_row o c.args.name.now c.args.role) read ∙ c.in_ok-allow.ensures.allowed
+    let read : slice_get s.rows s.current ≡ Some c.index_mut.result.now = slice_get_read s.rows (length s.rows) s.current c.index_mut.result.now refl c.self.invariant.inside c.index_mut.ensures.value in
+    ap (λ t. refused_here t c.args.name.now c.args.role) (sym c.self.view_is) ∙ ap (λ o. refused_in_row o c.args.name.now c.args.role) read ∙ c.in_ok-use_in.ensures.allowed
