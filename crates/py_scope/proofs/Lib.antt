@@ -6,6 +6,7 @@ pub mod Scanning
 pub mod Anys
 pub mod Tabling
 pub mod Nesting
+pub mod Told
 pub mod Resolving
 pub mod Flattening
 pub mod Lawful

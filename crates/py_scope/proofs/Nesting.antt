@@ -50,7 +50,7 @@ get_replicate zero x j l = absurd (omega arith)
 get_replicate (suc n) x zero l = refl
 get_replicate (suc n) x (suc j) l = get_replicate n x j (omega arith)
 
-length_replicate : {A : Type 0} (n : ℕ) (x : A) → length (replicate n x) ≡ n
+pub length_replicate : {A : Type 0} (n : ℕ) (x : A) → length (replicate n x) ≡ n
 length_replicate zero x = refl
 length_replicate (suc n) x = ap suc (length_replicate n x)
 

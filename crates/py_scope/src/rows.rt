@@ -11,6 +11,7 @@ use crate::flags::SymbolFlags;
 use crate::table_type::SymbolTableType;
 use bitflags::Flags;
 use indexmap::IndexMap;
+use indexmap::map::IntoIter;
 use py_base::Text;
 use std::alloc::{AllocError, Global};
 use std::marker::Model;
@@ -124,6 +125,14 @@ impl Entries {
         ensures { option_map deref_pair result ≡ slice_get self.now i }
     {
         self.map.get_index(i)
+    }
+
+    /// The names, moved out, and their entries, in order.
+    pub(crate) fn into_pairs(self) -> IntoIter<Text, Entry>
+        ensures { result ≡ self }
+    {
+        let Entries { map } = self;
+        map.into_iter()
     }
 
     /// The place of a name and its entry, if it is there. The name is looked for once.

@@ -5,14 +5,16 @@ ghost use Rattle.std.specs.List.{list_any};
 ghost use Rattle.std.specs.Map.Iter.{deref_pair};
 ghost use Rattle.py_scope.specs.Names.{Name, same_name};
 ghost use Rattle.py_scope.specs.Outward.{IsNumbered};
-ghost use Rattle.py_scope.specs.Cells.{names_of, AreDistinct, IsOnce};
+ghost use Rattle.std.specs.Map.{keys_of};
+ghost use Rattle.py_scope.specs.Cells.{AreDistinct, IsOnce};
 ghost use Rattle.py_scope.specs.Scanned.{changed};
-ghost use Rattle.py_scope.specs.Tables.{is_plain, global_within, is_shared, kind_in, flags_in, symbol_in, symbols_in, all_symbols, table_of, tables_from, table_from};
+ghost use Rattle.py_scope.specs.Tables.{is_plain, global_within, is_shared, kind_in, flags_in, table_of, table_from};
+ghost use Rattle.py_scope.specs.Making.{kinds_at, kinds_in, all_kinds, symbol_with, symbols_with};
 
 use crate::flags::SymbolFlags;
 use crate::globals::globals_within;
 use crate::kinds::{SymbolScope, resolve};
-use crate::rows::{Entry, Head, Holds, Row};
+use crate::rows::{Entries, Entry, Head, Holds, Row};
 use crate::symbols::{Symbol, Symbols};
 use crate::table::SymbolTable;
 use indexmap::IndexSet;
@@ -62,72 +64,111 @@ fn kind_of(
     }
 }
 
-fn symbol_of(
-    alloc: Global,
+/// Puts the kind of a name last, if there is a name.
+fn push_kind(
+    kinds: &mut Vec<SymbolScope>,
     rows: &[Row],
     globals: &IndexSet<Text>,
     scope: usize,
-    name: &Text,
-    entry: Entry,
-) -> Result<Symbol, AllocError>
+    entry: Option<(&Text, &Entry)>,
+) -> Result<(), AllocError>
     requires numbered { IsNumbered rows.now }
     requires within { scope < length rows.now }
     requires globals { (n : Name) → list_any (same_name n) globals.now.keys ≡ global_within rows.now n }
-    ensures { IfOk result (λ symbol. symbol ≡ symbol_in rows.now scope (name.now, entry)) }
+    ensures { OnOk result (kinds.new.items ≡ kinds.old.items ++ kinds_at rows.now scope (option_map deref_pair entry.entry)) }
 {
-    Ok(Symbol {
-        name: name.try_clone(alloc)?,
-        scope: kind_of(rows, globals, scope, name, entry),
-        flags: flags_of(entry),
-    })
+    if let Some((name, entry)) = entry {
+        kinds.push(kind_of(rows, globals, scope, name, *entry))?;
+    }
+    Ok(())
 }
 
-/// The symbols of a scope, in order.
-fn symbols_of(
+/// The kinds of the names of a scope, in order.
+fn kinds_of(
     alloc: Global,
     rows: &[Row],
     globals: &IndexSet<Text>,
     scope: usize,
-) -> Result<Symbols, AllocError>
+) -> Result<List<SymbolScope>, AllocError>
     requires numbered { IsNumbered rows.now }
     requires within { scope < length rows.now }
     requires globals { (n : Name) → list_any (same_name n) globals.now.keys ≡ global_within rows.now n }
-    requires once { AreDistinct (names_of (slice_get rows.now scope)) }
-    ensures { IfOk result (λ symbols. symbols ≡ symbols_in rows.now scope) }
+    ensures { IfOk result (λ kinds. kinds ≡ kinds_in rows.now scope) }
 {
     let row = &rows[scope];
-    let mut symbols = Symbols::new(alloc);
+    let mut kinds = Vec::with_capacity(alloc, row.entries.len())?;
     for i in 0..row.entries.len() {
-        if let Some((name, entry)) = row.entries.at(i) {
-            let symbol = symbol_of(alloc, rows, globals, scope, name, *entry)?;
-            symbols.push(alloc, symbol)?;
-        }
+        push_kind(&mut kinds, rows, globals, scope, row.entries.at(i))?;
     }
-    Ok(symbols)
+    Ok(List::from_vec(kinds))
 }
 
-/// The symbols of each scope, in order.
-fn symbols_of_all(
+/// The kinds of the names of each scope, in order.
+fn kinds_of_all(
     alloc: Global,
     rows: &[Row],
     globals: &IndexSet<Text>,
-) -> Result<Vec<Symbols>, AllocError>
+) -> Result<Vec<List<SymbolScope>>, AllocError>
     requires numbered { IsNumbered rows.now }
     requires globals { (n : Name) → list_any (same_name n) globals.now.keys ≡ global_within rows.now n }
-    requires once { IsOnce rows.now }
-    ensures { IfOk result (λ symbols. symbols.items ≡ all_symbols rows.now 0 rows.now) }
+    ensures { IfOk result (λ kinds. kinds.items ≡ all_kinds rows.now 0 rows.now) }
 {
-    let mut all = Vec::new(alloc);
+    let mut all = Vec::with_capacity(alloc, rows.len())?;
     for scope in 0..rows.len() {
-        let symbols = symbols_of(alloc, rows, globals, scope)?;
-        all.push(symbols)?;
+        let kinds = kinds_of(alloc, rows, globals, scope)?;
+        all.push(kinds)?;
     }
     Ok(all)
 }
 
-/// The table of a scope with these symbols and sub tables.
-fn table_of(row: Row, symbols: Symbols, sub_tables: List<SymbolTable>) -> SymbolTable
-    ensures { result ≡ table_of row symbols sub_tables }
+/// The symbol of a name that has this kind. The name is moved out of its entry.
+fn symbol_with(pair: (Text, Entry), kind: SymbolScope) -> Symbol
+    ensures { result ≡ symbol_with pair kind }
+{
+    let (name, entry) = pair;
+    Symbol {
+        name,
+        scope: kind,
+        flags: flags_of(entry),
+    }
+}
+
+fn kind_here(kinds: &[SymbolScope], i: usize) -> SymbolScope
+    requires { i < length kinds.now }
+    ensures { slice_get kinds.now i ≡ Some result }
+{
+    kinds[i]
+}
+
+/// The symbols of names that have these kinds. The names are moved out of the entries.
+fn symbols_with(
+    alloc: Global,
+    entries: Entries,
+    kinds: &[SymbolScope],
+) -> Result<Symbols, AllocError>
+    requires same { length kinds.now ≡ length entries }
+    requires once { AreDistinct (keys_of entries) }
+    ensures { IfOk result (λ symbols. symbols ≡ symbols_with entries kinds.now) }
+{
+    let mut pairs = entries.into_pairs();
+    let mut symbols = Symbols::new(alloc);
+    for i in 0..kinds.len() {
+        let pair = pairs.next().unwrap();
+        symbols.push(alloc, symbol_with(pair, kind_here(kinds, i)))?;
+    }
+    Ok(symbols)
+}
+
+/// The table of a scope whose names have these kinds, with these sub tables.
+fn table_of(
+    alloc: Global,
+    row: Row,
+    kinds: List<SymbolScope>,
+    sub_tables: List<SymbolTable>,
+) -> Result<SymbolTable, AllocError>
+    requires same { length kinds ≡ length row.entries }
+    requires once { AreDistinct (keys_of row.entries) }
+    ensures { IfOk result (λ table. table ≡ table_of row (symbols_with row.entries kinds) sub_tables) }
 {
     let Row {
         kind,
@@ -137,16 +178,17 @@ fn table_of(row: Row, symbols: Symbols, sub_tables: List<SymbolTable>) -> Symbol
             line_number,
             is_nested,
         },
-        entries: _,
+        entries,
     } = row;
-    SymbolTable {
+    let symbols = symbols_with(alloc, entries, kinds.as_slice())?;
+    Ok(SymbolTable {
         name,
         typ: kind,
         line_number,
         is_nested,
         symbols,
         sub_tables,
-    }
+    })
 }
 
 fn reversed(tables: List<SymbolTable>) -> List<SymbolTable>
@@ -190,22 +232,24 @@ fn empty_lists(alloc: Global, count: usize) -> Result<Vec<List<SymbolTable>>, Al
     Ok(lists)
 }
 
-/// The table of the first scope. The scopes are taken from the last to the first, so that each comes after those inside.
+/// The table of the first scope, where the names of the scopes have these kinds. The scopes are taken from the last to
+/// the first, so that each comes after those inside.
 fn nest(
     alloc: Global,
     mut rows: Vec<Row>,
-    mut symbols: Vec<Symbols>,
+    mut kinds: Vec<List<SymbolScope>>,
 ) -> Result<SymbolTable, AllocError>
     requires numbered { IsNumbered rows.items }
     requires some { 0 < length rows.items }
-    requires same { length symbols.items ≡ length rows.items }
-    ensures { IfOk result (λ table. slice_get (tables_from 0 rows.items symbols.items) 0 ≡ Some table) }
+    requires once { IsOnce rows.items }
+    requires kinds { kinds.items ≡ all_kinds rows.items 0 rows.items }
+    ensures { IfOk result (λ table. table_from rows.items ≡ Some table) }
 {
     let mut waiting = empty_lists(alloc, rows.len())?;
     while let Some(row) = rows.pop() {
         let parent = row.parent;
         let sub_tables = reversed(waiting.pop().unwrap());
-        let table = table_of(row, symbols.pop().unwrap(), sub_tables);
+        let table = table_of(alloc, row, kinds.pop().unwrap(), sub_tables)?;
         if waiting.is_empty() {
             return Ok(table);
         }
@@ -214,7 +258,7 @@ fn nest(
     unreachable!()
 }
 
-/// The table of these scopes.
+/// The table of these scopes. The names of its symbols are moved out of the scopes.
 pub(crate) fn table_of_rows(alloc: Global, rows: Vec<Row>) -> Result<SymbolTable, AllocError>
     requires numbered { IsNumbered rows.items }
     requires some { 0 < length rows.items }
@@ -222,6 +266,6 @@ pub(crate) fn table_of_rows(alloc: Global, rows: Vec<Row>) -> Result<SymbolTable
     ensures { IfOk result (λ table. table_from rows.items ≡ Some table) }
 {
     let globals = globals_within(alloc, &rows)?;
-    let symbols = symbols_of_all(alloc, &rows, &globals)?;
-    nest(alloc, rows, symbols)
+    let kinds = kinds_of_all(alloc, &rows, &globals)?;
+    nest(alloc, rows, kinds)
 }
