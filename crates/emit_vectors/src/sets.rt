@@ -2,7 +2,6 @@
 
 use crate::blocks::code_info;
 use crate::fixtures::text;
-use py_base::Text;
 use py_bytecode::ConstantData;
 use py_ir::{Block, BlockIdx, CodeInfo, ConstantSet, NameSet};
 use std::alloc::{AllocError, Global};
@@ -50,12 +49,21 @@ fn have_places(rt: &(impl Abort + AllocGlobal), names: &mut NameSet) -> Result<(
     Ok(())
 }
 
-/// The text of a name that is there.
-fn shown<'a>(name: Option<&'a Text>) -> &'a str {
+/// A name that is there.
+fn shown<'a>(name: Option<&'a str>) -> &'a str {
     match name {
-        Some(name) => name.as_str(),
+        Some(name) => name,
         None => "-",
     }
+}
+
+/// Where a name is looked up that is not held as a text, it is found in its place, and a new one goes last.
+fn are_found(rt: &(impl Abort + AllocGlobal), names: &mut NameSet) {
+    assert_eq!(rt; names.place_of("y"), Some(1));
+    assert_eq!(rt; names.place_of("z"), None);
+    assert_eq!(rt; names.enter(rt.alloc(), "y").ok(), Some(1));
+    assert_eq!(rt; names.enter(rt.alloc(), "z").ok(), Some(2));
+    assert_eq!(rt; names.len(), 3);
 }
 
 #[test]
@@ -70,6 +78,7 @@ fn names_keep_their_places(rt: HostRuntime) -> Result<(), Fail> {
     assert_eq!(rt; shown(names.get_index(2)), "-");
     assert_eq!(rt; names.get_index_of(&x), Some(0));
     assert_eq!(rt; names.get_index_of(&z), None);
+    are_found(&rt, &mut names);
     mem::drop(names);
     Ok(done?)
 }

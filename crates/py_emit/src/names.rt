@@ -274,8 +274,7 @@ impl Emitter {
         ensures same { OnOk result (self.new ≡ self.old) }
         ensures err { IfErr result (λ e. IsStarved e (rest self.old).path) }
     {
-        let name = self.text(name)?;
-        let place = cell_position(&self.scope.code, &name);
+        let place = cell_position(&self.scope.code, name);
         self.narrow(place)
     }
 
@@ -283,15 +282,12 @@ impl Emitter {
     ///
     /// # Errors
     /// OutOfMemory alone.
-    #[tactic(auto, using(crate::proofs::CellPlaces::any_within, crate::proofs::CellPlaces::none_within))]
     pub fn has_cell(&mut self, name: &str) -> Result<bool, CodegenError>
         ensures data { IfOk result (λ has. has ≡ list_any (text_eq name.now) (state self.old).around.context.cells) }
         ensures same { OnOk result (self.new ≡ self.old) }
         ensures err { IfErr result (λ e. IsStarved e (rest self.old).path) }
     {
-        let name = self.text(name)?;
-        let cells = &self.scope.code.cellvar_cache;
-        Ok(place_among(cells, &name) < cells.len())
+        Ok(self.scope.code.cellvar_cache.place_of(name).is_some())
     }
 
     /// The number of cells and free names.
@@ -345,7 +341,7 @@ impl Emitter {
 
 /// The place of a name among cells and free names, or one past the last.
 #[tactic(auto, using(crate::proofs::CellPlaces::place_first, crate::proofs::CellPlaces::place_behind))]
-pub(crate) fn cell_position(code: &FlatCode, name: &Text) -> usize
+pub(crate) fn cell_position(code: &FlatCode, name: &str) -> usize
     ensures { result ≡ position_or_len (text_eq name.now) (code.now.cellvar_cache ++ code.now.freevar_cache) }
 {
     let place = place_among(&code.cellvar_cache, name);
@@ -357,12 +353,12 @@ pub(crate) fn cell_position(code: &FlatCode, name: &Text) -> usize
 
 /// The place of a name, or one past the last.
 #[tactic(auto, using(crate::proofs::CellPlaces::found, crate::proofs::CellPlaces::missing, crate::proofs::CellPlaces::place_within))]
-fn place_among(names: &NameSet, name: &Text) -> usize
+fn place_among(names: &NameSet, name: &str) -> usize
     ensures place { result ≡ position_or_len (text_eq name.now) names.now }
     ensures small { result < 2 ^ 63 }
 {
     let len = names.len();
-    match names.get_index_of(name) {
+    match names.place_of(name) {
         Some(place) => place,
         None => len,
     }

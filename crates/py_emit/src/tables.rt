@@ -10,7 +10,7 @@ ghost use Rattle.py_emit.specs.States.{Emits, IsStarved, rest, state};
 
 use crate::emitter::Emitter;
 use crate::names::is_debug;
-use py_base::{CodegenError, CodegenErrorType, Text};
+use py_base::{CodegenError, CodegenErrorType};
 use py_bytecode::{ConstantData, Instruction};
 
 impl Emitter {
@@ -41,15 +41,8 @@ impl Emitter {
         ensures rest { OnOk result (rest self.new ≡ rest self.old) }
         ensures err { IfErr result (λ e. IsStarved e (rest self.old).path) }
     {
-        let Ok(copy) = String::from_str(self.alloc(), name) else {
-            return Err(self.error(CodegenErrorType::OutOfMemory));
-        };
-        match self
-            .scope
-            .code
-            .name_cache
-            .insert_full(Text::from_string(copy))
-        {
+        let alloc = self.alloc();
+        match self.scope.code.name_cache.enter(alloc, name) {
             Ok(place) => self.narrow(place),
             Err(_) => Err(self.error(CodegenErrorType::OutOfMemory)),
         }
@@ -93,8 +86,8 @@ impl Emitter {
         ensures rest { OnOk result (rest self.new ≡ rest self.old) }
         ensures err { IfErr result (λ e. IsStarved e (rest self.old).path) }
     {
-        let copy = self.text(name)?;
-        match self.scope.code.varname_cache.insert_full(copy) {
+        let alloc = self.alloc();
+        match self.scope.code.varname_cache.enter(alloc, name) {
             Ok(place) => self.narrow(place),
             Err(_) => Err(self.error(CodegenErrorType::OutOfMemory)),
         }

@@ -21,3 +21,5 @@ pub mod Listed
 pub mod TakenCode
 pub mod Unrefused
 pub mod Feeding
+pub mod Names
+pub mod Passing

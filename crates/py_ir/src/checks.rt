@@ -1,6 +1,8 @@
 //! What is asked of each instruction before it has units: targets within the chain, and operands within their tables.
-ghost use Rattle.std.specs.Prelude.{◌≡◌, ◌<◌, ◌^◌, ℕ, All, IfErr, IfOk, MatchOption, false, length, slice_index_or, true};
+ghost use Rattle.std.specs.Prelude.{◌≡◌, ◌≢◌, ◌<◌, ◌^◌, ℕ, All, IfErr, IfOk, MatchOption, false, length, slice_index_or, true};
 ghost use Rattle.std.specs.Option.{IfNone};
+ghost use Rattle.py_bytecode.specs.Table.{is_label};
+ghost use Rattle.py_bytecode.specs.Units.{is_prefix};
 ghost use Rattle.py_ir.specs.Checks.{Fails, FailsAt, NowhereFails, in_kind, operand_fits, rank};
 
 use crate::{BlockIdx, InstructionInfo};
@@ -68,6 +70,18 @@ fn operand_within(lens: TableLens, item: &InstructionInfo) -> bool
     in_range(lens, item.instr.operand_kind(), item.arg.0)
 }
 
+fn is_label(kind: OperandKind) -> bool
+    ensures { result ≡ is_label kind }
+{
+    matches!(kind, OperandKind::Label)
+}
+
+fn is_prefix(instr: Instruction) -> bool
+    ensures { result ≡ is_prefix instr }
+{
+    matches!(instr, Instruction::ExtendedArg)
+}
+
 fn fails(check: Check, inside: &[bool], lens: TableLens, item: &InstructionInfo) -> bool
     ensures yes { result ≡ true → Fails check inside.now lens item.now }
     ensures no { result ≡ false → ¬ Fails check inside.now lens item.now }
@@ -93,7 +107,7 @@ fn fails(check: Check, inside: &[bool], lens: TableLens, item: &InstructionInfo)
             }
             !item.instr.has_target()
         }
-        Check::PrefixGiven => matches!(item.instr, Instruction::ExtendedArg),
+        Check::PrefixGiven => is_prefix(item.instr),
         Check::OperandOutside => !operand_within(lens, item),
     }
 }
@@ -115,17 +129,32 @@ fn first_failing(
     None
 }
 
-// Whether an instruction passes every check.
+// Whether what jumps has a target in the chain, and what does not jump has none.
+fn target_passes(inside: &[bool], jumps: bool, target: BlockIdx) -> bool
+    ensures stands { result ≡ true → target.0 ≢ 0xffff_ffff → slice_index_or inside.now target.0 false ≡ true }
+    ensures given { result ≡ true → jumps ≡ true → target.0 ≢ 0xffff_ffff }
+    ensures needed { result ≡ true → target.0 ≢ 0xffff_ffff → jumps ≡ true }
+{
+    if target == BlockIdx::NULL {
+        return !jumps;
+    }
+    jumps && is_inside(inside, target.0)
+}
+
+// Whether an instruction passes every check. What its operand is is asked once.
 fn passes(inside: &[bool], lens: TableLens, item: &InstructionInfo) -> bool
     ensures all { result ≡ true → (check : Check) → ¬ Fails check inside.now lens item.now }
     ensures range { item.now.arg.0 < 2 ^ 32 }
 {
-    let _operand = item.arg.0;
-    !fails(Check::TargetOutside, inside, lens, item)
-        && !fails(Check::JumpWithoutTarget, inside, lens, item)
-        && !fails(Check::TargetOnOther, inside, lens, item)
-        && !fails(Check::PrefixGiven, inside, lens, item)
-        && !fails(Check::OperandOutside, inside, lens, item)
+    let operand = item.arg.0;
+    let kind = item.instr.operand_kind();
+    if !target_passes(inside, is_label(kind), item.target) {
+        return false;
+    }
+    if is_prefix(item.instr) {
+        return false;
+    }
+    in_range(lens, kind, operand)
 }
 
 // Whether each instruction passes every check.

@@ -45,7 +45,7 @@ impl CodeInfo {
         requires { i < length self.now.name_cache }
         ensures { slice_get self.now.name_cache i ≡ Some result.now }
     {
-        self.name_cache.get_index(i).unwrap().as_str()
+        self.name_cache.get_index(i).unwrap()
     }
 
     /// A local name by its number.
@@ -53,7 +53,7 @@ impl CodeInfo {
         requires { i < length self.now.varname_cache }
         ensures { slice_get self.now.varname_cache i ≡ Some result.now }
     {
-        self.varname_cache.get_index(i).unwrap().as_str()
+        self.varname_cache.get_index(i).unwrap()
     }
 
     /// The name of a cell by its number; free names are numbered after cells.
@@ -63,9 +63,9 @@ impl CodeInfo {
     {
         let cells = self.cellvar_cache.len();
         if i < cells {
-            self.cellvar_cache.get_index(i).unwrap().as_str()
+            self.cellvar_cache.get_index(i).unwrap()
         } else {
-            self.freevar_cache.get_index(i - cells).unwrap().as_str()
+            self.freevar_cache.get_index(i - cells).unwrap()
         }
     }
 

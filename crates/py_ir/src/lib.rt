@@ -20,4 +20,4 @@ pub use flat::FlatBlocks;
 pub use flat_code::FlatCode;
 pub use info::CodeInfo;
 pub use py_walks::{BlockIdx, InstructionInfo};
-pub use sets::{NameSet, OrderedSet};
+pub use sets::NameSet;
