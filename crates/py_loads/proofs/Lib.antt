@@ -6,6 +6,6 @@ mod UsedDefs
 mod UsedStmts
 pub mod Whole
 mod Needed
-mod Sharing
+pub mod Sharing
 pub mod Distinct
 pub mod Loading
