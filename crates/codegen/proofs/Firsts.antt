@@ -54,7 +54,7 @@ refused_first e t m l w (inr h) known =
     (f.0, compiled t m l w ∙ ap (λ fs. fs ++ compile_faults m l t) h.0 ∙ f.1)
 
 -- what is emitted of a tree without faults misses no cell
-pub missing_faulty : (t : tree.Mod) (m : Mode) (l : ℕ) (path : List ℕ) (at : Option SourceLocation) → IsWhole t m → scan_faults t ≡ [] → emitted t m (around_tree t path l) ≡ Refused error.MissingCell at → compile_faults m l t ≢ []
+missing_faulty : (t : tree.Mod) (m : Mode) (l : ℕ) (path : List ℕ) (at : Option SourceLocation) → IsWhole t m → scan_faults t ≡ [] → emitted t m (around_tree t path l) ≡ Refused error.MissingCell at → compile_faults m l t ≢ []
 missing_faulty t m l path at w clean r none =
     let f = trees_fit uses_are_few t m l path (compiled t m l w ∙ (λ i. clean i ++ none i)) in
     let same : ◌≡◌ {A = Outcome} (Refused error.MissingCell at) (Done f.0) = sym r ∙ f.1 in

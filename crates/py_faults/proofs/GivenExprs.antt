@@ -13,22 +13,23 @@ use Rattle.py_steps.specs.Refused.{few_aside, no_assignment}
 use Rattle.py_meaning.specs.Ends.{args_end, expr_end, last_of, store_end}
 use Rattle.py_meaning.specs.StmtEnds.{default_ends}
 use Rattle.py_meaning.specs.ExprFaults.{all_faults, all_faults_to, arg_faults, clause_faults, debug_faults, default_faults, either, both, elements, fault_at, faults_in, faults_to, first_iterable_faults, further_faults, if_any, in_order, keyword_faults, keyword_values, opt_faults, opts_faults, parameter_faults, retold_faults, star_faults, starring, values, when, Fault}
-use Rattle.py_faults.proofs.Givens.{AllGiven, AllWell, Given, OptGiven, OptsGiven, Well, WellTo, any_given, debug_given, either_given, elements_given, joined, joined_given, keywords_given, one_if, order_given, pairs_given, parameters_given, retold_given, three, values_given}
+use Rattle.py_faults.specs.Given.{AreGiven}
+use Rattle.py_faults.proofs.Givens.{AllGiven, AllWell, OptGiven, OptsGiven, Well, WellTo, any_given, debug_given, either_given, elements_given, joined, joined_given, keywords_given, one_if, order_given, pairs_given, parameters_given, retold_given, three, values_given}
 
-plain : (fs : List Fault) → Given fs → Well (either fs)
+plain : (fs : List Fault) → AreGiven fs → Well (either fs)
 plain fs h = record { value = h; element = h }
 
-to : (fs : List Fault) → Given fs → WellTo (both fs)
+to : (fs : List Fault) → AreGiven fs → WellTo (both fs)
 to fs h = record { alone = h; element = h }
 
-stars_given : (list store : SourceLocation) (es : List (Element tree.Expr tree.Expr)) → Given (star_faults list store es)
+stars_given : (list store : SourceLocation) (es : List (Element tree.Expr tree.Expr)) → AreGiven (star_faults list store es)
 stars_given list store es =
     let few = when (not (few_aside es)) (fault_at error.TooManyStarUnpack list) in
     let lone = when (not (nat_eq (stars es) 1)) (fault_at error.MultipleStarArgs store) in
     either_given (nat_eq (stars es) 0) [] (few ++ lone) tt (joined few lone (one_if (not (few_aside es)) (fault_at error.TooManyStarUnpack list) tt) (one_if (not (nat_eq (stars es) 1)) (fault_at error.MultipleStarArgs store) tt))
 
 -- a comprehension that holds no await, its clauses, what it gives, and its first iterable
-comprehended : (b : Bool) (at : SourceLocation) (xs ys zs : List Fault) → Given xs → Given ys → Given zs → Given (when b (fault_at error.NotImplementedYet at) ++ (xs ++ (ys ++ zs)))
+comprehended : (b : Bool) (at : SourceLocation) (xs ys zs : List Fault) → AreGiven xs → AreGiven ys → AreGiven zs → AreGiven (when b (fault_at error.NotImplementedYet at) ++ (xs ++ (ys ++ zs)))
 comprehended b at xs ys zs x y z = joined (when b (fault_at error.NotImplementedYet at)) (xs ++ (ys ++ zs)) (one_if b (fault_at error.NotImplementedYet at) tt) (joined xs (ys ++ zs) x (joined ys zs y z))
 
 mutual
@@ -86,28 +87,28 @@ mutual
   keyword_values_given b tree.no_keywords = tt
   keyword_values_given b (tree.more_keywords name e ks) = ((expr_given b e).value, keyword_values_given b ks)
 
-  clauses_given : (p : SourceLocation) (gs : tree.Generators) → Given (clause_faults p gs)
+  clauses_given : (p : SourceLocation) (gs : tree.Generators) → AreGiven (clause_faults p gs)
   clauses_given p tree.no_generators = tt
   clauses_given p (tree.more_generators target iter ifs is_async gs) =
       let c = in_order (values (all_faults true ifs)) in
       joined (faults_to true p target).alone (c ++ further_faults gs) (to_given true p target).alone (joined c (further_faults gs) (order_given _ (values_given (all_faults true ifs) (all_given true ifs))) (further_given gs))
 
-  further_given : (gs : tree.Generators) → Given (further_faults gs)
+  further_given : (gs : tree.Generators) → AreGiven (further_faults gs)
   further_given tree.no_generators = tt
   further_given (tree.more_generators target iter ifs is_async gs) =
       let c = in_order (values (all_faults true ifs)) in
       let t = (faults_to true (expr_end iter) target).alone in
       joined (faults_in true iter).value (t ++ (c ++ further_faults gs)) (expr_given true iter).value (joined t (c ++ further_faults gs) (to_given true (expr_end iter) target).alone (joined c (further_faults gs) (order_given _ (values_given (all_faults true ifs) (all_given true ifs))) (further_given gs)))
 
-  first_given : (b : Bool) (gs : tree.Generators) → Given (first_iterable_faults b gs)
+  first_given : (b : Bool) (gs : tree.Generators) → AreGiven (first_iterable_faults b gs)
   first_given b tree.no_generators = tt
   first_given b (tree.more_generators target iter ifs is_async gs) = (expr_given b iter).value
 
-  args_given : (b : Bool) (args : tree.Args) → Given (arg_faults b args)
+  args_given : (b : Bool) (args : tree.Args) → AreGiven (arg_faults b args)
   args_given b tree.no_args = tt
   args_given b (tree.more_args a default rest) = joined (if_any (opt_faults b default)) (arg_faults b rest) (any_given (opt_faults b default) (opt_given b default)) (args_given b rest)
 
-  pub defaults_given : (b : Bool) (params : tree.Arguments) → Given (default_faults b params)
+  pub defaults_given : (b : Bool) (params : tree.Arguments) → AreGiven (default_faults b params)
   defaults_given b (tree.arguments posonly args vararg kwonly kwarg) = joined (arg_faults b posonly) (arg_faults b args ++ arg_faults b kwonly) (args_given b posonly) (joined (arg_faults b args) (arg_faults b kwonly) (args_given b args) (args_given b kwonly))
 
   pub to_given : (b : Bool) (p : SourceLocation) (e : tree.Expr) → WellTo (faults_to b p e)
@@ -119,6 +120,6 @@ mutual
   to_given b p (tree.Starred at value) = record { alone = (tt, tt); element = (to_given b p value).alone }
   to_given b p other = to (fault_at (error.Assign (python_name other)) p ∷ []) (tt, tt)
 
-  all_to_given : (b : Bool) (p : SourceLocation) (es : tree.Exprs) → Given (all_faults_to b p es)
+  all_to_given : (b : Bool) (p : SourceLocation) (es : tree.Exprs) → AreGiven (all_faults_to b p es)
   all_to_given b p tree.no_exprs = tt
   all_to_given b p (tree.more_exprs e es) = joined (faults_to b p e).element (all_faults_to b (store_end p e) es) (to_given b p e).element (all_to_given b (store_end p e) es)

@@ -23,20 +23,20 @@ use Rattle.py_meaning.specs.StmtEnds.{Setting, declared_end, function_start, par
 use Rattle.py_meaning.specs.ExprFaults.{Fault, assign_faults, debug_faults, declared_faults, expr_faults, exprs_faults, fault_at, faults_to, opt_expr_faults, when}
 use Rattle.py_meaning.specs.Scanned.{fault_as, scan_faults}
 use Rattle.py_meaning.specs.Faults.{annotated_faults, class_faults, compile_faults, def_faults, faults_behind, first_setting, future_faults, handlers_faults, interactive_faults, items_faults, malformed, match_faults, prompt_faults, rest_faults, setting_after, stmt_faults, stmts_faults, too_deep, too_large, whole}
-use Rattle.py_faults.specs.Given.{IsGiven, NeverGiven}
-use Rattle.py_faults.proofs.Givens.{Given, debug_given, joined, one_if, three}
+use Rattle.py_faults.specs.Given.{AreGiven, IsGiven, NeverGiven}
+use Rattle.py_faults.proofs.Givens.{debug_given, joined, one_if, three}
 use Rattle.py_faults.proofs.GivenExprs.{to_given}
 use Rattle.py_faults.proofs.GivenParts.{alias_given, annotated_given, asserted_given, assigned_given, augmented_given, class_given, declared_given, def_given, deletes_given, exprs_given, from_given, future_given, imported_given, items_given, looped_given, matched_given, opt_value_given, raised_given, value_given}
 
-four : (ws xs ys zs : List Fault) → Given ws → Given xs → Given ys → Given zs → Given (ws ++ xs ++ ys ++ zs)
+four : (ws xs ys zs : List Fault) → AreGiven ws → AreGiven xs → AreGiven ys → AreGiven zs → AreGiven (ws ++ xs ++ ys ++ zs)
 four ws xs ys zs a b c d = joined (ws ++ xs ++ ys) zs (three ws xs ys a b c) d
 
-but_doc_given : (text : Option (List ℕ)) (xs ys : List Fault) → Given xs → Given ys → Given (but_doc text xs ys)
+but_doc_given : (text : Option (List ℕ)) (xs ys : List Fault) → AreGiven xs → AreGiven ys → AreGiven (but_doc text xs ys)
 but_doc_given None xs ys a b = b
 but_doc_given (Some text) xs ys a b = a
 
 mutual
-  pub stmt_given : (c : Setting) (b : Bool) (t : tree.Stmt) → Given (stmt_faults c b t)
+  pub stmt_given : (c : Setting) (b : Bool) (t : tree.Stmt) → AreGiven (stmt_faults c b t)
   stmt_given c b (tree.FunctionDef at name params body decorators returns generic) =
       let p = last_of at (ends_of decorators) in
       let q = rest_end (scope_setting true c) (function_start p params generic) body in
@@ -78,37 +78,37 @@ mutual
   stmt_given c b (tree.Pass at) = tt
   stmt_given c b other = (tt, tt)
 
-  pub stmts_given : (c : Setting) (b : Bool) (ts : tree.Stmts) → Given (stmts_faults c b ts)
+  pub stmts_given : (c : Setting) (b : Bool) (ts : tree.Stmts) → AreGiven (stmts_faults c b ts)
   stmts_given c b tree.no_stmts = tt
   stmts_given c b (tree.more_stmts s ss) = joined (stmt_faults c b s) (stmts_faults c b ss) (stmt_given c b s) (stmts_given c b ss)
 
-  rest_given : (c : Setting) (ts : tree.Stmts) → Given (rest_faults c ts)
+  rest_given : (c : Setting) (ts : tree.Stmts) → AreGiven (rest_faults c ts)
   rest_given c tree.no_stmts = tt
   rest_given c (tree.more_stmts s ss) = but_doc_given (stmt_text s) (stmts_faults c false ss) (stmt_faults c false s ++ stmts_faults c false ss) (stmts_given c false ss) (joined (stmt_faults c false s) (stmts_faults c false ss) (stmt_given c false s) (stmts_given c false ss))
 
-  handlers_given : (c : Setting) (b : Bool) (hs : tree.Handlers) → Given (handlers_faults c b hs)
+  handlers_given : (c : Setting) (b : Bool) (hs : tree.Handlers) → AreGiven (handlers_faults c b hs)
   handlers_given c b tree.no_handlers = tt
   handlers_given c b (tree.more_handlers type name body rest) = three (match_faults c.in_function type name) (stmts_faults c b body) (handlers_faults c b rest) (matched_given c.in_function type name) (stmts_given c b body) (handlers_given c b rest)
 
 -- future imports before the other statements
-behind : (c : Setting) (o : Option Future) (xs : List Fault) (ys : Setting → List Fault) → Given xs → ((d : Setting) → Given (ys d)) → Given (elim o [ None ↦ xs | Some f ↦ future_faults c.in_function f ++ ys (setting_after f c) ])
+behind : (c : Setting) (o : Option Future) (xs : List Fault) (ys : Setting → List Fault) → AreGiven xs → ((d : Setting) → AreGiven (ys d)) → AreGiven (elim o [ None ↦ xs | Some f ↦ future_faults c.in_function f ++ ys (setting_after f c) ])
 behind c None xs ys a h = a
 behind c (Some f) xs ys a h = joined (future_faults c.in_function f) (ys (setting_after f c)) (future_given c.in_function f) (h (setting_after f c))
 
-behind_given : (c : Setting) (ts : tree.Stmts) → Given (faults_behind c ts)
+behind_given : (c : Setting) (ts : tree.Stmts) → AreGiven (faults_behind c ts)
 behind_given c tree.no_stmts = tt
 behind_given c (tree.more_stmts s ss) = behind c (future_of s) (stmts_faults c false (tree.more_stmts s ss)) (λ d. faults_behind d ss) (stmts_given c false (tree.more_stmts s ss)) (λ d. behind_given d ss)
 
-prompt_given : (c : Setting) (ts : tree.Stmts) → Given (prompt_faults c ts)
+prompt_given : (c : Setting) (ts : tree.Stmts) → AreGiven (prompt_faults c ts)
 prompt_given c tree.no_stmts = tt
 prompt_given c (tree.more_stmts (tree.StmtExpr at value) ss) = joined (expr_faults c.in_function value) (prompt_faults c ss) (value_given c.in_function value) (prompt_given c ss)
 prompt_given c (tree.more_stmts s ss) = behind c (future_of s) (stmts_faults c false (tree.more_stmts s ss)) (λ d. prompt_faults d ss) (stmts_given c false (tree.more_stmts s ss)) (λ d. prompt_given d ss)
 
-interactive_given : (m : Mode) (c : Setting) (ts : tree.Stmts) → Given (interactive_faults m c ts)
+interactive_given : (m : Mode) (c : Setting) (ts : tree.Stmts) → AreGiven (interactive_faults m c ts)
 interactive_given mode.Single c ts = prompt_given c ts
 interactive_given other c ts = behind_given c ts
 
-compiled_given : (m : Mode) (level : ℕ) (t : tree.Mod) → Given (compile_faults m level t)
+compiled_given : (m : Mode) (level : ℕ) (t : tree.Mod) → AreGiven (compile_faults m level t)
 compiled_given m level (tree.Module body) = behind_given (first_setting level) (after_doc body)
 compiled_given m level (tree.Interactive body) = interactive_given m (first_setting level) body
 compiled_given m level (tree.Expression value) = value_given false value
@@ -121,24 +121,24 @@ scan_error (scan.Malformed shape) = tt
 scan_error (scan.TooLarge limit) = tt
 scan_error scan.OutOfMemory = tt
 
-told_given : (fs : List tables.Fault) → Given (map fault_as fs)
+told_given : (fs : List tables.Fault) → AreGiven (map fault_as fs)
 told_given [] = tt
 told_given (f ∷ fs) = (scan_error f.error, told_given fs)
 
-scanned_given : (t : tree.Mod) → Given (scan_faults t)
+scanned_given : (t : tree.Mod) → AreGiven (scan_faults t)
 scanned_given (tree.Module stmts) = told_given (body_faults stmts)
 scanned_given (tree.Interactive stmts) = told_given (body_faults stmts)
 scanned_given (tree.Expression value) = told_given (value_faults value)
 scanned_given other = tt
 
-whole_given : (f : Fault) (limit n : ℕ) → IsGiven f.error → Given (whole f limit n)
+whole_given : (f : Fault) (limit n : ℕ) → IsGiven f.error → AreGiven (whole f limit n)
 whole_given f limit n h = by (nat_lt n limit)
   where
-    by : (b : Bool) → Given (if b then [] else f ∷ [])
+    by : (b : Bool) → AreGiven (if b then [] else f ∷ [])
     by true = tt
     by false = (h, tt)
 
-shapes_given : (ms : List Malformed) → Given (malformed ms)
+shapes_given : (ms : List Malformed) → AreGiven (malformed ms)
 shapes_given [] = tt
 shapes_given (m ∷ ms) = (tt, shapes_given ms)
 

@@ -12,33 +12,30 @@ use Rattle.py_steps.specs.TableParts.{is_debug}
 use Rattle.py_meaning.specs.ExprFaults.{ExprFaults, Fault, TargetFaults, debug_faults, elements, fault_at, if_any, in_order, joined_faults, keyword_faults, parameter_faults, retold_faults, values, when}
 use Rattle.py_faults.specs.Given.{AreGiven, IsGiven}
 
-abbrev pub Given : List Fault → Type 0
-Given fs = AreGiven fs
-
-pub joined : (xs ys : List Fault) → Given xs → Given ys → Given (xs ++ ys)
+pub joined : (xs ys : List Fault) → AreGiven xs → AreGiven ys → AreGiven (xs ++ ys)
 joined [] ys a b = b
 joined (x ∷ xs) ys a b = (a.0, joined xs ys a.1 b)
 
-pub three : (xs ys zs : List Fault) → Given xs → Given ys → Given zs → Given (xs ++ ys ++ zs)
+pub three : (xs ys zs : List Fault) → AreGiven xs → AreGiven ys → AreGiven zs → AreGiven (xs ++ ys ++ zs)
 three xs ys zs a b d = joined (xs ++ ys) zs (joined xs ys a b) d
 
-pub one_if : (b : Bool) (f : Fault) → IsGiven f.error → Given (when b f)
+pub one_if : (b : Bool) (f : Fault) → IsGiven f.error → AreGiven (when b f)
 one_if true f h = (h, tt)
 one_if false f h = tt
 
-pub either_given : (b : Bool) (xs ys : List Fault) → Given xs → Given ys → Given (if b then xs else ys)
+pub either_given : (b : Bool) (xs ys : List Fault) → AreGiven xs → AreGiven ys → AreGiven (if b then xs else ys)
 either_given true xs ys a b = a
 either_given false xs ys a b = b
 
-pub debug_given : (text : List ℕ) (p : SourceLocation) (name : List ℕ) → Given (debug_faults text p name)
+pub debug_given : (text : List ℕ) (p : SourceLocation) (name : List ℕ) → AreGiven (debug_faults text p name)
 debug_given text p name = one_if (is_debug name) (fault_at (error.SyntaxError text) p) tt
 
-pub keywords_given : (p : SourceLocation) (ks : tree.Keywords) → Given (keyword_faults p ks)
+pub keywords_given : (p : SourceLocation) (ks : tree.Keywords) → AreGiven (keyword_faults p ks)
 keywords_given p tree.no_keywords = tt
 keywords_given p (tree.more_keywords None e ks) = keywords_given p ks
 keywords_given p (tree.more_keywords (Some name) e ks) = joined (debug_faults no_assignment p name) (keyword_faults p ks) (debug_given no_assignment p name) (keywords_given p ks)
 
-pub parameters_given : (p : SourceLocation) (names : List (List ℕ)) → Given (parameter_faults p names)
+pub parameters_given : (p : SourceLocation) (names : List (List ℕ)) → AreGiven (parameter_faults p names)
 parameters_given p [] = tt
 parameters_given p (x ∷ xs) = joined (debug_faults no_assignment p x) (parameter_faults p xs) (debug_given no_assignment p x) (parameters_given p xs)
 
@@ -49,33 +46,33 @@ told_so error.AsyncReturnValue h = h
 told_so error.MissingCell h = h
 told_so other h = tt
 
-pub retold_given : (fs : List Fault) → Given fs → Given (retold_faults fs)
+pub retold_given : (fs : List Fault) → AreGiven fs → AreGiven (retold_faults fs)
 retold_given [] h = tt
 retold_given (f ∷ fs) h = (told_so f.error h.0, retold_given fs h.1)
 
 -- of an expression, as a value and as an element, and of a target
 pub record Well (f : ExprFaults) : Type 0 where
-  pub value : Given f.value
-  pub element : Given f.element
+  pub value : AreGiven f.value
+  pub element : AreGiven f.element
 
 pub record WellTo (f : TargetFaults) : Type 0 where
-  pub alone : Given f.alone
-  pub element : Given f.element
+  pub alone : AreGiven f.alone
+  pub element : AreGiven f.element
 
 abbrev pub AllWell : List ExprFaults → Type 0
 AllWell fs = AllOf Well fs
 
 abbrev pub AllGiven : List (List Fault) → Type 0
-AllGiven fs = AllOf Given fs
+AllGiven fs = AllOf AreGiven fs
 
 abbrev pub OptGiven : Option (List Fault) → Type 0
 OptGiven None = Unit {0}
-OptGiven (Some fs) = Given fs
+OptGiven (Some fs) = AreGiven fs
 
 abbrev pub OptsGiven : List (Option (List Fault)) → Type 0
 OptsGiven fs = AllOf OptGiven fs
 
-pub order_given : (fs : List (List Fault)) → AllGiven fs → Given (in_order fs)
+pub order_given : (fs : List (List Fault)) → AllGiven fs → AreGiven (in_order fs)
 order_given [] h = tt
 order_given (f ∷ fs) h = joined f (in_order fs) h.0 (order_given fs h.1)
 
@@ -87,11 +84,11 @@ pub elements_given : (fs : List ExprFaults) → AllWell fs → AllGiven (element
 elements_given [] h = tt
 elements_given (f ∷ fs) h = (h.0.element, elements_given fs h.1)
 
-pub any_given : (o : Option (List Fault)) → OptGiven o → Given (if_any o)
+pub any_given : (o : Option (List Fault)) → OptGiven o → AreGiven (if_any o)
 any_given None h = tt
 any_given (Some fs) h = h
 
-pub joined_given : (text : Option (List ℕ)) (fs : List (List Fault)) → AllGiven fs → Given (joined_faults text fs)
+pub joined_given : (text : Option (List ℕ)) (fs : List (List Fault)) → AllGiven fs → AreGiven (joined_faults text fs)
 joined_given (Some text) fs h = tt
 joined_given None fs h = order_given fs h
 
