@@ -27,7 +27,7 @@ pub(crate) fn read_all(
     ensures { Gives (λ _. nodes_view nodes.new) result (rows_from 0 (items_view rows.items) (nodes_view nodes.old)) }
 {
     let mut parts = Vec::new(alloc);
-    let mut read = Vec::with_capacity(alloc, GROUP)?;
+    let mut read = Vec::with_capacity(alloc, rows.len().min(GROUP))?;
     let mut number = 0u32;
     rows.reverse();
     while let Some(row) = rows.pop() {
