@@ -23,7 +23,7 @@ use Rattle.py_scope.specs.InOrder.{IsScanned}
 use Rattle.py_scope.specs.Resolved.{each_row, first_fault, resolved, after_lifts, after_looks}
 use Rattle.py_scope.specs.Resolve.{is_free_kind, needs, resolve}
 use Rattle.py_scope.proofs.NameLemmas.{equal_names, names_same}
-use Rattle.py_scope.proofs.Tabling.{named, length-all_symbols}
+use Rattle.py_scope.proofs.Tabling.{length-all_symbols}
 use Rattle.py_scope.proofs.Shared.{once_new, count_new}
 use Rattle.py_scope.proofs.Kinded.{kind_is_resolved}
 use Rattle.py_scope.proofs.NeedLaws.{shown_is_needed}
@@ -121,6 +121,11 @@ listed_is n (e ∷ es) = by (same_name n e.0) (listed_is n es)
     by : (b : Bool) → list_any (same_name n) (keys_of es) ≡ is_some (lookup n es) → b || list_any (same_name n) (keys_of es) ≡ is_some (if b then Some e.1 else lookup n es)
     by true ih = refl
     by false ih = ih
+
+module _ (rows : List Row) (s : ℕ) where
+  named : (n : Name) (es : List (Name × Entry)) → list_any (λ t. same_name n t.name) (map {B = Symbol} (symbol_in rows s) es) ≡ list_any (same_name n) (keys_of es)
+  named n [] = refl
+  named n (e ∷ es) = ap (λ b. same_name n e.0 || b) (named n es)
 
 symbols_apart : (rows : List Row) (k : ℕ) (es : List (Name × Entry)) → AreDistinct (keys_of es) → AreApart (map {B = Symbol} (symbol_in rows k) es)
 symbols_apart rows k [] d = tt
