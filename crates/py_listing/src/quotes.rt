@@ -1,8 +1,8 @@
 //! The end of a line that names a text in quotes.
-ghost use Rattle.std.specs.Prelude.{◌≡◌, ◌<◌, [], ◌∷◌, ◌++◌, codes, string_bytes, IsFalse, IsTrue, OnOk};
-ghost use Rattle.py_quote.specs.Quote.{quote, quote_char};
+ghost use Rattle.std.specs.Prelude.{◌≡◌, ◌++◌, codes, string_bytes, IsTrue, OnOk};
+ghost use Rattle.py_quote.specs.Quote.{quote};
 
-use py_quote::push_quote;
+use py_quote::{is_escaped, push_quote};
 use std::alloc::AllocError;
 
 /// Appends a text in quotes after a space, and the line's end. A text whose bytes stand for themselves is appended as it
@@ -35,11 +35,4 @@ fn is_plain(text: &str) -> bool
         }
     }
     true
-}
-
-/// Whether a byte of a text is a character that does not stand for itself.
-fn is_escaped(byte: u8) -> bool
-    ensures { IsFalse result → byte < 128 → quote_char byte ≡ byte ∷ [] }
-{
-    matches!(byte, b'\'' | b'\\' | 0..=0x1f | 0x7f)
 }

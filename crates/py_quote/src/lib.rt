@@ -5,4 +5,4 @@ mod plain;
 mod quote;
 
 pub use plain::{push_bool, push_decimal};
-pub use quote::{push_quote, push_quote_bytes};
+pub use quote::{is_escaped, push_quote, push_quote_bytes};

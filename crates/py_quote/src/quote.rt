@@ -28,8 +28,8 @@ pub fn push_quote(out: &mut String, text: &str) -> Result<(), AllocError>
     out.push('\'')
 }
 
-/// Whether a byte of a text is a character that does not stand for itself.
-fn is_escaped(byte: u8) -> bool
+/// Whether a byte of a text is a character that does not stand for itself between quotes.
+pub fn is_escaped(byte: u8) -> bool
     ensures character { IsTrue result → byte < 128 }
     ensures itself { IsFalse result → byte < 128 → quote_char byte ≡ byte ∷ [] }
 {
