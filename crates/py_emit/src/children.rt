@@ -17,20 +17,13 @@ use py_base::{CodegenError, CodegenErrorType, Text};
 use py_bytecode::{CodeObject, ConstantData, Instruction, MakeFunctionFlags};
 
 impl Emitter {
-    /// Appends the load of a cell.
+    /// Appends the load of a cell. Whether it is there is asked before there is anything to want memory for.
     ///
     /// # Errors
     /// MissingCell where the name is no cell of the scope and does not come to it from outside, at the present location,
     /// or OutOfMemory.
-    pub fn load_cell(&mut self, name: &str) -> Result<(), CodegenError>
-        ensures { Emits result (cell_load name.now) self.old self.new }
-    {
-        self.load_cell_of(name)
-    }
-
-    /// Appends the load of the cell of this name. Whether it is there is asked before there is anything to want memory for.
     #[tactic(auto, unfolding(py_steps::specs::Children::load_cell, py_steps::specs::Emitting::refuse), using(crate::proofs::CellPlaces::any_within, crate::proofs::CellPlaces::none_within))]
-    fn load_cell_of(&mut self, name: &str) -> Result<(), CodegenError>
+    pub fn load_cell(&mut self, name: &str) -> Result<(), CodegenError>
         ensures emits { Emits result (cell_load name.now) self.old self.new }
         ensures missing { list_any (text_eq name.now) ((state self.old).around.context.cells ++ (state self.old).around.context.frees) ≡ false → result ≡ Err (placed_error CodegenErrorType.MissingCell (state self.old).location (rest self.old).path) }
     {
@@ -47,7 +40,7 @@ impl Emitter {
         ensures { Emits result (in_turn (cell_loads names.now)) self.old self.new }
     {
         for name in names {
-            self.load_cell_of(name.as_str())?;
+            self.load_cell(name.as_str())?;
         }
         Ok(())
     }

@@ -279,15 +279,10 @@ impl Emitter {
     }
 
     /// Whether the scope has a cell of this name.
-    ///
-    /// # Errors
-    /// OutOfMemory alone.
-    pub fn has_cell(&mut self, name: &str) -> Result<bool, CodegenError>
-        ensures data { IfOk result (λ has. has ≡ list_any (text_eq name.now) (state self.old).around.context.cells) }
-        ensures same { OnOk result (self.new ≡ self.old) }
-        ensures err { IfErr result (λ e. IsStarved e (rest self.old).path) }
+    pub fn has_cell(&self, name: &str) -> bool
+        ensures { result ≡ list_any (text_eq name.now) (state self.now).around.context.cells }
     {
-        Ok(self.scope.code.cellvar_cache.place_of(name).is_some())
+        self.scope.code.cellvar_cache.place_of(name).is_some()
     }
 
     /// The number of cells and free names.

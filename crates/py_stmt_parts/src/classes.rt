@@ -132,7 +132,7 @@ fn doc_constant(doc: Option<Text>) -> ConstantData
 pub fn end_class(em: &mut Emitter) -> Result<(), CodegenError>
     ensures { Emits result class_end em.old em.new }
 {
-    let kept = em.has_cell("__class__")?;
+    let kept = em.has_cell("__class__");
     end_with(em, kept)
 }
 
