@@ -130,7 +130,7 @@ module _ (c : Around) (r : Ready c) (k : ℕ) (path name : List ℕ) (body : tre
 
   -- its function
   pub class_function_fits : (flags : ℕ) → flags < 2 ^ 31 → Here c class_own → Fits c k (k + suc (scopes_in_stmts p body)) (192 * stmts_size body + 10) (class_function path flags name body (emission_of_rest body))
-  class_function_fits flags small h = fits_as (omega arith) (omega arith) (child_fits (class_within path name) (class_shape name) inner_ready (scope_fits h) (λ o e short. made_fits r flags name o small (hand_as e (reach h)) short))
+  class_function_fits flags small h = fits_as (omega arith) (omega arith) (child_fits (class_within path name) (class_shape name) inner_ready (scope_fits h) (λ i. record { positional = omega arith; arguments = omega arith; keywords = omega arith }) (λ o e short. made_fits r flags name o small (hand_as e (reach h)) short))
 
 -- the call of what builds a class
 module _ (c : Around) (r : Ready c) where

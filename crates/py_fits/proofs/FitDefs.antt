@@ -32,7 +32,7 @@ use Rattle.py_fits.specs.Fitting.{HasShortTables}
 use Rattle.py_fits.proofs.Fits.{Fits, constant_fits, context_fits, count_fits, fits_as, if_fits, keep_fits, level_fits, name_fits, plain_fits, room, then_fits}
 use Rattle.py_fits.proofs.Accesses.{AtHand, Ready, made_fits, outside}
 use Rattle.py_fits.proofs.FitScopes.{child_fits, defaults_fit, hand_as, scope_fits}
-use Rattle.py_fits.proofs.FitLambdas.{defaults_size, parameters_less}
+use Rattle.py_fits.proofs.FitLambdas.{defaults_size, function_few, parameters_less}
 use Rattle.py_fits.proofs.FitExprs.{defaults_fitted}
 use Rattle.py_fits.proofs.FitNotes.{notes_fit}
 use Rattle.py_fits.proofs.Standing.{Here, apart, free_at_hand, kids_stand, names_at_hand, together, told}
@@ -144,7 +144,7 @@ module _ (c : Around) (r : Ready c) (k : ℕ) (name : List ℕ) (params : tree.A
       let noted = notes_fit c r m params returns h.notes_so in
       fits_as (omega arith) (omega (arith, few))
       (then_fits
-      (child_fits (function_inside name) (function_shape params name) inner_ready (scope_fits inner (parameters params) (body_fits h.own)) (λ o e short. function_made_fits r flags (notes params returns) name o small noted (hand_as e (reach h.own)) short))
+      (child_fits (function_inside name) (function_shape params name) inner_ready (scope_fits inner (parameters params) (body_fits h.own)) (λ i. function_few params name (omega (arith, i))) (λ o e short. function_made_fits r flags (notes params returns) name o small noted (hand_as e (reach h.own)) short))
       (level_fits (λ l. documented (doc_of l body)) (documented_fits (doc_of c.context.level body))))
 
 -- the defaults of a function

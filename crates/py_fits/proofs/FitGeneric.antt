@@ -113,7 +113,7 @@ module _ (c : Around) (r : Ready c) (k : ℕ) where
       let count = length (handed d.positional d.keyword) in
       let two = two_handed d.positional d.keyword in
       room (omega arith)
-      (then_fits (child_fits hidden_inside (hidden_shape count name) within_ready (then_fits x (plain_fits op.ReturnValue)) (λ o e short. made_fits r 0 (hidden_name name) o (omega arith) (hand_as e (reach f h)) short))
+      (then_fits (child_fits hidden_inside (hidden_shape count name) within_ready (then_fits x (plain_fits op.ReturnValue)) (λ i. record { positional = omega (arith, two); arguments = omega (arith, two); keywords = omega arith }) (λ o e short. made_fits r 0 (hidden_name name) o (omega arith) (hand_as e (reach f h)) short))
       (then_fits y (count_fits op.CallFunctionPositional count (omega (arith, two)))))
 
 -- nothing is handed to the hidden scope of a class or an alias

@@ -1,5 +1,5 @@
 -- A lambda fits where its defaults and its body do.
-use Rattle.std.proofs.Common.{ℕ, suc, ◌+◌, ◌≤◌, ◌++◌, length, arith, length-append}
+use Rattle.std.proofs.Common.{◌≡◌, refl, ℕ, suc, ◌+◌, ◌<◌, ◌≤◌, ◌^◌, List, ◌++◌, length, arith, length-append}
 use Rattle.std.specs.Prelude.{codes}
 use Rattle.py_tree.specs.Tree as tree
 use Rattle.py_counts.specs.Counts.{scopes_in_annotations}
@@ -10,6 +10,7 @@ use Rattle.py_scope.specs.declared.table_type.SymbolTableType.TheVariants as kin
 use Rattle.py_steps.specs.Children.{DefaultEmissions, flags_of_defaults}
 use Rattle.py_steps.specs.Within.{lambda_inside}
 use Rattle.py_steps.specs.Emitting.{Around, Emission}
+use Rattle.py_fits.proofs.ShortTables.{HasFew}
 use Rattle.py_fits.proofs.Fits.{Fits, room, scopes_fit, then_fits}
 use Rattle.py_fits.proofs.Accesses.{AtHand, Ready, made_fits, outside, ready_inside}
 use Rattle.py_fits.proofs.FitScopes.{DefaultsFit, child_fits, default_flags_few, defaults_fit, hand_as, scope_fits}
@@ -56,11 +57,29 @@ parameters_less (tree.arguments posonly args vararg kwonly kwarg) =
     let f = opt_names_few kwarg in
     omega (arith, x, y, z, w, u, a, b, d, e, f)
 
+-- keyword-only parameters without a default and those with one are all of them
+keyword_names : (args : tree.Args) → length (names_without_default args) + length (names_with_default args) ≡ length (arg_names args)
+keyword_names tree.no_args = refl
+keyword_names (tree.more_args (tree.arg at name annotation) tree.no_expr rest) = let h = keyword_names rest in omega (arith, h)
+keyword_names (tree.more_args (tree.arg at name annotation) (tree.some_expr e) rest) = let h = keyword_names rest in omega (arith, h)
+
+-- a function has few parameters of each kind where it has few names of them
+pub function_few : (params : tree.Arguments) (name : List ℕ) → length (parameters params) < 2 ^ 30 → HasFew (function_shape params name)
+function_few (tree.arguments posonly args vararg kwonly kwarg) name h =
+    let own = names_with_default kwonly in
+    let last = opt_arg_names vararg ++ opt_arg_names kwarg in
+    let x = length-append (arg_names posonly) (arg_names args ++ (names_without_default kwonly ++ (own ++ last))) in
+    let y = length-append (arg_names args) (names_without_default kwonly ++ (own ++ last)) in
+    let z = length-append (names_without_default kwonly) (own ++ last) in
+    let w = length-append own last in
+    let k = keyword_names kwonly in
+    record { positional = omega (arith, h, x); arguments = omega (arith, h, x, y); keywords = omega (arith, h, x, y, z, w, k) }
+
 -- a lambda
 pub lambda_fits : {returned : Emission} (c : Around) (k m l v w : ℕ) (params : tree.Arguments) (d : DefaultEmissions) → Ready c → AtHand c (lambda_inside c.context m).frees → DefaultsFit c k m v d → Fits (outside (lambda_inside c.context m)) (suc m) l w returned → Fits c k (l + scopes_in_annotations c.context.postponed params) (v + w + length (parameters params) + 4) (lambda_value params d returned)
 unfolding lambda_value
 lambda_fits c k m l v w params d r hand x y =
     room (omega arith)
     (then_fits (defaults_fit c k m v d x)
-    (child_fits lambda_inside (function_shape params (codes "<lambda>")) (ready_inside c kind.Function m r) (scope_fits (outside (lambda_inside c.context m)) (parameters params) y)
+    (child_fits lambda_inside (function_shape params (codes "<lambda>")) (ready_inside c kind.Function m r) (scope_fits (outside (lambda_inside c.context m)) (parameters params) y) (λ i. function_few params (codes "<lambda>") (omega (arith, i)))
     (λ o e short. then_fits (scopes_fit (λ postponed. scopes_in_annotations postponed params)) (made_fits r (flags_of_defaults d) (codes "<lambda>") o (default_flags_few d) (hand_as e hand) short))))

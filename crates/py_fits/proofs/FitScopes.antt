@@ -19,7 +19,7 @@ use Rattle.py_steps.specs.Refused.{no_assignment, retold}
 use Rattle.py_steps.specs.Sealed.{Head, sealed}
 use Rattle.py_steps.specs.Within.{Shape, comprehension_inside, some_flag}
 use Rattle.py_fits.specs.Fitting.{HasShortTables}
-use Rattle.py_fits.proofs.ShortTables.{sealed_short}
+use Rattle.py_fits.proofs.ShortTables.{FewParameters, HasFew, sealed_short}
 use Rattle.py_fits.proofs.Fits.{Fits, FitsIn, Stands, begin_fits, constant_added, constant_fits, count_fits, emit_fits, few_so, fits_as, fits_from, generating_fits, if_fits, jump_fits, keep_fits, more, new_fits, plain_fits, refuse_fits, room, taken, then_fits, unless_debug_fits, varname_added, varname_fits, IsOfTree}
 use Rattle.py_fits.proofs.Accesses.{AtHand, Ready, cells_few, made_fits, outside, ready_inside}
 use Rattle.py_fits.proofs.FitParts.{FitsWell, NamedFits, Takes, built_fits, map_fits}
@@ -31,19 +31,19 @@ unfolding sealed
 sealed_frees level h t = refl
 
 -- what a scope within comes to is sealed, its tables are short, and what follows goes on
-seals : {c : Around} {k m w d : ℕ} {follow : Object → Emission} (inner : Around) (l b level : ℕ) (h : Head) (s : State) (o : Outcome) → Stands c k s → FitsIn inner l b o → b < 2 ^ 30 → length h.cellvars + length h.freevars < 2 ^ 30 → taken s + w ≤ d → d < 2 ^ 30 → ((x : Object) → free_names x ≡ h.freevars → Everywhere HasShortTables x → Fits c l m w (follow x)) → FitsIn c m d (on_sealed level h s o follow)
+seals : {c : Around} {k m w d : ℕ} {follow : Object → Emission} (inner : Around) (l b level : ℕ) (h : Head) (s : State) (o : Outcome) → Stands c k s → FitsIn inner l b o → b < 2 ^ 30 → length h.cellvars + length h.freevars < 2 ^ 30 → FewParameters h.posonlyarg_count h.arg_count h.kwonlyarg_count → taken s + w ≤ d → d < 2 ^ 30 → ((x : Object) → free_names x ≡ h.freevars → Everywhere HasShortTables x → Fits c l m w (follow x)) → FitsIn c m d (on_sealed level h s o follow)
 unfolding taken
-seals {c} {k} {m} {w} {d} {follow} inner l b level h s (Done t) st g small cells i r y =
+seals {c} {k} {m} {w} {d} {follow} inner l b level h s (Done t) st g small cells few i r y =
     let e = g.1 in
-    let short = sealed_short level h t g.0.short (omega (arith, e, small)) cells in
+    let short = sealed_short level h t g.0.short (omega (arith, e, small)) cells few in
     more c m (taken (behind_child s t) + w) d (follow (sealed level h t) (behind_child s t)) i ((y (sealed level h t) (sealed_frees level h t) short).fits (behind_child s t) (record { around = st.around; next = g.0.next; short = st.short }) (omega (arith, i, r)))
-seals inner l b level h s TooWide st g small cells i r y = g
-seals inner l b level h s (Refused z at) st g small cells i r y = g
+seals inner l b level h s TooWide st g small cells few i r y = g
+seals inner l b level h s (Refused z at) st g small cells few i r y = g
 
--- a scope within, and what follows of its code object, whose tables are short
-pub child_fits : {c : Around} {k l m v w : ℕ} {body : Emission} {follow : Object → Emission} (within : Context → ℕ → Context) (h : Shape) → Ready (outside (within c.context k)) → Fits (outside (within c.context k)) (suc k) l v body → ((o : Object) → free_names o ≡ (within c.context k).frees → Everywhere HasShortTables o → Fits c l m w (follow o)) → Fits c k m (v + w + 1) (child within h body follow)
+-- a scope within that has few parameters where there is room for its body, and what follows of its code object, whose tables are short
+pub child_fits : {c : Around} {k l m v w : ℕ} {body : Emission} {follow : Object → Emission} (within : Context → ℕ → Context) (h : Shape) → Ready (outside (within c.context k)) → Fits (outside (within c.context k)) (suc k) l v body → (v < 2 ^ 30 → HasFew h) → ((o : Object) → free_names o ≡ (within c.context k).frees → Everywhere HasShortTables o → Fits c l m w (follow o)) → Fits c k m (v + w + 1) (child within h body follow)
 unfolding child taken
-child_fits {c} {k} {l} {m} {v} {w} {body} {follow} within h q x y = record {
+child_fits {c} {k} {l} {m} {v} {w} {body} {follow} within h q x few y = record {
   fits = λ s st r.
       let d = within s.around.context s.next in
       let same : d ≡ within c.context k = λ j. within (st.around j).context (st.next j) in
@@ -51,7 +51,8 @@ child_fits {c} {k} {l} {m} {v} {w} {body} {follow} within h q x y = record {
       let x1 = subst (λ (a : Around). Fits (outside (within a.context k)) (suc k) l v body) (sym st.around) x in
       let x2 = subst (λ n. Fits (outside (within s.around.context n)) (suc n) l v body) (sym st.next) x1 in
       let own = x2.fits (begun d s.location (suc s.next)) (record { around = refl; next = refl; short = tt }) (omega (arith, r)) in
-      seals (outside d) l (taken (begun d s.location (suc s.next)) + v) d.level (code_head d h s.location) s (body (begun d s.location (suc s.next))) st own (omega (arith, r)) cells (omega arith) r (λ o e short. y o (e ∙ ap (λ (z : Context). z.frees) same) short);
+      let parameters = few (omega (arith, r)) in
+      seals (outside d) l (taken (begun d s.location (suc s.next)) + v) d.level (code_head d h s.location) s (body (begun d s.location (suc s.next))) st own (omega (arith, r)) cells parameters (omega arith) r (λ o e short. y o (e ∙ ap (λ (z : Context). z.frees) same) short);
 }
 
 -- the same names in other words
@@ -193,7 +194,7 @@ module _ (c : Around) where
   unfolding called_at_once
   called_fits {k} r name hand x y =
       room (omega arith)
-      (then_fits (child_fits comprehension_inside (comprehension_shape name) (ready_inside c kind.Comprehension k r) x (λ o e short. made_fits r 0 name o (omega arith) (hand_as e hand) short))
+      (then_fits (child_fits comprehension_inside (comprehension_shape name) (ready_inside c kind.Comprehension k r) x (λ i. record { positional = omega arith; arguments = omega arith; keywords = omega arith }) (λ o e short. made_fits r 0 name o (omega arith) (hand_as e hand) short))
       (then_fits y (then_fits (plain_fits op.GetIter) (count_fits op.CallFunctionPositional 1 (omega arith)))))
 
   -- the first iterable, where there is one

@@ -12,7 +12,7 @@ use Rattle.py_steps.specs.Emitting.{State}
 use Rattle.py_steps.specs.Everywhere.{Everywhere, UpTo}
 use Rattle.py_steps.specs.Sealed.{Head, sealed}
 use Rattle.py_steps.specs.TableParts.{constant_of}
-use Rattle.py_steps.specs.Within.{doc_const}
+use Rattle.py_steps.specs.Within.{Shape, doc_const}
 use Rattle.py_fits.specs.Fitting.{HasShortTables}
 
 -- a constant is no code object, or one that has short tables, as has each within it
@@ -71,12 +71,31 @@ listed_are : (cs : List Const) → listed (consts_of cs) ≡ cs
 listed_are [] = refl
 listed_are (c ∷ cs) = ap (λ ds. c ∷ ds) (listed_are cs)
 
--- what is sealed over such constants has short tables, as has each code object within, where its own tables are short and its cells and free names few
-pub sealed_short : (level : ℕ) (h : Head) (s : State) → AllOf IsShort s.constants → length s.names + length s.varnames + length s.constants < 2 ^ 30 → length h.cellvars + length h.freevars < 2 ^ 30 → Everywhere HasShortTables (sealed level h s)
+-- fewer than 2 ^ 30 parameters of each kind
+pub record FewParameters (p a k : ℕ) : Type 0 where
+  pub positional : p < 2 ^ 30
+  pub arguments : a < 2 ^ 30
+  pub keywords : k < 2 ^ 30
+
+-- so few has a scope of this shape
+abbrev pub HasFew : Shape → Type 0
+HasFew h = FewParameters h.posonlyarg_count h.arg_count h.kwonlyarg_count
+
+-- what is sealed over such constants has short tables, as has each code object within, where its own tables are short and its cells, free names and parameters few
+pub sealed_short : (level : ℕ) (h : Head) (s : State) → AllOf IsShort s.constants → length s.names + length s.varnames + length s.constants < 2 ^ 30 → length h.cellvars + length h.freevars < 2 ^ 30 → FewParameters h.posonlyarg_count h.arg_count h.kwonlyarg_count → Everywhere HasShortTables (sealed level h s)
 unfolding sealed
-sealed_short level h s short few cells zero = tt
-sealed_short level h s short few cells (suc n) =
+sealed_short level h s short few cells parameters zero = tt
+sealed_short level h s short few cells parameters (suc n) =
     let e = ap length (listed_are s.constants) in (
-      record { names = omega (arith, few); varnames = omega (arith, few); cellvars = omega (arith, cells); freevars = omega (arith, cells); constants = omega (arith, few, e) },
+      record {
+        names = omega (arith, few);
+        varnames = omega (arith, few);
+        cellvars = omega (arith, cells);
+        freevars = omega (arith, cells);
+        constants = omega (arith, few, e);
+        positional = parameters.positional;
+        arguments = parameters.arguments;
+        keywords = parameters.keywords;
+      },
       subst (λ cs. AllOf (UpTo HasShortTables n) (codes_in cs)) (sym (listed_are s.constants)) (codes_short n s.constants short),
     )

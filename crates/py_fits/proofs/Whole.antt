@@ -46,7 +46,7 @@ small_tables s b t i = record { names = omega (arith, t, i); varnames = omega (a
 -- its code object has short tables, as has each within
 short_tables : (c : Context) (level l b : ℕ) (s : State) → Ready (outside c) → FitsIn (outside c) l b (Done s) → b < 2 ^ 30 → Everywhere HasShortTables (sealed level (module_head c) s)
 unfolding taken
-short_tables c level l b s r f i = let t = f.1 in sealed_short level (module_head c) s f.0.short (omega (arith, t, i)) (cells_few (outside c) r)
+short_tables c level l b s r f i = let t = f.1 in sealed_short level (module_head c) s f.0.short (omega (arith, t, i)) (cells_few (outside c) r) (record { positional = omega arith; arguments = omega arith; keywords = omega arith })
 
 -- an error that does not say that a cell is not there is another one
 pub another : (e : CodegenErrorType) → IsOfTree e → e ≢ error.MissingCell

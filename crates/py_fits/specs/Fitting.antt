@@ -19,15 +19,18 @@ pub record IsSmall (s : State) : Type 0 where
   pub constants : length s.constants < 2 ^ 30
   pub blocks : s.blocks < 2 ^ 30
 
--- fewer than 2 ^ 30 names, names of its own, cells, names from outside and constants of a code object
+-- fewer than 2 ^ 30 names, names of its own, cells, names from outside, constants and parameters of a code object
 pub record HasShortTables (o : Object) : Type 0 where
   pub names : length (head o).names < 2 ^ 30
   pub varnames : length (head o).varnames < 2 ^ 30
   pub cellvars : length (head o).cellvars < 2 ^ 30
   pub freevars : length (head o).freevars < 2 ^ 30
   pub constants : length (constants o) < 2 ^ 30
+  pub positional : (head o).posonlyarg_count < 2 ^ 30
+  pub arguments : (head o).arg_count < 2 ^ 30
+  pub keywords : (head o).kwonlyarg_count < 2 ^ 30
 
--- what is emitted of a tree without faults is done, its tables and blocks are so few, and the tables of its code object and of each code object within are so short, in each mode, at each level of optimization and from each path
+-- what is emitted of a tree without faults is done, its tables and blocks are so few, and the tables of its code object and of each code object within are so short and its parameters so few, in each mode, at each level of optimization and from each path
 abbrev pub TreesFit : Type 0
 TreesFit =
     (t : tree.Mod) (m : Mode) (level : ℕ) (path : List ℕ) → faults t m level ≡ [] → (s : State) × (emitted t m (outermost level path (scopes_of t)) ≡ Done s) × IsSmall s × Everywhere HasShortTables (sealed level (module_head (outermost level path (scopes_of t))) s)

@@ -5,7 +5,7 @@ use py_loads::uses_are_few;
 
 /// The emission of a tree without faults is done: no operand is too large for an instruction, and no cell is missing where a
 /// function is made. Its tables of names and constants and its blocks are fewer than 2 ^ 30, and so are the tables of names,
-/// cells and constants of its code object and of each code object within, at every depth.
+/// cells and constants and the parameters of its code object and of each code object within, at every depth.
 pub fn trees_fit()
     ensures { TreesFit }
 {
