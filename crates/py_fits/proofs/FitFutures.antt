@@ -16,18 +16,19 @@ use Rattle.py_fits.proofs.Accesses.{Ready}
 use Rattle.py_fits.proofs.FitImports.{future_fits}
 use Rattle.py_fits.proofs.Standing.{Here, apart, postponed_ready, told}
 
--- it fits, wherever the next scope then has its number
+-- it fits, wherever the next scope then has its number, which is no further on than there is room for
 pub record Somehow (c : Around) (k w : ℕ) (a : Emission) : Type 0 where
   pub next : ℕ
+  pub few : next ≤ k + w
   pub fits : Fits c k next w a
 
 -- it fits somehow where it fits
-pub somehow : {c : Around} {k l v w : ℕ} {a : Emission} → v ≤ w → Fits c k l v a → Somehow c k w a
-somehow {l = l} i x = record { next = l; fits = room i x }
+pub somehow : {c : Around} {k l v w : ℕ} {a : Emission} → v ≤ w → l ≤ k + w → Fits c k l v a → Somehow c k w a
+somehow {l = l} i j x = record { next = l; few = j; fits = room i x }
 
 -- what follows a future import, in what stands around it there
 behind_so : (z : Bool) (c : Around) (k w : ℕ) (a : Emission) (g : Context → SForm) → Ready c → AllOf (Here c) (kids (g (if z then record (told c) { postponed = true } else told c))) → ((d : Around) → Ready d → AllOf (Here d) (kids (g (told d))) → Somehow d k w a) → Somehow c k w (if z then postponing a else a)
-behind_so true c k w a g r h x = let y = x (postponed_around c) (postponed_ready r) h in record { next = y.next; fits = postponing_fits y.fits }
+behind_so true c k w a g r h x = let y = x (postponed_around c) (postponed_ready r) h in record { next = y.next; few = y.few; fits = postponing_fits y.fits }
 behind_so false c k w a g r h x = x c r h
 
 -- the import, and what follows it
@@ -35,7 +36,8 @@ pub import_then : (c : Around) (k v w : ℕ) (f : Future) (a : Emission) (g : Co
 import_then c k v w f a g r i h x =
     let z = apart (Here c) (kids (future_form (told c) f)) (kids (g (after_future f (told c)))) h in
     let y = behind_so (postpones f) c k v a g r z.1 x in
-    somehow (omega (arith, i)) (then_fits (future_fits c r k f) y.fits)
+    let j = y.few in
+    somehow (omega (arith, i)) (omega (arith, i, j)) (then_fits (future_fits c r k f) y.fits)
 
 -- a future import has the names of its statement
 in_small : (z : Bool) (f g : Future) → future_in z f ≡ Some g → aliases_size g.names ≤ aliases_size f.names

@@ -24,6 +24,7 @@ use Rattle.py_meaning.specs.Table.{expr_form}
 use Rattle.py_meaning.specs.TableImports.{behind_futures, future_form}
 use Rattle.py_meaning.specs.TableScopes.{setup_form}
 use Rattle.py_meaning.specs.TableStmts.{doc_form, program_form, stmt_form, stmts_form}
+use Rattle.py_fits.proofs.FewScopes.{few_in, few_in_stmt, few_in_stmts}
 use Rattle.py_fits.proofs.Fits.{Fits, at_fits, constant_fits, fits_as, keep_fits, level_fits, name_fits, plain_fits, room, then_fits}
 use Rattle.py_fits.proofs.Accesses.{Ready, stored_fits}
 use Rattle.py_fits.proofs.FitClasses.{setup_fits}
@@ -68,8 +69,9 @@ program_fits ss c r h =
     let x = doc_none (Here c) (doc_of c.context.level ss) (kids (setup_form (annotated rest)) ++ (kids behind ++ [])) h in
     let y = setup_none (Here c) (annotated rest) (kids behind ++ []) x in
     let z = apart (Here c) (kids behind) [] y in
-    let body = behind_fits emission_of_stmts (λ d. stmts_form d 1) (λ us d q g. somehow (omega arith) (stmts_fit us d q 1 g)) rest c r z.0 in
-    somehow (omega (arith, l))
+    let body = behind_fits emission_of_stmts (λ d. stmts_form d 1) (λ us d q g. let i = few_in_stmts d.context.postponed us in somehow (omega arith) (omega (arith, i)) (stmts_fit us d q 1 g)) rest c r z.0 in
+    let few = body.few in
+    somehow (omega (arith, l)) (omega (arith, l, few))
     (then_fits (level_fits (λ n. emission_of_doc (doc_of n ss)) (doc_fits (doc_of c.context.level ss))) (then_fits (setup_fits (annotated rest)) (then_fits body.fits (constant_fits op.ReturnConst const.none tt))))
 
 -- what is entered at a prompt: an expression is printed, and the last is returned too
@@ -114,45 +116,54 @@ statement_or s ss c r k (Some f) e h x y =
     import_then c k (192 * stmts_size ss + 8) (192 * stmts_size (tree.more_stmts s ss) + 8) f (emission_of_prompt ss) (λ d. prompt_form d k ss) r (omega (arith, i)) h y
 
 -- where an expression is printed, and what follows fits somehow
-printed_somehow : {c : Around} {k l v w : ℕ} {value rest : Emission} (last : Bool) → Fits c k l v value → (last ≡ false → Somehow c l w rest) → Somehow c k (v + w) (emission_of_printed last value rest)
-printed_somehow true x y = somehow (omega arith) (then_fits x (then_fits (plain_fits op.Duplicate) (then_fits (plain_fits op.PrintExpr) (plain_fits op.ReturnValue))))
-printed_somehow false x y = let z = y refl in somehow (omega arith) (then_fits x (then_fits (plain_fits op.PrintExpr) z.fits))
+printed_somehow : {c : Around} {k l v w : ℕ} {value rest : Emission} (last : Bool) → l ≤ k + v → Fits c k l v value → (last ≡ false → Somehow c l w rest) → Somehow c k (v + w) (emission_of_printed last value rest)
+printed_somehow true i x y = somehow (omega arith) (omega (arith, i)) (then_fits x (then_fits (plain_fits op.Duplicate) (then_fits (plain_fits op.PrintExpr) (plain_fits op.ReturnValue))))
+printed_somehow false i x y = let z = y refl in let j = z.few in somehow (omega arith) (omega (arith, i, j)) (then_fits x (then_fits (plain_fits op.PrintExpr) z.fits))
 
 -- with more room
 more_room : {c : Around} {k v w : ℕ} {a : Emission} → v ≤ w → Somehow c k v a → Somehow c k w a
-more_room i x = somehow i x.fits
+more_room i x = let j = x.few in somehow i (omega (arith, i, j)) x.fits
 
 -- statements at a prompt, where future imports may stand
 prompt_fits : (ss : tree.Stmts) (c : Around) → Ready c → (k : ℕ) → AllOf (Here c) (kids (prompt_form (told c) k ss)) → Somehow c k (192 * stmts_size ss + 8) (emission_of_prompt ss)
-prompt_fits tree.no_stmts c r k h = somehow (omega arith) (constant_fits op.ReturnConst const.none tt)
+prompt_fits tree.no_stmts c r k h = somehow (omega arith) (omega arith) (constant_fits op.ReturnConst const.none tt)
 prompt_fits (tree.more_stmts (tree.StmtExpr at value) ss) c r k h =
     let j = k + scopes_in c.context.postponed value in
     let x = printed_so (Here c) (none ss) (expr_form (told c) k value) (prompt_form (told c) j ss) h in
-    more_room (omega arith) (printed_somehow (none ss) (value_fits c r k value x.0) (λ e. prompt_fits ss c r j (x.1 e)))
+    let i = few_in c.context.postponed value in
+    more_room (omega arith) (printed_somehow (none ss) (omega (arith, i)) (value_fits c r k value x.0) (λ e. prompt_fits ss c r j (x.1 e)))
 prompt_fits (tree.more_stmts s ss) c r k h =
-    statement_or s ss c r k (future_of s) refl h (λ g. somehow (omega arith) (single_fits (tree.more_stmts s ss) c r k g)) (λ d q g. prompt_fits ss d q k g)
+    let i = few_in_stmts c.context.postponed (tree.more_stmts s ss) in
+    statement_or s ss c r k (future_of s) refl h (λ g. somehow (omega arith) (omega (arith, i)) (single_fits (tree.more_stmts s ss) c r k g)) (λ d q g. prompt_fits ss d q k g)
 
 -- the last statement of a block
 last_fits : (s : tree.Stmt) (c : Around) → Ready c → (k : ℕ) → AllOf (Here c) (kids (last_form (told c) k s)) → Somehow c k (192 * stmt_size s + 1) (emission_of_value s)
-last_fits (tree.StmtExpr at value) c r k h = somehow (omega arith) (at_fits at (whole_returned_fits c r k value h))
+last_fits (tree.StmtExpr at value) c r k h = let i = few_in c.context.postponed value in somehow (omega arith) (omega (arith, i)) (at_fits at (whole_returned_fits c r k value h))
 last_fits (tree.FunctionDef at name params body decorators returns generic) c r k h =
-    somehow (omega arith)
+    let i = few_in_stmt c.context.postponed (tree.FunctionDef at name params body decorators returns generic) in
+    somehow (omega arith) (omega (arith, i))
     (at_fits at (then_fits (def_fits c r k name params body decorators returns generic (λ d q j g. rest_fits body d q j g) (apart (Here c) (kids_v (decorated_function c k name params body decorators returns generic)) [] h).0) (kept_fits r name)))
 last_fits (tree.ClassDef at name bases keywords body decorators generic) c r k h =
-    somehow (omega arith)
+    let i = few_in_stmt c.context.postponed (tree.ClassDef at name bases keywords body decorators generic) in
+    somehow (omega arith) (omega (arith, i))
     (at_fits at (then_fits (class_fits c r k name bases keywords body decorators generic (λ d q j g. rest_fits body d q j g) (apart (Here c) (kids_v (decorated_class c k name bases keywords body decorators generic)) [] h).0) (kept_fits r name)))
-last_fits other c r k h = let x = apart (Here c) (kids (stmt_form (told c) k other)) [] h in somehow (omega arith) (then_fits (stmt_fits other c r k x.0) (constant_fits op.ReturnConst const.none tt))
+last_fits other c r k h =
+    let x = apart (Here c) (kids (stmt_form (told c) k other)) [] h in
+    let i = few_in_stmt c.context.postponed other in
+    somehow (omega arith) (omega (arith, i)) (then_fits (stmt_fits other c r k x.0) (constant_fits op.ReturnConst const.none tt))
 
 -- statements whose last value is given
 block_fits : (ss : tree.Stmts) (c : Around) → Ready c → (k : ℕ) → AllOf (Here c) (kids (block_form (told c) k ss)) → Somehow c k (192 * stmts_size ss + 1) (emission_of_block ss)
-block_fits tree.no_stmts c r k h = somehow (omega arith) (constant_fits op.ReturnConst const.none tt)
+block_fits tree.no_stmts c r k h = somehow (omega arith) (omega arith) (constant_fits op.ReturnConst const.none tt)
 block_fits (tree.more_stmts s tree.no_stmts) c r k h = more_room (omega arith) (last_fits s c r k h)
 block_fits (tree.more_stmts s (tree.more_stmts t ts)) c r k h =
     let j = k + scopes_in_stmt c.context.postponed s in
     let rest = tree.more_stmts t ts in
     let x = apart (Here c) (kids (stmt_form (told c) k s)) (kids (block_form (told c) j rest)) h in
     let y = block_fits (tree.more_stmts t ts) c r j x.1 in
-    somehow (omega arith) (then_fits (stmt_fits s c r k x.0) y.fits)
+    let i = few_in_stmt c.context.postponed s in
+    let few = y.few in
+    somehow (omega arith) (omega (arith, i, few)) (then_fits (stmt_fits s c r k x.0) y.fits)
 
 -- what is entered at a prompt, and a file whose last value is given
 interactive_fits : (m : Mode) (ss : tree.Stmts) (c : Around) → Ready c → AllOf (Here c) (kids (interactive_form m (told c) ss)) → Somehow c 1 (192 * stmts_size ss + 8) (emission_of_interactive m ss)
@@ -163,5 +174,5 @@ interactive_fits other ss c r h = behind_fits emission_of_block (λ d. block_for
 pub mod_fits : (t : tree.Mod) (m : Mode) (c : Around) → Ready c → AllOf (Here c) (kids (mod_form (told c) t m)) → Somehow c 1 (192 * size_of t) (emission_of_mod t m)
 mod_fits (tree.Module body) m c r h = more_room (omega arith) (program_fits body c r h)
 mod_fits (tree.Interactive body) m c r h = more_room (omega arith) (interactive_fits m body c r h)
-mod_fits (tree.Expression body) m c r h = somehow (omega arith) (whole_returned_fits c r 1 body h)
-mod_fits other m c r h = record { next = 1; fits = record { fits = λ s st g. tt } }
+mod_fits (tree.Expression body) m c r h = let i = few_in c.context.postponed body in somehow (omega arith) (omega (arith, i)) (whole_returned_fits c r 1 body h)
+mod_fits other m c r h = record { next = 1; few = omega arith; fits = record { fits = λ s st g. tt } }

@@ -1,4 +1,5 @@
 mod ShortTables
+mod FewScopes
 mod Among
 mod Fits
 mod Threads

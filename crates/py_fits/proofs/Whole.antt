@@ -8,7 +8,7 @@ use Rattle.py_limits.specs.Size.{size_of}
 use Rattle.py_scope.specs.declared.flat.ScopeEntry.{ScopeEntry}
 use Rattle.py_forms.specs.Agree.{AllOf, form_of, kids}
 use Rattle.py_steps.specs.Context.{Context, inside, outermost}
-use Rattle.py_steps.specs.Emitting.{Done, Outcome, Refused, State, TooWide, nothing}
+use Rattle.py_steps.specs.Emitting.{Around, Done, Outcome, Refused, State, TooWide, nothing}
 use Rattle.py_steps.specs.Everywhere.{Everywhere}
 use Rattle.py_steps.specs.Sealed.{sealed}
 use Rattle.py_emit.specs.States.{module_head}
@@ -38,10 +38,13 @@ pub begins : (t : tree.Mod) (m : Mode) (level : ℕ) (path : List ℕ) (scopes :
 unfolding taken
 begins t m level path scopes l w x i = x.fits (nothing (outermost level path scopes)) (record { around = refl; next = refl; short = tt }) i
 
--- what takes so little has small tables
-small_tables : (s : State) (b : ℕ) → taken s ≤ b → b < 2 ^ 30 → IsSmall s
+-- what takes so little and passes so few scopes is small
+small_tables : (c : Around) (l b : ℕ) (s : State) → FitsIn c l b (Done s) → l ≤ b → b < 2 ^ 30 → IsSmall s
 unfolding taken
-small_tables s b t i = record { names = omega (arith, t, i); varnames = omega (arith, t, i); constants = omega (arith, t, i); blocks = omega (arith, t, i) }
+small_tables c l b s f n i =
+    let e = f.0.next in
+    let t = f.1 in
+    record { names = omega (arith, t, i); varnames = omega (arith, t, i); constants = omega (arith, t, i); blocks = omega (arith, t, i); next = omega (arith, e, n, i) }
 
 -- its code object has short tables, as has each within
 short_tables : (c : Context) (level l b : ℕ) (s : State) → Ready (outside c) → FitsIn (outside c) l b (Done s) → b < 2 ^ 30 → Everywhere HasShortTables (sealed level (module_head c) s)
@@ -64,12 +67,12 @@ trees_fit uses t m level path h =
     let ready = ready_outermost level path scopes (few_everywhere uses t m level h) in
     let x = mod_fits t m (outside (outermost level path scopes)) ready (stands_there t m level path scopes (tree_stands t m level h)) in
     let i : 1 + 192 * size_of t < 2 ^ 30 = omega (arith, small) in
-    go (emitted t m (outermost level path scopes)) refl x.next (1 + 192 * size_of t) i (begins t m level path scopes x.next (192 * size_of t) x.fits i)
+    go (emitted t m (outermost level path scopes)) refl x.next (1 + 192 * size_of t) x.few i (begins t m level path scopes x.next (192 * size_of t) x.fits i)
   where
-    go : (o : Outcome) → emitted t m (outermost level path (scopes_of t)) ≡ o → (l b : ℕ) → b < 2 ^ 30 → FitsIn (outside (outermost level path (scopes_of t))) l b o → (s : State) × (emitted t m (outermost level path (scopes_of t)) ≡ Done s) × IsSmall s × Everywhere HasShortTables (sealed level (module_head (outermost level path (scopes_of t))) s)
-    go (Done s) e l b i f = (s, e, small_tables s b f.1 i, short_tables (outermost level path (scopes_of t)) level l b s (ready_outermost level path (scopes_of t) (few_everywhere uses t m level h)) f i)
-    go TooWide e l b i f = absurd f
-    go (Refused r at) e l b i f =
+    go : (o : Outcome) → emitted t m (outermost level path (scopes_of t)) ≡ o → (l b : ℕ) → l ≤ b → b < 2 ^ 30 → FitsIn (outside (outermost level path (scopes_of t))) l b o → (s : State) × (emitted t m (outermost level path (scopes_of t)) ≡ Done s) × IsSmall s × Everywhere HasShortTables (sealed level (module_head (outermost level path (scopes_of t))) s)
+    go (Done s) e l b n i f = (s, e, small_tables (outside (outermost level path (scopes_of t))) l b s f n i, short_tables (outermost level path (scopes_of t)) level l b s (ready_outermost level path (scopes_of t) (few_everywhere uses t m level h)) f i)
+    go TooWide e l b n i f = absurd f
+    go (Refused r at) e l b n i f =
         let z = parts_none t m level h in
         let heads = refusal_heads t m level path (scopes_of t) r at z.0 e (another r f) in
         let first : Fault = record { error = r; location = at } in

@@ -12,12 +12,13 @@ use Rattle.py_emission.specs.EmissionMods.{emitted}
 use Rattle.py_meaning.specs.Faults.{faults}
 use Rattle.py_meaning.specs.Scanned.{scopes_of}
 
--- fewer than 2 ^ 30 names, names of its own, constants and blocks
+-- fewer than 2 ^ 30 names, names of its own, constants and blocks, and the next scope has a number below that
 pub record IsSmall (s : State) : Type 0 where
   pub names : length s.names < 2 ^ 30
   pub varnames : length s.varnames < 2 ^ 30
   pub constants : length s.constants < 2 ^ 30
   pub blocks : s.blocks < 2 ^ 30
+  pub next : s.next < 2 ^ 30
 
 -- fewer than 2 ^ 30 names, names of its own, cells, names from outside, constants and parameters of a code object
 pub record HasShortTables (o : Object) : Type 0 where
@@ -30,7 +31,7 @@ pub record HasShortTables (o : Object) : Type 0 where
   pub arguments : (head o).arg_count < 2 ^ 30
   pub keywords : (head o).kwonlyarg_count < 2 ^ 30
 
--- what is emitted of a tree without faults is done, its tables and blocks are so few, and the tables of its code object and of each code object within are so short and its parameters so few, in each mode, at each level of optimization and from each path
+-- what is emitted of a tree without faults is done, its tables, blocks and scopes are so few, and the tables of its code object and of each code object within are so short and its parameters so few, in each mode, at each level of optimization and from each path
 abbrev pub TreesFit : Type 0
 TreesFit =
     (t : tree.Mod) (m : Mode) (level : ℕ) (path : List ℕ) → faults t m level ≡ [] → (s : State) × (emitted t m (outermost level path (scopes_of t)) ≡ Done s) × IsSmall s × Everywhere HasShortTables (sealed level (module_head (outermost level path (scopes_of t))) s)
