@@ -71,53 +71,39 @@ impl fmt::Display for CodegenErrorType {
     ghost output = { λ e. Some (message e) };
 
     fn fmt<W: fmt::Write>(&self, f: &mut fmt::Formatter<W>) -> fmt::Result {
-        match self {
-            CodegenErrorType::Assign(text) => write!(f, "cannot assign to {}", text.as_str()),
-            CodegenErrorType::Delete(text) => write!(f, "cannot delete {}", text.as_str()),
-            CodegenErrorType::SyntaxError(text) => write!(f, "{}", text.as_str()),
-            CodegenErrorType::MultipleStarArgs => f.write_str(
-                "two starred expressions in assignment",
-            ),
-            CodegenErrorType::TooManyStarUnpack => f.write_str(
-                "too many expressions in star-unpacking assignment",
-            ),
-            CodegenErrorType::InvalidStarExpr => f.write_str("cannot use starred expression here"),
-            CodegenErrorType::InvalidBreak => f.write_str("'break' outside loop"),
-            CodegenErrorType::InvalidContinue => f.write_str("'continue' outside loop"),
-            CodegenErrorType::InvalidReturn => f.write_str("'return' outside function"),
-            CodegenErrorType::InvalidYield => f.write_str("'yield' outside function"),
-            CodegenErrorType::InvalidYieldFrom => f.write_str("'yield from' outside function"),
-            CodegenErrorType::InvalidAwait => f.write_str("'await' outside async function"),
-            CodegenErrorType::AsyncYieldFrom => f.write_str("'yield from' inside async function"),
-            CodegenErrorType::AsyncReturnValue => f.write_str(
-                "'return' with value inside async generator",
-            ),
-            CodegenErrorType::InvalidFuturePlacement => f.write_str(
+        let message = match self {
+            Self::Assign(text) => return write!(f, "cannot assign to {}", text.as_str()),
+            Self::Delete(text) => return write!(f, "cannot delete {}", text.as_str()),
+            Self::SyntaxError(text) => return write!(f, "{}", text.as_str()),
+            Self::MultipleStarArgs => "two starred expressions in assignment",
+            Self::TooManyStarUnpack => "too many expressions in star-unpacking assignment",
+            Self::InvalidStarExpr => "cannot use starred expression here",
+            Self::InvalidBreak => "'break' outside loop",
+            Self::InvalidContinue => "'continue' outside loop",
+            Self::InvalidReturn => "'return' outside function",
+            Self::InvalidYield => "'yield' outside function",
+            Self::InvalidYieldFrom => "'yield from' outside function",
+            Self::InvalidAwait => "'await' outside async function",
+            Self::AsyncYieldFrom => "'yield from' inside async function",
+            Self::AsyncReturnValue => "'return' with value inside async generator",
+            Self::InvalidFuturePlacement =>
                 "from __future__ imports must occur at the beginning of the file",
-            ),
-            CodegenErrorType::InvalidFutureFeature(text) => write!(
+            Self::InvalidFutureFeature(text) => return write!(
                 f,
                 "future feature {} is not defined",
                 text.as_str()
             ),
-            CodegenErrorType::FunctionImportStar => f.write_str(
-                "import * only allowed at module level",
-            ),
-            CodegenErrorType::EmptyWithItems => f.write_str("empty items on With"),
-            CodegenErrorType::EmptyWithBody => f.write_str("empty body on With"),
-            CodegenErrorType::NotImplementedYet => f.write_str(
-                "RustPython does not implement this feature yet",
-            ),
-            CodegenErrorType::MalformedTree(shape) => write!(f, "malformed tree: {}", shape.name()),
-            CodegenErrorType::TooLarge(TreeLimit::Nodes) => f.write_str("tree is too large: nodes"),
-            CodegenErrorType::TooLarge(TreeLimit::Depth) => f.write_str(
-                "tree is too large: nesting",
-            ),
-            CodegenErrorType::MissingCell => f.write_str(
-                "a function has a name from outside that is no cell around it",
-            ),
-            CodegenErrorType::OutOfMemory => f.write_str("out of memory"),
-        }
+            Self::FunctionImportStar => "import * only allowed at module level",
+            Self::EmptyWithItems => "empty items on With",
+            Self::EmptyWithBody => "empty body on With",
+            Self::NotImplementedYet => "RustPython does not implement this feature yet",
+            Self::MalformedTree(shape) => return write!(f, "malformed tree: {}", shape.name()),
+            Self::TooLarge(TreeLimit::Nodes) => "tree is too large: nodes",
+            Self::TooLarge(TreeLimit::Depth) => "tree is too large: nesting",
+            Self::MissingCell => "a function has a name from outside that is no cell around it",
+            Self::OutOfMemory => "out of memory",
+        };
+        f.write_str(message)
     }
 }
 

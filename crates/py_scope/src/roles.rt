@@ -85,20 +85,3 @@ pub(crate) fn register_at(
     };
     entries.put_at(alloc, place, name, entry)
 }
-
-/// Notes one use of the name.
-///
-/// # Errors
-/// There is no memory for it; nothing has changed.
-pub fn register(
-    alloc: Global,
-    entries: &mut Entries,
-    name: &Text,
-    role: Role,
-) -> Result<(), AllocError>
-    ensures ok { OnOk result (entries.new ≡ register entries.old name.now role) }
-    ensures err { OnErr result (entries.new ≡ entries.old) }
-{
-    let (place, held) = entries.find(name);
-    register_at(alloc, entries, place, held, name, role)
-}

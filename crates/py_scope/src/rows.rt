@@ -170,18 +170,6 @@ impl Entries {
         self.map.insert(name, entry)?;
         Ok(())
     }
-
-    /// Gives the name this entry, in the place that it has or at the end.
-    ///
-    /// # Errors
-    /// There is no memory for it; nothing has changed.
-    pub fn put(&mut self, alloc: Global, name: &Text, entry: Entry) -> Result<(), AllocError>
-        ensures ok { OnOk result (self.new ≡ put self.old name.now entry) }
-        ensures err { OnErr result (self.new ≡ self.old) }
-    {
-        let (place, _) = self.find(name);
-        self.put_at(alloc, place, name, entry)
-    }
 }
 
 /// How a scope is called, and where it stands.
