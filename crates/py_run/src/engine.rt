@@ -54,7 +54,7 @@ pub fn run<S: Source, O: Sink, E: Sink>(
 
     // Reading ends at the first of a read that gives no byte, a failed read and 2^26 bytes.
     ensures in_time { S.ended source.old ≡ false → S.late source.new ≡ S.late source.old }
-    ensures taken { TakesFew (S.left source.old) (S.left source.new) }
+    ensures taken { TakesFew (S.left source.old) (S.left source.new) (S.ended source.old) (S.ended source.new) }
 
     // Always where a call failed.
     ensures reads { NoReadFailed result.status S.counts_failures (S.faults source.old) (S.faults source.new) }

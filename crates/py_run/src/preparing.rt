@@ -48,7 +48,7 @@ pub fn prepare<S: Source>(alloc: Global, words: &Words, source: &mut S) -> Prepa
     ensures due { IfSome (due_of words.now (S.left source.old)) (Prepares result) }
     ensures reads { ReadsOf result S.counts_failures (S.faults source.old) (S.faults source.new) }
     ensures in_time { S.ended source.old ≡ false → S.late source.new ≡ S.late source.old }
-    ensures taken { TakesFew (S.left source.old) (S.left source.new) }
+    ensures taken { TakesFew (S.left source.old) (S.left source.new) (S.ended source.old) (S.ended source.new) }
     ensures unread { reads_input (words_form words.now) ≡ false → source.new ≡ source.old }
 {
     let Some(command) = parse(words) else {

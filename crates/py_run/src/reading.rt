@@ -48,7 +48,7 @@ pub fn read_all<S: Source>(alloc: Global, source: &mut S) -> Result<Vec<u8>, Rea
     ensures later { S.faults source.old ≤ S.faults source.new }
     ensures still { ReadsStill S.counts_failures (S.faults source.old) (S.faults source.new) result }
     ensures in_time { S.ended source.old ≡ false → S.late source.new ≡ S.late source.old }
-    ensures taken { TakesFew (S.left source.old) (S.left source.new) }
+    ensures taken { TakesFew (S.left source.old) (S.left source.new) (S.ended source.old) (S.ended source.new) }
 {
     let mut found = Vec::new(alloc);
     let mut buf = [0u8; PIECE];
