@@ -311,7 +311,7 @@ Whole inner body k l x = Gives (outside inner) 1 k body (body_code (exactly (λ 
 pub record Completing (inner : Context) (body : Emission) (next count : ℕ) (x : Scope) : Type 0 where
   pub run : (at : SourceLocation) (t : State) → Stands (outside inner) (begun inner at next) → body (begun inner at next) ≡ Done t → Completes (begun inner at next) t (body_code (exactly (λ y. y) x) (form_of x)) (labels (form_of x)) count × Looped false (form_of x)
 
-whole_completes : (inner : Context) (body : Emission) (next count : ℕ) (x : Scope) → Whole inner body next count x → Completing inner body next count x
+pub whole_completes : (inner : Context) (body : Emission) (next count : ℕ) (x : Scope) → Whole inner body next count x → Completing inner body next count x
 whole_completes inner body next count x w = record {
   run = λ at t z e. let a = w.run (begun inner at next) t refl refl z e in (completed (begun inner at next) t (body_code (exactly (λ y. y) x) (form_of x)) (labels (form_of x)) count a.0, a.1);
 }

@@ -138,7 +138,7 @@ module _ (c : Around) (k : ℕ) (path name : List ℕ) (body : tree.Stmts) where
     looped : Looped false form → Looped false (form_of class_of)
     looped h = (tt, (tt, (tt, (setup_looped (annotated (after_doc body)), (h, tt)))))
 
-    completing : Completing inner (class_scope body v) (suc k) (scopes_in_stmts inner.postponed body) class_of
+    pub completing : Completing inner (class_scope body v) (suc k) (scopes_in_stmts inner.postponed body) class_of
     completing = record {
       run = λ at t z e.
           let s = begun inner at (suc k) in

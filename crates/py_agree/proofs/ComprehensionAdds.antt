@@ -107,7 +107,7 @@ module _ (c : Around) (k : ℕ) where
   behind gs = after_clauses (told c) (suc k) gs
 
   -- the scope of a collection
-  gathered_whole : (build append : Instruction) (gs : tree.Generators) (element : Emission) (fs : VForms) (z : ℕ) → MakesEmpty build → Appends append (count fs) → generators_size gs < 2 ^ 22 → ClausesHere gs → PartsAdd (outer here) here (behind gs) z element fs → Whole inner (gathered build append (clause_emissions gs) element) (suc k) (but_iterable c.context.postponed gs + z) (own (forms.gathered build append (clause_forms told_here (suc k) gs) fs))
+  pub gathered_whole : (build append : Instruction) (gs : tree.Generators) (element : Emission) (fs : VForms) (z : ℕ) → MakesEmpty build → Appends append (count fs) → generators_size gs < 2 ^ 22 → ClausesHere gs → PartsAdd (outer here) here (behind gs) z element fs → Whole inner (gathered build append (clause_emissions gs) element) (suc k) (but_iterable c.context.postponed gs + z) (own (forms.gathered build append (clause_forms told_here (suc k) gs) fs))
   unfolding inside
   gathered_whole build append gs element fs z empty appends few around parts =
       let less = clauses_few gs in
@@ -116,7 +116,7 @@ module _ (c : Around) (k : ℕ) where
       (gathered_adds (outer here) here build append (suc k) l z (clause_emissions gs) (clause_forms told_here (suc k) gs) element fs empty appends (omega (arith, few, less)) around (λ q. next_as (after_is (told c) (suc k) gs) (parts q)) 1))
 
   -- the scope of a generator
-  generated_whole : (gs : tree.Generators) (element : Emission) (f : VForm) (z : ℕ) → ClausesHere gs → ValueAdds (outer here) here (behind gs) z element f → Whole inner (generated (clause_emissions gs) element) (suc k) (but_iterable c.context.postponed gs + z) (own (forms.generated (clause_forms told_here (suc k) gs) f))
+  pub generated_whole : (gs : tree.Generators) (element : Emission) (f : VForm) (z : ℕ) → ClausesHere gs → ValueAdds (outer here) here (behind gs) z element f → Whole inner (generated (clause_emissions gs) element) (suc k) (but_iterable c.context.postponed gs + z) (own (forms.generated (clause_forms told_here (suc k) gs) f))
   unfolding inside
   generated_whole gs element f z around value =
       let l = but_iterable c.context.postponed gs in
@@ -124,7 +124,7 @@ module _ (c : Around) (k : ℕ) where
       (generated_adds (outer here) here (suc k) l z (clause_emissions gs) (clause_forms told_here (suc k) gs) element f around (λ q. next_as (after_is (told c) (suc k) gs) (value q)) 1))
 
   -- an element as it stands in the comprehension
-  element_adds : (elt : tree.Expr) (j l : ℕ) → AddsForms (outer here) here j l (emissions elt) (expr_forms (told here) j elt) → ValueAdds (outer here) here j l (as_element (emissions elt).value) (expr_forms (told here) j elt).value
+  pub element_adds : (elt : tree.Expr) (j l : ℕ) → AddsForms (outer here) here j l (emissions elt) (expr_forms (told here) j elt) → ValueAdds (outer here) here j l (as_element (emissions elt).value) (expr_forms (told here) j elt).value
   element_adds elt j l h n = element_gives (h.value n)
 
   -- where the first iterable begins, and how many scopes there are

@@ -7,7 +7,6 @@ use Rattle.py_limits.specs.Size.{arguments_size, class_head_size, expr_size, exp
 use Rattle.py_counts.specs.Counts.{scopes_in, scopes_in_all, scopes_in_defaults, scopes_in_keywords, scopes_in_returns}
 use Rattle.py_bytecode.specs.declared.instruction.Instruction.TheVariants as op
 use Rattle.py_bytecode.specs.Objects as const
-use Rattle.py_bytecode.specs.Values.{Store}
 use Rattle.py_forms.specs.Form.{MkScope, VForm, VConst, Target, SForm, SThen, SInto, SReturn, GStore, Resolved}
 use Rattle.py_forms.specs.Fit.{Loops}
 use Rattle.py_forms.specs.Code.{Item, closes, closing, labels, code}
@@ -30,7 +29,6 @@ use Rattle.py_meaning.specs.StmtParts.{after_stmt, unless_last}
 use Rattle.py_emission.specs.Predicates.{but_doc, is_return}
 use Rattle.py_steps.specs.Emitting.{Around, Emission, ◌▸◌, emit_constant, keep, move}
 use Rattle.py_steps.specs.EmissionParts.{only_in_function, pass_scopes}
-use Rattle.py_steps.specs.Refused.{no_assignment}
 use Rattle.py_emission.specs.Emission.{all_emissions, emission}
 use Rattle.py_tree.specs.PythonName.{python_name}
 use Rattle.py_base.specs.declared.errors.CodegenErrorType.TheVariants as error
@@ -39,9 +37,7 @@ use Rattle.py_adds.proofs.Emitting.{gives_as, moved_refused, outside, scopes_as,
 use Rattle.py_adds.proofs.TypeParameterAdds.{plain_alias_adds}
 use Rattle.py_sizes.proofs.ProgramSizes.{hidden_alias_small, hidden_class_small, hidden_function_small}
 use Rattle.py_adds.proofs.Instructions.{return_adds}
-use Rattle.py_adds.proofs.AccessAdds.{accessed_adds}
-use Rattle.py_adds.proofs.FormAdds.{ValueAdds, all_values_add, unless_debug_gives}
-use Rattle.py_adds.proofs.TargetAdds.{TargetAdds}
+use Rattle.py_adds.proofs.FormAdds.{ValueAdds, all_values_add}
 use Rattle.py_adds.proofs.Within.{Whole}
 use Rattle.py_agree.proofs.ExprAdds.{expr_adds, exprs_add}
 use Rattle.py_agree.proofs.Scopeless.{text_scopeless}
@@ -118,7 +114,7 @@ closed is true e = sym (append-nil is)
 closed is false e = absurd cc
 
 -- the whole code of a function
-whole_gives : (inner : Context) (k : ℕ) (body : tree.Stmts) → RestAdd body → Whole inner (emission_of_rest body ▸ emission_of_end (after_doc body)) k (scopes_in_stmts inner.postponed body) (MkScope (head_of (pathless inner)) (function_body (pathless inner) k body))
+pub whole_gives : (inner : Context) (k : ℕ) (body : tree.Stmts) → RestAdd body → Whole inner (emission_of_rest body ▸ emission_of_end (after_doc body)) k (scopes_in_stmts inner.postponed body) (MkScope (head_of (pathless inner)) (function_body (pathless inner) k body))
 whole_gives inner k body h =
     let f = function_body (pathless inner) k body in
     let none : Loops = record { inside = false; on_break = 0; on_continue = 0 } in

@@ -322,7 +322,7 @@ mutual
   keywords_only_add c k (tree.more_args (tree.arg at name annotation) (tree.some_expr e) rest) x = (scopes_in c.context.postponed e, scopes_in_args c.context.postponed rest, refl, (refl, (expr_adds c k e (omega (arith, x))).value), keywords_only_add c (k + scopes_in c.context.postponed e) rest (omega (arith, x)))
 
   -- the clauses of a comprehension, around what is within
-  clauses_add : (c : Around) (k : ℕ) (gs : tree.Generators) → generators_size gs < 2 ^ 22 → ClausesAdd (outer c) c k (but_iterable c.context.postponed gs) (clause_emissions gs) (clause_forms (told c) k gs)
+  pub clauses_add : (c : Around) (k : ℕ) (gs : tree.Generators) → generators_size gs < 2 ^ 22 → ClausesAdd (outer c) c k (but_iterable c.context.postponed gs) (clause_emissions gs) (clause_forms (told c) k gs)
   clauses_add c k tree.no_generators z = no_clauses (outer c) c k
   clauses_add c k (tree.more_generators target iter ifs is_async gs) z =
       let y = scopes_in c.context.postponed target in

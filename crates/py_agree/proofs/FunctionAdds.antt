@@ -20,7 +20,7 @@ use Rattle.py_steps.specs.Children.{child, decorated, decorations, documented, e
 use Rattle.py_steps.specs.Within.{Shape, function_inside, some_flag}
 use Rattle.py_steps.specs.TableParts as table
 use Rattle.py_steps.specs.TableParts.{counted, map_of, name_values, named, parts_of, some_built}
-use Rattle.py_emission.specs.Emission.{default_emissions, emission, keyword_only_emissions, positional_emissions}
+use Rattle.py_emission.specs.Emission.{default_emissions, keyword_only_emissions, positional_emissions}
 use Rattle.py_emission.specs.Parameters.{function_shape, parameters}
 use Rattle.py_emission.specs.Texts.{doc_of}
 use Rattle.py_emission.specs.EmissionDefs as emitting

@@ -33,15 +33,18 @@ use Rattle.py_adds.proofs.Within.{Whole, scope_makes}
 use Rattle.py_sizes.proofs.ProgramSizes.{lambda_small}
 use Rattle.py_agree.proofs.Told.{outer, told, value_adds}
 
+-- a lambda's scope adds its whole code
+pub lambda_whole : (c : Around) (k l : ℕ) (params : tree.Arguments) (body : tree.Expr) → AddsForms (outer (outside (lambda_inside c.context k))) (outside (lambda_inside c.context k)) (suc k) l (emissions body) (expr_forms (told (outside (lambda_inside c.context k))) (suc k) body) → Whole (lambda_inside c.context k) (function_scope (parameters params) (emissions body).returned) (suc k) l (MkScope (head_of (lambda_inside (told c) k)) (SReturn (expr_forms (lambda_inside (told c) k) (suc k) body).value))
+unfolding inside
+lambda_whole c k l params body h = scope_gives (parameters params) (emissions body).returned (so (λ z. tt) (gives_as (sym (append-nil _)) refl refl (h.returned 1)))
+
 -- a lambda's scope is made from its body
 lambda_makes : (c : Around) (k l : ℕ) (params : tree.Arguments) (body : tree.Expr) → expr_size body < 2 ^ 22 → AddsForms (outer (outside (lambda_inside c.context k))) (outside (lambda_inside c.context k)) (suc k) l (emissions body) (expr_forms (told (outside (lambda_inside c.context k))) (suc k) body) → Makes c.context (lambda_inside c.context k) (function_shape params (codes "<lambda>")) (function_scope (parameters params) (emissions body).returned) k l (MkScope (head_of (lambda_inside (told c) k)) (SReturn (expr_forms (lambda_inside (told c) k) (suc k) body).value))
 unfolding inside
 lambda_makes c k l params body small h =
     let inner : Context = lambda_inside c.context k in
-    let f : VForm = (expr_forms (lambda_inside (told c) k) (suc k) body).value in
-    let x : Scope = MkScope (head_of (lambda_inside (told c) k)) (SReturn f) in
-    let whole : Whole inner (function_scope (parameters params) (emissions body).returned) (suc k) l x = scope_gives (parameters params) (emissions body).returned (so (λ z. tt) (gives_as (sym (append-nil _)) refl refl (h.returned 1))) in
-    scope_makes c.context inner (function_shape params (codes "<lambda>")) (function_scope (parameters params) (emissions body).returned) k l x refl refl refl refl refl (inside_settled kind.Function k c.context) (λ d. lambda_small d (lambda_inside (told c) k) (suc k) body small) whole
+    let x : Scope = MkScope (head_of (lambda_inside (told c) k)) (SReturn (expr_forms (lambda_inside (told c) k) (suc k) body).value) in
+    scope_makes c.context inner (function_shape params (codes "<lambda>")) (function_scope (parameters params) (emissions body).returned) k l x refl refl refl refl refl (inside_settled kind.Function k c.context) (λ d. lambda_small d (lambda_inside (told c) k) (suc k) body small) (lambda_whole c k l params body h)
 
 -- a lambda is a function of its scope, whose annotations are left out
 lambda_adds : (c : Around) (k l : ℕ) (params : tree.Arguments) (body : tree.Expr) (flags others : ℕ) → expr_size body < 2 ^ 22 → AddsForms (outer (outside (lambda_inside c.context k))) (outside (lambda_inside c.context k)) (suc k) l (emissions body) (expr_forms (told (outside (lambda_inside c.context k))) (suc k) body) → Flagged flags others → (n : ℕ) → Yields c n k (child lambda_inside (function_shape params (codes "<lambda>")) (function_scope (parameters params) (emissions body).returned) (λ o. pass_scopes (λ postponed. scopes_in_annotations postponed params) ▸ made flags (codes "<lambda>") o)) (make_code flags ((outer c).closure (MkScope (head_of (lambda_inside (told c) k)) (SReturn (expr_forms (lambda_inside (told c) k) (suc k) body).value))) others (Child (MkScope (head_of (lambda_inside (told c) k)) (SReturn (expr_forms (lambda_inside (told c) k) (suc k) body).value))) (codes "<lambda>")) 0 (suc l + scopes_in_annotations c.context.postponed params)

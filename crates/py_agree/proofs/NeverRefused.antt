@@ -2,13 +2,15 @@
 use Rattle.std.proofs.Common.{◌≡◌, ℕ, ◌<◌, ◌^◌, List, [], ◌++◌, map, sym, ◌∙◌, append-nil}
 use Rattle.std.proofs.lemmas.List.{length-map}
 use Rattle.py_tree.specs.Tree as tree
+use Rattle.py_base.specs.declared.location.SourceLocation.{SourceLocation}
 use Rattle.py_limits.specs.Size.{size_of}
 use Rattle.py_tree.specs.declared.modules.Mode.{Mode}
 use Rattle.py_ir.specs.declared.info.CodeInfo.{CodeInfo}
 use Rattle.py_ir.specs.Chain.{plain}
 use Rattle.py_ir.specs.Final.{tables_of}
 use Rattle.py_scope.specs.declared.flat.ScopeEntry.{ScopeEntry}
-use Rattle.py_steps.specs.Context.{outermost}
+use Rattle.py_steps.specs.Context.{Context, outermost}
+use Rattle.py_forms.specs.Form.{Scope}
 use Rattle.py_meaning.specs.Meaning.{body}
 use Rattle.py_steps.specs.Emitting.{State, Done}
 use Rattle.py_emission.specs.EmissionMods.{emitted}
@@ -18,7 +20,7 @@ use Rattle.py_emit.specs.States.{IsUnrefused}
 use Rattle.py_adds.proofs.Adding.{Begins}
 use Rattle.py_adds.proofs.Codes.{LoadsFew}
 use Rattle.py_adds.proofs.Readings.{only_memory}
-use Rattle.py_adds.proofs.Within.{child_at, reading}
+use Rattle.py_adds.proofs.Within.{Emitted, child_at, reading}
 use Rattle.py_agree.proofs.Programs.{first_place, tree_adds}
 
 -- the head has the cells and the free names of what stands around
@@ -38,10 +40,12 @@ begins_all info head o k h = record {
   cells_are = (λ j. (h.cellvars ∙ k.cellvars) j ++ (h.freevars ∙ k.freevars) j);
 }
 
--- what holds an emission is refused for want of memory alone
+-- what holds the emission of a whole scope is refused for want of memory alone
+pub emitted_unrefused : (c : Context) (at : SourceLocation) (k : ℕ) (s : Scope) (o : State) → Emitted c at k s o → (level : ℕ) (info : CodeInfo) (head : Head) → IsCelled head o → Holds info head o → IsUnrefused level info
+emitted_unrefused c at k s o a level info head celled h cs chain short e refused =
+    only_memory (child_at c at k s o a) (tables_of info) level (map plain info.blocks) s (reading c at k s o a (tables_of info) (map plain info.blocks) (begins_all info head o celled h) h.steps (length-map info.blocks plain ∙ h.blocks)) cs chain e short refused.0
+
+-- and so is that of a tree
 pub never_refused : (t : tree.Mod) (m : Mode) (l : ℕ) (path : List ℕ) (scopes : List ScopeEntry) (o : State) (info : CodeInfo) (head : Head) → size_of t < 2 ^ 22 → LoadsFew scopes (body scopes t m l) → emitted t m (outermost l path scopes) ≡ Done o → IsCelled head o → Holds info head o → IsUnrefused l info
-never_refused t m l path scopes o info head small few is k h cs chain short e refused =
-    let s = body scopes t m l in
-    let x = outermost l path scopes in
-    let a = tree_adds t m l path scopes o small few is in
-    only_memory (child_at x first_place 1 s o a) (tables_of info) l (map plain info.blocks) s (reading x first_place 1 s o a (tables_of info) (map plain info.blocks) (begins_all info head o k h) h.steps (length-map info.blocks plain ∙ h.blocks)) cs chain e short refused.0
+never_refused t m l path scopes o info head small few is k h =
+    emitted_unrefused (outermost l path scopes) first_place 1 (body scopes t m l) o (tree_adds t m l path scopes o small few is) l info head k h

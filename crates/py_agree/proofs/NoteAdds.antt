@@ -6,14 +6,13 @@ use Rattle.py_limits.specs.Size.{expr_size}
 use Rattle.py_counts.specs.Counts.{scopes_in, scopes_in_annotation}
 use Rattle.py_bytecode.specs.Objects as const
 use Rattle.py_texts.specs.Annotation.{annotation}
-use Rattle.py_forms.specs.Code.{code_v, labels_v}
 use Rattle.py_base.specs.declared.errors.CodegenErrorType.TheVariants as error
 use Rattle.py_steps.specs.Emitting.{Around}
 use Rattle.py_emission.specs.Emission.{emission}
 use Rattle.py_emission.specs.EmissionDefs.{emission_of_note, emission_of_text}
 use Rattle.py_meaning.specs.Table.{expr_form}
 use Rattle.py_meaning.specs.TableNotes.{note_form, text_form}
-use Rattle.py_adds.proofs.Emitting.{Yields, context_gives, refused_gives}
+use Rattle.py_adds.proofs.Emitting.{context_gives, refused_gives}
 use Rattle.py_adds.proofs.FormAdds.{ValueAdds}
 use Rattle.py_adds.proofs.Instructions.{constant_adds}
 use Rattle.py_agree.proofs.ExprAdds.{expr_adds}

@@ -9,7 +9,7 @@ use Rattle.py_bytecode.specs.Objects.{Object}
 use Rattle.py_bytecode.specs.Values.{Store, Fast, Load}
 use Rattle.py_bytecode.specs.Machine.{Access}
 use Rattle.py_scope.specs.declared.table_type.SymbolTableType.TheVariants as kind
-use Rattle.py_forms.specs.Form.{Scope, MkScope, VForm, VForms, VLoad, VMake, VMore, VNone, VOp, FixedFast, GStore, Resolved, SReturn}
+use Rattle.py_forms.specs.Form.{Scope, MkScope, VForm, VLoad, VMake, VMore, VNone, VOp, FixedFast, GStore, Resolved, SReturn}
 use Rattle.py_forms.specs.Code.{body_code, code_v, labels_v}
 use Rattle.py_forms.specs.Agree.{exactly}
 use Rattle.py_base.specs.declared.errors.CodegenErrorType.TheVariants as error
@@ -101,12 +101,15 @@ module _ (c : Around) (k : ℕ) where
   abbrev pub HiddenSmall : VForm → Type 0
   HiddenSmall f = (d : Scope → Object) → burden (body_code (exactly d (hidden_of f)) (SReturn f)) < 2 ^ 27
 
+  -- it adds its whole code, where the value does
+  pub hidden_whole : (l : ℕ) (v : Emission) (f : VForm) → IsPushed (outer within) within f → ValueAdds (outer within) within (suc k) l v f → Whole (hidden_inside c.context k) (v ▸ emit op.ReturnValue 0) (suc k) l (hidden_of f)
+  hidden_whole l v f pushed h = so (λ z. tt) (gives_as (sym (append-nil _)) refl refl (pushed_adds (outer within) within (suc k) l v f pushed h 1))
+
   -- it is made from what the value adds
   hidden_makes : (l count : ℕ) (name : List ℕ) (v : Emission) (f : VForm) → HiddenSmall f → IsPushed (outer within) within f → ValueAdds (outer within) within (suc k) l v f → Makes c.context (hidden_inside c.context k) (hidden_shape count name) (v ▸ emit op.ReturnValue 0) k l (hidden_of f)
   unfolding inside
   hidden_makes l count name v f small pushed h =
-      let whole : Whole (hidden_inside c.context k) (v ▸ emit op.ReturnValue 0) (suc k) l (hidden_of f) = so (λ z. tt) (gives_as (sym (append-nil _)) refl refl (pushed_adds (outer within) within (suc k) l v f pushed h 1)) in
-      scope_makes c.context (hidden_inside c.context k) (hidden_shape count name) (v ▸ emit op.ReturnValue 0) k l (hidden_of f) refl refl refl refl refl (inside_settled kind.TypeParams k c.context) small whole
+      scope_makes c.context (hidden_inside c.context k) (hidden_shape count name) (v ▸ emit op.ReturnValue 0) k l (hidden_of f) refl refl refl refl refl (inside_settled kind.TypeParams k c.context) small (hidden_whole l v f pushed h)
 
   -- and called with the defaults
   pub hidden_value_adds : (l m : ℕ) (name : List ℕ) (d : DefaultEmissions) (e : Defaults) (v : Emission) (f : VForm) → HiddenSmall f → IsPushed (outer within) within f → ValueAdds (outer within) within (suc k) l v f → PartsAdd (outer c) c (k + suc l) m (emission_of_defaults d) (default_parts e VNone) → handed d.positional d.keyword ≡ handed e.positional e.keyword → ValueAdds (outer c) c k (suc l + m) (hidden name d v) (hidden_call (MkScope (head_of (hidden_inside (told c) k)) (SReturn f)) name e)

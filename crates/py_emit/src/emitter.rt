@@ -315,8 +315,8 @@ impl Emitter {
     /// around goes on.
     ///
     /// # Errors
-    /// OutOfMemory alone: a table of 2^31 entries, and blocks that have no code, count as that. That no tree within the
-    /// limits comes to these is an argument, and no clause.
+    /// OutOfMemory alone: a table of 2^31 entries, and blocks that have no code, count as that. The part "Want of memory"
+    /// of docs/DECISIONS.md says what no tree comes to.
     #[tactic(auto, unfolding(crate::specs::States::rest))]
     pub fn leave_scope(&mut self) -> Result<CodeObject, CodegenError>
         requires inner { (rest self.old).outer ≢ [] }

@@ -5,3 +5,5 @@ pub mod Runs
 pub mod Calls
 pub mod Samples
 pub mod LoadSamples
+pub mod Scopes
+pub mod ScopeSamples

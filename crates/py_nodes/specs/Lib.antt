@@ -1,3 +1,4 @@
 pub mod Parts
 pub mod Adding
 pub mod Running
+pub mod Scopes

@@ -1,5 +1,6 @@
-//! Laws of what nodes add, and of where they may begin. Their bodies do nothing.
+//! Laws of what nodes add, of where they may begin, and of the refusals of scopes within. Their bodies do nothing.
 ghost use Rattle.py_nodes.specs.Adding.{BeginsReady, BodiesAdd, EntersReady, ExprsAdd, StatementsAdd, TargetsAdd, TestsAdd};
+ghost use Rattle.py_nodes.specs.Scopes.{ClassesAreUnrefused, DictsAreUnrefused, EmittersHold, FunctionsAreUnrefused, GeneratorsAreUnrefused, GenericAliasesAreUnrefused, GenericClassesAreUnrefused, GenericFunctionsAreUnrefused, LambdasAreUnrefused, ListsAreUnrefused, SetsAreUnrefused};
 
 /// Where the emission of a node is done, it has added the code of the node's form, over code objects of the scopes within, each
 /// made from its scope where this loads few cells; and breaks and continues of a statement's form stand in loops.
@@ -15,4 +16,23 @@ pub fn nodes_add()
 pub fn scopes_begin_ready()
     ensures outermost { BeginsReady }
     ensures within { EntersReady }
+{}
+
+/// Where the body of a lambda, a comprehension, a function or a class, or of what makes one with type parameters, is emitted to
+/// its end, it has fewer than 2^30 blocks, and blocks and tables that hold it are refused for want of memory alone, where the
+/// tables are short: wherever the scope begins, if its parts are smaller than 2^22 and no code of it or within it loads many
+/// cells. The blocks and tables of an emitter hold what is emitted. So `Emitter::leave_scope` is refused there, as it is written,
+/// for want of memory alone.
+pub fn scopes_are_unrefused()
+    ensures lambdas { LambdasAreUnrefused }
+    ensures lists { ListsAreUnrefused }
+    ensures sets { SetsAreUnrefused }
+    ensures dicts { DictsAreUnrefused }
+    ensures generators { GeneratorsAreUnrefused }
+    ensures functions { FunctionsAreUnrefused }
+    ensures classes { ClassesAreUnrefused }
+    ensures generic_functions { GenericFunctionsAreUnrefused }
+    ensures generic_classes { GenericClassesAreUnrefused }
+    ensures generic_aliases { GenericAliasesAreUnrefused }
+    ensures emitters { EmittersHold }
 {}
