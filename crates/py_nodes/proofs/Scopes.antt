@@ -1,10 +1,9 @@
 -- What is emitted of each scope within is refused for want of memory alone, by the recursions of py_agree.
 use Rattle.std.proofs.Common.{◌≡◌, ℕ, suc, ◌+◌, ◌<◌, ◌^◌, refl, sym, ap, arith}
 use Rattle.std.specs.Prelude.{List, codes}
-use Rattle.py_base.specs.declared.location.SourceLocation.{SourceLocation}
 use Rattle.py_tree.specs.Tree as tree
 use Rattle.py_counts.specs.Counts.{scopes_in}
-use Rattle.py_limits.specs.Size.{expr_size, generators_size, stmts_size}
+use Rattle.py_limits.specs.Size.{stmts_size}
 use Rattle.py_bytecode.specs.Objects.{Object}
 use Rattle.py_bytecode.specs.declared.instruction.Instruction.{Instruction}
 use Rattle.py_bytecode.specs.declared.instruction.Instruction.TheVariants as op
@@ -16,7 +15,7 @@ use Rattle.py_steps.specs.Children.{code_head, function_scope}
 use Rattle.py_steps.specs.Classes.{class_shape}
 use Rattle.py_steps.specs.Comprehensions.{as_element, comprehension_shape, gathered, generated}
 use Rattle.py_steps.specs.Context.{Context, head_of, inside, with_path, within_class}
-use Rattle.py_steps.specs.Emitting.{Around, Done, Emission, State, ◌▸◌, begun, emit}
+use Rattle.py_steps.specs.Emitting.{Around, Emission, ◌▸◌, begun, emit}
 use Rattle.py_steps.specs.TypeParameters.{hidden_shape}
 use Rattle.py_steps.specs.Within.{Shape, class_within, comprehension_inside, function_inside, hidden_inside, lambda_inside}
 use Rattle.py_emission.specs.Emission.{clause_emissions, emissions}
@@ -49,12 +48,11 @@ use Rattle.py_agree.proofs.NeverRefused.{emitted_unrefused}
 use Rattle.py_agree.proofs.StmtAdds.{class_rest_give, rest_give}
 use Rattle.py_agree.proofs.Told.{outer, pathless}
 use Rattle.py_agree.proofs.TypeParams.{HiddenSmall, hidden_of, hidden_whole}
-use Rattle.py_nodes.specs.Adding.{LoadsFew}
-use Rattle.py_nodes.specs.Scopes.{EndsUnrefused, IsUnrefusedWithin, ClassesAreUnrefused, DictsAreUnrefused, FunctionsAreUnrefused, GeneratorsAreUnrefused, GenericAliasesAreUnrefused, GenericClassesAreUnrefused, GenericFunctionsAreUnrefused, LambdasAreUnrefused, ListsAreUnrefused, SetsAreUnrefused}
+use Rattle.py_nodes.specs.Scopes.{BodyEndsUnrefused, ClassesAreUnrefused, CollectionsAreUnrefused, DictsAreUnrefused, FunctionsAreUnrefused, GeneratorsAreUnrefused, GenericAliasesAreUnrefused, GenericClassesAreUnrefused, GenericFunctionsAreUnrefused, LambdasAreUnrefused, ListsAreUnrefused, SetsAreUnrefused}
 
 -- what is emitted of a whole scope within
 module _ (inner : Context) (h : Shape) (body : Emission) (next count : ℕ) (x : Scope) (says : Says inner x) (settled : Settled inner) (small : (d : Scope → Object) → burden (body_code (exactly d x) (form_of x)) < 2 ^ 27) where
-  completing_unrefused : Completing inner body next count x → LoadsFew inner.scopes x → (at : SourceLocation) (t : State) → body (begun inner at next) ≡ Done t → EndsUnrefused inner.level (code_head inner h at) t
+  completing_unrefused : Completing inner body next count x → BodyEndsUnrefused inner h body next x
   completing_unrefused completing few at t e =
       let a = completing.run at t (record { around = refl; settled = settled }) e in
       let whole : Emitted inner at next x t = record { count = count; adds = a.0; looped = a.1; small = small; loading = record { down = few }; says = says } in
@@ -70,7 +68,7 @@ module _ (inner : Context) (h : Shape) (body : Emission) (next count : ℕ) (x :
         unrefused = λ info. emitted_unrefused inner at next x t whole inner.level info (code_head inner h at) (record { cellvars = ap (λ (y : Around). y.context.cells) same; freevars = ap (λ (y : Around). y.context.frees) same });
       }
 
-  whole_unrefused : Whole inner body next count x → LoadsFew inner.scopes x → (at : SourceLocation) (t : State) → body (begun inner at next) ≡ Done t → EndsUnrefused inner.level (code_head inner h at) t
+  whole_unrefused : Whole inner body next count x → BodyEndsUnrefused inner h body next x
   whole_unrefused whole = completing_unrefused (whole_completes inner body next count x whole)
 
 pub lambdas_unrefused : LambdasAreUnrefused
@@ -82,7 +80,7 @@ lambdas_unrefused params body few c n =
     (λ d. lambda_small d (lambda_inside (pathless c) n) (suc n) body few) (lambda_whole (outside c) n l params body (expr_adds (outside i) (suc n) body few))
 
 -- what adds each element to a collection
-collections_unrefused : (name : List ℕ) (build append : Instruction) → MakesEmpty build → Appends append 1 → (elt : tree.Expr) (gs : tree.Generators) → expr_size elt + generators_size gs < 2 ^ 22 → IsUnrefusedWithin comprehension_inside (comprehension_shape name) (gathered build append (clause_emissions gs) (as_element (emissions elt).value)) (λ c n. let i = comprehension_inside c n in MkScope (head_of i) (forms.gathered build append (clause_forms i (suc n) gs) (VMore (expr_forms i (after_clauses c (suc n) gs) elt).value VNone)))
+collections_unrefused : (name : List ℕ) (build append : Instruction) → MakesEmpty build → Appends append 1 → CollectionsAreUnrefused name build append
 unfolding inside
 collections_unrefused name build append empty appends elt gs few c n =
     let i = comprehension_inside c n in
@@ -155,7 +153,7 @@ classes_unrefused path name body few c n =
     (λ d. class_body_small d (pathless i) i.path (doc_of i.level body) (annotated (after_doc body)) (suc n) body few) (completing (outside c) n path name body (emission_of_rest body) (class_adds c n path name body few))
 
 -- a hidden scope that returns a value
-hidden_unrefused : (c : Context) (n count l : ℕ) (name : List ℕ) (v : Emission) (f : VForm) → HiddenSmall (outside c) n f → IsPushed (outer (outside (hidden_inside c n))) (outside (hidden_inside c n)) f → ValueAdds (outer (outside (hidden_inside c n))) (outside (hidden_inside c n)) (suc n) l v f → LoadsFew c.scopes (hidden_of (outside c) n f) → (at : SourceLocation) (t : State) → (v ▸ emit op.ReturnValue 0) (begun (hidden_inside c n) at (suc n)) ≡ Done t → EndsUnrefused (hidden_inside c n).level (code_head (hidden_inside c n) (hidden_shape count name) at) t
+hidden_unrefused : (c : Context) (n count l : ℕ) (name : List ℕ) (v : Emission) (f : VForm) → HiddenSmall (outside c) n f → IsPushed (outer (outside (hidden_inside c n))) (outside (hidden_inside c n)) f → ValueAdds (outer (outside (hidden_inside c n))) (outside (hidden_inside c n)) (suc n) l v f → BodyEndsUnrefused (hidden_inside c n) (hidden_shape count name) (v ▸ emit op.ReturnValue 0) (suc n) (hidden_of (outside c) n f)
 unfolding inside
 hidden_unrefused c n count l name v f small pushed adds =
     whole_unrefused (hidden_inside c n) (hidden_shape count name) (v ▸ emit op.ReturnValue 0) (suc n) l (hidden_of (outside c) n f) (record { cells = refl; frees = refl }) (inside_settled kind.TypeParams n c) small (hidden_whole (outside c) n l v f pushed adds)

@@ -3,6 +3,7 @@ use Rattle.std.specs.Prelude.{◌≡◌, ℕ, suc, ◌+◌, ◌<◌, ◌^◌, Li
 use Rattle.py_base.specs.declared.location.SourceLocation.{SourceLocation}
 use Rattle.py_tree.specs.Tree as tree
 use Rattle.py_limits.specs.Size.{arguments_size, expr_size, exprs_size, generators_size, keywords_size, opt_expr_size, stmts_size, type_params_size}
+use Rattle.py_bytecode.specs.declared.instruction.Instruction.{Instruction}
 use Rattle.py_bytecode.specs.declared.instruction.Instruction.TheVariants as op
 use Rattle.py_bytecode.specs.Objects as const
 use Rattle.py_bytecode.specs.Values.{operation, Bare}
@@ -37,11 +38,13 @@ pub record EndsUnrefused (level : ℕ) (head : Head) (t : State) : Type 0 where
   pub blocks : t.blocks < 2 ^ 30
   pub unrefused : (info : CodeInfo) → Holds info head t → IsUnrefused level info
 
--- the body of a scope within ends so, wherever the scope begins, where no code of it, nor of any within it, loads many cells
+-- the body of a scope ends so in this context, where no code of the scope, nor of any within it, loads many cells
+abbrev pub BodyEndsUnrefused : (inner : Context) → Shape → (body : Emission) → (next : ℕ) → Scope → Type 0
+BodyEndsUnrefused inner h body next x = LoadsFew inner.scopes x → (at : SourceLocation) (t : State) → body (begun inner at next) ≡ Done t → EndsUnrefused inner.level (code_head inner h at) t
+
+-- so does that of a scope within, wherever it begins
 abbrev pub IsUnrefusedWithin : (within : Context → (number : ℕ) → Context) → Shape → (body : Emission) → (scope : Context → (number : ℕ) → Scope) → Type 0
-IsUnrefusedWithin within h body scope =
-    (c : Context) (number : ℕ) → LoadsFew c.scopes (scope (record c { source = [] }) number)
-    → (at : SourceLocation) (t : State) → body (begun (within c number) at (suc number)) ≡ Done t → EndsUnrefused (within c number).level (code_head (within c number) h at) t
+IsUnrefusedWithin within h body scope = (c : Context) (number : ℕ) → BodyEndsUnrefused (within c number) h body (suc number) (scope (record c { source = [] }) number)
 
 -- a lambda
 abbrev pub LambdasAreUnrefused : Type 0
@@ -49,23 +52,26 @@ LambdasAreUnrefused =
     (params : tree.Arguments) (body : tree.Expr) → expr_size body < 2 ^ 22
     → IsUnrefusedWithin lambda_inside (function_shape params (codes "<lambda>")) (function_scope (parameters params) (emissions body).returned) (λ c n. let i = lambda_inside c n in MkScope (head_of i) (SReturn (expr_forms i (suc n) body).value))
 
--- a comprehension of a list, a set, a dict or a generator
-abbrev pub ListsAreUnrefused : Type 0
-ListsAreUnrefused =
+-- a comprehension that adds each element to a collection: to a list or a set
+abbrev pub CollectionsAreUnrefused : (name : List ℕ) → (build append : Instruction) → Type 0
+CollectionsAreUnrefused name build append =
     (elt : tree.Expr) (gs : tree.Generators) → expr_size elt + generators_size gs < 2 ^ 22
-    → IsUnrefusedWithin comprehension_inside (comprehension_shape (codes "<listcomp>")) (gathered op.BuildList op.ListAppend (clause_emissions gs) (as_element (emissions elt).value)) (λ c n. let i = comprehension_inside c n in MkScope (head_of i) (scopes.gathered op.BuildList op.ListAppend (clause_forms i (suc n) gs) (VMore (expr_forms i (after_clauses c (suc n) gs) elt).value VNone)))
+    → IsUnrefusedWithin comprehension_inside (comprehension_shape name) (gathered build append (clause_emissions gs) (as_element (emissions elt).value)) (λ c n. let i = comprehension_inside c n in MkScope (head_of i) (scopes.gathered build append (clause_forms i (suc n) gs) (VMore (expr_forms i (after_clauses c (suc n) gs) elt).value VNone)))
+
+abbrev pub ListsAreUnrefused : Type 0
+ListsAreUnrefused = CollectionsAreUnrefused (codes "<listcomp>") op.BuildList op.ListAppend
 
 abbrev pub SetsAreUnrefused : Type 0
-SetsAreUnrefused =
-    (elt : tree.Expr) (gs : tree.Generators) → expr_size elt + generators_size gs < 2 ^ 22
-    → IsUnrefusedWithin comprehension_inside (comprehension_shape (codes "<setcomp>")) (gathered op.BuildSet op.SetAdd (clause_emissions gs) (as_element (emissions elt).value)) (λ c n. let i = comprehension_inside c n in MkScope (head_of i) (scopes.gathered op.BuildSet op.SetAdd (clause_forms i (suc n) gs) (VMore (expr_forms i (after_clauses c (suc n) gs) elt).value VNone)))
+SetsAreUnrefused = CollectionsAreUnrefused (codes "<setcomp>") op.BuildSet op.SetAdd
 
+-- one that adds a key and a value to a dict
 abbrev pub DictsAreUnrefused : Type 0
 DictsAreUnrefused =
     (key value : tree.Expr) (gs : tree.Generators) → expr_size key + expr_size value + generators_size gs < 2 ^ 22
     → IsUnrefusedWithin comprehension_inside (comprehension_shape (codes "<dictcomp>")) (gathered op.BuildMap op.MapAdd (clause_emissions gs) ((emissions key).value ▸ (emissions value).value))
     (λ c n. let i = comprehension_inside c n in let m = after_clauses c (suc n) gs in MkScope (head_of i) (scopes.gathered op.BuildMap op.MapAdd (clause_forms i (suc n) gs) (VMore (expr_forms i m key).value (VMore (expr_forms i (after c m key) value).value VNone))))
 
+-- one whose elements a generator gives
 abbrev pub GeneratorsAreUnrefused : Type 0
 GeneratorsAreUnrefused =
     (elt : tree.Expr) (gs : tree.Generators) → expr_size elt + generators_size gs < 2 ^ 22
