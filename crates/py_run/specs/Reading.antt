@@ -11,6 +11,6 @@ ReadsStill alone before now (Err TooLong) = IsTrue alone → now ≡ before
 ReadsStill alone before now (Err OutOfMemory) = IsTrue alone → now ≡ before
 ReadsStill alone before now (Err Failed) = Unit {0}
 
--- of known bytes 2^26 are taken at most, from the front; where it is so many, a source that had not ended has not ended, so no read came after that which gave the last of them
+-- of known bytes 2^26 are taken at most, from the front; where it is so many, a source that had not ended has not ended: no read came after them, where each that gives no byte ends the source
 abbrev pub TakesFew : Option (List ℕ) → Option (List ℕ) → (ended_before ended_now : Bool) → Type 0
 TakesFew before now ended_before ended_now = (bytes : List ℕ) × Consumes before now bytes × (length bytes ≤ 2 ^ 26) × (length bytes ≡ 2 ^ 26 → ended_before ≡ false → ended_now ≡ false)
