@@ -19,11 +19,7 @@ pub enum ConstantData {
 
 /// What the compiler makes of one scope. The fields are those that a machine reads: the units with a location for
 /// each, the tables that operands name, and how high the value stack may grow.
-///
-/// The hash leaves the constants out: they hold the codes within, and each scope hashes the codes among its own, so a
-/// code would be hashed again at every level that it stands in. It leaves out the path, which all codes of a file share.
-#[derive(PartialEq, Eq, Drop)]
-#[derive_where(Hash)]
+#[derive(PartialEq, Eq, Hash, Drop)]
 #[cycle(constant)]
 pub struct CodeObject {
     /// What holds of the whole code.
@@ -35,7 +31,6 @@ pub struct CodeObject {
     /// How many parameters are keyword-only.
     pub kwonlyarg_count: u32,
     /// The path of the source, as it was given.
-    #[derive_where(skip(Hash))]
     pub source_path: Text,
     /// The row in which the scope begins, from 1.
     pub first_line_number: Option<OneIndexed>,
@@ -48,7 +43,6 @@ pub struct CodeObject {
     /// For each unit, where in the source it comes from.
     pub locations: List<SourceLocation>,
     /// The table that `Const` operands name.
-    #[derive_where(skip(Hash))]
     pub constants: List<ConstantData>,
     /// The table that `Name` operands name: attributes, imports, global names and names of class bodies and modules.
     pub names: List<Text>,

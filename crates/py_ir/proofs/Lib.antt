@@ -20,6 +20,5 @@ pub mod Chained
 pub mod Listed
 pub mod TakenCode
 pub mod Unrefused
-pub mod Feeding
 pub mod Names
 pub mod Passing

@@ -1,16 +1,16 @@
 //! The table of constants of a code: a set that keeps the order in which they came, whose hash tells codes apart that
 //! differ in their constants alone.
-ghost use Rattle.std.specs.Prelude.{◌≡◌, ◌<◌, ◌^◌, [], Some, true, fold, length, slice_get, IfOk, IfErr, OnOk, OnErr};
+ghost use Rattle.std.specs.Prelude.{◌≡◌, ◌<◌, ◌^◌, [], Some, true, fold, length, position, slice_get, IfOk, IfErr, OnOk, OnErr};
 ghost use Rattle.py_bytecode.specs.declared.code.ConstantData.{ConstantData};
 ghost use Rattle.std.specs.Option.{option_copied};
-ghost use Rattle.std.specs.List.{IsDistinct, flat_map, position_or_len};
+ghost use Rattle.std.specs.List.{IsDistinct, position_or_len};
 ghost use Rattle.indexmap.specs.IndexSet.{insert_key};
-ghost use Rattle.py_bytecode.specs.View.{constant};
-ghost use Rattle.py_ir.specs.Feeding.{constant_eq, flat, within};
+ghost use Rattle.py_bytecode.specs.View.{constant, constants_of, object};
+ghost use Rattle.py_ir.specs.Feeding.{constant_eq, const_input, consts_input, object_input, places_input};
 
 use indexmap::IndexSet;
 use py_base::List;
-use py_bytecode::ConstantData;
+use py_bytecode::{CodeObject, ConstantData};
 use std::alloc::{AllocError, AllocFailed, Global};
 use std::hash::{Hash, Hasher};
 use std::marker::Model;
@@ -75,31 +75,28 @@ impl Eq for ConstantKey {
 }
 
 impl Hash for ConstantKey {
-    ghost use Rattle.py_bytecode.specs.contracts.code.ConstantDataHash.TheImpl as hashes;
-    ghost use Rattle.py_bytecode.specs.contracts.code.ConstantDataHash.TheImpl.Laws as hash_laws;
     ghost use Rattle.py_bytecode.specs.View.{constant};
     ghost use Rattle.py_bytecode.proofs.Same.{equal_constants};
-    ghost use Rattle.std.proofs.Common.{◌∙◌, ap};
-    ghost use Rattle.std.specs.Prelude.{◌++◌};
-    ghost use Rattle.py_ir.specs.Feeding.{key_input, within};
+    ghost use Rattle.std.proofs.Common.{ap};
+    ghost use Rattle.py_ir.specs.Feeding.{key_input};
 
-    ghost hash_input = { key_input };
+    ghost hash_input = { λ c. key_input (constant c) };
 
-    ghost respects_eq = { λ x y e. ap (λ ws. ws ++ within (constant x)) (hash_laws.respects_eq-law x y e) ∙ ap (λ c. hashes.ghosts.hash_input y ++ within c) (equal_constants x y e) };
+    ghost respects_eq = { λ x y e. ap key_input (equal_constants x y e) };
 
     fn hash<H: Hasher>(&self, state: &mut H) {
-        self.constant.hash(state);
-        feed_within(&self.constant, state);
+        feed_places(&self.constant, state);
+        feed_constant(&self.constant, state);
     }
 }
 
-/// Feeds the constants of a code.
-#[tactic(auto, using(crate::proofs::Feeding::flat_constants, py_bytecode::proofs::View::views))]
-fn feed_within<H: Hasher>(item: &ConstantData, state: &mut H)
-    ensures { state.new ≡ fold H.write state.old (within (constant item.now)) }
+/// Feeds the places of a code.
+#[tactic(auto, using(py_bytecode::proofs::View::views))]
+fn feed_places<H: Hasher>(item: &ConstantData, state: &mut H)
+    ensures { state.new ≡ fold H.write state.old (places_input (constant item.now)) }
 {
     match item {
-        ConstantData::Code { code } => feed_all(code.constants.as_slice(), state),
+        ConstantData::Code { code } => code.locations.hash(state),
         ConstantData::None
         | ConstantData::Boolean { .. }
         | ConstantData::Str { .. }
@@ -110,29 +107,46 @@ fn feed_within<H: Hasher>(item: &ConstantData, state: &mut H)
     }
 }
 
-fn feed_all<H: Hasher>(items: &[ConstantData], state: &mut H)
-    ensures { state.new ≡ fold H.write state.old (flat_map (λ c. flat (constant c)) items.now) }
-{
-    for item in items {
-        feed_flat(item, state);
-    }
-}
-
-/// Feeds a constant of a code, no deeper.
+/// Feeds a constant, to any depth.
+#[cycle(feed)]
 #[tactic(auto, using(py_bytecode::proofs::View::views))]
-fn feed_flat<H: Hasher>(item: &ConstantData, state: &mut H)
-    ensures { state.new ≡ fold H.write state.old (flat (constant item.now)) }
+fn feed_constant<H: Hasher>(item: &ConstantData, state: &mut H)
+    ensures { state.new ≡ fold H.write state.old (const_input (constant item.now)) }
 {
     match item {
+        ConstantData::Boolean { value } => value.hash(state),
+        ConstantData::None => 2u8.hash(state),
+        ConstantData::Ellipsis => 3u8.hash(state),
         ConstantData::Str { value } => value.hash(state),
         ConstantData::Bytes { value } => value.hash(state),
         ConstantData::Integer { value } => value.hash(state),
-        ConstantData::None
-        | ConstantData::Boolean { .. }
-        | ConstantData::Tuple { .. }
-        | ConstantData::Ellipsis
-        | ConstantData::Code { .. } => {}
+        ConstantData::Tuple { elements } => feed_constants(elements.as_slice(), state),
+        ConstantData::Code { code } => feed_code(code, state),
     }
+}
+
+#[cycle(feed)]
+fn feed_constants<H: Hasher>(items: &[ConstantData], state: &mut H)
+    ensures { state.new ≡ fold H.write state.old (consts_input (constants_of items.now)) }
+{
+    for item in items {
+        feed_constant(item, state);
+    }
+    4u8.hash(state);
+}
+
+#[cycle(feed)]
+#[tactic(auto, using(py_bytecode::proofs::View::views))]
+fn feed_code<H: Hasher>(code: &CodeObject, state: &mut H)
+    ensures { state.new ≡ fold H.write state.old (object_input (object code.now)) }
+{
+    code.obj_name.hash(state);
+    code.instructions.hash(state);
+    code.names.hash(state);
+    code.varnames.hash(state);
+    code.cellvars.hash(state);
+    code.freevars.hash(state);
+    feed_constants(code.constants.as_slice(), state);
 }
 
 /// Constants in the order in which they came, each once, seen as their list.
@@ -172,6 +186,16 @@ impl ConstantSet {
         ensures distinct { IsDistinct constant_eq self.now }
     {
         self.set.len()
+    }
+
+    /// The place of a constant, if it is there. Each constant before it is looked at, and no memory is taken.
+    pub fn get_index_of(&self, x: &ConstantData) -> Option<usize>
+        ensures { result ≡ position (constant_eq x.now) self.now }
+    {
+        self.set
+            .as_slice()
+            .iter()
+            .position(|key| *x == key.constant)
     }
 
     /// The constant at a place, if the place is taken.
