@@ -136,6 +136,19 @@ def constants_at_one_place(n):
     return rows.module([rows.statement(rows.function_value(rows.integer(at))) for at in range(n)])
 
 
+def nested_at_one_place(n):
+    """Functions that give functions, which differ in one constant of the inner one alone."""
+    rows = Rows()
+    return rows.module([rows.statement(rows.function_value(rows.function_value(rows.integer(at)))) for at in range(n)])
+
+
+def tuples_at_one_place(n):
+    """Functions that give tuples of one number, which alone differs."""
+    rows = Rows()
+    tuples = (rows.add("Constant", 1, 1, rows.add("tuple", [rows.add("int", str(at))])) for at in range(n))
+    return rows.module([rows.statement(rows.function_value(it)) for it in tuples])
+
+
 def constants_at_places(n):
     """The same functions, each in a line of its own."""
     rows = Rows()
@@ -338,6 +351,8 @@ WIDE_SIZES, DEEP_SIZES = (1000, 2000, 4000, 8000), (125, 250, 500, 1000)
 GROWING = {
     "places": Growing("n lambdas `lambda: I`, each in a line of its own (for comparison)", WIDE_SIZES, constants_at_places),
     "constants": Growing("n lambdas `lambda: I` at one place", WIDE_SIZES, constants_at_one_place),
+    "nested": Growing("n lambdas `lambda: lambda: I` at one place", WIDE_SIZES, nested_at_one_place),
+    "tuples": Growing("n lambdas `lambda: (I,)` at one place", WIDE_SIZES, tuples_at_one_place),
     "parameters": Growing("n parameters of one function", WIDE_SIZES, parameters),
     "types": Growing("n type parameters of one function", WIDE_SIZES, type_parameters),
     "names": Growing("n names of 32 bytes (for comparison)", WIDE_SIZES, names_that_differ),

@@ -33,6 +33,8 @@ fn constants_keep_their_places(rt: HostRuntime) {
     assert!(rt; !is_seven(constants.get_index(0)));
     assert!(rt; is_seven(constants.get_index(1)));
     assert!(rt; constants.get_index(2).is_none());
+    assert_eq!(rt; constants.get_index_of(&number(7)), Some(1));
+    assert_eq!(rt; constants.get_index_of(&number(8)), None);
 }
 
 /// Enters a name, and answers its place.

@@ -192,10 +192,7 @@ impl ConstantSet {
     pub fn get_index_of(&self, x: &ConstantData) -> Option<usize>
         ensures { result ≡ position (constant_eq x.now) self.now }
     {
-        self.set
-            .as_slice()
-            .iter()
-            .position(|key| *x == key.constant)
+        self.set.iter().position(|key| *x == key.constant)
     }
 
     /// The constant at a place, if the place is taken.
