@@ -4,9 +4,9 @@ ghost use Rattle.py_tree.specs.Tree.{stmt_location, type_param_location};
 ghost use Rattle.py_tree.specs.View.{stmt_tree, type_param_tree};
 
 use crate::{Arguments, Expr, Keyword, List, Names, Operator, SourceLocation, Text};
+use std::mem;
 
 /// A statement.
-#[derive(Drop)]
 pub enum Stmt {
     FunctionDef(StmtFunctionDefOf<Stmt>),
     AsyncFunctionDef(StmtAsyncFunctionDefOf<Stmt>),
@@ -36,6 +36,42 @@ pub enum Stmt {
     Pass(StmtPass),
     Break(StmtBreak),
     Continue(StmtContinue),
+}
+
+// Written out, and not derived, so that the crates above have no code of their own that lets a tree go.
+impl Drop for Stmt {
+    fn drop(self) {
+        match self {
+            Stmt::FunctionDef(node) => mem::drop(node),
+            Stmt::AsyncFunctionDef(node) => mem::drop(node),
+            Stmt::ClassDef(node) => mem::drop(node),
+            Stmt::Return(node) => mem::drop(node),
+            Stmt::Delete(node) => mem::drop(node),
+            Stmt::Assign(node) => mem::drop(node),
+            Stmt::TypeAlias(node) => mem::drop(node),
+            Stmt::AugAssign(node) => mem::drop(node),
+            Stmt::AnnAssign(node) => mem::drop(node),
+            Stmt::For(node) => mem::drop(node),
+            Stmt::AsyncFor(node) => mem::drop(node),
+            Stmt::While(node) => mem::drop(node),
+            Stmt::If(node) => mem::drop(node),
+            Stmt::With(node) => mem::drop(node),
+            Stmt::AsyncWith(node) => mem::drop(node),
+            Stmt::Match(node) => mem::drop(node),
+            Stmt::Raise(node) => mem::drop(node),
+            Stmt::Try(node) => mem::drop(node),
+            Stmt::TryStar(node) => mem::drop(node),
+            Stmt::Assert(node) => mem::drop(node),
+            Stmt::Import(node) => mem::drop(node),
+            Stmt::ImportFrom(node) => mem::drop(node),
+            Stmt::Global(node) => mem::drop(node),
+            Stmt::Nonlocal(node) => mem::drop(node),
+            Stmt::Expr(node) => mem::drop(node),
+            Stmt::Pass(node) => mem::drop(node),
+            Stmt::Break(node) => mem::drop(node),
+            Stmt::Continue(node) => mem::drop(node),
+        }
+    }
 }
 
 /// Statements in order.
@@ -381,11 +417,21 @@ pub struct Alias {
 }
 
 /// A type parameter.
-#[derive(Drop)]
 pub enum TypeParam {
     TypeVar(TypeParamTypeVar),
     ParamSpec(TypeParamParamSpec),
     TypeVarTuple(TypeParamTypeVarTuple),
+}
+
+// Written out, and not derived, so that the crates above have no code of their own that lets a tree go.
+impl Drop for TypeParam {
+    fn drop(self) {
+        match self {
+            TypeParam::TypeVar(node) => mem::drop(node),
+            TypeParam::ParamSpec(node) => mem::drop(node),
+            TypeParam::TypeVarTuple(node) => mem::drop(node),
+        }
+    }
 }
 
 /// `name: bound`.
