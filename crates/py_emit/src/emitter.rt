@@ -316,7 +316,7 @@ impl Emitter {
     ///
     /// # Errors
     /// OutOfMemory alone: a table of 2^31 entries, and blocks that have no code, count as that. The part "Want of memory"
-    /// of docs/DECISIONS.md says what no tree comes to.
+    /// of docs/DECISIONS.md says what no tree without faults comes to.
     #[tactic(auto, unfolding(crate::specs::States::rest))]
     pub fn leave_scope(&mut self) -> Result<CodeObject, CodegenError>
         requires inner { (rest self.old).outer ≢ [] }
