@@ -6,11 +6,11 @@ use Rattle.std.specs.Map.{keys_of}
 use Rattle.std.proofs.lemmas.Option.{slice_get_within}
 use Rattle.py_scope.specs.declared.rows.Entry.{Entry}
 use Rattle.py_scope.specs.declared.rows.Row.{Row}
-use Rattle.py_scope.specs.Cells.{names_of}
+use Rattle.py_scope.specs.Distinct.{names_of}
 use Rattle.py_scope.specs.InOrder.{IsScanned}
 use Rattle.py_scope.specs.Lifts.{walruses_of}
 use Rattle.py_scope.specs.Names.{Name, lookup, same_name}
-use Rattle.py_scope.specs.Needs.{entry_at, entry_of}
+use Rattle.py_scope.specs.Entries.{entry_at, entry_of}
 use Rattle.py_scope.specs.Resolve.{stores}
 use Rattle.py_scope.specs.Scanned.{Scanned, order_of}
 use Rattle.py_scope.proofs.Checking.{two_none}

@@ -9,7 +9,7 @@ use Rattle.py_scope.specs.declared.outward.Meets.TheVariants.{Past}
 use Rattle.py_scope.specs.Names.{Name, same_name, lookup}
 use Rattle.py_scope.specs.Bits.{intersects}
 use Rattle.py_scope.specs.Outward.{counts, enclosing, look, look_from, meetings, meets_of, parents, stop_of, stop_of_entry}
-use Rattle.py_scope.specs.Needs.{entry_at, entry_of}
+use Rattle.py_scope.specs.Entries.{entry_at, entry_of}
 use Rattle.py_scope.specs.Roles.{bound_opt}
 use Rattle.py_scope.specs.Lifts.{IsLifted, held_as, holding, holds_opt, kind_of, lifted, lifted_all, lifts, or_absent, outward_from, stage_of, stages}
 use Rattle.py_scope.specs.Scanned.{Scanned, order_of}

@@ -11,14 +11,14 @@ use Rattle.py_scope.specs.declared.rows.Holds.TheVariants.{Plain, DeclaredGlobal
 use Rattle.py_scope.specs.declared.rows.Row.{Row}
 use Rattle.py_scope.specs.declared.table_type.SymbolTableType.{SymbolTableType}
 use Rattle.py_scope.specs.declared.table_type.SymbolTableType.TheVariants.{Function, Comprehension}
-use Rattle.py_scope.specs.Cells.{AreDistinct, names_of}
+use Rattle.py_scope.specs.Distinct.{AreDistinct, names_of}
 use Rattle.py_scope.specs.Checks.{entries_of, first_by, first_wrong, hides, is_type_params, unfound, wrong_class_name, wrong_entry, wrong_in, wrong_nonlocal}
 use Rattle.py_scope.specs.InOrder.{IsScanned}
 use Rattle.py_scope.specs.Kinds.{add_name}
 use Rattle.py_scope.specs.Lifts.{Lift, Stays, Through, Holder, after_lift, as_in, first_of_two, holds_opt, kind_of, lift_effect, lift_of, lifted, lifted_all, lifts, outward_from, stages}
 use Rattle.py_scope.specs.Marks.{is_class}
 use Rattle.py_scope.specs.Names.{Name, class_cell, lookup, same_name}
-use Rattle.py_scope.specs.Needs.{entry_at, entry_of}
+use Rattle.py_scope.specs.Entries.{entry_at, entry_of}
 use Rattle.py_scope.specs.Outward.{is_free, look_from, parents}
 use Rattle.py_scope.specs.Resolve.{binds_in, goes_through, holder, kind_at, lifted_to, look_in}
 use Rattle.py_scope.specs.Roles.{bound_opt}

@@ -10,7 +10,7 @@ use Rattle.py_scope.specs.InOrder.{IsScanned}
 use Rattle.py_scope.specs.Kinds.{kind_as}
 use Rattle.py_scope.specs.Lifts.{first_of_two, holds_opt, outward_from}
 use Rattle.py_scope.specs.Names.{Name}
-use Rattle.py_scope.specs.Needs.{entry_at}
+use Rattle.py_scope.specs.Entries.{entry_at}
 use Rattle.py_scope.specs.Resolve.{binder_in, binds_in, cell_scope, declared, goes_through, holder, holds_in, is_free_kind, is_used, lifted_to, kind_at, look_in, needs, open_kind, own_kind, resolve}
 use Rattle.py_scope.specs.Resolved.{first_fault}
 use Rattle.py_scope.specs.Scanned.{Scanned, order_of}

@@ -10,7 +10,7 @@ use Rattle.py_scope.specs.Checks.{first_by}
 use Rattle.py_scope.specs.Lifts.{first_of_two, first_refusal, is_comprehension, iterated_opt, lifts, lifts_of, refusal, refused_by, stage_of, stages, walruses_of}
 use Rattle.py_scope.specs.Marks.{from_scope}
 use Rattle.py_scope.specs.Names.{Name}
-use Rattle.py_scope.specs.Needs.{entry_at, entry_of}
+use Rattle.py_scope.specs.Entries.{entry_at, entry_of}
 use Rattle.py_scope.specs.Outward.{enclosing, parents}
 use Rattle.py_scope.specs.Resolve.{around, holder, kind_at, way}
 use Rattle.py_scope.proofs.LiftKeeps.{first_append}

@@ -5,7 +5,7 @@ use Rattle.py_scope.specs.declared.kinds.SymbolScope.{SymbolScope}
 use Rattle.py_scope.specs.declared.kinds.SymbolScope.TheVariants.{Free}
 use Rattle.py_scope.specs.declared.rows.Row.{Row}
 use Rattle.py_scope.specs.Names.{Name}
-use Rattle.py_scope.specs.Needs.{entry_at}
+use Rattle.py_scope.specs.Entries.{entry_at}
 use Rattle.py_scope.specs.Resolve.{resolve, stores}
 use Rattle.py_scope.specs.Scanned.{order_of}
 use Rattle.py_scope.specs.Symbols.{is_global_kind, is_local_kind}

@@ -9,12 +9,12 @@ use Rattle.py_scope.specs.declared.rows.Holds.TheVariants.{Plain, DeclaredGlobal
 use Rattle.py_scope.specs.declared.rows.Row.{Row}
 use Rattle.py_scope.specs.declared.table_type.SymbolTableType.{SymbolTableType}
 use Rattle.py_scope.specs.declared.table_type.SymbolTableType.TheVariants.{Module, Class, Function, Comprehension, TypeParams}
-use Rattle.py_scope.specs.Cells.{names_of}
+use Rattle.py_scope.specs.Distinct.{names_of}
 use Rattle.py_scope.specs.Checks.{first_by, is_type_params, unfound}
 use Rattle.py_scope.specs.Lifts.{first_of_two, iterated_opt, walruses_of}
 use Rattle.py_scope.specs.Marks.{is_class}
 use Rattle.py_scope.specs.Names.{Name, class_cell, same_name}
-use Rattle.py_scope.specs.Needs.{entry_at}
+use Rattle.py_scope.specs.Entries.{entry_at}
 use Rattle.py_scope.specs.Outward.{is_free, parents}
 use Rattle.py_scope.specs.Resolve.{around, binds_in, holder, holds_in, kind_at, look_in, way}
 

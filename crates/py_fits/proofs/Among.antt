@@ -10,7 +10,7 @@ use Rattle.py_scope.specs.Bits.{is_stored_by_walrus}
 use Rattle.py_scope.specs.Laws.{SymbolsFollow, has_symbol}
 use Rattle.py_scope.specs.Lifts.{outward_from, walruses, walruses_of}
 use Rattle.py_scope.specs.Names.{Name, lookup, same_name}
-use Rattle.py_scope.specs.Needs.{entry_at, entry_of}
+use Rattle.py_scope.specs.Entries.{entry_at, entry_of}
 use Rattle.py_scope.specs.Resolve.{among, goes_through, holder, is_free_in, is_free_past, is_held, is_used, kind_at, needs, scopes, stores, way}
 use Rattle.py_scope.specs.Scanned.{is_function}
 use Rattle.py_scope.proofs.Truth.{any_scope, both, either, left_or, right_or}

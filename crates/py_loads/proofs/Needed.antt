@@ -8,7 +8,7 @@ use Rattle.py_scope.specs.declared.rows.Row.{Row}
 use Rattle.py_scope.specs.Bits.{is_stored_by_walrus}
 use Rattle.py_scope.specs.Lifts.{is_comprehension, outward_from, walruses, walruses_of}
 use Rattle.py_scope.specs.Names.{Name, lookup, same_name}
-use Rattle.py_scope.specs.Needs.{entry_at, entry_of}
+use Rattle.py_scope.specs.Entries.{entry_at, entry_of}
 use Rattle.py_scope.specs.Outward.{IsNumbered, parent_of, parents}
 use Rattle.py_scope.specs.Resolve.{among, around, goes_through, is_free_in, is_free_past, is_used, kind_at, needs, scopes, stores, way}
 use Rattle.py_scope.proofs.Chains.{equal_numbers, outward, tells_same}

@@ -8,7 +8,7 @@ use Rattle.py_scope.specs.declared.rows.Entry.{Entry}
 use Rattle.py_scope.specs.declared.rows.Row.{Row}
 use Rattle.py_scope.specs.Lifts.{outward_from}
 use Rattle.py_scope.specs.Names.{Name, lookup, same_name}
-use Rattle.py_scope.specs.Needs.{entry_of}
+use Rattle.py_scope.specs.Entries.{entry_of}
 use Rattle.py_scope.specs.Outward.{IsNumbered, parents}
 use Rattle.py_scope.specs.Resolve.{among, around, needs, stands_in}
 use Rattle.py_scope.proofs.Chains.{equal_numbers, outward, tells_apart, tells_same}

@@ -6,7 +6,7 @@ use Rattle.py_limits.specs.Size.{size_of}
 use Rattle.py_scope.specs.declared.rows.Row.{Row}
 use Rattle.py_scope.specs.Lifts.{outward_from}
 use Rattle.py_scope.specs.Names.{Name}
-use Rattle.py_scope.specs.Needs.{entry_at}
+use Rattle.py_scope.specs.Entries.{entry_at}
 use Rattle.py_scope.specs.Outward.{IsNumbered}
 use Rattle.py_scope.specs.Resolve.{among, needs}
 use Rattle.py_uses.specs.Steps.{State}

@@ -12,7 +12,7 @@ use Rattle.py_scope.specs.Laws.{SymbolsFollow, flags_by_uses, hands_through, has
 use Rattle.py_scope.specs.Lifts.{kind_of}
 use Rattle.py_scope.specs.Marks.{is_class}
 use Rattle.py_scope.specs.Names.{Name, same_name}
-use Rattle.py_scope.specs.Needs.{entry_at}
+use Rattle.py_scope.specs.Entries.{entry_at}
 use Rattle.py_scope.specs.Resolve.{binds_in, declared, is_free_kind, is_free_past, is_held, kind_at, needs, resolve, scopes}
 use Rattle.py_scope.specs.Roles.{bound_opt}
 use Rattle.py_scope.specs.Scanned.{is_function}

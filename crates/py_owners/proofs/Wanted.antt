@@ -8,7 +8,7 @@ use Rattle.py_scope.specs.declared.kinds.SymbolScope.TheVariants.{Unknown, Local
 use Rattle.py_scope.specs.declared.symbols.Symbol.{Symbol}
 use Rattle.py_scope.specs.Bits.{intersects}
 use Rattle.py_scope.specs.Names.{Name, same_name}
-use Rattle.py_scope.specs.Needs.{entry_at}
+use Rattle.py_scope.specs.Entries.{entry_at}
 use Rattle.py_scope.specs.Outward.{enclosing, parents}
 use Rattle.py_scope.specs.Resolve.{binds_in, goes_through, is_free_kind, is_held, is_own, is_used, holds_in, declared, needs, resolve}
 use Rattle.py_scope.specs.Roles.{bound_opt}

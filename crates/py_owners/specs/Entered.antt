@@ -74,6 +74,10 @@ ScansTo (tree.Interactive stmts) s = scan_program stmts ≡ Done s
 ScansTo (tree.Expression value) s = scan_value value ≡ Done s
 ScansTo other s = ⊥
 
+-- the scan of a tree without faults is done in some state, so what is said of each such state is said of one
+abbrev pub FaultlessScansEnd : Type 0
+FaultlessScansEnd = (t : tree.Mod) (m : Mode) (level : ℕ) → faults t m level ≡ [] → (s : State) × ScansTo t s
+
 -- a scan of a tree without faults enters the scopes of its nodes, in their order, each in the scope that its node stands in
 abbrev pub ScanEntersOwners : Type 0
 ScanEntersOwners = (t : tree.Mod) (m : Mode) (level : ℕ) (s : State) → faults t m level ≡ [] → ScansTo t s → map told_row s.scopes.rows ≡ map told (owners_of t m)

@@ -10,7 +10,7 @@ use Rattle.py_scope.specs.Names.{Name, same_name, lookup}
 use Rattle.py_scope.specs.Outward.{Touch, Leaves, Passes, Captures, look, touch, touch_here}
 use Rattle.py_scope.specs.Marks.{after, passing, capturing, or_new, looks, settled, touch_by, is_class}
 use Rattle.py_scope.specs.Flags.{is_passes}
-use Rattle.py_scope.specs.Needs.{entry_at, entry_of}
+use Rattle.py_scope.specs.Entries.{entry_at, entry_of}
 use Rattle.py_scope.specs.Lifts.{Lift, Stays, Through, Holder, after_lift, held_as, holding, or_absent, lift_of, lift_effect, lifted, stages, outward_from, lifts, lifted_all, kind_of}
 use Rattle.py_scope.specs.Scanned.{Scanned, order_of}
 use Rattle.py_scope.specs.InOrder.{IsScanned, free_class_opt}

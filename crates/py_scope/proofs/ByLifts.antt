@@ -8,7 +8,7 @@ use Rattle.py_scope.specs.declared.outward.Meets.TheVariants.{Past}
 use Rattle.py_scope.specs.declared.outward.Found.{Found}
 use Rattle.py_scope.specs.Names.{Name, same_name}
 use Rattle.py_scope.specs.Outward.{look, counts, stop_of, enclosing, parents}
-use Rattle.py_scope.specs.Needs.{entry_at}
+use Rattle.py_scope.specs.Entries.{entry_at}
 use Rattle.py_scope.specs.Roles.{bound_opt}
 use Rattle.py_scope.specs.Lifts.{Lift, Stays, Through, Holder, stages, lift_of, lifted, outward_from, lifts, holds_opt, kind_of}
 use Rattle.py_scope.specs.Tables.{is_plain}

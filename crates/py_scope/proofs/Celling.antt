@@ -12,9 +12,9 @@ use Rattle.py_scope.specs.Names.{Name, same_name, lookup}
 use Rattle.py_scope.specs.Outward.{IsNumbered, asking, asks, asks_as, look_from, meetings}
 use Rattle.py_scope.specs.Marks.{asking_of}
 use Rattle.py_scope.specs.Flags.{captured_opt}
-use Rattle.py_scope.specs.Needs.{entry_of, entry_at, wants, wants_as, wants_for, asks_for, ChildNeeds, IsCaptured, CapturesAll}
-use Rattle.py_scope.specs.Capture.{hands_on}
-use Rattle.py_scope.specs.Cells.{names_of, AreDistinct, IsOnce, is_lifted, is_lifted_as, LiftsCaptured, CellsWhereNeeded}
+use Rattle.py_scope.specs.Entries.{entry_of, entry_at}
+use Rattle.py_scope.proofs.Captured.{wants, wants_as, wants_for, asks_for, ChildNeeds, IsCaptured, CapturesAll, hands_on, is_lifted, is_lifted_as, LiftsCaptured, CellsWhereNeeded}
+use Rattle.py_scope.specs.Distinct.{names_of, AreDistinct, IsOnce}
 use Rattle.py_scope.proofs.Needing.{captured_by_child, child_captures, is_there}
 use Rattle.py_scope.specs.Bits.{is_bound}
 use Rattle.py_scope.proofs.NameLemmas.{equal_names}

@@ -15,9 +15,10 @@ use Rattle.py_scope.specs.Bits.{is_bound}
 use Rattle.py_scope.specs.Outward.{Captures, Leaves, Passes, Touch, counts, enclosing, found_at, look, look_from, meetings, meets_of, parents, stop_of, stop_of_entry}
 use Rattle.py_scope.specs.Marks.{after, passing, capturing, or_new, looks, settled}
 use Rattle.py_scope.specs.Flags.{captured_opt}
-use Rattle.py_scope.specs.Needs.{entry_at, entry_of, asks_for, ChildNeeds}
+use Rattle.py_scope.specs.Entries.{entry_at, entry_of}
+use Rattle.py_scope.proofs.Captured.{asks_for, ChildNeeds, hands_on}
 use Rattle.py_scope.specs.Lifts.{lifts, stages, stage_of, outward_from, lifted_all, kind_of}
-use Rattle.py_scope.specs.Capture.{hands_on, hands_on_as}
+use Rattle.py_scope.specs.Resolve.{hands_on_as}
 use Rattle.py_scope.specs.Scanned.{Scanned, order_of}
 use Rattle.py_scope.specs.InOrder.{IsScanned}
 use Rattle.py_scope.specs.Resolved.{first_fault}

@@ -8,7 +8,8 @@ use Rattle.py_scope.specs.declared.outward.Found.TheVariants.{Nowhere, Globally,
 use Rattle.py_scope.specs.declared.rows.Row.{Row}
 use Rattle.py_scope.specs.Outward.{Captures, Leaves, Passes, Touch, chain, enclosing, found_at, look, look_from, meetings, on_way, parents, touch, touch_here}
 use Rattle.py_scope.specs.Marks.{touch_by, settled, IsSettled, looks}
-use Rattle.py_scope.specs.Needs.{entry_at, entry_of, asks_for, CapturesAll}
+use Rattle.py_scope.specs.Entries.{entry_at, entry_of}
+use Rattle.py_scope.proofs.Captured.{asks_for, CapturesAll}
 use Rattle.py_scope.specs.Flags.{captured_opt, is_captures, captures}
 use Rattle.py_scope.proofs.Chains.{equal_numbers, unequal_numbers, touch_above}
 use Rattle.py_scope.proofs.Flagging.{captured_settled, from_looks, to_looks}

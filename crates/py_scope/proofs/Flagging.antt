@@ -6,7 +6,7 @@ use Rattle.py_scope.specs.declared.rows.Row.{Row}
 use Rattle.py_scope.specs.Names.{Name, same_name, lookup}
 use Rattle.py_scope.specs.Outward.{Touch, Leaves, Passes, Captures}
 use Rattle.py_scope.specs.Marks.{after, passing, capturing, or_new, touch_by, settled, asking_of, from_scope, looks}
-use Rattle.py_scope.specs.Needs.{asks_for}
+use Rattle.py_scope.proofs.Captured.{asks_for}
 use Rattle.py_scope.specs.Flags.{captured_opt, is_captures, captures}
 use Rattle.py_scope.proofs.Chains.{equal_numbers}
 use Rattle.py_scope.proofs.Settling.{lookup_put}

@@ -11,8 +11,8 @@ use Rattle.py_scope.specs.declared.table.SymbolTable.{SymbolTable, roll-SymbolTa
 use Rattle.py_scope.specs.Names.{Name, same_name, lookup}
 use Rattle.py_scope.specs.Outward.{Touch, Leaves, Passes, Captures}
 use Rattle.py_scope.specs.Marks.{after, touch_by, settled, looks}
-use Rattle.py_scope.specs.Needs.{entry_at, entry_of}
-use Rattle.py_scope.specs.Cells.{names_of, AreDistinct}
+use Rattle.py_scope.specs.Entries.{entry_at, entry_of}
+use Rattle.py_scope.specs.Distinct.{names_of, AreDistinct}
 use Rattle.py_scope.specs.Lifts.{Lift, Stays, Through, Holder, after_lift, lift_of, lift_effect, lifted, stages, outward_from, lifted_all, lifts}
 use Rattle.py_scope.specs.Tables.{kind_in, symbol_in, symbols_in, all_symbols, children_of, table_of, tables_from}
 use Rattle.py_scope.specs.Checks.{entries_of}

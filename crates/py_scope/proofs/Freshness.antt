@@ -19,7 +19,7 @@ use Rattle.py_scope.specs.Kinds.{add_name}
 use Rattle.py_scope.specs.Flags.{captured_opt}
 use Rattle.py_scope.specs.Lifts.{or_absent, holds_opt, walruses, is_comprehension}
 use Rattle.py_scope.specs.Registered.{is_fresh}
-use Rattle.py_scope.specs.Cells.{AreDistinct}
+use Rattle.py_scope.specs.Distinct.{AreDistinct}
 use Rattle.py_scope.specs.Scanned.{role_in, walrus_in, used_in}
 use Rattle.py_scope.specs.InOrder.{IsFresh, assigned_opt, free_class_opt}
 use Rattle.py_scope.proofs.NameLemmas.{intersects-or}

@@ -10,7 +10,7 @@ use Rattle.py_scope.specs.Names.{Name, same_name, lookup}
 use Rattle.py_scope.specs.Bits.{intersects}
 use Rattle.py_scope.specs.Outward.{Touch, Leaves, Passes, Captures, counts, stop_of, stop_of_entry, parents, meetings, meets_of}
 use Rattle.py_scope.specs.Marks.{after, settled, looks}
-use Rattle.py_scope.specs.Needs.{entry_at, entry_of}
+use Rattle.py_scope.specs.Entries.{entry_at, entry_of}
 use Rattle.py_scope.specs.Roles.{bound_opt}
 use Rattle.py_scope.specs.Lifts.{stages, stage_of, holds_opt, or_absent, held_as, holding, lifted, outward_from, lifted_all, lifts, kind_of}
 use Rattle.py_scope.specs.Tables.{is_plain}

@@ -15,7 +15,8 @@ use Rattle.py_scope.specs.Bits.{is_bound}
 use Rattle.py_scope.specs.Outward.{Passes, counts, enclosing, look, look_from, meetings, parents, stop_of}
 use Rattle.py_scope.specs.Marks.{looks, settled, touch_by}
 use Rattle.py_scope.specs.Flags.{captured_opt}
-use Rattle.py_scope.specs.Needs.{entry_at, entry_of, Needs}
+use Rattle.py_scope.specs.Entries.{entry_at, entry_of}
+use Rattle.py_scope.proofs.Captured.{Needs}
 use Rattle.py_scope.specs.Roles.{bound_opt}
 use Rattle.py_scope.specs.Lifts.{holds_opt, kind_of}
 use Rattle.py_scope.specs.Kinds.{kind_as}

@@ -10,11 +10,10 @@ use Rattle.py_scope.specs.declared.refusal.Refusal.{Refusal}
 use Rattle.py_scope.specs.Names.{Name, same_name, lookup}
 use Rattle.py_scope.specs.Outward.{IsNumbered, look_from}
 use Rattle.py_scope.specs.Marks.{looks, settled, IsSettled}
-use Rattle.py_scope.specs.Needs.{entry_at, entry_of, CapturesAll}
+use Rattle.py_scope.specs.Entries.{entry_at, entry_of}
+use Rattle.py_scope.proofs.Captured.{CapturesAll, LiftsCaptured, HandsOn, ClosuresLead, IsRegistered, NonlocalsFound}
 use Rattle.py_scope.specs.Lifts.{lifts, lifted_all, first_of_two, holds_opt, IsLifted}
-use Rattle.py_scope.specs.Cells.{IsOnce, LiftsCaptured}
-use Rattle.py_scope.specs.Capture.{HandsOn, ClosuresLead}
-use Rattle.py_scope.specs.Registered.{IsRegistered, NonlocalsFound}
+use Rattle.py_scope.specs.Distinct.{IsOnce}
 use Rattle.py_scope.specs.Checks.{first_by, wrong_in, wrong_entry, wrong_nonlocal, wrong_class_name, entries_of}
 use Rattle.py_scope.specs.Scanned.{Scanned, order_of}
 use Rattle.py_scope.specs.InOrder.{IsScanned}

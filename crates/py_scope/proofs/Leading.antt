@@ -9,8 +9,9 @@ use Rattle.py_scope.specs.declared.rows.Holds.{Holds}
 use Rattle.py_scope.specs.declared.rows.Holds.TheVariants.{Plain, DeclaredGlobal, DeclaredNonlocal, LiftedFree, LiftedGlobal, LiftedModule, Passed}
 use Rattle.py_scope.specs.Outward.{IsNumbered, Passes, chain, enclosing, found_at, look, look_from, meetings, on_way, parents, touch, touch_here}
 use Rattle.py_scope.specs.Marks.{touch_by}
-use Rattle.py_scope.specs.Needs.{Needs, wants, wants_as, entry_at}
-use Rattle.py_scope.specs.Capture.{hands_on, hands_on_as, binder, binder_at, binder_from, HasCell, Leads, HandsOn, ClosuresLead}
+use Rattle.py_scope.proofs.Captured.{Needs, wants, wants_as, hands_on, binder_from, HasCell, Leads, HandsOn, ClosuresLead}
+use Rattle.py_scope.specs.Entries.{entry_at}
+use Rattle.py_scope.specs.Resolve.{hands_on_as, binder, binder_at}
 use Rattle.py_scope.proofs.Chains.{equal_numbers, tells_same, tells_apart, outward}
 use Rattle.py_scope.proofs.Needing.{passes_look, passed_below, not_the_module, is_there}
 use Rattle.py_scope.specs.Names.{Name}

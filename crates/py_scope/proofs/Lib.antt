@@ -1,3 +1,4 @@
+pub mod Captured
 pub mod NameLemmas
 pub mod Putting
 pub mod SymbolLists

@@ -12,9 +12,10 @@ use Rattle.py_scope.specs.declared.outward.Found.TheVariants.{FreeOf}
 use Rattle.py_scope.specs.Names.{Name, same_name, lookup}
 use Rattle.py_scope.specs.Outward.{IsNumbered, counts, enclosing, found_at, look, look_from, meetings, meets, meets_of, parents, stop_of, stop_of_entry}
 use Rattle.py_scope.specs.Flags.{captured_opt}
-use Rattle.py_scope.specs.Needs.{entry_at, entry_of}
-use Rattle.py_scope.specs.Capture.{hands_on, hands_on_as, HandsOn}
-use Rattle.py_scope.specs.Registered.{is_fresh, IsRegistered, NonlocalsFound}
+use Rattle.py_scope.specs.Entries.{entry_at, entry_of}
+use Rattle.py_scope.proofs.Captured.{hands_on, HandsOn, IsRegistered, NonlocalsFound, is_lifted}
+use Rattle.py_scope.specs.Resolve.{hands_on_as}
+use Rattle.py_scope.specs.Registered.{is_fresh}
 use Rattle.py_scope.specs.Lifts.{assigned_as, after_lift, held_as, holding, or_absent, lifts, lift_effect, Stage, stages, holds_opt, as_in, lifted, lifted_by, Lift, Stays, Through, Holder, lift_of, outward_from, lifted_all, IsLifted, kind_of}
 use Rattle.py_scope.proofs.Chains.{outward}
 use Rattle.py_scope.proofs.LiftKeeps.{same_parents, same_kind_of, same_stages}
@@ -22,7 +23,6 @@ use Rattle.py_scope.proofs.LiftsCapture.{hits_through, held_in}
 use Rattle.py_scope.proofs.Settling.{lookup_put}
 use Rattle.py_scope.proofs.LiftsLead.{in_comprehension, present, captured_here, held_here, reaches_through, reaches_holder, stage_function, kind_read}
 use Rattle.py_scope.proofs.LiftsSound.{lifted_is, through_kind, went_through, is_there, not_first, begins_well}
-use Rattle.py_scope.specs.Cells.{is_lifted}
 use Rattle.py_scope.specs.Bits.{is_bound, intersects}
 
 abbrev is_plain : Holds → Bool

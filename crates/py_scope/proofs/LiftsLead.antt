@@ -13,8 +13,9 @@ use Rattle.py_scope.specs.Names.{Name, same_name, lookup}
 use Rattle.py_scope.specs.Outward.{IsNumbered, asks_as, counts, enclosing, found_at, look, look_from, meetings, meets, meets_of, parents, stop_of, stop_of_entry}
 use Rattle.py_scope.specs.Marks.{asking_of}
 use Rattle.py_scope.specs.Flags.{captured_opt}
-use Rattle.py_scope.specs.Needs.{entry_at, entry_of, asks_for}
-use Rattle.py_scope.specs.Capture.{hands_on, hands_on_as}
+use Rattle.py_scope.specs.Entries.{entry_at, entry_of}
+use Rattle.py_scope.proofs.Captured.{asks_for, hands_on}
+use Rattle.py_scope.specs.Resolve.{hands_on_as}
 use Rattle.py_scope.specs.Registered.{is_fresh}
 use Rattle.py_scope.specs.Lifts.{stages, stage_of, if_function, holds_opt, as_in, lifted, lifted_by, Stays, Through, lift_of, lift_here, outward_from, lifted_all, IsLifted, kind_of}
 use Rattle.py_scope.proofs.Chains.{outward}

@@ -10,8 +10,8 @@ use Rattle.py_scope.specs.Names.{Name, same_name}
 use Rattle.py_scope.specs.Outward.{enclosing, look, touch, touch_here, Passes, parents, meetings, IsNumbered}
 use Rattle.py_scope.specs.Marks.{asking_of, touch_by, is_class}
 use Rattle.py_scope.specs.Flags.{captured_opt}
-use Rattle.py_scope.specs.Needs.{entry_at, entry_of, asks_for, wants_for}
-use Rattle.py_scope.specs.Capture.{hands_on}
+use Rattle.py_scope.specs.Entries.{entry_at, entry_of}
+use Rattle.py_scope.proofs.Captured.{asks_for, wants_for, hands_on}
 use Rattle.py_scope.specs.Registered.{is_fresh}
 use Rattle.py_scope.specs.Lifts.{stages, holds_opt, as_in, lifted, lifted_by, outward_from, IsLifted, kind_of}
 use Rattle.py_scope.proofs.Chains.{equal_numbers, outward}

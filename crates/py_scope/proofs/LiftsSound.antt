@@ -14,9 +14,9 @@ use Rattle.py_scope.specs.Names.{Name, same_name, lookup}
 use Rattle.py_scope.specs.Outward.{IsNumbered, chain, counts, enclosing, found_at, look, look_from, meetings, meets_of, parents, stop_of, stop_of_entry}
 use Rattle.py_scope.specs.Marks.{from_scope}
 use Rattle.py_scope.specs.Flags.{captured_opt}
-use Rattle.py_scope.specs.Needs.{entry_at, entry_of}
-use Rattle.py_scope.specs.Cells.{is_lifted, is_lifted_as, LiftsCaptured}
-use Rattle.py_scope.specs.Registered.{is_fresh, IsRegistered}
+use Rattle.py_scope.specs.Entries.{entry_at, entry_of}
+use Rattle.py_scope.proofs.Captured.{is_lifted, is_lifted_as, LiftsCaptured, IsRegistered}
+use Rattle.py_scope.specs.Registered.{is_fresh}
 use Rattle.py_scope.specs.Lifts.{WalrusesInComprehensions, walruses_of, lifts, lifts_of, Stage, stages, stage_of, holds_opt, as_in, lifted, lifted_by, Lift, Stays, Through, Holder, lift_of, lift_here, outward_from, lifted_all, IsLifted, kind_of, is_comprehension}
 use Rattle.py_scope.proofs.Chains.{equal_numbers, tells_same, outward}
 use Rattle.py_scope.proofs.LiftKeeps.{same_parents, same_kind_of, same_stages, through}

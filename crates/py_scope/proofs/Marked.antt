@@ -9,7 +9,7 @@ use Rattle.py_scope.specs.Bits.{intersects}
 use Rattle.std.specs.Int.RustNames.{bit_or}
 use Rattle.py_scope.specs.Declarations.{bits_of}
 use Rattle.py_scope.specs.Marks.{passing, capturing, or_new, looks, is_class}
-use Rattle.py_scope.specs.Needs.{entry_at, entry_of}
+use Rattle.py_scope.specs.Entries.{entry_at, entry_of}
 use Rattle.py_scope.specs.Lifts.{Lift, Stays, Through, Holder, after_lift, held_as, holding, or_absent, lift_of, lift_effect, lifted, stages, outward_from, lifts, lifted_all}
 use Rattle.py_scope.specs.Tables.{is_plain, flags_in}
 use Rattle.std.specs.List.{list_any}

@@ -15,8 +15,8 @@ use Rattle.py_scope.specs.Names.{Name, same_name}
 use Rattle.py_scope.specs.Outward.{Passes, counts, enclosing, look_from, meetings, parents, stop_of}
 use Rattle.py_scope.specs.Marks.{looks, touch_by, is_class}
 use Rattle.py_scope.specs.Flags.{is_captures, is_passes}
-use Rattle.py_scope.specs.Needs.{entry_at, entry_of, asks_for, wants_as, wants_for, Needs}
-use Rattle.py_scope.specs.Cells.{is_lifted}
+use Rattle.py_scope.specs.Entries.{entry_at, entry_of}
+use Rattle.py_scope.proofs.Captured.{asks_for, wants_as, wants_for, Needs, is_lifted}
 use Rattle.py_scope.specs.Lifts.{lifts, kind_of}
 use Rattle.py_scope.specs.Kinds.{kind_as}
 use Rattle.py_scope.specs.Tables.{is_plain, kind_in}

@@ -14,16 +14,16 @@ use Rattle.py_scope.specs.declared.outward.Found.TheVariants.{Nowhere, Globally,
 use Rattle.py_scope.specs.Names.{Name}
 use Rattle.py_scope.specs.Outward.{Passes, enclosing, look_from, meetings, parents}
 use Rattle.py_scope.specs.Marks.{touch_by}
-use Rattle.py_scope.specs.Needs.{entry_at, entry_of, wants, wants_as, wants_for, Needs, ChildNeeds}
+use Rattle.py_scope.specs.Entries.{entry_at, entry_of}
+use Rattle.py_scope.proofs.Captured.{wants, wants_as, wants_for, Needs, ChildNeeds, hands_on}
 use Rattle.py_scope.specs.Roles.{bound_opt}
-use Rattle.py_scope.specs.Capture.{hands_on, hands_on_as}
+use Rattle.py_scope.specs.Resolve.{hands_on_as, scopes, among, kind_at, around, stands_in, declared, holder, goes_through, is_held, lifted_to, holds_in, binds_in, look_in, is_free_kind, open_kind, is_used, is_free_in, ends_among, is_free_past, needs, is_needed_inside}
 use Rattle.py_scope.specs.Lifts.{lifts, lifted_all, holds_opt, outward_from}
 use Rattle.py_scope.specs.Kinds.{kind_as, nowhere}
 use Rattle.py_scope.specs.Tables.{is_plain}
 use Rattle.py_scope.specs.Scanned.{Scanned, order_of}
 use Rattle.py_scope.specs.InOrder.{IsScanned}
 use Rattle.py_scope.specs.Resolved.{first_fault, after_lifts}
-use Rattle.py_scope.specs.Resolve.{scopes, among, kind_at, around, stands_in, declared, holder, goes_through, is_held, lifted_to, holds_in, binds_in, look_in, is_free_kind, open_kind, is_used, is_free_in, ends_among, is_free_past, needs, is_needed_inside}
 use Rattle.py_scope.proofs.Chains.{equal_numbers, tells_same}
 use Rattle.py_scope.proofs.Needing.{passes_look, is_there}
 use Rattle.py_scope.proofs.Lawful.{is_lifted, numbered, handed}

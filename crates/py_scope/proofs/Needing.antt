@@ -6,7 +6,8 @@ use Rattle.py_scope.specs.declared.outward.Found.TheVariants.{FreeOf}
 use Rattle.py_scope.specs.declared.rows.Row.{Row}
 use Rattle.py_scope.specs.Outward.{IsNumbered, Passes, chain, enclosing, found_at, look, look_from, meetings, parents, touch, touch_here}
 use Rattle.py_scope.specs.Marks.{touch_by}
-use Rattle.py_scope.specs.Needs.{IsCaptured, ChildNeeds, IsChild, wants, entry_of, wants_for}
+use Rattle.py_scope.proofs.Captured.{IsCaptured, ChildNeeds, IsChild, wants, wants_for}
+use Rattle.py_scope.specs.Entries.{entry_of}
 use Rattle.py_scope.proofs.Chains.{equal_numbers, tells_same, outward, touch_above}
 use Rattle.std.proofs.lemmas.Option.{slice_get_within}
 use Rattle.std.proofs.lemmas.Grind.{common_steps}

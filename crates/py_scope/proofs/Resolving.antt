@@ -7,7 +7,7 @@ use Rattle.py_scope.specs.Names.{Name}
 use Rattle.py_scope.specs.Outward.{Touch, Leaves, Passes, Captures}
 use Rattle.py_scope.specs.Marks.{after, touch_by, settled, looks, IsSettled}
 use Rattle.py_scope.specs.Lifts.{Lift, Stays, Through, Holder, after_lift, lift_effect, lift_of, lifted, stages, outward_from, lifted_all, lifts, IsLifted}
-use Rattle.py_scope.specs.Cells.{names_of, AreDistinct, IsOnce}
+use Rattle.py_scope.specs.Distinct.{names_of, AreDistinct, IsOnce}
 use Rattle.py_scope.specs.Resolved.{each_row, lifted_rows, settled_rows}
 use Rattle.py_scope.proofs.Ordering.{keys_put}
 use Rattle.py_scope.proofs.Freshness.{distinct_add_name}

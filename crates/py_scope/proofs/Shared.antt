@@ -11,8 +11,8 @@ use Rattle.py_scope.specs.declared.rows.Entry.{Entry}
 use Rattle.py_scope.specs.Names.{Name, same_name, lookup}
 use Rattle.py_scope.specs.Outward.{parents, parent_of}
 use Rattle.py_scope.specs.Marks.{passing, capturing, or_new, looks}
-use Rattle.py_scope.specs.Needs.{entry_of}
-use Rattle.py_scope.specs.Cells.{names_of, AreDistinct, IsOnce}
+use Rattle.py_scope.specs.Entries.{entry_of}
+use Rattle.py_scope.specs.Distinct.{names_of, AreDistinct, IsOnce}
 use Rattle.py_scope.specs.Lifts.{holds_opt}
 use Rattle.py_scope.specs.Declarations.{is_declared_global}
 use Rattle.py_scope.specs.Tables.{declares, declares_in, global_within}

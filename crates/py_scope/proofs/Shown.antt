@@ -8,7 +8,8 @@ use Rattle.py_scope.specs.Names.{Name, same_name}
 use Rattle.py_scope.specs.Outward.{counts, stop_of, enclosing, parents, meetings, Passes}
 use Rattle.py_scope.specs.Marks.{looks, settled, touch_by, is_class}
 use Rattle.py_scope.specs.Flags.{is_passes}
-use Rattle.py_scope.specs.Needs.{entry_at, entry_of, asks_for, wants_for}
+use Rattle.py_scope.specs.Entries.{entry_at, entry_of}
+use Rattle.py_scope.proofs.Captured.{asks_for, wants_for}
 use Rattle.py_scope.specs.Roles.{bound_opt}
 use Rattle.py_scope.specs.Lifts.{lifts, lifted_all, holds_opt, kind_of}
 use Rattle.py_scope.specs.Scanned.{Scanned, order_of, is_function}

@@ -9,7 +9,7 @@ use Rattle.py_scope.specs.declared.rows.Holds.TheVariants.{LiftedModule}
 use Rattle.py_scope.specs.Names.{Name, same_name}
 use Rattle.py_scope.specs.Outward.{counts, stop_of}
 use Rattle.py_scope.specs.declared.outward.Meets.TheVariants.{Past}
-use Rattle.py_scope.specs.Needs.{entry_of}
+use Rattle.py_scope.specs.Entries.{entry_of}
 use Rattle.py_scope.specs.Roles.{bound_opt}
 use Rattle.py_scope.specs.Lifts.{Stays, Through, Holder, stages, stage_of, if_function, as_in, lifted, lifted_by, lift_of, lift_here, lifts, lifts_of, walruses_of, outward_from, holds_opt, kind_of, is_comprehension}
 use Rattle.py_scope.specs.Scanned.{is_function}

@@ -8,7 +8,7 @@ use Rattle.py_scope.specs.declared.rows.Entry.{Entry}
 use Rattle.py_scope.specs.declared.rows.Row.{Row}
 use Rattle.py_scope.specs.declared.symbols.Symbol.{Symbol}
 use Rattle.py_scope.specs.Names.{Name, same_name}
-use Rattle.py_scope.specs.Cells.{AreDistinct}
+use Rattle.py_scope.specs.Distinct.{AreDistinct}
 use Rattle.py_scope.specs.Tables.{symbol_in, symbols_in, all_symbols}
 use Rattle.py_scope.specs.Making.{kind_at, kinds_at, kinds_in, all_kinds, symbol_with, symbols_with}
 

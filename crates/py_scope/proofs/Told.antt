@@ -7,7 +7,7 @@ use Rattle.py_scope.specs.declared.symbols.Symbol.{Symbol}
 use Rattle.py_scope.specs.declared.table.SymbolTable.{SymbolTable}
 use Rattle.py_scope.specs.Outward.{IsNumbered}
 use Rattle.py_scope.specs.Scanned.{changed}
-use Rattle.py_scope.specs.Cells.{names_of, AreDistinct, IsOnce}
+use Rattle.py_scope.specs.Distinct.{names_of, AreDistinct, IsOnce}
 use Rattle.py_scope.specs.Checks.{entries_of}
 use Rattle.py_scope.specs.Tables.{table_of, table_from, symbol_in, symbols_in, all_symbols}
 use Rattle.py_scope.specs.Making.{kind_at, all_kinds, symbols_with}

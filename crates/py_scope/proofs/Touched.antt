@@ -11,7 +11,8 @@ use Rattle.py_scope.specs.Names.{Name, same_name, lookup}
 use Rattle.py_scope.specs.Outward.{Touch, Leaves, Passes, Captures, touch, touch_here, on_way, found_at, look, enclosing, parents, meetings}
 use Rattle.py_scope.specs.Marks.{after, passing, capturing, or_new, looks, settled, touch_by}
 use Rattle.py_scope.specs.Flags.{is_captures, is_passes}
-use Rattle.py_scope.specs.Needs.{entry_at, entry_of, asks_for, wants_for, Needs}
+use Rattle.py_scope.specs.Entries.{entry_at, entry_of}
+use Rattle.py_scope.proofs.Captured.{asks_for, wants_for, Needs}
 use Rattle.py_scope.specs.Scanned.{Scanned, order_of}
 use Rattle.py_scope.specs.InOrder.{IsScanned}
 use Rattle.py_scope.specs.Resolved.{first_fault, after_lifts, after_looks}

@@ -13,8 +13,9 @@ use Rattle.py_scope.specs.declared.kinds.SymbolScope.TheVariants.{Local, GlobalE
 use Rattle.py_scope.specs.Names.{Name}
 use Rattle.py_scope.specs.Outward.{counts, stop_of, enclosing, parents, meetings, Passes}
 use Rattle.py_scope.specs.Marks.{touch_by}
-use Rattle.py_scope.specs.Needs.{entry_at, wants_as, wants_for, Needs}
-use Rattle.py_scope.specs.Capture.{hands_on, hands_on_as, binder, HasCell, Leads}
+use Rattle.py_scope.specs.Entries.{entry_at}
+use Rattle.py_scope.proofs.Captured.{wants_as, wants_for, Needs, hands_on, HasCell, Leads}
+use Rattle.py_scope.specs.Resolve.{hands_on_as, binder, kind_at, stands_in, holds_in, binds_in, look_in, open_kind, needs, is_needed_inside, is_declared_inside, own_kind, is_own, kind_by_uses}
 use Rattle.py_scope.specs.Lifts.{holds_opt}
 use Rattle.py_scope.specs.Kinds.{kind_as, nowhere}
 use Rattle.py_scope.specs.Tables.{is_plain}
@@ -22,7 +23,6 @@ use Rattle.py_scope.specs.Laws.{CellsAreNeeded, CellsAreApart, LeadsTo, NamesLea
 use Rattle.py_scope.specs.Scanned.{Scanned}
 use Rattle.py_scope.specs.InOrder.{IsScanned}
 use Rattle.py_scope.specs.Resolved.{first_fault, after_lifts}
-use Rattle.py_scope.specs.Resolve.{kind_at, stands_in, holds_in, binds_in, look_in, open_kind, needs, is_needed_inside, is_declared_inside, own_kind, is_own, kind_by_uses}
 use Rattle.py_scope.proofs.Needing.{captured_by_child}
 use Rattle.py_scope.proofs.Lawful as lawful
 use Rattle.py_scope.proofs.Apart.{passed_past}

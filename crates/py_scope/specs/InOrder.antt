@@ -7,12 +7,12 @@ use Rattle.py_scope.specs.declared.rows.Entry.{Entry}
 use Rattle.py_scope.specs.Names.{Name}
 use Rattle.py_scope.specs.Outward.{IsNumbered}
 use Rattle.py_scope.specs.Lifts.{holds_opt, kind_of, is_comprehension, walruses_of}
-use Rattle.py_scope.specs.Needs.{entry_of}
+use Rattle.py_scope.specs.Entries.{entry_of}
 use Rattle.py_scope.specs.Declarations.{bits_of}
 use Rattle.py_scope.specs.Bits.{intersects}
 use Rattle.py_scope.specs.Flags.{captured_opt}
 use Rattle.py_scope.specs.Registered.{is_fresh}
-use Rattle.py_scope.specs.Cells.{names_of, AreDistinct}
+use Rattle.py_scope.specs.Distinct.{names_of, AreDistinct}
 use Rattle.py_scope.specs.Scanned.{Scanned, order_of}
 
 abbrev pub assigned_opt : Option Entry → Bool

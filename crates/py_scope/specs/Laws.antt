@@ -11,7 +11,7 @@ use Rattle.py_scope.specs.Bits.{intersects}
 use Rattle.py_scope.specs.Outward.{counts}
 use Rattle.py_scope.specs.Declarations.{bits_of}
 use Rattle.py_scope.specs.Marks.{is_class}
-use Rattle.py_scope.specs.Needs.{entry_at}
+use Rattle.py_scope.specs.Entries.{entry_at}
 use Rattle.py_scope.specs.Symbols.{AreApart}
 use Rattle.py_scope.specs.Tables.{is_plain, tables_from}
 use Rattle.py_scope.specs.Resolve.{scopes, kind_at, around, stands_in, declared, is_held, binder_in, is_free_kind, is_used, is_free_past, needs, is_own, resolve}

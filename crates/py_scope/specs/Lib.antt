@@ -2,11 +2,10 @@ pub mod Names
 pub mod Bits
 pub mod Outward
 pub mod Marks
-pub mod Needs
+pub mod Entries
 pub mod Flags
-pub mod Capture
 pub mod Lifts
-pub mod Cells
+pub mod Distinct
 pub mod Kinds
 pub mod Roles
 pub mod Declarations

@@ -4,24 +4,43 @@ use Rattle.std.specs.Prelude.{ℕ, Bool, true, false, ◌||◌, ◌&&◌, List, 
 use Rattle.std.specs.List.{list_any, range_with_len}
 use Rattle.py_scope.specs.declared.rows.Row.{Row}
 use Rattle.py_scope.specs.declared.rows.Holds.{Holds}
-use Rattle.py_scope.specs.declared.rows.Holds.TheVariants.{LiftedModule}
+use Rattle.py_scope.specs.declared.rows.Holds.TheVariants.{Plain, DeclaredGlobal, DeclaredNonlocal, LiftedFree, LiftedGlobal, LiftedModule, Passed}
 use Rattle.py_scope.specs.declared.table_type.SymbolTableType.{SymbolTableType}
 use Rattle.py_scope.specs.declared.outward.Meets.{Meets}
-use Rattle.py_scope.specs.declared.outward.Meets.TheVariants.{Past}
+use Rattle.py_scope.specs.declared.outward.Meets.TheVariants.{Past, Binding, Explicit}
 use Rattle.py_scope.specs.declared.outward.Found.{Found}
 use Rattle.py_scope.specs.declared.outward.Found.TheVariants.{Nowhere, Globally, FreeOf}
 use Rattle.py_scope.specs.declared.kinds.SymbolScope.{SymbolScope}
 use Rattle.py_scope.specs.declared.kinds.SymbolScope.TheVariants.{Unknown, Local, GlobalExplicit, GlobalImplicit, Free, Cell}
 use Rattle.py_scope.specs.Names.{Name, same_name}
 use Rattle.py_scope.specs.Outward.{look, counts, stop_of, enclosing, parents}
-use Rattle.py_scope.specs.Needs.{entry_at}
+use Rattle.py_scope.specs.Entries.{entry_at}
 use Rattle.py_scope.specs.Roles.{bound_opt}
 use Rattle.py_scope.specs.Lifts.{as_in, outward_from, holds_opt, kind_of, is_comprehension, walruses_of}
 use Rattle.py_scope.specs.Kinds.{kind_as}
 use Rattle.py_scope.specs.Tables.{is_plain}
 use Rattle.py_scope.specs.Declarations.{is_declared_global}
-use Rattle.py_scope.specs.Capture.{hands_on_as, binder}
 use Rattle.py_scope.specs.Scanned.{is_function}
+
+-- a scope may store a name that is bound further out
+abbrev pub hands_on_as : Holds → Bool
+hands_on_as Plain = false
+hands_on_as DeclaredGlobal = false
+hands_on_as DeclaredNonlocal = true
+hands_on_as LiftedFree = true
+hands_on_as LiftedGlobal = false
+hands_on_as LiftedModule = false
+hands_on_as Passed = false
+
+abbrev pub binder_at : Meets → Bool → ℕ → Option ℕ → Option ℕ
+binder_at Past h e rest = rest
+binder_at Binding h e rest = if h then rest else Some e
+binder_at Explicit h e rest = None
+
+-- the scope that binds the name: the first that a look meets and that does not hand it on
+abbrev pub binder : (ℕ → Meets) → (ℕ → Bool) → List ℕ → Option ℕ
+binder m h [] = None
+binder m h (e ∷ es) = binder_at (m e) (h e) e (binder m h es)
 
 -- the numbers of the scopes
 abbrev pub scopes : List Row → List ℕ

@@ -1,34 +1,35 @@
 //! The scopes of a program, and what each name is in them.
 #![tactic(auto)]
 
-pub mod builder;
-pub mod checks;
-pub mod declarations;
-pub mod error;
-pub mod flags;
-pub mod flat;
-pub mod globals;
-pub mod kinds;
-pub mod laws;
-pub mod lifts;
-pub mod marks;
-pub mod outward;
+mod builder;
+mod checks;
+mod declarations;
+mod error;
+mod flags;
+mod flat;
+mod globals;
+mod kinds;
+mod laws;
+mod lifts;
+mod marks;
+mod outward;
 pub mod refusal;
 mod resolution;
-pub mod roles;
-pub mod rows;
-pub mod stack;
-pub mod steps;
-pub mod symbols;
-pub mod table;
-pub mod table_type;
-pub mod tables;
+mod roles;
+mod rows;
+mod stack;
+mod steps;
+mod symbols;
+mod table;
+mod table_type;
+mod tables;
 
 pub use builder::ScopeBuilder;
 pub use error::{ScanFault, SymbolTableError};
 pub use flags::SymbolFlags;
 pub use flat::{FlatScopes, ScopeEntry};
 pub use kinds::SymbolScope;
+pub use laws::{worked_answers, worked_programs};
 pub use py_base::mangle_name;
 pub use roles::Role;
 pub use stack::StackStack;

@@ -1,9 +1,7 @@
 //! The looks outward of every scope, which mark the scopes that they pass and those where they end.
-ghost use Rattle.std.specs.Prelude.{◌≡◌, ◌+◌, ◌<◌, ℕ, length, OnOk, IfOk, OnSome, slice_get, option_map, [], true, nat_eq, ◌∷◌, ◌++◌, All, List};
+ghost use Rattle.std.specs.Prelude.{◌≡◌, ◌+◌, ◌<◌, ℕ, length, OnOk, IfOk, slice_get, option_map, [], ◌∷◌, ◌++◌, All, List};
 ghost use Rattle.std.specs.Map.Iter.{deref_pair};
-ghost use Rattle.std.specs.List.{list_any};
 ghost use Rattle.py_scope.specs.Outward.{asking, asking_in, look, enclosing, parents, meetings, touch, IsNumbered, Passes, Captures};
-ghost use Rattle.py_scope.specs.Needs.{CapturesAll};
 ghost use Rattle.py_scope.specs.Marks.{after, IsLooked, IsSettled, looks, is_class, or_new};
 
 use crate::flags::SymbolFlags;
@@ -159,9 +157,7 @@ fn mark_scope(alloc: Global, rows: &mut Vec<Row>, scope: usize) -> Result<(), Al
 pub fn mark_all(alloc: Global, rows: &mut Vec<Row>, order: &[usize]) -> Result<(), AllocError>
     requires numbered { IsNumbered rows.old.items }
     requires within { All (λ s. s < length rows.old.items) order.now }
-    requires complete { (r : ℕ) → r < length rows.old.items → list_any (nat_eq r) order.now ≡ true }
-    ensures settled { OnOk result (IsSettled rows.old.items (looks rows.old.items order.now) rows.new.items) }
-    ensures captured { OnOk result (CapturesAll rows.old.items rows.new.items) }
+    ensures { OnOk result (IsSettled rows.old.items (looks rows.old.items order.now) rows.new.items) }
 {
     for scope in order {
         mark_scope(alloc, rows, *scope)?;

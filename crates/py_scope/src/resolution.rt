@@ -1,10 +1,9 @@
 //! From the scopes of a program to its table.
-ghost use Rattle.std.specs.Prelude.{◌≡◌, ◌<◌, ◌∷◌, ◌++◌, ℕ, All, true, length, slice_get, nat_eq, IfOk, OnOk, IfErr, Some, None};
-ghost use Rattle.std.specs.List.{list_any};
+ghost use Rattle.std.specs.Prelude.{◌≡◌, ◌<◌, ◌∷◌, ◌++◌, All, length, slice_get, IfOk, OnOk, IfErr, Some, None};
 ghost use Rattle.py_scope.specs.declared.table_type.SymbolTableType.TheVariants.{Module};
 ghost use Rattle.py_scope.specs.Outward.{enclosing, parents, IsNumbered};
 ghost use Rattle.py_scope.specs.Lifts.{kind_of, WalrusesInComprehensions, IsRefusal};
-ghost use Rattle.py_scope.specs.Cells.{IsOnce};
+ghost use Rattle.py_scope.specs.Distinct.{IsOnce};
 ghost use Rattle.py_scope.specs.Resolved.{first_fault_of, resolved_of};
 
 use crate::checks::check_all;
@@ -41,7 +40,6 @@ pub(crate) fn resolve_rows(
     requires some { 0 < length rows.items }
     requires once { IsOnce rows.items }
     requires within { All (λ s. s < length rows.items) order.now }
-    requires complete { (r : ℕ) → r < length rows.items → list_any (nat_eq r) order.now ≡ true }
     requires module { kind_of (slice_get rows.items 0) ≡ Module }
     requires comprehensions { WalrusesInComprehensions rows.items }
     ensures table { IfOk result (λ table. resolved_of rows.items order.now ≡ Some table) }

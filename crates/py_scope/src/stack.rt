@@ -66,7 +66,7 @@ impl<T> StackStack<T> {
     /// For want of memory alone the value comes back. The function is not called then, and nothing has changed.
     pub fn with_append<F, R>(&mut self, x: T, f: F) -> Result<(R, T), T>
     where
-        F: FnOnce(&mut StackStack<T>) -> R + Drop,
+        F: FnOnce(&mut StackStack<T>) -> R,
         requires callable { FnOnceTakesAtMut F.FnOnce f (self.old ++ x ∷ []) }
         requires keeps { (r : R) (after : List T) → FnOnceReturnsAtMut F.FnOnce f (self.old ++ x ∷ []) r after → length after ≡ length self.old + 1 }
         ensures ok { IfOk result (λ p. FnOnceReturnsAtMut F.FnOnce f (self.old ++ x ∷ []) p.0 (self.new ++ p.1 ∷ [])) }

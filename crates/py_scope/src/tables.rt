@@ -6,7 +6,7 @@ ghost use Rattle.std.specs.Map.Iter.{deref_pair};
 ghost use Rattle.py_scope.specs.Names.{Name, same_name};
 ghost use Rattle.py_scope.specs.Outward.{IsNumbered};
 ghost use Rattle.std.specs.Map.{keys_of};
-ghost use Rattle.py_scope.specs.Cells.{AreDistinct, IsOnce};
+ghost use Rattle.py_scope.specs.Distinct.{AreDistinct, IsOnce};
 ghost use Rattle.py_scope.specs.Scanned.{changed};
 ghost use Rattle.py_scope.specs.Tables.{is_plain, global_within, is_shared, kind_in, flags_in, table_of, table_from};
 ghost use Rattle.py_scope.specs.Making.{kinds_at, kinds_in, all_kinds, symbol_with, symbols_with};

@@ -13,7 +13,7 @@ use Rattle.py_scope.specs.declared.table.SymbolTable.{SymbolTable}
 use Rattle.py_scope.specs.Laws.{CellsAreApart, LeadsTo, SymbolsFollow, TableFollows, has_symbol}
 use Rattle.py_scope.specs.Names.{Name, same_name}
 use Rattle.py_scope.specs.Lifts.{kind_of}
-use Rattle.py_scope.specs.Needs.{entry_at, entry_of}
+use Rattle.py_scope.specs.Entries.{entry_at, entry_of}
 use Rattle.py_scope.specs.Resolve.{around, binder_in, binds_in, declared, holds_in, is_held, is_used, kind_at, needs, resolve}
 use Rattle.py_scope.specs.Resolved.{first_fault}
 use Rattle.py_scope.specs.Roles.{bound_opt}

@@ -1,7 +1,6 @@
 use Rattle.std.proofs.Common.{◌≡◌, length, take, refl, slice_index_or, arith}
 use Rattle.py_scope.specs.Marks.{looks}
 use Rattle.py_scope.proofs.Settling.{still_numbered, same_length, one_scope}
-use Rattle.py_scope.proofs.Ending.{captures_all}
 use Rattle.py_scope.proofs.marks.mark_all.Goals as goal
 
 pub mark_scope-requires-clause-numbered : goal.mark_scope-requires-clause-numbered
@@ -12,6 +11,3 @@ mark_scope-requires-clause-within c = let e : length c.loop-scope.rows.items ≡
 
 pub loop-scope-preserved : goal.loop-scope-preserved
 loop-scope-preserved c = one_scope c.args.rows.now.items c.loop-scope.rows.items c.mark_scope.new.rows.items c.args.order.now c.loop-scope.scope-index (slice_index_or c.args.order.now c.loop-scope.scope-index 0) c.loop-scope.invariant refl c.loop-scope-test.true c.in_ok-mark_scope.ensures
-
-pub returns-clause-captured : goal.returns-clause-captured
-returns-clause-captured c = captures_all c.args.rows.now.items c.loop-scope.rows.items c.args.order.now c.loop-scope.scope-index c.loop-scope.invariant c.loop-scope-test.false c.requires.complete

@@ -34,29 +34,25 @@ mark_all-requires-clause-within c k d l =
     let f = lifting.same_length c.args.rows.items c.lift_all.new.rows.items (lifts c.args.rows.items c.args.order.now) c.in-Ok.ensures.lifted in
     let g = c.requires.within k d l in omega (arith, f, g)
 
-pub mark_all-requires-clause-complete : goal.mark_all-requires-clause-complete
-mark_all-requires-clause-complete c r l =
-    c.requires.complete r (subst (λ n. r < n) (lifting.same_length c.args.rows.items c.lift_all.new.rows.items (lifts c.args.rows.items c.args.order.now) c.in-Ok.ensures.lifted) l)
-
 pub table_of_rows-requires-clause-numbered : goal.table_of_rows-requires-clause-numbered
 table_of_rows-requires-clause-numbered c =
-    settling.still_numbered c.lift_all.new.rows.items c.mark_all.new.rows.items (looks c.lift_all.new.rows.items c.args.order.now) c.in-Ok-mark_all.ensures.settled
+    settling.still_numbered c.lift_all.new.rows.items c.mark_all.new.rows.items (looks c.lift_all.new.rows.items c.args.order.now) c.in-Ok-mark_all.ensures
     (lifting.still_numbered c.args.rows.items c.lift_all.new.rows.items (lifts c.args.rows.items c.args.order.now) c.in-Ok.ensures.lifted c.requires.numbered)
 
 pub table_of_rows-requires-clause-some : goal.table_of_rows-requires-clause-some
 table_of_rows-requires-clause-some c =
-    let e = settling.same_length c.lift_all.new.rows.items c.mark_all.new.rows.items (looks c.lift_all.new.rows.items c.args.order.now) c.in-Ok-mark_all.ensures.settled in
+    let e = settling.same_length c.lift_all.new.rows.items c.mark_all.new.rows.items (looks c.lift_all.new.rows.items c.args.order.now) c.in-Ok-mark_all.ensures in
     let f = lifting.same_length c.args.rows.items c.lift_all.new.rows.items (lifts c.args.rows.items c.args.order.now) c.in-Ok.ensures.lifted in
     let g = c.requires.some in omega (arith, e, f, g)
 
 pub table_of_rows-requires-clause-once : goal.table_of_rows-requires-clause-once
 table_of_rows-requires-clause-once c =
     once_settled c.lift_all.new.rows.items c.mark_all.new.rows.items (looks c.lift_all.new.rows.items c.args.order.now)
-    (once_lifted c.args.rows.items c.lift_all.new.rows.items (lifts c.args.rows.items c.args.order.now) c.requires.once c.in-Ok.ensures.lifted) c.in-Ok-mark_all.ensures.settled
+    (once_lifted c.args.rows.items c.lift_all.new.rows.items (lifts c.args.rows.items c.args.order.now) c.requires.once c.in-Ok.ensures.lifted) c.in-Ok-mark_all.ensures
 
 pub returns-in-Ok-table_of_rows-clause-table : goal.returns-in-Ok-table_of_rows-clause-table
 returns-in-Ok-table_of_rows-clause-table c =
-    ap table_from (sym (settled_is c.lift_all.new.rows.items c.mark_all.new.rows.items c.args.order.now c.in-Ok-mark_all.ensures.settled ∙ ap (λ rs. settled_rows rs c.args.order.now) (lifted_is c.args.rows.items c.lift_all.new.rows.items c.args.order.now c.in-Ok.ensures.lifted)))
+    ap table_from (sym (settled_is c.lift_all.new.rows.items c.mark_all.new.rows.items c.args.order.now c.in-Ok-mark_all.ensures ∙ ap (λ rs. settled_rows rs c.args.order.now) (lifted_is c.args.rows.items c.lift_all.new.rows.items c.args.order.now c.in-Ok.ensures.lifted)))
     ∙ c.in-Ok-table_of_rows.ensures
 
 pub returns-in-Ok-table_of_rows-clause-allowed : goal.returns-in-Ok-table_of_rows-clause-allowed
