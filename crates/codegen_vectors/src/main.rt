@@ -5,6 +5,10 @@
 mod answers;
 #[cfg(test)]
 mod deep;
+#[cfg(test)]
+mod shown;
+#[cfg(test)]
+mod verified;
 
 use answers::answer;
 use std::io::{self, BufRead, BufReader, BufWriter, Write};

@@ -1,6 +1,6 @@
 //! Devices over memory that never fail.
-ghost use Rattle.std.specs.Prelude.{◌≡◌, ◌≤◌, ◌<◌, [], Some, true, false, length};
-ghost use Rattle.py_devices.specs.Devices.{ReadGives, ReadCounts, ReadKeepsCount, ReadsInTime, WriteTakes, WriteCounts, WriteKeepsCount, HasRoom};
+ghost use Rattle.std.specs.Prelude.{◌≡◌, ◌≤◌, ◌<◌, [], Some, None, true, false, length};
+ghost use Rattle.py_devices.specs.Devices.{ReadGives, ReadCounts, ReadKeepsCount, ReadsInTime, WriteTakes, WriteCounts, WriteKeepsCount, WritesWhole, HasRoom};
 
 use crate::buffer::{fill_from, put_at};
 use crate::sink::{Sink, WriteAnswer};
@@ -104,7 +104,7 @@ impl CleanSink {
 }
 
 impl Sink for CleanSink {
-    ghost use Rattle.std.specs.Prelude.{Some, true};
+    ghost use Rattle.std.specs.Prelude.{Some, None, true};
     ghost use Rattle.py_devices.specs.Memory.{shelf_answer, after_put};
 
     ghost held = { λ s. Some s.held };
@@ -119,6 +119,7 @@ impl Sink for CleanSink {
         ensures bytes { WriteTakes (Some self.old.held) (Some self.new.held) result bytes.now }
         ensures cause { WriteCounts self.old.faults self.new.faults result bytes.now }
         ensures still { WriteKeepsCount true self.old.faults self.new.faults result bytes.now }
+        ensures rest { WritesWhole None None 0 0 result bytes.now }
         ensures room { HasRoom (Some self.old.room) (Some self.new.room) self.old.faults self.new.faults result bytes.now }
         ensures answer { result ≡ shelf_answer self.old (length bytes.now) }
         ensures after { self.new ≡ after_put self.old bytes.now }

@@ -1,6 +1,6 @@
 //! Devices in memory.
 ghost use Rattle.std.specs.Prelude.{◌≡◌, ◌≤◌, ◌<◌, [], Some, None, true, false, length};
-ghost use Rattle.py_devices.specs.Devices.{ReadGives, ReadCounts, ReadKeepsCount, ReadsInTime, WriteTakes, WriteCounts, WriteKeepsCount, HasRoom};
+ghost use Rattle.py_devices.specs.Devices.{ReadGives, ReadCounts, ReadKeepsCount, ReadsInTime, WriteTakes, WriteCounts, WriteKeepsCount, WritesWhole, HasRoom};
 
 use crate::buffer::{fill_from, is_listed, put_at};
 use crate::sink::{Sink, WriteAnswer};
@@ -147,6 +147,7 @@ impl Sink for MemSink {
         ensures bytes { WriteTakes (Some self.old.held) (Some self.new.held) result bytes.now }
         ensures cause { WriteCounts self.old.faults self.new.faults result bytes.now }
         ensures still { WriteKeepsCount true self.old.faults self.new.faults result bytes.now }
+        ensures rest { WritesWhole None None 0 0 result bytes.now }
         ensures room { HasRoom None None self.old.faults self.new.faults result bytes.now }
         ensures answer { result ≡ write_of self.old (length bytes.now) }
         ensures after { self.new ≡ after_write self.old bytes.now }

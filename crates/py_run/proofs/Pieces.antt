@@ -1,6 +1,6 @@
 -- Pieces that were written one after the other.
-use Rattle.std.proofs.Common.{◌≡◌, ℕ, ◌+◌, ◌≤◌, List, length, take, drop, Option, Some, None, ◌∙◌, arith, append_assoc, take-add, length-drop, ◌-◌, IfSome}
-use Rattle.std.proofs.lemmas.List.{take_all}
+use Rattle.std.proofs.Common.{◌≡◌, ℕ, ◌+◌, ◌≤◌, List, length, take, drop, Option, Some, None, ap, sym, ◌∙◌, arith, append_assoc, take-add, length-drop, ◌-◌, IfSome}
+use Rattle.std.proofs.lemmas.List.{drop-drop, take_all}
 use Rattle.std.specs.Io.KnownBytes.{Appends}
 use Rattle.py_devices.specs.Devices.{HasRoom}
 use Rattle.py_devices.specs.declared.sink.WriteAnswer.TheVariants.{Took}
@@ -25,6 +25,13 @@ room_on None b d bytes before now at n p q = tt
 room_on (Some x) None d bytes before now at n p q = absurd p
 room_on (Some x) (Some y) None bytes before now at n p q = absurd q
 room_on (Some x) (Some y) (Some z) bytes before now at n p q = omega (arith, p, q.0)
+
+-- what was left after at bytes was handed in, and n of it were taken
+pub rest_on : (a b d : Option (List ℕ)) (text bytes : List ℕ) (before mid now at n : ℕ) → bytes ≡ drop at text → (a ≡ Some text → (mid ≡ before) × (b ≡ Some (drop at text))) → (b ≡ Some bytes → (now ≡ mid) × (d ≡ Some (drop n bytes))) → a ≡ Some text → (now ≡ before) × (d ≡ Some (drop (at + n) text))
+rest_on a b d text bytes before mid now at n e p q h =
+    let m = p h in
+    let w = q (m.1 ∙ ap Some (sym e)) in
+    (w.0 ∙ m.0, w.1 ∙ ap Some (ap (drop n) e ∙ drop-drop n at text))
 
 -- a sink that had room for the whole text has room for the rest, and so counts no fault
 pub quiet_on : (a b d : Option ℕ) (text bytes : List ℕ) (before mid now at n : ℕ) → at + length bytes ≤ length text → KeepsRoom a b at → IfSome a (λ room. length text ≤ room → mid ≡ before) → HasRoom b d mid now (Took n) bytes → IfSome a (λ room. length text ≤ room → now ≡ before)

@@ -1,4 +1,4 @@
--- Sinks with room for what is written on them.
+-- Sinks with room for what is written on them, and sinks that await it.
 use Rattle.std.proofs.Common.{◌≡◌, ◌≤◌, ◌≢◌, ℕ, List, length, Option, Some, None, IfSome, IsOk, Result, Err, refl}
 use Rattle.std.specs.Io.KnownBytes.{Keeps}
 use Rattle.py_run.specs.declared.report.Status.{Status}
@@ -13,6 +13,10 @@ HasRoom s room before now text = IfSome room (λ n. length text ≤ n → (s ≡
 -- a sink of errors that has room for a line
 abbrev pub HasLineRoom : Status → (room : Option ℕ) → (before now : ℕ) → List ℕ → Type 0
 HasLineRoom s room before now line = IfSome room (λ n. length line ≤ n → (s ≢ status.WriteFault) × (now ≡ before))
+
+-- a sink that awaits a text, of which each write is handed all that is left
+abbrev pub HandsAll : (awaited : Option (List ℕ)) → (before now : ℕ) → List ℕ → Type 0
+HandsAll awaited before now text = awaited ≡ Some text → now ≡ before
 
 not_ok : (e : WriteFailed) → IsOk {T = Unit {0}} {E = WriteFailed} (Err e) → ⊥
 not_ok e h = cc

@@ -1,5 +1,5 @@
 //! The one call: words and a source give a listing, a file, a report or a line.
-ghost use Rattle.std.specs.Prelude.{◌≡◌, ◌≢◌, ◌⊎◌, ◌≤◌, true, false, length, IfSome, option_map};
+ghost use Rattle.std.specs.Prelude.{◌≡◌, ◌≢◌, ◌⊎◌, ◌≤◌, true, false, Some, length, IfSome, option_map};
 ghost use Rattle.py_bytecode.specs.View.{object};
 ghost use Rattle.py_devices.specs.Devices.{Rose};
 ghost use Rattle.py_run.specs.Reading.{TakesFew};
@@ -68,6 +68,12 @@ pub fn run<S: Source, O: Sink, E: Sink>(
     ensures line_room { written words.now (S.left source.old) result ≡ Line → IfSome (line_of words.now (S.left source.old))
         (λ line. IfSome (E.room err.old)
         (λ room. length line ≤ room → (result.status ≢ Status.WriteFault) × (E.faults err.new ≡ E.faults err.old))) }
+
+    // Of a sink that awaits what is written on it, each write is handed all of it that is left.
+    ensures rest { written words.now (S.left source.old) result ≡ Text → IfSome (text_of words.now (S.left source.old) result.code)
+        (λ text. O.awaited out.old ≡ Some text → O.partial out.new ≡ O.partial out.old) }
+    ensures line_rest { written words.now (S.left source.old) result ≡ Line → IfSome (line_of words.now (S.left source.old))
+        (λ line. E.awaited err.old ≡ Some line → E.partial err.new ≡ E.partial err.old) }
 
     // Where a text is due and no count rose, the run is done, or memory ran out. Where there is no input, no count of a
     // source matters.

@@ -1,5 +1,5 @@
 //! Texts, written whole.
-ghost use Rattle.std.specs.Prelude.{◌≡◌, ◌≤◌, ℕ, length, take, OnOk, OnErr, IsOk, IfSome, IsTrue};
+ghost use Rattle.std.specs.Prelude.{◌≡◌, ◌≤◌, ℕ, length, take, Some, OnOk, OnErr, IsOk, IfSome, IsTrue};
 ghost use Rattle.std.specs.Io.KnownBytes.{Appends};
 ghost use Rattle.py_devices.specs.Devices.{Rose};
 
@@ -19,6 +19,8 @@ pub fn write_all<K: Sink>(sink: &mut K, text: &[u8]) -> Result<(), WriteFailed>
     ensures fault { OnErr result (Rose (K.faults sink.old) (K.faults sink.new)) }
     ensures later { K.faults sink.old ≤ K.faults sink.new }
     ensures still { OnOk result (IsTrue K.counts_failures → K.faults sink.new ≡ K.faults sink.old) }
+    // Of a sink that awaits the text each write is handed all of it that is left.
+    ensures rest { K.awaited sink.old ≡ Some text.now → K.partial sink.new ≡ K.partial sink.old }
     // A sink whose said room holds the text takes it whole, and counts no fault.
     ensures room { IfSome (K.room sink.old) (λ room. length text.now ≤ room → IsOk result × (K.faults sink.new ≡ K.faults sink.old)) }
 {

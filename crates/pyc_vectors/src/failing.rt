@@ -2,7 +2,9 @@
 
 use crate::fixtures::{bytes, only, room, words};
 use crate::shapes::{LISTING, ROWS};
-use py_devices::{CleanSink, CleanSource, MemSink, MemSource, ReadAnswer, Sink, Source};
+use py_devices::{
+    CleanSink, CleanSource, MemSink, MemSource, ReadAnswer, Sink, Source, WriteAnswer,
+};
 use py_run::{Status, run};
 use std::alloc::Global;
 use std::test::Fail;
@@ -150,6 +152,66 @@ fn no_read_is_late(rt: HostRuntime) -> Result<(), Fail> {
         );
         assert!(rt; source.ended);
         assert_eq!(rt; source.late, 0);
+    }
+    Ok(())
+}
+
+/// A sink in memory that awaits a text, and counts the writes which are handed less than all of it that is left.
+#[derive(Drop)]
+struct Awaiting {
+    inner: MemSink,
+    left: &'static [u8],
+    partial: u64,
+}
+
+impl Sink for Awaiting {
+    ghost use Rattle.std.specs.Prelude.{Some, None, true};
+
+    ghost held = { λ s. Some s.inner.held };
+
+    ghost room = { λ _. None };
+
+    ghost faults = { λ s. s.inner.faults };
+
+    ghost counts_failures = { true };
+
+    ghost awaited = { λ s. Some s.left.now };
+
+    ghost partial = { λ s. s.partial };
+
+    fn write(&mut self, bytes: &[u8]) -> WriteAnswer {
+        let answer = self.inner.write(bytes);
+        if bytes != self.left {
+            self.partial = self.partial.saturating_add(1);
+        } else if let WriteAnswer::Took(count) = answer {
+            self.left = &self.left[count..];
+        }
+        answer
+    }
+}
+
+/// Each write is handed all of the listing that is left, whether or not one of them fails.
+#[test]
+fn no_write_is_partial(rt: HostRuntime) -> Result<(), Fail> {
+    let alloc = rt.alloc();
+    for (write, status) in [
+        (0, Status::Done),
+        (1, Status::WriteFault),
+        (4, Status::WriteFault),
+    ] {
+        let mut source = CleanSource::new(bytes(alloc, ROWS)?);
+        let mut out = Awaiting {
+            inner: MemSink::new(room(alloc, 8192)?, 16, only(alloc, write)?),
+            left: LISTING.as_bytes(),
+            partial: 0,
+        };
+        let mut err = CleanSink::new(room(alloc, 64)?);
+        assert_eq!(rt;
+            status_over(alloc, &mut source, &mut out, &mut err)?,
+            status
+        );
+        assert_eq!(rt; out.left.is_empty(), write == 0);
+        assert_eq!(rt; out.partial, 0);
     }
     Ok(())
 }

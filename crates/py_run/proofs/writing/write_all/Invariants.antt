@@ -1,4 +1,4 @@
-use Rattle.std.proofs.Common.{◌≡◌, ◌≤◌, ◌-◌, length, take, IfSome, IsTrue}
+use Rattle.std.proofs.Common.{◌≡◌, ◌≤◌, ◌-◌, length, take, drop, Some, IfSome, IsTrue}
 use Rattle.std.specs.Io.KnownBytes.{Appends}
 use Rattle.py_run.proofs.Pieces.{KeepsRoom}
 use Rattle.py_run.proofs.writing.write_all.Given as goal
@@ -11,6 +11,7 @@ invariant-writing g l = record {
   quiet : IfSome (g.K.Sink.room l.initial.sink) (λ room. length l.text ≤ room → g.K.Sink.faults l.sink ≡ g.K.Sink.faults l.initial.sink);
   later : g.K.Sink.faults l.initial.sink ≤ g.K.Sink.faults l.sink;
   still : IsTrue g.K.Sink.counts_failures → g.K.Sink.faults l.sink ≡ g.K.Sink.faults l.initial.sink;
+  rest : g.K.Sink.awaited l.initial.sink ≡ Some l.text → (g.K.Sink.partial l.sink ≡ g.K.Sink.partial l.initial.sink) × (g.K.Sink.awaited l.sink ≡ Some (drop l.at l.text));
 }
 
 abbrev pub decreases-writing : goal.decreases-writing
