@@ -15,8 +15,8 @@ use Rattle.py_scan.specs.Scan.{scan_program}
 use Rattle.py_scan.proofs.Shown.{Fault, Shown, Tables, at, shown}
 
 -- def f(x): return lambda: x
-row_9 : shown (scan_program (tree.more_stmts (tree.FunctionDef (at 1 1) (codes "f") (tree.arguments tree.no_args (tree.more_args (tree.arg (at 1 7) (codes "x") tree.no_expr) tree.no_expr tree.no_args) tree.no_arg tree.no_args tree.no_arg) (tree.more_stmts (tree.Return (at 1 11) (tree.some_expr (tree.Lambda (at 1 18) (tree.arguments tree.no_args tree.no_args tree.no_arg tree.no_args tree.no_arg) (tree.Name (at 1 26) (codes "x"))))) tree.no_stmts) tree.no_exprs tree.no_expr tree.no_type_params) tree.no_stmts)) ≡ Tables ((scope.Module, codes "top", 0, false, ((codes "f", kind.Local, 0x2) ∷ [])) ∷ (scope.Function, codes "f", 1, false, ((codes "x", kind.Cell, 0x4) ∷ [])) ∷ (scope.Function, codes "lambda", 1, true, ((codes "x", kind.Free, 0x1) ∷ [])) ∷ [])
-row_9 = refl
+closure_of_a_parameter : shown (scan_program (tree.more_stmts (tree.FunctionDef (at 1 1) (codes "f") (tree.arguments tree.no_args (tree.more_args (tree.arg (at 1 7) (codes "x") tree.no_expr) tree.no_expr tree.no_args) tree.no_arg tree.no_args tree.no_arg) (tree.more_stmts (tree.Return (at 1 11) (tree.some_expr (tree.Lambda (at 1 18) (tree.arguments tree.no_args tree.no_args tree.no_arg tree.no_args tree.no_arg) (tree.Name (at 1 26) (codes "x"))))) tree.no_stmts) tree.no_exprs tree.no_expr tree.no_type_params) tree.no_stmts)) ≡ Tables ((scope.Module, codes "top", 0, false, ((codes "f", kind.Local, 0x2) ∷ [])) ∷ (scope.Function, codes "f", 1, false, ((codes "x", kind.Cell, 0x4) ∷ [])) ∷ (scope.Function, codes "lambda", 1, true, ((codes "x", kind.Free, 0x1) ∷ [])) ∷ [])
+closure_of_a_parameter = refl
 
 -- def f(y):
 --  class A:
@@ -24,41 +24,41 @@ row_9 = refl
 --   def g(self):
 --    super()
 --    return y
-row_10 : shown (scan_program (tree.more_stmts (tree.FunctionDef (at 1 1) (codes "f") (tree.arguments tree.no_args (tree.more_args (tree.arg (at 1 7) (codes "y") tree.no_expr) tree.no_expr tree.no_args) tree.no_arg tree.no_args tree.no_arg) (tree.more_stmts (tree.ClassDef (at 2 2) (codes "A") tree.no_exprs tree.no_keywords (tree.more_stmts (tree.Assign (at 3 3) (tree.more_exprs (tree.Name (at 3 3) (codes "y")) tree.no_exprs) (tree.Constant (at 3 7) literal.None)) (tree.more_stmts (tree.FunctionDef (at 4 3) (codes "g") (tree.arguments tree.no_args (tree.more_args (tree.arg (at 4 9) (codes "self") tree.no_expr) tree.no_expr tree.no_args) tree.no_arg tree.no_args tree.no_arg) (tree.more_stmts (tree.StmtExpr (at 5 4) (tree.Call (at 5 4) (tree.Name (at 5 4) (codes "super")) tree.no_exprs tree.no_keywords)) (tree.more_stmts (tree.Return (at 6 4) (tree.some_expr (tree.Name (at 6 11) (codes "y")))) tree.no_stmts)) tree.no_exprs tree.no_expr tree.no_type_params) tree.no_stmts)) tree.no_exprs tree.no_type_params) tree.no_stmts) tree.no_exprs tree.no_expr tree.no_type_params) tree.no_stmts)) ≡ Tables ((scope.Module, codes "top", 0, false, ((codes "f", kind.Local, 0x2) ∷ [])) ∷ (scope.Function, codes "f", 1, false, ((codes "y", kind.Cell, 0x4) ∷ (codes "A", kind.Local, 0x2) ∷ [])) ∷ (scope.Class, codes "A", 2, true, ((codes "__module__", kind.Local, 0x2) ∷ (codes "__qualname__", kind.Local, 0x2) ∷ (codes "__doc__", kind.Local, 0x2) ∷ (codes "__class__", kind.Cell, 0x2) ∷ (codes "y", kind.Local, 0x102) ∷ (codes "g", kind.Local, 0x2) ∷ [])) ∷ (scope.Function, codes "g", 4, true, ((codes "self", kind.Local, 0x4) ∷ (codes "super", kind.GlobalImplicit, 0x1) ∷ (codes "__class__", kind.Free, 0x1) ∷ (codes "y", kind.Free, 0x1) ∷ [])) ∷ [])
-row_10 = refl
+class_that_hands_on : shown (scan_program (tree.more_stmts (tree.FunctionDef (at 1 1) (codes "f") (tree.arguments tree.no_args (tree.more_args (tree.arg (at 1 7) (codes "y") tree.no_expr) tree.no_expr tree.no_args) tree.no_arg tree.no_args tree.no_arg) (tree.more_stmts (tree.ClassDef (at 2 2) (codes "A") tree.no_exprs tree.no_keywords (tree.more_stmts (tree.Assign (at 3 3) (tree.more_exprs (tree.Name (at 3 3) (codes "y")) tree.no_exprs) (tree.Constant (at 3 7) literal.None)) (tree.more_stmts (tree.FunctionDef (at 4 3) (codes "g") (tree.arguments tree.no_args (tree.more_args (tree.arg (at 4 9) (codes "self") tree.no_expr) tree.no_expr tree.no_args) tree.no_arg tree.no_args tree.no_arg) (tree.more_stmts (tree.StmtExpr (at 5 4) (tree.Call (at 5 4) (tree.Name (at 5 4) (codes "super")) tree.no_exprs tree.no_keywords)) (tree.more_stmts (tree.Return (at 6 4) (tree.some_expr (tree.Name (at 6 11) (codes "y")))) tree.no_stmts)) tree.no_exprs tree.no_expr tree.no_type_params) tree.no_stmts)) tree.no_exprs tree.no_type_params) tree.no_stmts) tree.no_exprs tree.no_expr tree.no_type_params) tree.no_stmts)) ≡ Tables ((scope.Module, codes "top", 0, false, ((codes "f", kind.Local, 0x2) ∷ [])) ∷ (scope.Function, codes "f", 1, false, ((codes "y", kind.Cell, 0x4) ∷ (codes "A", kind.Local, 0x2) ∷ [])) ∷ (scope.Class, codes "A", 2, true, ((codes "__module__", kind.Local, 0x2) ∷ (codes "__qualname__", kind.Local, 0x2) ∷ (codes "__doc__", kind.Local, 0x2) ∷ (codes "__class__", kind.Cell, 0x2) ∷ (codes "y", kind.Local, 0x102) ∷ (codes "g", kind.Local, 0x2) ∷ [])) ∷ (scope.Function, codes "g", 4, true, ((codes "self", kind.Local, 0x4) ∷ (codes "super", kind.GlobalImplicit, 0x1) ∷ (codes "__class__", kind.Free, 0x1) ∷ (codes "y", kind.Free, 0x1) ∷ [])) ∷ [])
+class_that_hands_on = refl
 
 -- def f(): return [y := v for v in z]
-row_11 : shown (scan_program (tree.more_stmts (tree.FunctionDef (at 1 1) (codes "f") (tree.arguments tree.no_args tree.no_args tree.no_arg tree.no_args tree.no_arg) (tree.more_stmts (tree.Return (at 1 10) (tree.some_expr (tree.ListComp (at 1 17) (tree.NamedExpr (at 1 18) (tree.Name (at 1 18) (codes "y")) (tree.Name (at 1 23) (codes "v"))) (tree.more_generators (tree.Name (at 1 29) (codes "v")) (tree.Name (at 1 34) (codes "z")) tree.no_exprs false tree.no_generators)))) tree.no_stmts) tree.no_exprs tree.no_expr tree.no_type_params) tree.no_stmts)) ≡ Tables ((scope.Module, codes "top", 0, false, ((codes "f", kind.Local, 0x2) ∷ [])) ∷ (scope.Function, codes "f", 1, false, ((codes "z", kind.GlobalImplicit, 0x1) ∷ (codes "y", kind.Cell, 0x2) ∷ [])) ∷ (scope.Comprehension, codes "genexpr", 1, true, ((codes ".0", kind.Local, 0x4) ∷ (codes "v", kind.Local, 0x81) ∷ (codes "y", kind.Free, 0x42) ∷ [])) ∷ [])
-row_11 = refl
+walrus_in_a_function : shown (scan_program (tree.more_stmts (tree.FunctionDef (at 1 1) (codes "f") (tree.arguments tree.no_args tree.no_args tree.no_arg tree.no_args tree.no_arg) (tree.more_stmts (tree.Return (at 1 10) (tree.some_expr (tree.ListComp (at 1 17) (tree.NamedExpr (at 1 18) (tree.Name (at 1 18) (codes "y")) (tree.Name (at 1 23) (codes "v"))) (tree.more_generators (tree.Name (at 1 29) (codes "v")) (tree.Name (at 1 34) (codes "z")) tree.no_exprs false tree.no_generators)))) tree.no_stmts) tree.no_exprs tree.no_expr tree.no_type_params) tree.no_stmts)) ≡ Tables ((scope.Module, codes "top", 0, false, ((codes "f", kind.Local, 0x2) ∷ [])) ∷ (scope.Function, codes "f", 1, false, ((codes "z", kind.GlobalImplicit, 0x1) ∷ (codes "y", kind.Cell, 0x2) ∷ [])) ∷ (scope.Comprehension, codes "genexpr", 1, true, ((codes ".0", kind.Local, 0x4) ∷ (codes "v", kind.Local, 0x81) ∷ (codes "y", kind.Free, 0x42) ∷ [])) ∷ [])
+walrus_in_a_function = refl
 
 -- [(lambda: y) for v in z if (y := v)]
-row_12 : shown (scan_program (tree.more_stmts (tree.StmtExpr (at 1 1) (tree.ListComp (at 1 1) (tree.Lambda (at 1 3) (tree.arguments tree.no_args tree.no_args tree.no_arg tree.no_args tree.no_arg) (tree.Name (at 1 11) (codes "y"))) (tree.more_generators (tree.Name (at 1 18) (codes "v")) (tree.Name (at 1 23) (codes "z")) (tree.more_exprs (tree.NamedExpr (at 1 29) (tree.Name (at 1 29) (codes "y")) (tree.Name (at 1 34) (codes "v"))) tree.no_exprs) false tree.no_generators))) tree.no_stmts)) ≡ Tables ((scope.Module, codes "top", 0, false, ((codes "z", kind.Unknown, 0x1) ∷ [])) ∷ (scope.Comprehension, codes "genexpr", 1, false, ((codes ".0", kind.Local, 0x4) ∷ (codes "v", kind.Local, 0x81) ∷ (codes "y", kind.GlobalImplicit, 0x42) ∷ [])) ∷ (scope.Function, codes "lambda", 1, false, ((codes "y", kind.GlobalImplicit, 0x1) ∷ [])) ∷ [])
-row_12 = refl
+walrus_in_the_module : shown (scan_program (tree.more_stmts (tree.StmtExpr (at 1 1) (tree.ListComp (at 1 1) (tree.Lambda (at 1 3) (tree.arguments tree.no_args tree.no_args tree.no_arg tree.no_args tree.no_arg) (tree.Name (at 1 11) (codes "y"))) (tree.more_generators (tree.Name (at 1 18) (codes "v")) (tree.Name (at 1 23) (codes "z")) (tree.more_exprs (tree.NamedExpr (at 1 29) (tree.Name (at 1 29) (codes "y")) (tree.Name (at 1 34) (codes "v"))) tree.no_exprs) false tree.no_generators))) tree.no_stmts)) ≡ Tables ((scope.Module, codes "top", 0, false, ((codes "z", kind.Unknown, 0x1) ∷ [])) ∷ (scope.Comprehension, codes "genexpr", 1, false, ((codes ".0", kind.Local, 0x4) ∷ (codes "v", kind.Local, 0x81) ∷ (codes "y", kind.GlobalImplicit, 0x42) ∷ [])) ∷ (scope.Function, codes "lambda", 1, false, ((codes "y", kind.GlobalImplicit, 0x1) ∷ [])) ∷ [])
+walrus_in_the_module = refl
 
 -- d[(lambda: k)()] = [x for x in y]
-row_15 : shown (scan_program (tree.more_stmts (tree.Assign (at 1 1) (tree.more_exprs (tree.Subscript (at 1 1) (tree.Name (at 1 1) (codes "d")) (tree.Call (at 1 3) (tree.Lambda (at 1 4) (tree.arguments tree.no_args tree.no_args tree.no_arg tree.no_args tree.no_arg) (tree.Name (at 1 12) (codes "k"))) tree.no_exprs tree.no_keywords)) tree.no_exprs) (tree.ListComp (at 1 20) (tree.Name (at 1 21) (codes "x")) (tree.more_generators (tree.Name (at 1 27) (codes "x")) (tree.Name (at 1 32) (codes "y")) tree.no_exprs false tree.no_generators))) tree.no_stmts)) ≡ Tables ((scope.Module, codes "top", 0, false, ((codes "y", kind.Unknown, 0x1) ∷ (codes "d", kind.Unknown, 0x1) ∷ [])) ∷ (scope.Comprehension, codes "genexpr", 1, false, ((codes ".0", kind.Local, 0x4) ∷ (codes "x", kind.Local, 0x81) ∷ [])) ∷ (scope.Function, codes "lambda", 1, false, ((codes "k", kind.GlobalImplicit, 0x1) ∷ [])) ∷ [])
-row_15 = refl
+lambda_in_a_target : shown (scan_program (tree.more_stmts (tree.Assign (at 1 1) (tree.more_exprs (tree.Subscript (at 1 1) (tree.Name (at 1 1) (codes "d")) (tree.Call (at 1 3) (tree.Lambda (at 1 4) (tree.arguments tree.no_args tree.no_args tree.no_arg tree.no_args tree.no_arg) (tree.Name (at 1 12) (codes "k"))) tree.no_exprs tree.no_keywords)) tree.no_exprs) (tree.ListComp (at 1 20) (tree.Name (at 1 21) (codes "x")) (tree.more_generators (tree.Name (at 1 27) (codes "x")) (tree.Name (at 1 32) (codes "y")) tree.no_exprs false tree.no_generators))) tree.no_stmts)) ≡ Tables ((scope.Module, codes "top", 0, false, ((codes "y", kind.Unknown, 0x1) ∷ (codes "d", kind.Unknown, 0x1) ∷ [])) ∷ (scope.Comprehension, codes "genexpr", 1, false, ((codes ".0", kind.Local, 0x4) ∷ (codes "x", kind.Local, 0x81) ∷ [])) ∷ (scope.Function, codes "lambda", 1, false, ((codes "k", kind.GlobalImplicit, 0x1) ∷ [])) ∷ [])
+lambda_in_a_target = refl
 
 -- def f(x): global x
-row_17_5 : shown (scan_program (tree.more_stmts (tree.FunctionDef (at 1 1) (codes "f") (tree.arguments tree.no_args (tree.more_args (tree.arg (at 1 7) (codes "x") tree.no_expr) tree.no_expr tree.no_args) tree.no_arg tree.no_args tree.no_arg) (tree.more_stmts (tree.Global (at 1 11) ((codes "x") ∷ [])) tree.no_stmts) tree.no_exprs tree.no_expr tree.no_type_params) tree.no_stmts)) ≡ Fault (codes "name 'x' is parameter and global") (Some (at 1 11))
-row_17_5 = refl
+parameter_declared_global : shown (scan_program (tree.more_stmts (tree.FunctionDef (at 1 1) (codes "f") (tree.arguments tree.no_args (tree.more_args (tree.arg (at 1 7) (codes "x") tree.no_expr) tree.no_expr tree.no_args) tree.no_arg tree.no_args tree.no_arg) (tree.more_stmts (tree.Global (at 1 11) ((codes "x") ∷ [])) tree.no_stmts) tree.no_exprs tree.no_expr tree.no_type_params) tree.no_stmts)) ≡ Fault (codes "name 'x' is parameter and global") (Some (at 1 11))
+parameter_declared_global = refl
 
 -- nonlocal x
-row_17_6 : shown (scan_program (tree.more_stmts (tree.Nonlocal (at 1 1) ((codes "x") ∷ [])) tree.no_stmts)) ≡ Fault (codes "cannot define nonlocal 'x' at top level.") (Some (at 1 1))
-row_17_6 = refl
+nonlocal_in_the_module : shown (scan_program (tree.more_stmts (tree.Nonlocal (at 1 1) ((codes "x") ∷ [])) tree.no_stmts)) ≡ Fault (codes "cannot define nonlocal 'x' at top level.") (Some (at 1 1))
+nonlocal_in_the_module = refl
 
 -- [y := 0 for y in z]
-row_17_7 : shown (scan_program (tree.more_stmts (tree.StmtExpr (at 1 1) (tree.ListComp (at 1 1) (tree.NamedExpr (at 1 2) (tree.Name (at 1 2) (codes "y")) (tree.Constant (at 1 7) literal.None)) (tree.more_generators (tree.Name (at 1 13) (codes "y")) (tree.Name (at 1 18) (codes "z")) tree.no_exprs false tree.no_generators))) tree.no_stmts)) ≡ Fault (codes "assignment expression cannot be used in a comprehension iterable expression") (Some (at 1 2))
-row_17_7 = refl
+walrus_over_its_own_target : shown (scan_program (tree.more_stmts (tree.StmtExpr (at 1 1) (tree.ListComp (at 1 1) (tree.NamedExpr (at 1 2) (tree.Name (at 1 2) (codes "y")) (tree.Constant (at 1 7) literal.None)) (tree.more_generators (tree.Name (at 1 13) (codes "y")) (tree.Name (at 1 18) (codes "z")) tree.no_exprs false tree.no_generators))) tree.no_stmts)) ≡ Fault (codes "assignment expression cannot be used in a comprehension iterable expression") (Some (at 1 2))
+walrus_over_its_own_target = refl
 
 -- def f(): nonlocal x
-row_17_8 : shown (scan_program (tree.more_stmts (tree.FunctionDef (at 1 1) (codes "f") (tree.arguments tree.no_args tree.no_args tree.no_arg tree.no_args tree.no_arg) (tree.more_stmts (tree.Nonlocal (at 1 10) ((codes "x") ∷ [])) tree.no_stmts) tree.no_exprs tree.no_expr tree.no_type_params) tree.no_stmts)) ≡ Fault (codes "no binding for nonlocal 'x' found") None
-row_17_8 = refl
+nonlocal_without_a_binder : shown (scan_program (tree.more_stmts (tree.FunctionDef (at 1 1) (codes "f") (tree.arguments tree.no_args tree.no_args tree.no_arg tree.no_args tree.no_arg) (tree.more_stmts (tree.Nonlocal (at 1 10) ((codes "x") ∷ [])) tree.no_stmts) tree.no_exprs tree.no_expr tree.no_type_params) tree.no_stmts)) ≡ Fault (codes "no binding for nonlocal 'x' found") None
+nonlocal_without_a_binder = refl
 
 -- global x
 -- nonlocal x
-row_17_9 : shown (scan_program (tree.more_stmts (tree.Global (at 1 1) ((codes "x") ∷ [])) (tree.more_stmts (tree.Nonlocal (at 2 1) ((codes "x") ∷ [])) tree.no_stmts))) ≡ Fault (codes "nonlocal x defined at place without an enclosing scope") None
-row_17_9 = refl
+global_and_nonlocal : shown (scan_program (tree.more_stmts (tree.Global (at 1 1) ((codes "x") ∷ [])) (tree.more_stmts (tree.Nonlocal (at 2 1) ((codes "x") ∷ [])) tree.no_stmts))) ≡ Fault (codes "nonlocal x defined at place without an enclosing scope") None
+global_and_nonlocal = refl
 
 -- import os.path as p
 -- class Shape(Base):
@@ -76,13 +76,13 @@ row_17_9 = refl
 --         raise
 --     finally:
 --         p.flush()
-row_19 : shown (scan_program (tree.more_stmts (tree.Import (at 1 1) (record { name = (codes "os.path"); asname = (Some (codes "p")) } ∷ [])) (tree.more_stmts (tree.ClassDef (at 2 1) (codes "Shape") (tree.more_exprs (tree.Name (at 2 13) (codes "Base")) tree.no_exprs) tree.no_keywords (tree.more_stmts (tree.StmtExpr (at 3 5) (tree.Constant (at 3 5) literal.None)) (tree.more_stmts (tree.FunctionDef (at 4 5) (codes "__init__") (tree.arguments tree.no_args (tree.more_args (tree.arg (at 4 18) (codes "self") tree.no_expr) tree.no_expr (tree.more_args (tree.arg (at 4 24) (codes "n") tree.no_expr) tree.no_expr tree.no_args)) tree.no_arg (tree.more_args (tree.arg (at 4 30) (codes "unit") tree.no_expr) (tree.some_expr (tree.Constant (at 4 35) literal.None)) tree.no_args) tree.no_arg) (tree.more_stmts (tree.StmtExpr (at 5 9) (tree.Call (at 5 9) (tree.Attribute (at 5 9) (tree.Call (at 5 9) (tree.Name (at 5 9) (codes "super")) tree.no_exprs tree.no_keywords) (codes "__init__")) tree.no_exprs tree.no_keywords)) (tree.more_stmts (tree.Assign (at 6 9) (tree.more_exprs (tree.Attribute (at 6 9) (tree.Name (at 6 9) (codes "self")) (codes "n")) tree.no_exprs) (tree.Name (at 6 18) (codes "n"))) tree.no_stmts)) tree.no_exprs tree.no_expr tree.no_type_params) (tree.more_stmts (tree.FunctionDef (at 8 5) (codes "make") (tree.arguments tree.no_args (tree.more_args (tree.arg (at 8 14) (codes "n") tree.no_expr) tree.no_expr tree.no_args) tree.no_arg tree.no_args tree.no_arg) (tree.more_stmts (tree.Return (at 8 18) (tree.some_expr (tree.Call (at 8 25) (tree.Name (at 8 25) (codes "Shape")) (tree.more_exprs (tree.Name (at 8 31) (codes "n")) tree.no_exprs) tree.no_keywords))) tree.no_stmts) (tree.more_exprs (tree.Name (at 7 6) (codes "staticmethod")) tree.no_exprs) tree.no_expr tree.no_type_params) tree.no_stmts))) tree.no_exprs tree.no_type_params) (tree.more_stmts (tree.FunctionDef (at 9 1) (codes "total") (tree.arguments tree.no_args (tree.more_args (tree.arg (at 9 11) (codes "items") tree.no_expr) tree.no_expr tree.no_args) tree.no_arg tree.no_args tree.no_arg) (tree.more_stmts (tree.Try (at 10 5) (tree.more_stmts (tree.Return (at 11 9) (tree.some_expr (tree.Call (at 11 16) (tree.Name (at 11 16) (codes "sum")) (tree.more_exprs (tree.GeneratorExp (at 11 19) (tree.Attribute (at 11 20) (tree.Name (at 11 20) (codes "i")) (codes "n")) (tree.more_generators (tree.Name (at 11 28) (codes "i")) (tree.Name (at 11 33) (codes "items")) (tree.more_exprs (tree.Name (at 11 42) (codes "i")) tree.no_exprs) false tree.no_generators)) tree.no_exprs) tree.no_keywords))) tree.no_stmts) (tree.more_handlers (tree.some_expr (tree.Tuple (at 12 12) (tree.more_exprs (tree.Name (at 12 13) (codes "TypeError")) (tree.more_exprs (tree.Name (at 12 24) (codes "ValueError")) tree.no_exprs)))) (Some (codes "e")) (tree.more_stmts (tree.StmtExpr (at 13 9) (tree.Call (at 13 9) (tree.Name (at 13 9) (codes "print")) (tree.more_exprs (tree.JoinedStr (at 13 15) (tree.more_exprs (tree.Constant (at 13 15) literal.None) (tree.more_exprs (tree.FormattedValue (at 13 15) (tree.Name (at 13 22) (codes "e")) conversion.Repr tree.no_expr) tree.no_exprs))) tree.no_exprs) tree.no_keywords)) (tree.more_stmts (tree.Raise (at 14 9) tree.no_expr tree.no_expr) tree.no_stmts)) tree.no_handlers) tree.no_stmts (tree.more_stmts (tree.StmtExpr (at 16 9) (tree.Call (at 16 9) (tree.Attribute (at 16 9) (tree.Name (at 16 9) (codes "p")) (codes "flush")) tree.no_exprs tree.no_keywords)) tree.no_stmts)) tree.no_stmts) tree.no_exprs tree.no_expr tree.no_type_params) tree.no_stmts)))) ≡ Tables ((scope.Module, codes "top", 0, false, ((codes "p", kind.Local, 0x12) ∷ (codes "Base", kind.Unknown, 0x1) ∷ (codes "Shape", kind.Local, 0x2) ∷ (codes "total", kind.Local, 0x2) ∷ [])) ∷ (scope.Class, codes "Shape", 2, false, ((codes "__module__", kind.Local, 0x2) ∷ (codes "__qualname__", kind.Local, 0x2) ∷ (codes "__doc__", kind.Local, 0x2) ∷ (codes "__class__", kind.Cell, 0x2) ∷ (codes "__init__", kind.Local, 0x2) ∷ (codes "staticmethod", kind.GlobalImplicit, 0x1) ∷ (codes "make", kind.Local, 0x2) ∷ [])) ∷ (scope.Function, codes "__init__", 4, false, ((codes "self", kind.Local, 0x5) ∷ (codes "n", kind.Local, 0x5) ∷ (codes "unit", kind.Local, 0x4) ∷ (codes "super", kind.GlobalImplicit, 0x1) ∷ (codes "__class__", kind.Free, 0x1) ∷ [])) ∷ (scope.Function, codes "make", 8, false, ((codes "n", kind.Local, 0x5) ∷ (codes "Shape", kind.GlobalImplicit, 0x1) ∷ [])) ∷ (scope.Function, codes "total", 9, false, ((codes "items", kind.Local, 0x5) ∷ (codes "sum", kind.GlobalImplicit, 0x1) ∷ (codes "TypeError", kind.GlobalImplicit, 0x1) ∷ (codes "ValueError", kind.GlobalImplicit, 0x1) ∷ (codes "e", kind.Local, 0x3) ∷ (codes "print", kind.GlobalImplicit, 0x1) ∷ (codes "p", kind.GlobalImplicit, 0x1) ∷ [])) ∷ (scope.Comprehension, codes "genexpr", 11, true, ((codes ".0", kind.Local, 0x4) ∷ (codes "i", kind.Local, 0x81) ∷ [])) ∷ [])
-row_19 = refl
+module_as_people_write_it : shown (scan_program (tree.more_stmts (tree.Import (at 1 1) (record { name = (codes "os.path"); asname = (Some (codes "p")) } ∷ [])) (tree.more_stmts (tree.ClassDef (at 2 1) (codes "Shape") (tree.more_exprs (tree.Name (at 2 13) (codes "Base")) tree.no_exprs) tree.no_keywords (tree.more_stmts (tree.StmtExpr (at 3 5) (tree.Constant (at 3 5) literal.None)) (tree.more_stmts (tree.FunctionDef (at 4 5) (codes "__init__") (tree.arguments tree.no_args (tree.more_args (tree.arg (at 4 18) (codes "self") tree.no_expr) tree.no_expr (tree.more_args (tree.arg (at 4 24) (codes "n") tree.no_expr) tree.no_expr tree.no_args)) tree.no_arg (tree.more_args (tree.arg (at 4 30) (codes "unit") tree.no_expr) (tree.some_expr (tree.Constant (at 4 35) literal.None)) tree.no_args) tree.no_arg) (tree.more_stmts (tree.StmtExpr (at 5 9) (tree.Call (at 5 9) (tree.Attribute (at 5 9) (tree.Call (at 5 9) (tree.Name (at 5 9) (codes "super")) tree.no_exprs tree.no_keywords) (codes "__init__")) tree.no_exprs tree.no_keywords)) (tree.more_stmts (tree.Assign (at 6 9) (tree.more_exprs (tree.Attribute (at 6 9) (tree.Name (at 6 9) (codes "self")) (codes "n")) tree.no_exprs) (tree.Name (at 6 18) (codes "n"))) tree.no_stmts)) tree.no_exprs tree.no_expr tree.no_type_params) (tree.more_stmts (tree.FunctionDef (at 8 5) (codes "make") (tree.arguments tree.no_args (tree.more_args (tree.arg (at 8 14) (codes "n") tree.no_expr) tree.no_expr tree.no_args) tree.no_arg tree.no_args tree.no_arg) (tree.more_stmts (tree.Return (at 8 18) (tree.some_expr (tree.Call (at 8 25) (tree.Name (at 8 25) (codes "Shape")) (tree.more_exprs (tree.Name (at 8 31) (codes "n")) tree.no_exprs) tree.no_keywords))) tree.no_stmts) (tree.more_exprs (tree.Name (at 7 6) (codes "staticmethod")) tree.no_exprs) tree.no_expr tree.no_type_params) tree.no_stmts))) tree.no_exprs tree.no_type_params) (tree.more_stmts (tree.FunctionDef (at 9 1) (codes "total") (tree.arguments tree.no_args (tree.more_args (tree.arg (at 9 11) (codes "items") tree.no_expr) tree.no_expr tree.no_args) tree.no_arg tree.no_args tree.no_arg) (tree.more_stmts (tree.Try (at 10 5) (tree.more_stmts (tree.Return (at 11 9) (tree.some_expr (tree.Call (at 11 16) (tree.Name (at 11 16) (codes "sum")) (tree.more_exprs (tree.GeneratorExp (at 11 19) (tree.Attribute (at 11 20) (tree.Name (at 11 20) (codes "i")) (codes "n")) (tree.more_generators (tree.Name (at 11 28) (codes "i")) (tree.Name (at 11 33) (codes "items")) (tree.more_exprs (tree.Name (at 11 42) (codes "i")) tree.no_exprs) false tree.no_generators)) tree.no_exprs) tree.no_keywords))) tree.no_stmts) (tree.more_handlers (tree.some_expr (tree.Tuple (at 12 12) (tree.more_exprs (tree.Name (at 12 13) (codes "TypeError")) (tree.more_exprs (tree.Name (at 12 24) (codes "ValueError")) tree.no_exprs)))) (Some (codes "e")) (tree.more_stmts (tree.StmtExpr (at 13 9) (tree.Call (at 13 9) (tree.Name (at 13 9) (codes "print")) (tree.more_exprs (tree.JoinedStr (at 13 15) (tree.more_exprs (tree.Constant (at 13 15) literal.None) (tree.more_exprs (tree.FormattedValue (at 13 15) (tree.Name (at 13 22) (codes "e")) conversion.Repr tree.no_expr) tree.no_exprs))) tree.no_exprs) tree.no_keywords)) (tree.more_stmts (tree.Raise (at 14 9) tree.no_expr tree.no_expr) tree.no_stmts)) tree.no_handlers) tree.no_stmts (tree.more_stmts (tree.StmtExpr (at 16 9) (tree.Call (at 16 9) (tree.Attribute (at 16 9) (tree.Name (at 16 9) (codes "p")) (codes "flush")) tree.no_exprs tree.no_keywords)) tree.no_stmts)) tree.no_stmts) tree.no_exprs tree.no_expr tree.no_type_params) tree.no_stmts)))) ≡ Tables ((scope.Module, codes "top", 0, false, ((codes "p", kind.Local, 0x12) ∷ (codes "Base", kind.Unknown, 0x1) ∷ (codes "Shape", kind.Local, 0x2) ∷ (codes "total", kind.Local, 0x2) ∷ [])) ∷ (scope.Class, codes "Shape", 2, false, ((codes "__module__", kind.Local, 0x2) ∷ (codes "__qualname__", kind.Local, 0x2) ∷ (codes "__doc__", kind.Local, 0x2) ∷ (codes "__class__", kind.Cell, 0x2) ∷ (codes "__init__", kind.Local, 0x2) ∷ (codes "staticmethod", kind.GlobalImplicit, 0x1) ∷ (codes "make", kind.Local, 0x2) ∷ [])) ∷ (scope.Function, codes "__init__", 4, false, ((codes "self", kind.Local, 0x5) ∷ (codes "n", kind.Local, 0x5) ∷ (codes "unit", kind.Local, 0x4) ∷ (codes "super", kind.GlobalImplicit, 0x1) ∷ (codes "__class__", kind.Free, 0x1) ∷ [])) ∷ (scope.Function, codes "make", 8, false, ((codes "n", kind.Local, 0x5) ∷ (codes "Shape", kind.GlobalImplicit, 0x1) ∷ [])) ∷ (scope.Function, codes "total", 9, false, ((codes "items", kind.Local, 0x5) ∷ (codes "sum", kind.GlobalImplicit, 0x1) ∷ (codes "TypeError", kind.GlobalImplicit, 0x1) ∷ (codes "ValueError", kind.GlobalImplicit, 0x1) ∷ (codes "e", kind.Local, 0x3) ∷ (codes "print", kind.GlobalImplicit, 0x1) ∷ (codes "p", kind.GlobalImplicit, 0x1) ∷ [])) ∷ (scope.Comprehension, codes "genexpr", 11, true, ((codes ".0", kind.Local, 0x4) ∷ (codes "i", kind.Local, 0x81) ∷ [])) ∷ [])
+module_as_people_write_it = refl
 
 -- from __future__ import annotations
 -- def f(a: List[int] | None): pass
-row_21 : shown (scan_program (tree.more_stmts (tree.ImportFrom (at 1 1) (Some (codes "__future__")) (record { name = (codes "annotations"); asname = None } ∷ []) 0) (tree.more_stmts (tree.FunctionDef (at 2 1) (codes "f") (tree.arguments tree.no_args (tree.more_args (tree.arg (at 2 7) (codes "a") (tree.some_expr (tree.BinOp (at 2 10) (tree.Subscript (at 2 10) (tree.Name (at 2 10) (codes "List")) (tree.Name (at 2 15) (codes "int"))) operator.BitOr (tree.Constant (at 2 22) literal.None)))) tree.no_expr tree.no_args) tree.no_arg tree.no_args tree.no_arg) (tree.more_stmts (tree.Pass (at 2 29)) tree.no_stmts) tree.no_exprs tree.no_expr tree.no_type_params) tree.no_stmts))) ≡ Tables ((scope.Module, codes "top", 0, false, ((codes "annotations", kind.Local, 0x12) ∷ (codes "f", kind.Local, 0x2) ∷ [])) ∷ (scope.Function, codes "f", 2, false, ((codes "a", kind.Local, 0xc) ∷ [])) ∷ [])
-row_21 = refl
+postponed_annotation : shown (scan_program (tree.more_stmts (tree.ImportFrom (at 1 1) (Some (codes "__future__")) (record { name = (codes "annotations"); asname = None } ∷ []) 0) (tree.more_stmts (tree.FunctionDef (at 2 1) (codes "f") (tree.arguments tree.no_args (tree.more_args (tree.arg (at 2 7) (codes "a") (tree.some_expr (tree.BinOp (at 2 10) (tree.Subscript (at 2 10) (tree.Name (at 2 10) (codes "List")) (tree.Name (at 2 15) (codes "int"))) operator.BitOr (tree.Constant (at 2 22) literal.None)))) tree.no_expr tree.no_args) tree.no_arg tree.no_args tree.no_arg) (tree.more_stmts (tree.Pass (at 2 29)) tree.no_stmts) tree.no_exprs tree.no_expr tree.no_type_params) tree.no_stmts))) ≡ Tables ((scope.Module, codes "top", 0, false, ((codes "annotations", kind.Local, 0x12) ∷ (codes "f", kind.Local, 0x2) ∷ [])) ∷ (scope.Function, codes "f", 2, false, ((codes "a", kind.Local, 0xc) ∷ [])) ∷ [])
+postponed_annotation = refl
 
 -- def f(x: T = 1): pass
 generic_function : shown (scan_program (tree.more_stmts (tree.FunctionDef (at 1 1) (codes "f") (tree.arguments tree.no_args (tree.more_args (tree.arg (at 1 7) (codes "x") (tree.some_expr (tree.Name (at 1 10) (codes "T")))) (tree.some_expr (tree.Constant (at 1 14) literal.None)) tree.no_args) tree.no_arg tree.no_args tree.no_arg) (tree.more_stmts (tree.Pass (at 1 18)) tree.no_stmts) tree.no_exprs tree.no_expr (tree.more_type_params (tree.TypeVar (at 1 7) (codes "T") tree.no_expr) tree.no_type_params)) tree.no_stmts)) ≡ Tables ((scope.Module, codes "top", 0, false, ((codes "f", kind.Local, 0x2) ∷ [])) ∷ (scope.TypeParams, codes "<generic parameters of f>", 1, false, ((codes ".defaults", kind.Local, 0x4) ∷ (codes "T", kind.Local, 0x3) ∷ [])) ∷ (scope.Function, codes "f", 1, false, ((codes "x", kind.Local, 0xc) ∷ [])) ∷ [])
