@@ -1,102 +1,118 @@
-"""The command `run`: compiles a Python file and runs it, on a machine over Python's own objects.
-
-usage: pyc run [--program PROGRAM | --model] [--level LEVEL] [--literals] [--texts] [--import NAME].. [--] FILE.py [ARG..]
-
-docs/RUNNING.md says what is as in Python and what is not. Python 3.11 or later.
-
-The status is that of the program that runs. Where FILE.py is refused, that is told as FILE:ROW:COL: TEXT, and it is 1.
-"""
+"""The command `run`: compiles a program and runs it, on a machine over CPython's own objects (docs/RUNNING.md)."""
 from __future__ import annotations
 
-import argparse
+import importlib.util
 import os
 import sys
-import threading
 import types
+from importlib.machinery import SourceFileLoader
+from typing import TYPE_CHECKING, Any, List, Sequence
 
-from ..program import HERE, PROGRAM, ROOT
+from .. import sources
+from ..errors import MISSING, REFUSED, Failed, WrongWords
+from ..options import Command, Option, parse
+from ..program import PROGRAM
 
-# The model of the program, which stands in a checkout alone.
-MODEL = os.path.join(ROOT, "tools", "model")
+if TYPE_CHECKING:
+    from ..machine.mains import Main
 
-# How deep calls of Python go: a call on the machine is several of them. The stack for that, in bytes.
-DEEPEST = 20000
-STACK = 1 << 29
-
-
-def machine_modules():
-    """The modules of the machine. They stand in no list of modules, so a program may have others of these names."""
-    from ..machine import hooks, interpreter, sources
-
-    package = os.path.dirname(HERE)
-    sys.path[:] = [it for it in sys.path if it != package]
-    for name in list(sys.modules):
-        if name.partition(".")[0] == "pyc":
-            del sys.modules[name]
-    return interpreter, hooks, sources
-
-
-def words_of(words):
-    """The words of the call."""
-    parser = argparse.ArgumentParser(prog="pyc run", description=__doc__.split("\n")[0])
-    by = parser.add_mutually_exclusive_group()
-    by.add_argument("--program", default=PROGRAM, metavar="PROGRAM", help="the program that compiles (%(default)s)")
-    by.add_argument("--model", action="store_true", help="compile by tools/model, which no proof is about")
-    parser.add_argument("--level", type=int, choices=(0, 1, 2), default=0, help="the level of optimisation (0)")
-    parser.add_argument("--literals", action="store_true", help="literals that rows have no word for, as floats, become calls that give them")
-    parser.add_argument("--texts", action="store_true", help="compile what the program hands to eval, exec and compile, too")
-    parser.add_argument("--import", dest="names", action="append", default=[], metavar="NAME", help="compile the module NAME and those within it, too")
-    parser.add_argument("file", metavar="FILE.py", help="the program that is run")
-    parser.add_argument("arguments", metavar="ARG", nargs=argparse.REMAINDER, help="its arguments")
-    return parser.parse_args(words)
+COMMAND = Command(
+    "run",
+    "FILE [ARG..] | - [ARG..] | -c TEXT [ARG..] | -m MODULE [ARG..]",
+    "Compiles a Python program and runs it, on a machine over Python's own objects. FILE is a source or a file of code; - is "
+    "standard input. Words behind it are the program's. Python 3.11 or later.",
+    (
+        Option(("-c",), "run this text", "TEXT"),
+        Option(("-m",), "run this module, or the package's __main__", "MODULE"),
+        Option(("-O", "--level"), "the level: 0, 1 (without assertions), 2 (without docstrings too)", "LEVEL", ("0", "1", "2"), "0"),
+        Option(("--import",), "compile the module NAME and those within it, too", "NAME", many=True),
+        Option(("--texts",), "compile what the program hands to eval, exec and compile, too"),
+        Option(("--literals",), "make a call of each literal that rows have no word for, as a float"),
+        Option(("--no-cache",), "keep no code for the next run, and take none that was kept"),
+        Option(("--program",), "the program that compiles", "FILE", default=PROGRAM),
+        Option(("--model",), "compile by tools/model, which no proof is about"),
+    ),
+    "The status is that of the program that runs; 1 where it is refused, 130 where it ends by KeyboardInterrupt.",
+    True,
+)
 
 
-def run(words):
-    """Runs the file as the main program."""
-    interpreter, hooks, sources = machine_modules()
-    compiler = sources.Compiler(None if words.model else words.program, words.level, words.literals)
-    if words.model:
-        sys.path.append(MODEL)
-    try:
-        with open(words.file, "rb") as it:
-            prepared = compiler.prepared(it.read(), words.file)
-    except OSError as error:
-        sys.exit("%s: %s" % (words.file, error.strerror))
-    except sources.Refused as refused:
-        sys.exit(str(refused))
-    if words.texts:
-        hooks.text_of = compiler.of_text
-    if words.names:
-        sys.meta_path.insert(0, sources.Importer(compiler, words.names))
-    main = types.ModuleType("__main__")
-    main.__file__ = words.file
-    sys.modules["__main__"] = main
-    sys.argv = [words.file, *words.arguments]
-    sys.path[0] = os.path.dirname(os.path.abspath(words.file))
-    interpreter.execute(prepared, main.__dict__)
-
-
-def with_room(function, *arguments):
-    """Calls a function with room for deep recursion, and ends as it ends."""
-    ends = []
-
-    def go():
-        try:
-            function(*arguments)
-        except BaseException as error:
-            ends.append(error)
-
-    sys.setrecursionlimit(DEEPEST)
-    threading.stack_size(STACK)
-    thread = threading.Thread(target=go)
-    thread.start()
-    thread.join()
-    if ends:
-        raise ends[0]
-
-
-def main(words):
+def main(words: List[str]) -> int:
+    """Runs a program. The status is that with which it ends."""
     if sys.version_info < (3, 11):
-        sys.exit("pyc run: Python 3.11 or later is wanted, and this is %d.%d" % sys.version_info[:2])
-    with_room(run, words_of(words))
-    return 0
+        sys.stderr.write("pyc run: Python 3.11 or later is wanted, and this is %d.%d\n" % sys.version_info[:2])
+        return MISSING
+    end = end_of_options(words)
+    found = parse(COMMAND, words[:end])
+    found.files += words[end:]
+    if found.c is not None and found.m is not None:
+        raise WrongWords("-c and -m are two programs")
+    if found.c is None and found.m is None and not found.files:
+        raise WrongWords("no file is named")
+    from ..machine import mains
+
+    try:
+        program = prepared(found)
+    except Failed as failed:
+        sys.stderr.write(str(failed))
+        return failed.status
+    return mains.run(program)
+
+
+def end_of_options(words: Sequence[str]) -> int:
+    """How many of the words are options: those behind -c TEXT and -m MODULE are the program's, and so is a file."""
+    with_value = {name for option in COMMAND.options if option.value for name in option.names}
+    at = 0
+    while at < len(words) and words[at].startswith("-") and words[at] not in ("-", "--"):
+        is_last = words[at][:2] in ("-c", "-m")
+        at += 2 if words[at] in with_value else 1
+        if is_last:
+            break
+    return min(at, len(words))
+
+
+def prepared(found: types.SimpleNamespace) -> Main:
+    """The program that the words name, compiled. Raises Failed where it is not there, or is refused."""
+    from ..machine import hooks
+    from ..machine.mains import Main
+    from ..machine.sources import Compiler, Importer
+
+    path = None if found.model else found.program
+    if path is not None and not os.path.exists(path):
+        raise Failed("pyc run: the program is not built: %s is not there\n" % path, MISSING)
+    compiler = Compiler(path, int(found.level), found.literals, not found.no_cache)
+    if found.texts:
+        hooks.text_of = compiler.of_text
+    if getattr(found, "import"):
+        sys.meta_path.insert(0, Importer(compiler, getattr(found, "import")))
+    if found.m is not None:
+        return of_module(compiler, found.m, found.files)
+    if found.c is not None:
+        data = found.c.encode("utf-8", "surrogateescape")
+        return Main(compiler.code(data, "<string>"), {}, ["-c", *found.files], "")
+    name = found.files[0]
+    data = sources.bytes_of(name)
+    if name == "-":
+        return Main(compiler.code(data, "<stdin>"), {}, found.files, "")
+    path = os.path.abspath(name)
+    attributes = {"__file__": path, "__cached__": None, "__loader__": SourceFileLoader("__main__", path)}
+    return Main(compiler.code(data, path, name=name), attributes, found.files, os.path.dirname(os.path.realpath(path)))
+
+
+def of_module(compiler: Any, name: str, words: List[str]) -> Main:
+    """A module, or the `__main__` of a package, as a program."""
+    from ..machine.mains import Main, begin
+
+    begin(os.getcwd())
+    try:
+        spec = importlib.util.find_spec(name)
+        if spec is not None and spec.submodule_search_locations is not None:
+            name += ".__main__"
+            spec = importlib.util.find_spec(name)
+    except (ImportError, ValueError, AttributeError) as error:
+        raise Failed("pyc run: %s\n" % error, REFUSED) from None
+    if spec is None or not isinstance(spec.loader, SourceFileLoader):
+        raise Failed("pyc run: there is no source of a module %s\n" % name, REFUSED)
+    path = spec.origin
+    attributes = {"__file__": path, "__cached__": spec.cached, "__loader__": spec.loader, "__spec__": spec, "__package__": spec.parent}
+    return Main(compiler.code(spec.loader.get_data(path), path), attributes, [path, *words], os.getcwd())

@@ -1,122 +1,93 @@
-"""What Python answers from the frame that calls: the machine answers from its own frame."""
+"""What Python answers from the frame that calls: `locals()` and the like, and the texts that a program runs.
+
+The code of a program is that of the frame, but a function has the machine's own names beside its variables, and texts
+may be compiled by the program too (`--texts`). So a code that names one of these built-ins asks `hooked` for what it calls.
+"""
+from __future__ import annotations
+
 import builtins
 import sys
+import types
+from typing import Any, Callable, Optional, Union
 
-from .frames import UNSET, VM_CODES
-from .interpreter import HOOKS, execute
+from . import bodies
 
-# What this module names is its own, whatever a program does to the built-ins.
-__builtins__ = dict(vars(builtins))
+# A code that has none of these names calls no built-in that is hooked.
+NAMES = frozenset("locals vars dir eval exec compile".split())
 
+# The machine's own variables in a function.
+OWN = (".stack", ".blocks", ".at")
 
-def hook(fn):
-    def add(h):
-        HOOKS[id(fn)] = h
-        VM_CODES.add(h.__code__)
-        return h
-    return add
+# From a text, its path and its mode to its code; None where Python is to compile it. Set where `--texts` is asked for.
+text_of: Optional[Callable[[str, Any, str], Optional[types.CodeType]]] = None
 
-
-@hook(super)
-def hook_super(frame, *args):
-    if args:
-        return super(*args)
-    p = frame.program
-    if not p.parameters or not p.is_function:
-        raise RuntimeError("super(): no arguments")
-    first = frame.cells[p.cell2arg.index(0)].cell_contents if 0 in p.cell2arg else frame.fast[0]
-    if first is UNSET:
-        raise RuntimeError("super(): arg[0] deleted")
-    if "__class__" not in p.freevars:
-        raise RuntimeError("super(): __class__ cell not found")
-    try:
-        c = frame.cells[p.cell_names.index("__class__")].cell_contents
-    except ValueError:
-        raise RuntimeError("super(): empty __class__ cell") from None
-    return super(c, first)
+# By the number of a code of Python: it, and the code that the program made of the same text.
+COMPILED: dict[int, tuple[types.CodeType, types.CodeType]] = {}
 
 
-@hook(locals)
-def hook_locals(frame):
-    return frame.names_now()
+def names_of(frame: types.FrameType) -> Any:
+    """What `locals()` answers in a frame."""
+    names = frame.f_locals
+    if frame.f_code.co_flags & 0x01:
+        return {name: value for name, value in names.items() if name not in OWN}
+    return names
 
 
-@hook(globals)
-def hook_globals(frame):
-    return frame.globals
+def hook_locals() -> Any:
+    return names_of(sys._getframe(1))
 
 
-@hook(vars)
-def hook_vars(frame, *args):
-    return vars(*args) if args else frame.names_now()
+def hook_vars(*arguments: Any) -> Any:
+    return vars(*arguments) if arguments else names_of(sys._getframe(1))
 
 
-@hook(dir)
-def hook_dir(frame, *args):
-    return dir(*args) if args else sorted(frame.names_now().keys())
+def hook_dir(*arguments: Any) -> list[str]:
+    return dir(*arguments) if arguments else sorted(names_of(sys._getframe(1)))
 
 
-text_of = None  # set by run.py: (text, path, mode) -> Program or None, for compile, eval and exec of text
-
-
-def spaces(frame, globals, locals):
+def run_text(frame: types.FrameType, source: Any, mode: str, globals: Any, locals: Any, **named: Any) -> Any:
+    """Runs a text, or a code of one, for a frame."""
     if globals is None:
-        return frame.globals, frame.names_now() if locals is None else locals
-    return globals, globals if locals is None else locals
+        globals, locals = frame.f_globals, names_of(frame) if locals is None else locals
+    elif locals is None:
+        locals = globals
+    code = COMPILED.get(id(source), (None, None))[1]
+    if isinstance(source, str) and text_of is not None and type(globals) is dict:
+        code = text_of(source.lstrip(" \t") if mode == "eval" else source, "<string>", mode)
+        if code is not None:
+            compile(source.lstrip(" \t") if mode == "eval" else source, "<string>", mode, 0, True)  # for its warnings
+    if code is None:
+        return (builtins.eval if mode == "eval" else builtins.exec)(source, globals, locals, **named)
+    return bodies.execute(code, globals, locals)
 
 
-def run_text(frame, source, mode, globals, locals, **named):
-    g, l = spaces(frame, globals, locals)
-    if isinstance(source, str) and mode == "eval":
-        source = source.lstrip(" \t")
-    p = PROGRAMS.get(id(source), (None, None))[1]
-    if isinstance(source, str) and text_of and type(g) is dict:
-        p = text_of(source, "<string>", mode)
-    if not p:
-        return (eval if mode == "eval" else exec)(source, g, l, **named)
-    # for its warnings
-    if isinstance(source, str):
-        compile(source, "<string>", mode, 0, True)
-    return execute(p, g, l)
+def hook_eval(source: Any, globals: Any = None, locals: Any = None, /) -> Any:
+    return run_text(sys._getframe(1), source, "eval", globals, locals)
 
 
-@hook(eval)
-def hook_eval(frame, source, globals=None, locals=None, /):
-    return run_text(frame, source, "eval", globals, locals)
+def hook_exec(source: Any, globals: Any = None, locals: Any = None, /, **named: Any) -> None:
+    run_text(sys._getframe(1), source, "exec", globals, locals, **named)
 
 
-@hook(exec)
-def hook_exec(frame, source, globals=None, locals=None, /, **named):
-    run_text(frame, source, "exec", globals, locals, **named)
+def hook_compile(source: Any, filename: Any, mode: str, flags: int = 0, *more: Any, **named: Any) -> Any:
+    made = compile(source, filename, mode, flags, *more, **named)
+    if text_of is not None and isinstance(source, str) and not flags and not more and not named:
+        code = text_of(source, filename, mode)
+        if code is not None:
+            COMPILED[id(made)] = made, code
+    return made
 
 
-PROGRAMS = {}  # by id of Python's code object: it, and the program of the same text
+HOOKS: dict[int, Callable] = {
+    id(builtins.locals): hook_locals,
+    id(builtins.vars): hook_vars,
+    id(builtins.dir): hook_dir,
+    id(builtins.eval): hook_eval,
+    id(builtins.exec): hook_exec,
+    id(builtins.compile): hook_compile,
+}
 
 
-@hook(compile)
-def hook_compile(frame, source, filename, mode, flags=0, *more, **named):
-    c = compile(source, filename, mode, flags, *more, **named)
-    p = text_of(source, filename, mode) if text_of and isinstance(source, str) and not flags and not more and not named else None
-    if p:
-        PROGRAMS[id(c)] = c, p
-    return c
-
-
-@hook(sys._getframe)
-def hook_getframe(frame, depth=0):
-    at = sys._getframe(1)
-    while True:
-        while at is not None and at.f_code in VM_CODES:
-            at = at.f_back
-        if depth == 0 or at is None:
-            break
-        at, depth = at.f_back, depth - 1
-    if at is None:
-        raise ValueError("call stack is not deep enough")
-    return at
-
-
-if hasattr(sys, "_getframemodulename"):
-    @hook(sys._getframemodulename)
-    def hook_getframemodulename(frame, depth=0):
-        return hook_getframe(frame, depth).f_globals.get("__name__")
+def hooked(called: Any) -> Any:
+    """What is called in place of a built-in that answers from the frame that calls it; else the same."""
+    return HOOKS.get(id(called), called)

@@ -1,809 +1,739 @@
-"""The instructions: what each does to a frame, on real Python objects.
+"""The instructions: what each does to the stack of values, written in Python.
 
-Each is a function of the frame and the operand; a name or a constant that the operand counts is looked up before. `TABLE` has
-for each name how the loop treats it, its function, and the table in which its operand counts.
+Each is a function of the operand that gives lines of Python, as its instruction is done on CPython's own objects. These
+lines are put together into a function (`translation.py`), in the order of the code, so that nothing is decoded and no
+instruction is looked up while it runs. `TABLE` has the functions by the names of their instructions.
+
+In the lines `stack` is the stack of values, whose top is last; `blocks` are the open blocks, the innermost last; `at` is
+the unit that comes next, and `continue` goes to it. A word in capitals stands for an object of `helpers.py`. Each line is
+a statement. Its parts that do something are done from left to right, but what stands behind a `=` comes first: so
+`stack.pop(-2) - stack.pop()` takes the value below the top and then the top.
+
+The parameters of a function say what it is told: `operand` the number itself; `constant`, `variable`, `name`, `text` a
+word for the constant, the variable, the attribute and the text that the number names; `cell` the cell that it names;
+`target` the unit that it names; `following` the next unit; `leaves` what ends the code with the value on top;
+`has_handlers` whether the code has blocks besides loops; `hooked` a form for what is called; `names` the names where the
+code runs. In the docstrings "takes A, B" says that A lies on top and B below it; what is given lies on top, the last one
+highest.
 """
-import builtins
-import operator
-import sys
-import types
-import typing
+from __future__ import annotations
 
-from .frames import (
-    ANNOTATIONS,
-    CALL,
-    CLOSURE,
-    DEFAULTS,
-    END,
-    EXCEPT,
-    EXCEPT_HANDLER,
-    FINALLY,
-    FINALLY_HANDLER,
-    KW_ONLY_DEFAULTS,
-    LEAVES,
-    LOOP,
-    PLAIN,
-    TYPE_PARAMS,
-    UNSET,
-    VM_CODES,
-    YIELD,
-    YIELD_FROM,
-    Block,
-)
+from typing import Callable, NamedTuple
 
-# What this module names is its own, whatever a program does to the built-ins.
-__builtins__ = dict(vars(builtins))
+TABLE: dict[str, Callable] = {}
 
-TABLE = {}
+# The most values that are taken one by one; of more, a part of the stack is taken.
+FEW = 8
 
 
-def op(names, treat=PLAIN, table=None):
-    """Enters a function into the table, under the names of its instructions."""
-    def add(fn):
-        for n in names.split():
-            TABLE[n] = (treat, fn, table)
-        VM_CODES.add(fn.__code__)
-        return fn
-    return add
+class Cell(NamedTuple):
+    """A cell that an instruction names: the word for it, the word for its name, whether it comes from the code around,
+    and whether it is a variable of Python, which looks into the cell by itself."""
 
+    word: str
+    name: str
+    is_free: bool
+    is_variable: bool
 
-@op("LoadConst", table="Const")
-def load_const(frame, operand):
-    frame.stack.append(operand)
 
+def instruction(function: Callable) -> Callable:
+    """Enters a function into the table, by its own name: `load_const` is the instruction LoadConst."""
+    TABLE["".join(it.capitalize() for it in function.__name__.split("_"))] = function
+    return function
 
-@op("Pop")
-def pop(frame, operand):
-    frame.stack.pop()
 
+def popped(count: int) -> str:
+    """So many values from the top of the stack, the lowest first, each of them taken."""
+    return ", ".join("stack.pop(-%d)" % it if it > 1 else "stack.pop()" for it in range(count, 0, -1))
 
-@op("Rotate2")
-def rotate2(frame, operand):
-    s = frame.stack
-    s[-1], s[-2] = s[-2], s[-1]
 
+# The stack
 
-@op("Rotate3")
-def rotate3(frame, operand):
-    frame.stack.insert(-2, frame.stack.pop())
 
+@instruction
+def load_const(constant: str) -> str:
+    """Gives a constant."""
+    return f"stack.append({constant})"
 
-@op("Duplicate")
-def duplicate(frame, operand):
-    frame.stack.append(frame.stack[-1])
 
+@instruction
+def pop() -> str:
+    """Takes a value."""
+    return "del stack[-1]"
 
-@op("Duplicate2")
-def duplicate2(frame, operand):
-    frame.stack.extend(frame.stack[-2:])
 
+@instruction
+def rotate2() -> str:
+    """Takes A, B; gives A, B: the two change places."""
+    return "stack.append(stack.pop(-2))"
 
-@op("Nop")
-def nop(frame, operand):
-    pass
 
+@instruction
+def rotate3() -> str:
+    """Takes A, B, C; gives A, C, B: the top goes below the two others."""
+    return "stack.insert(-2, stack.pop())"
 
-# names
-@op("LoadFast", table="Var")
-def load_fast(frame, operand):
-    v = frame.fast[operand]
-    if v is UNSET:
-        raise unbound_local(frame.program.varnames[operand])
-    frame.stack.append(v)
 
+@instruction
+def duplicate() -> str:
+    """Takes A; gives A, A."""
+    return "stack.append(stack[-1])"
 
-@op("StoreFast", table="Var")
-def store_fast(frame, operand):
-    frame.fast[operand] = frame.stack.pop()
 
+@instruction
+def duplicate2() -> str:
+    """Takes A, B; gives B, A, B, A."""
+    return "stack.extend(stack[-2:])"
 
-@op("DeleteFast", table="Var")
-def delete_fast(frame, operand):
-    if frame.fast[operand] is UNSET:
-        raise unbound_local(frame.program.varnames[operand])
-    frame.fast[operand] = UNSET
 
+@instruction
+def nop() -> str:
+    """Does nothing."""
+    return "pass"
 
-def unbound_local(n):
-    """The error of a name of a function that has no value."""
-    return UnboundLocalError(f"cannot access local variable '{n}' where it is not associated with a value", name=n)
 
+# Names
 
-def unbound(frame, operand):
-    """The error of a cell that has no value."""
-    n = frame.program.cell_names[operand]
-    if operand < len(frame.program.cellvars):
-        return unbound_local(n)
-    return NameError(f"cannot access free variable '{n}' where it is not associated with a value in enclosing scope", name=n)
 
+@instruction
+def load_fast(variable: str) -> str:
+    """Gives the value of a local variable. Raises UnboundLocalError where it has none."""
+    return f"stack.append({variable})"
 
-@op("LoadDeref", table="Cell")
-def load_deref(frame, operand):
-    try:
-        v = frame.cells[operand].cell_contents
-    except ValueError:
-        raise unbound(frame, operand) from None
-    frame.stack.append(v)
 
+@instruction
+def store_fast(variable: str) -> str:
+    """Takes a value, which is the local variable's from now on."""
+    return f"{variable} = stack.pop()"
 
-@op("LoadClassDeref", table="Cell")
-def load_class_deref(frame, operand):
-    try:
-        v = frame.locals[frame.program.cell_names[operand]]
-    except KeyError:
-        return load_deref(frame, operand)
-    frame.stack.append(v)
 
+@instruction
+def delete_fast(variable: str) -> str:
+    """Takes the value of a local variable away. Raises UnboundLocalError where it has none."""
+    return f"del {variable}"
 
-@op("StoreDeref", table="Cell")
-def store_deref(frame, operand):
-    frame.cells[operand].cell_contents = frame.stack.pop()
 
+@instruction
+def load_deref(cell: Cell) -> str:
+    """Gives the value of a cell. Raises UnboundLocalError, or NameError for a free one, where it has none."""
+    if cell.is_variable:
+        return f"stack.append({cell.word})"
+    return contents(f"CONTENTS({cell.word})", cell)
 
-@op("DeleteDeref", table="Cell")
-def delete_deref(frame, operand):
-    try:
-        frame.cells[operand].cell_contents
-    except ValueError:
-        raise unbound(frame, operand) from None
-    del frame.cells[operand].cell_contents
 
+def contents(value: str, cell: Cell) -> str:
+    """Gives a value, which is UNSET where the cell is empty; that is an error then."""
+    return f"""
+        stack.append({value})
+        if stack[-1] is UNSET: raise UNBOUND({cell.name}, {cell.is_free})
+        """
 
-@op("LoadClosure", table="Cell")
-def load_closure(frame, operand):
-    frame.stack.append(frame.cells[operand])
 
+@instruction
+def load_class_deref(cell: Cell) -> str:
+    """Gives the value of a name of the class, or that of the cell of this name where the class has none."""
+    return load_deref(cell) if cell.is_variable else contents(f"NAME_OR_CONTENTS(LOCALS(), {cell.name}, {cell.word})", cell)
 
-@op("LoadGlobal", table="Name")
-def load_global(frame, operand):
-    v = frame.globals.get(operand, UNSET)
-    if v is UNSET:
-        v = frame.builtins.get(operand, UNSET)
-    if v is UNSET:
-        raise NameError(f"name '{operand}' is not defined", name=operand)
-    frame.stack.append(v)
 
+@instruction
+def store_deref(cell: Cell) -> str:
+    """Takes a value, which is the cell's from now on."""
+    return f"{cell.word}{'' if cell.is_variable else '.cell_contents'} = stack.pop()"
 
-@op("LoadNameAny", table="Name")
-def load_name(frame, operand):
-    try:
-        v = frame.locals[operand]
-    except KeyError:
-        return load_global(frame, operand)
-    frame.stack.append(v)
 
+@instruction
+def delete_deref(cell: Cell) -> str:
+    """Empties a cell. Raises UnboundLocalError, or NameError for a free one, where it is empty."""
+    if cell.is_variable:
+        return f"del {cell.word}"
+    return load_deref(cell) + f"""
+        del stack[-1]
+        del {cell.word}.cell_contents
+        """
 
-@op("StoreLocal", table="Name")
-def store_name(frame, operand):
-    frame.locals[operand] = frame.stack.pop()
 
+@instruction
+def load_closure(cell: Cell) -> str:
+    """Gives a cell itself."""
+    return f"stack.append((lambda: {cell.word}).__closure__[0])" if cell.is_variable else f"stack.append({cell.word})"
 
-@op("StoreGlobal", table="Name")
-def store_global(frame, operand):
-    frame.globals[operand] = frame.stack.pop()
 
+@instruction
+def load_global(variable: str) -> str:
+    """Gives the value of a name of the module, or of the built-in of that name. Raises NameError where there is none."""
+    return f"stack.append({variable})"
 
-@op("DeleteLocal", table="Name")
-def delete_name(frame, operand):
-    delete_from(frame.locals, operand)
 
+@instruction
+def store_global(variable: str) -> str:
+    """Takes a value and stores it under a name of the module."""
+    return f"{variable} = stack.pop()"
 
-@op("DeleteGlobal", table="Name")
-def delete_global(frame, operand):
-    delete_from(frame.globals, operand)
 
+@instruction
+def delete_global(variable: str) -> str:
+    """Deletes a name of the module. Raises NameError where it is not there."""
+    return f"del {variable}"
 
-def delete_from(names, operand):
-    """Deletes a name, which is to be there."""
-    try:
-        del names[operand]
-    except KeyError:
-        raise NameError(f"name '{operand}' is not defined", name=operand) from None
 
+@instruction
+def load_name_any(variable: str) -> str:
+    """Gives the value of a name where the code runs, of the module's, or of the built-in. Raises NameError."""
+    return f"stack.append({variable})"
 
-# objects
-@op("LoadAttr", table="Name")
-def load_attr(frame, operand):
-    frame.stack[-1] = getattr(frame.stack[-1], operand)
 
+@instruction
+def store_local(variable: str) -> str:
+    """Takes a value and stores it under a name where the code runs."""
+    return f"{variable} = stack.pop()"
 
-@op("StoreAttr", table="Name")
-def store_attr(frame, operand):
-    o = frame.stack.pop()
-    setattr(o, operand, frame.stack.pop())
 
+@instruction
+def delete_local(variable: str) -> str:
+    """Deletes a name where the code runs. Raises NameError where it is not there."""
+    return f"del {variable}"
 
-@op("DeleteAttr", table="Name")
-def delete_attr(frame, operand):
-    delattr(frame.stack.pop(), operand)
 
+# Objects
 
-@op("LoadMethod", table="Name")
-# the object, whether it goes first, the function
-def load_method(frame, operand):
-    frame.stack[-1:] = None, False, getattr(frame.stack[-1], operand)
 
+@instruction
+def load_attr(name: str) -> str:
+    """Takes an object; gives its attribute."""
+    return f"stack.append(stack.pop().{name})"
 
-@op("Subscript")
-def subscript(frame, operand):
-    i = frame.stack.pop()
-    frame.stack[-1] = frame.stack[-1][i]
 
+@instruction
+def store_attr(name: str) -> str:
+    """Takes an object, a value; stores the value as the object's attribute."""
+    return f"stack.pop().{name} = stack.pop(-2)"
 
-@op("StoreSubscript")
-def store_subscript(frame, operand):
-    v, c, i = frame.pop_many(3)
-    c[i] = v
 
+@instruction
+def delete_attr(name: str) -> str:
+    """Takes an object; deletes its attribute."""
+    return f"del stack.pop().{name}"
 
-@op("DeleteSubscript")
-def delete_subscript(frame, operand):
-    c, i = frame.pop_many(2)
-    del c[i]
 
+@instruction
+def load_method(name: str) -> str:
+    """Takes an object; gives None, False, its attribute: what is called, and that no object goes before the arguments."""
+    return f"stack.extend((None, False, stack.pop().{name}))"
 
-UNARY = [operator.pos, operator.neg, operator.not_, operator.invert]
-BINARY = [
-    operator.add,
-    operator.sub,
-    operator.mul,
-    operator.matmul,
-    operator.truediv,
-    operator.floordiv,
-    operator.mod,
-    operator.pow,
-    operator.lshift,
-    operator.rshift,
-    operator.or_,
-    operator.xor,
-    operator.and_,
-]
-INPLACE = [
-    operator.iadd,
-    operator.isub,
-    operator.imul,
-    operator.imatmul,
-    operator.itruediv,
-    operator.ifloordiv,
-    operator.imod,
-    operator.ipow,
-    operator.ilshift,
-    operator.irshift,
-    operator.ior,
-    operator.ixor,
-    operator.iand,
-]
-COMPARE = [operator.lt, operator.gt, operator.ne, operator.eq, operator.le, operator.ge]
 
+@instruction
+def subscript() -> str:
+    """Takes an index, a container; gives the container's entry."""
+    return "stack.append(stack.pop(-2)[stack.pop()])"
 
-def exception_match(e, t):
-    """Whether an exception is of a class, or of one of a tuple of classes."""
-    for x in t if isinstance(t, tuple) else (t,):
-        if not (isinstance(x, type) and issubclass_really(x, BaseException)):
-            raise TypeError("catching classes that do not inherit from BaseException is not allowed")
-    return any(issubclass_really(type(e), x) for x in (t if isinstance(t, tuple) else (t,)))
 
+@instruction
+def store_subscript() -> str:
+    """Takes an index, a container, a value; stores the value as the container's entry."""
+    return "stack.pop(-2)[stack.pop()] = stack.pop(-3)"
 
-def issubclass_really(c, d):
-    """Whether a class has another among its bases, whatever its metaclass says."""
-    return d in type.__dict__["__mro__"].__get__(c)
 
+@instruction
+def delete_subscript() -> str:
+    """Takes an index, a container; deletes the container's entry."""
+    return "del stack.pop(-2)[stack.pop()]"
 
-TEST = [lambda operand, b: operator.contains(b, operand), lambda operand, b: not operator.contains(b, operand), operator.is_, operator.is_not, exception_match]
 
+# Operations: the cases by their numbers.
 
-@op("UnaryOperation")
-def unary(frame, operand):
-    frame.stack[-1] = UNARY[operand](frame.stack[-1])
+UNARY = ("+", "-", "not ", "~")
+BINARY = ("+", "-", "*", "@", "/", "//", "%", "**", "<<", ">>", "|", "^", "&")
+INPLACE = ("IADD", "ISUB", "IMUL", "IMATMUL", "ITRUEDIV", "IFLOORDIV", "IMOD", "IPOW", "ILSHIFT", "IRSHIFT", "IOR", "IXOR", "IAND")
+COMPARISONS = ("<", ">", "!=", "==", "<=", ">=")
+TESTS = ("in", "not in", "is", "is not")
+CONVERSIONS = ("%s", "STR(%s)", "ASCII(%s)", "REPR(%s)")
 
 
-@op("BinaryOperation")
-def binary(frame, operand):
-    y = frame.stack.pop()
-    frame.stack[-1] = BINARY[operand](frame.stack[-1], y)
+@instruction
+def unary_operation(operand: int) -> str:
+    """Takes a value; gives what the operation makes of it."""
+    return f"stack.append({UNARY[operand]}stack.pop())"
 
 
-@op("BinaryOperationInplace")
-def inplace(frame, operand):
-    y = frame.stack.pop()
-    frame.stack[-1] = INPLACE[operand](frame.stack[-1], y)
+@instruction
+def binary_operation(operand: int) -> str:
+    """Takes the right value, the left one; gives what the operation makes of them."""
+    return f"stack.append(stack.pop(-2) {BINARY[operand]} stack.pop())"
 
 
-@op("CompareOperation")
-def compare(frame, operand):
-    y = frame.stack.pop()
-    frame.stack[-1] = COMPARE[operand](frame.stack[-1], y)
+@instruction
+def binary_operation_inplace(operand: int) -> str:
+    """Takes the right value, the left one; gives what the assignment with the operation makes of them."""
+    return f"stack.append({INPLACE[operand]}(stack.pop(-2), stack.pop()))"
 
 
-@op("TestOperation")
-def test(frame, operand):
-    y = frame.stack.pop()
-    frame.stack[-1] = TEST[operand](frame.stack[-1], y)
+@instruction
+def compare_operation(operand: int) -> str:
+    """Takes the right value, the left one; gives what the comparison answers."""
+    return f"stack.append(stack.pop(-2) {COMPARISONS[operand]} stack.pop())"
 
 
-@op("GetIter")
-def get_iter(frame, operand):
-    frame.stack[-1] = iter(frame.stack[-1])
+@instruction
+def test_operation(operand: int) -> str:
+    """Takes the right value, the left one; gives whether the test holds. The fifth is whether an exception, on the left,
+    is of a class or of one of a tuple of classes; TypeError is raised where these are no classes of exceptions."""
+    if operand < len(TESTS):
+        return f"stack.append(stack.pop(-2) {TESTS[operand]} stack.pop())"
+    return """
+        stack.append(MATCHES(stack.pop(-2), stack.pop()))
+        if stack[-1] is UNSET: raise TYPE_ERROR("catching classes that do not inherit from BaseException is not allowed")
+        """
 
 
-@op("BuildString")
-def build_string(frame, operand):
-    frame.stack.append("".join(frame.pop_many(operand)))
+@instruction
+def get_iter() -> str:
+    """Takes a value; gives an iterator over it."""
+    return "stack.append(ITER(stack.pop()))"
 
 
-@op("FormatValue")
-def format_value(frame, operand):
-    spec = frame.stack.pop()
-    v = frame.stack[-1]
-    frame.stack[-1] = format(CONVERSION[operand](v), spec)
+@instruction
+def build_string(operand: int) -> str:
+    """Takes so many texts; gives them as one."""
+    return f"stack.append(JOIN(({popped(operand)}, )))" if operand else "stack.append(STR())"
 
 
-CONVERSION = [lambda v: v, str, ascii, repr]
+@instruction
+def format_value(operand: int) -> str:
+    """Takes a format, a value; gives the value's text, once it is converted: not at all, by str, by ascii, by repr."""
+    return f"stack.append(FORMAT({CONVERSIONS[operand] % 'stack.pop(-2)'}, stack.pop()))"
 
 
-@op("BuildTuple")
-def build_tuple(frame, operand):
-    frame.stack.append(tuple(frame.pop_many(operand)))
+@instruction
+def build_tuple(operand: int) -> str:
+    """Takes so many values; gives a tuple of them, in which the top is last."""
+    if operand > FEW:
+        return f"stack[-{operand}:] = [TUPLE(stack[-{operand}:])]"
+    return f"stack.append(({popped(operand)}{', ' if operand else ''}))"
 
 
-@op("BuildList")
-def build_list(frame, operand):
-    frame.stack.append(frame.pop_many(operand))
+@instruction
+def build_list(operand: int) -> str:
+    """Takes so many values; gives a list of them, in which the top is last."""
+    return f"stack[-{operand}:] = [stack[-{operand}:]]" if operand else "stack.append([])"
 
 
-@op("BuildSet")
-def build_set(frame, operand):
-    frame.stack.append(set(frame.pop_many(operand)))
+@instruction
+def build_set(operand: int) -> str:
+    """Takes so many values; gives a set of them."""
+    return f"stack[-{operand}:] = [SET(stack[-{operand}:])]" if operand else "stack.append(SET())"
 
 
-def all_of(groups):
-    """All elements of some iterables."""
-    out = []
-    for g in groups:
-        out.extend(g)
-    return out
+def stars(count: int) -> str:
+    """So many iterables from the top of the stack, the lowest first, each of them taken and gone through."""
+    return ", ".join("*" + it for it in popped(count).split(", ") if it)
 
 
-@op("BuildTupleUnpack")
-def build_tuple_unpack(frame, operand):
-    frame.stack.append(tuple(all_of(frame.pop_many(operand)) if operand != 1 else frame.stack.pop()))
+@instruction
+def build_tuple_unpack(operand: int) -> str:
+    """Takes so many iterables; gives a tuple of all that they hold, the lowest first."""
+    return f"stack.append(({stars(operand)}{', ' if operand else ''}))"
 
 
-@op("BuildListUnpack")
-def build_list_unpack(frame, operand):
-    frame.stack.append(all_of(frame.pop_many(operand)))
+@instruction
+def build_list_unpack(operand: int) -> str:
+    """Takes so many iterables; gives a list of all that they hold, the lowest first."""
+    return f"stack.append([{stars(operand)}])"
 
 
-@op("BuildSetUnpack")
-def build_set_unpack(frame, operand):
-    out = set()
-    for g in frame.pop_many(operand):
-        out.update(g)
-    frame.stack.append(out)
+@instruction
+def build_set_unpack(operand: int) -> str:
+    """Takes so many iterables; gives a set of all that they hold."""
+    return f"stack.append({{{stars(operand)}}})" if operand else "stack.append(SET())"
 
 
-@op("BuildMap")
-def build_map(frame, operand):
-    xs, out = frame.pop_many(2 * operand), {}
-    for k, v in zip(xs[::2], xs[1::2]):
-        out[k] = v
-    frame.stack.append(out)
+@instruction
+def build_map(operand: int) -> str:
+    """Takes so many pairs of a value and, below it, its key; gives a dict of them, the lowest first."""
+    words = popped(2 * operand).split(", ")
+    return "stack.append({%s})" % ", ".join("%s: %s" % pair for pair in zip(words[::2], words[1::2]))
 
 
-@op("DictUpdate")
-def dict_update(frame, operand):
-    m = frame.stack.pop()
-    if not hasattr(m, "keys"):
-        raise TypeError(f"'{type(m).__name__}' object is not a mapping")
-    frame.stack[-1].update(m)
+@instruction
+def dict_update() -> str:
+    """Takes a mapping, a dict; gives the dict with what the mapping holds."""
+    return "stack.append({**stack.pop(-2), **stack.pop()})"
 
 
-@op("BuildMapForCall")
-def build_map_for_call(frame, operand):
-    out = {}
-    for m in frame.pop_many(operand):
-        if not hasattr(m, "keys"):
-            raise TypeError(f"argument after ** must be a mapping, not {type(m).__name__}")
-        for k in m.keys():
-            if k in out:
-                raise TypeError(f"got multiple values for keyword argument '{k}'")
-            out[k] = m[k]
-    frame.stack.append(out)
+@instruction
+def build_map_for_call(operand: int) -> str:
+    """Takes so many mappings; gives a dict of what they hold, the lowest first. Raises TypeError where a key comes twice."""
+    return f"""
+        stack.append(KEYWORDS(stack, {operand}))
+        if TYPE(stack[-1]) is TYPE_ERROR: raise stack.pop()
+        """
 
 
-@op("BuildSlice")
-def build_slice(frame, operand):
-    frame.stack.append(slice(*frame.pop_many(2 + operand)))
+@instruction
+def build_slice(operand: int) -> str:
+    """Takes, where the operand is 1, a step; then an end, a start; gives a slice."""
+    return f"stack.append(SLICE({popped(2 + operand)}))"
 
 
-@op("ListAppend")
-def list_append(frame, operand):
-    v = frame.stack.pop()
-    frame.stack[-1 - operand].append(v)
+@instruction
+def list_append(operand: int) -> str:
+    """Takes a value and appends it to the list so many places below what is then the top."""
+    return f"stack[-{operand + 2}].append(stack.pop())"
 
 
-@op("SetAdd")
-def set_add(frame, operand):
-    v = frame.stack.pop()
-    frame.stack[-1 - operand].add(v)
+@instruction
+def set_add(operand: int) -> str:
+    """Takes a value and adds it to the set so many places below what is then the top."""
+    return f"stack[-{operand + 2}].add(stack.pop())"
 
 
-@op("MapAdd")
-def map_add(frame, operand):
-    k, v = frame.pop_many(2)
-    frame.stack[-1 - operand][k] = v
+@instruction
+def map_add(operand: int) -> str:
+    """Takes a value, a key; stores the value in the dict so many places below what is then the top."""
+    return f"stack[-{operand + 2}][stack.pop()] = stack.pop()"
 
 
-def iterator_to_unpack(v):
-    """The iterator of a value that is unpacked."""
-    try:
-        return iter(v)
-    except TypeError:
-        if hasattr(type(v), "__iter__") or hasattr(type(v), "__getitem__"):
-            raise
-        raise TypeError(f"cannot unpack non-iterable {type(v).__name__} object") from None
+@instruction
+def unpack_sequence(operand: int) -> str:
+    """Takes an iterable; gives its values, the first on top. Raises ValueError where these are not so many."""
+    if not operand:
+        return "[] = stack.pop()"
+    places = ", ".join("stack[-%d]" % it for it in range(1, operand + 1))
+    return f"""
+        stack[-1:-1] = [None] * {operand}
+        [{places}] = stack.pop()
+        """
 
 
-def first_of(it, n, least, total):
-    """The next n elements of an iterator, which is to have them."""
-    out = []
-    for _ in range(n):
-        v = next(it, END)
-        if v is END:
-            raise ValueError(f"not enough values to unpack (expected {least}{total}, got {len(out)})")
-        out.append(v)
-    return out
-
-
-@op("UnpackSequence")
-def unpack_sequence(frame, operand):
-    it = iterator_to_unpack(frame.stack.pop())
-    out = first_of(it, operand, "", operand)
-    if next(it, END) is not END:
-        raise ValueError(f"too many values to unpack (expected {operand})")
-    frame.stack.extend(out[::-1])
-
-
-@op("UnpackEx")
-def unpack_ex(frame, operand):
+@instruction
+def unpack_ex(operand: int) -> str:
+    """Takes an iterable; gives its first values, the first on top, then a list, then its last values. The operand's low
+    byte counts the first ones, and what is above the last ones. Raises ValueError where these are too few."""
     before, after = operand & 0xFF, operand >> 8
-    it = iterator_to_unpack(frame.stack.pop())
-    out = first_of(it, before, "at least ", before + after)
-    rest = list(it)
-    if len(rest) < after:
-        raise ValueError(f"not enough values to unpack (expected at least {before + after}, got {before + len(rest)})")
-    tail = rest[len(rest) - after:]
-    del rest[len(rest) - after:]
-    frame.stack.extend((out + [rest] + tail)[::-1])
+    places = ["stack[-%d]" % it for it in range(1, before + after + 2)]
+    places[before] = "*" + places[before]
+    return f"""
+        stack[-1:-1] = [None] * {before + after + 1}
+        [{", ".join(places)}] = stack.pop()
+        """
 
 
-@op("PrintExpr")
-def print_expr(frame, operand):
-    sys.displayhook(frame.stack.pop())
+@instruction
+def print_expr() -> str:
+    """Takes a value and hands it to `sys.displayhook`."""
+    return "SYSTEM.displayhook(stack.pop())"
 
 
-@op("SetupAnnotation")
-def setup_annotation(frame, operand):
-    try:
-        frame.locals["__annotations__"]
-    except KeyError:
-        frame.locals["__annotations__"] = {}
+@instruction
+def setup_annotation() -> str:
+    """Stores a dict under `__annotations__`, where there is nothing of that name."""
+    return "SET_UP_ANNOTATIONS(LOCALS())"
 
 
-# jumps
-@op("Jump")
-def jump(frame, operand):
-    frame.pc = operand
+# Jumps
 
 
-@op("JumpIfTrue")
-def jump_if_true(frame, operand):
-    if frame.stack.pop():
-        frame.pc = operand
+@instruction
+def jump(target: int) -> str:
+    """Goes to the target."""
+    return f"at = {target}; continue"
 
 
-@op("JumpIfFalse")
-def jump_if_false(frame, operand):
-    if not frame.stack.pop():
-        frame.pc = operand
+@instruction
+def jump_if_true(target: int) -> str:
+    """Takes a value; goes to the target where it is true."""
+    return f"if stack.pop(): at = {target}; continue"
 
 
-@op("JumpIfTrueOrPop")
-def jump_if_true_or_pop(frame, operand):
-    if frame.stack[-1]:
-        frame.pc = operand
-    else:
-        frame.stack.pop()
+@instruction
+def jump_if_false(target: int) -> str:
+    """Takes a value; goes to the target where it is not true."""
+    return f"if not stack.pop(): at = {target}; continue"
 
 
-@op("JumpIfFalseOrPop")
-def jump_if_false_or_pop(frame, operand):
-    if frame.stack[-1]:
-        frame.stack.pop()
-    else:
-        frame.pc = operand
+@instruction
+def jump_if_true_or_pop(target: int) -> str:
+    """Goes to the target where the top is true; else takes it."""
+    return f"""
+        if stack[-1]: at = {target}; continue
+        del stack[-1]
+        """
 
 
-@op("ForIter")
-def for_iter(frame, operand):
-    v = next(frame.stack[-1], END)
-    if v is END:
-        frame.stack.pop()
-        frame.pc = operand
-    else:
-        frame.stack.append(v)
+@instruction
+def jump_if_false_or_pop(target: int) -> str:
+    """Goes to the target where the top is not true; else takes it."""
+    return f"""
+        if not stack[-1]: at = {target}; continue
+        del stack[-1]
+        """
 
 
-# blocks
-@op("SetupLoop")
-def setup_loop(frame, operand):
-    frame.blocks.append(Block(LOOP, len(frame.stack)))
+@instruction
+def for_iter(target: int) -> str:
+    """Gives the next value of the iterator on top; where it has none, takes the iterator and goes to the target."""
+    return f"""
+        stack.append(NEXT(stack[-1], UNSET))
+        if stack[-1] is UNSET: del stack[-2:]; at = {target}; continue
+        """
 
 
-@op("SetupExcept")
-def setup_except(frame, operand):
-    frame.blocks.append(Block(EXCEPT, len(frame.stack), operand))
+# Blocks. BREAK, CONTINUE and RETURN are ways on which blocks are left.
 
 
-@op("SetupFinally")
-def setup_finally(frame, operand):
-    frame.blocks.append(Block(FINALLY, len(frame.stack), operand))
+@instruction
+def setup_loop() -> str:
+    """Opens a block for a loop."""
+    return "blocks.append(BLOCK(LOOP, LEN(stack)))"
 
 
-@op("SetupWith")
-def setup_with(frame, operand):
-    m = frame.stack[-1]
-    t = type(m)
-    height = len(frame.stack)
-    enter, leave = getattr_static(t, "__enter__"), getattr_static(t, "__exit__")
-    for x, word in ((enter, ""), (leave, " (missed __exit__ method)")):
-        if x is UNSET:
-            raise TypeError(f"'{t.__qualname__}' object does not support the context manager protocol{word}")
-    leave = bound(leave, m, t)
-    v = bound(enter, m, t)()
-    frame.stack[-1:] = leave, v
-    frame.blocks.append(Block(FINALLY, height, operand))
+@instruction
+def setup_except(target: int) -> str:
+    """Opens a block whose handler begins at the target, with the exception on top. It takes each raise."""
+    return f"blocks.append(BLOCK(EXCEPT, LEN(stack), {target}))"
 
 
-def getattr_static(t, n):
-    """What the class of an object has under a name."""
-    for c in t.__mro__:
-        if n in c.__dict__:
-            return c.__dict__[n]
-    return UNSET
+@instruction
+def setup_finally(target: int) -> str:
+    """Opens a block whose handler begins at the target. It takes each raise, `break`, `continue` and return."""
+    return f"blocks.append(BLOCK(FINALLY, LEN(stack), {target}))"
 
 
-def bound(x, o, t):
-    """A method of a class, bound to an object."""
-    get = getattr_static(type(x), "__get__")
-    return x if get is UNSET else x.__get__(o, t)
+@instruction
+def setup_with(target: int) -> str:
+    """Takes a context manager; gives its exit, what its enter answers; opens a finally block, with the exit below it."""
+    return f"""
+        stack.extend(EXIT_AND_ENTER(stack.pop()))
+        if stack[-2] is UNSET: raise stack.pop()
+        stack.append(stack.pop()())
+        blocks.append(BLOCK(FINALLY, LEN(stack) - 1, {target}))
+        """
 
 
-@op("PopBlock")
-def pop_block(frame, operand):
-    pop_of(frame, LOOP, EXCEPT, FINALLY)
+@instruction
+def pop_block() -> str:
+    """Closes the innermost block, which is one of a loop, an except or a finally."""
+    return "del blocks[-1]"
 
+
+@instruction
+def enter_finally() -> str:
+    """Opens the block of a finally handler, which runs since the code reached it."""
+    return "blocks.append(BLOCK(FINALLY_HANDLER, LEN(stack)))"
+
 
-def pop_of(frame, *kinds):
-    """Takes away the innermost block, which is to be of one of these kinds."""
-    b = frame.blocks.pop()
-    if b.kind not in kinds:
-        raise SystemError(f"the block is {b.kind}, not {kinds}")
-    return b
+@instruction
+def pop_exception() -> str:
+    """Closes the block of an except handler: its exception is no longer the one that is handled."""
+    return "CLOSE(blocks)"
+
+
+@instruction
+def end_finally(following: int, leaves: str) -> str:
+    """Closes the block of a finally handler and goes on with why it ran: raises the exception again, goes on leaving
+    blocks, or does nothing."""
+    return f"""
+        if blocks[-1].error is not None: raise
+        at = GO_ON(stack, blocks, {following})
+        if at < 0: {leaves}
+        continue
+        """
+
+
+@instruction
+def with_cleanup_start() -> str:
+    """Takes the exit of a context manager and calls it, with the exception for which the handler runs or with None three
+    times; gives its answer."""
+    return "stack.append(stack.pop()(*EXIT_ARGUMENTS(blocks)))"
+
+
+@instruction
+def with_cleanup_finish(following: int, leaves: str) -> str:
+    """Takes the answer of an exit and closes the block of the handler. A raise is dropped where the answer is true; else
+    it goes on as `EndFinally` does."""
+    return f"""
+        if not stack.pop() and blocks[-1].error is not None: raise
+        if blocks[-1].error is not None: CLOSE(blocks); at = {following}
+        else: at = GO_ON(stack, blocks, {following})
+        if at < 0: {leaves}
+        continue
+        """
+
+
+@instruction
+def break_(target: int) -> str:
+    """Leaves the blocks up to that of the innermost loop, and that one, and goes to the target."""
+    return f"at = LEAVE(stack, blocks, BREAK, {target}); continue"
+
+
+@instruction
+def continue_(target: int) -> str:
+    """Leaves the blocks within the innermost loop, and goes to the target."""
+    return f"at = LEAVE(stack, blocks, CONTINUE, {target}); continue"
+
+
+@instruction
+def return_value(leaves: str, has_handlers: bool) -> str:
+    """Takes a value and leaves all blocks; the code ends with that value."""
+    if not has_handlers:
+        return leaves
+    return f"""
+        at = LEAVE(stack, blocks, RETURN, stack.pop())
+        if at < 0: {leaves}
+        continue
+        """
 
 
-@op("EnterFinally")
-def enter_finally(frame, operand):
-    frame.blocks.append(Block(FINALLY_HANDLER, len(frame.stack)))
+@instruction
+def return_const(constant: str, leaves: str, has_handlers: bool) -> str:
+    """Leaves all blocks; the code ends with a constant."""
+    return "stack.append(%s)\n%s" % (constant, return_value(leaves, has_handlers))
 
 
-@op("PopException", LEAVES)
-def pop_exception(frame, operand):
-    pop_of(frame, EXCEPT_HANDLER)
+@instruction
+def raise_(operand: int) -> str:
+    """Raises: 0 takes an exception; 1 takes a cause, an exception; 2 raises what is handled, once more."""
+    return ("raise stack.pop()", "raise stack.pop(-2) from stack.pop()", "raise")[operand]
 
 
-def go_on(frame, reason):
-    """Goes on with the reason for which a handler ran."""
-    if reason is None:
-        return
-    if reason[0] == "raise":
-        frame.left = reason[1]
-    else:
-        frame.leave(*reason)
+# Calls
 
 
-@op("EndFinally", LEAVES)
-def end_finally(frame, operand):
-    b = pop_of(frame, FINALLY_HANDLER)
-    if b.height != len(frame.stack):
-        raise SystemError("EndFinally at another height")
-    go_on(frame, b.reason)
+@instruction
+def call_function_positional(operand: int, hooked: str) -> str:
+    """Takes so many arguments, a function; gives what the function answers."""
+    if operand > FEW:
+        return f"""
+            stack[-{operand}:] = [stack[-{operand}:]]
+            stack.append({hooked % 'stack.pop(-2)'}(*stack.pop()))
+            """
+    return f"stack.append({hooked % popped(operand + 1).split(', ')[0]}({popped(operand)}))"
 
 
-@op("WithCleanupStart")
-def with_cleanup_start(frame, operand):
-    b = frame.blocks[-1]
-    if b.reason is not None and b.reason[0] == "raise":
-        e = b.reason[1]
-        frame.stack[-1] = frame.stack[-1](type(e), e, e.__traceback__)
-    else:
-        frame.stack[-1] = frame.stack[-1](None, None, None)
+@instruction
+def call_function_keyword(operand: int, hooked: str) -> str:
+    """Takes a tuple of names, so many arguments, a function; gives what the function answers. The names are those of the
+    last arguments. Raises TypeError where one stands twice."""
+    return f"""
+        stack.append(NAMED(stack, {operand}))
+        if TYPE(stack[-1]) is TYPE_ERROR: raise stack.pop()
+        {call_function_ex(1, hooked)}
+        """
 
 
-@op("WithCleanupFinish", LEAVES)
-def with_cleanup_finish(frame, operand):
-    answer, b = frame.stack.pop(), pop_of(frame, FINALLY_HANDLER)
-    dropped = bool(answer)
-    if not (dropped and b.reason is not None and b.reason[0] == "raise"):
-        go_on(frame, b.reason)
+@instruction
+def call_function_ex(operand: int, hooked: str) -> str:
+    """Takes, where the operand is 1, a dict of named arguments; then a tuple of arguments, a function; gives what the
+    function answers."""
+    if operand:
+        return f"stack.append({hooked % 'stack.pop(-3)'}(*stack.pop(-2), **stack.pop()))"
+    return f"stack.append({hooked % 'stack.pop(-2)'}(*stack.pop()))"
 
 
-@op("Break", LEAVES)
-def break_(frame, operand):
-    frame.leave("break", operand)
+@instruction
+def call_method_positional(operand: int, hooked: str) -> str:
+    """Takes so many arguments, and the three that `LoadMethod` gave; gives what is answered."""
+    return f"""
+        del stack[-{operand + 3}:-{operand + 1}]
+        {call_function_positional(operand, hooked).strip()}
+        """
 
 
-@op("Continue", LEAVES)
-def continue_(frame, operand):
-    frame.leave("continue", operand)
+@instruction
+def call_method_keyword(operand: int, hooked: str) -> str:
+    """Takes a tuple of names, so many arguments, and the three that `LoadMethod` gave; gives what is answered."""
+    return f"""
+        del stack[-{operand + 4}:-{operand + 2}]
+        {call_function_keyword(operand, hooked).strip()}
+        """
 
 
-@op("ReturnValue", LEAVES)
-def return_value(frame, operand):
-    frame.leave("return", frame.stack.pop())
+@instruction
+def call_method_ex(operand: int, hooked: str) -> str:
+    """Takes what `CallFunctionEx` takes but for the function, and the three that `LoadMethod` gave; gives the answer."""
+    return f"""
+        del stack[-{operand + 4}:-{operand + 2}]
+        {call_function_ex(operand, hooked)}
+        """
 
 
-@op("ReturnConst", LEAVES, "Const")
-def return_const(frame, operand):
-    frame.leave("return", operand)
+@instruction
+def yield_value() -> str:
+    """Takes a value and hands it out of the generator; gives what is sent for it."""
+    return "stack.append((yield stack.pop()))"
 
 
-@op("Raise")
-def raise_(frame, operand):
-    if operand == 0:
-        raise frame.stack.pop()
-    exc, cause = frame.pop_many(2)
-    raise exc from cause
+@instruction
+def yield_from() -> str:
+    """Takes None, an iterator; hands out all that the iterator gives; gives what it returns."""
+    return """
+        del stack[-1]
+        stack.append((yield from ONCE(stack.pop())))
+        """
 
 
-# calls: the callee, its arguments and its keywords; the loop calls it
-def positional(frame, operand):
-    """The arguments of a call without keywords."""
-    return frame.pop_many(operand), {}
+# Functions, classes, type parameters
 
 
-def keyword(frame, operand):
-    """The arguments of a call with keywords, whose names stand last."""
-    names = frame.stack.pop()
-    args = frame.pop_many(operand)
-    n = len(args) - len(names)
-    named = {}
-    for k, v in zip(names, args[n:]):
-        if k in named:
-            raise TypeError(f"got multiple values for keyword argument '{k}'")
-        named[k] = v
-    return args[:n], named
+@instruction
+def make_function(operand: int) -> str:
+    """Takes a qualified name, a code, and then what the operand counts: 1 a tuple of cells, 2 a dict of annotations, 16 a
+    tuple of type parameters, 4 a dict of keyword-only defaults, 8 a tuple of the other defaults. Gives a function."""
+    return f"stack.append(MAKE(GLOBALS(), stack, {operand}))"
 
 
-def ex(frame, operand):
-    """The arguments of a call whose stars were gathered."""
-    named = frame.stack.pop() if operand else {}
-    return frame.stack.pop(), named
+@instruction
+def load_build_class() -> str:
+    """Gives the built-in that builds a class of the function of its body, its name and its bases."""
+    return "stack.append(BUILTIN(GLOBALS(), '__build_class__'))"
 
 
-def callers(form):
-    """The two instructions that call so: a function, and a method."""
-    def call_function(frame, operand):
-        args, named = form(frame, operand)
-        return frame.stack.pop(), args, named
+@instruction
+def type_var() -> str:
+    """Takes a name; gives a type parameter."""
+    return "stack.append(TYPE_VAR(stack.pop(), **INFERRED))"
 
-    def call_method(frame, operand):
-        args, named = form(frame, operand)
-        target, first, callee = frame.pop_many(3)
-        return callee, [target, *args] if first else args, named
-    return call_function, call_method
 
+@instruction
+def type_var_with_bound() -> str:
+    """Takes a name, a bound; gives a type parameter. A bound that is a tuple is a list of constraints."""
+    return """
+        stack.extend(BOUND(stack.pop(-2), stack.pop()))
+        stack.append(TYPE_VAR(*stack.pop(-2), **stack.pop()))
+        """
 
-for form, name in ((positional, "Positional"), (keyword, "Keyword"), (ex, "Ex")):
-    for call, base in zip(callers(form), ("CallFunction", "CallMethod")):
-        op(base + name, CALL)(call)
 
+@instruction
+def type_alias() -> str:
+    """Takes a name, a tuple of type parameters, a value; gives a type alias."""
+    return "stack.append(TYPE_ALIAS(stack.pop(), stack.pop(-2), type_params=stack.pop()))"
 
-TABLE["YieldValue"] = (YIELD, None, None)
-TABLE["YieldFrom"] = (YIELD_FROM, None, None)
 
-# functions, classes, type parameters
-@op("MakeFunction")
-def make_function(frame, operand):
-    qualname, program = frame.stack.pop(), frame.stack.pop()
-    cells = frame.stack.pop() if operand & CLOSURE else ()
-    annotations = frame.stack.pop() if operand & ANNOTATIONS else None
-    params = frame.stack.pop() if operand & TYPE_PARAMS else None
-    kwdefaults = frame.stack.pop() if operand & KW_ONLY_DEFAULTS else None
-    defaults = frame.stack.pop() if operand & DEFAULTS else None
-    program.qualname = qualname
-    fn = types.FunctionType(program.carrier, frame.globals, program.name, defaults, tuple(cells) if program.freevars else None)
-    fn.__qualname__ = qualname
-    if kwdefaults is not None:
-        fn.__kwdefaults__ = kwdefaults
-    if annotations is not None:
-        fn.__annotations__ = annotations
-    if params is not None:
-        fn.__type_params__ = params
-    frame.stack.append(fn)
+# Imports
 
 
-@op("LoadBuildClass")
-def load_build_class(frame, operand):
-    frame.stack.append(build_class if frame.builtins["__build_class__"] is builtins.__build_class__ else frame.builtins["__build_class__"])
+@instruction
+def import_name(text: str, names: str) -> str:
+    """Takes a tuple of names or None, a level; gives the module that `__import__` answers."""
+    return f"stack.append(BUILTIN(GLOBALS(), '__import__')({text}, GLOBALS(), {names}, stack.pop(), stack.pop()))"
 
 
-def build_class(function, name, /, *bases, **named):
-    """Builds a class, by the function of its body."""
-    c = builtins.__build_class__(function, name, *bases, **named)
-    if getattr(function, "__type_params__", ()):
-        c.__type_params__ = function.__type_params__
-    return c
+@instruction
+def import_nameless(names: str) -> str:
+    """Takes a tuple of names or None, a level; gives the package that `__import__` answers for it."""
+    return import_name("''", names)
 
 
-INFER = {"infer_variance": True} if sys.version_info >= (3, 12) else {}
+@instruction
+def import_from(text: str) -> str:
+    """Gives an attribute of the module on top, or the module of that name within it. Raises ImportError."""
+    return f"""
+        stack.append(GETATTR(stack[-1], {text}, UNSET))
+        if stack[-1] is UNSET: stack[-1] = MODULE_WITHIN(stack[-2], {text})
+        if stack[-1] is UNSET: raise NO_NAME(stack[-2], {text})
+        """
 
 
-@op("TypeVar", CALL)
-def type_var(frame, operand):
-    return typing.TypeVar, [frame.stack.pop()], INFER
-
-
-@op("TypeVarWithBound", CALL)
-def type_var_with_bound(frame, operand):
-    b, n = frame.pop_many(2)  # a tuple is a list of constraints, as in Python
-    return (typing.TypeVar, [n, *b], INFER) if isinstance(b, tuple) else (typing.TypeVar, [n], {"bound": b, **INFER})
-
-
-@op("TypeAlias", CALL)
-def type_alias(frame, operand):
-    v, params, n = frame.pop_many(3)
-    return typing.TypeAliasType, [n, v], {"type_params": params}
-
-
-# imports
-def do_import(frame, name):
-    """Imports a module."""
-    level, names = frame.pop_many(2)
-    frame.stack.append(frame.builtins["__import__"](name, frame.globals, frame.locals, names, level))
-
-
-@op("ImportName", table="Name")
-def import_name(frame, operand):
-    do_import(frame, operand)
-
-
-@op("ImportNameless")
-def import_nameless(frame, operand):
-    do_import(frame, "")
-
-
-@op("ImportFrom", table="Name")
-def import_from(frame, operand):
-    m = frame.stack[-1]
-    try:
-        v = getattr(m, operand)
-    except AttributeError:
-        package = getattr(m, "__name__", None)
-        v = sys.modules.get(f"{package}.{operand}", UNSET)
-        if v is UNSET:
-            path = getattr(m, "__file__", None)
-            text = f"cannot import name '{operand}' from '{package or '<unknown module name>'}' ({path or 'unknown location'})"
-            raise ImportError(text, name=package, path=path) from None
-    frame.stack.append(v)
-
-
-@op("ImportStar")
-def import_star(frame, operand):
-    m = frame.stack.pop()
-    names = getattr(m, "__all__", None)
-    for n in [n for n in vars(m) if not n.startswith("_")] if names is None else names:
-        frame.locals[n] = getattr(m, n)
-
-
-VM_CODES.add(build_class.__code__)
+@instruction
+def import_star() -> str:
+    """Takes a module and stores its public names where the code runs."""
+    return "IMPORT_STAR(LOCALS(), stack.pop())"
