@@ -67,8 +67,8 @@ def end_of_options(words: Sequence[str]) -> int:
         is_last = words[at][:2] in ("-c", "-m")
         at += 2 if words[at] in with_value else 1
         if is_last:
-            break
-    return min(at, len(words))
+            return min(at, len(words))
+    return min(at + (words[at : at + 1] == ["--"]), len(words))
 
 
 def prepared(found: types.SimpleNamespace) -> Main:

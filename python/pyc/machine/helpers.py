@@ -127,7 +127,7 @@ def exit_and_enter(manager: Any) -> tuple:
     enter, leave = of_class(cls, "__enter__"), of_class(cls, "__exit__")
     if enter is UNSET or leave is UNSET:
         missed = "" if enter is UNSET else " (missed __exit__ method)"
-        return UNSET, TypeError("'%s' object does not support the context manager protocol%s" % (cls.__qualname__, missed))
+        return UNSET, TypeError("'%s' object does not support the context manager protocol%s" % (cls.__name__, missed))
     return bound(leave, manager), bound(enter, manager)
 
 

@@ -48,7 +48,21 @@ LAST_LINE = 2**31 - 1
 
 
 class Unfit(ValueError):
-    """Why a code cannot be run, though it verifies: it asks for a local variable, a cell or a code that it has not."""
+    """Why a code cannot be run, though it verifies: it asks for a parameter, a local variable or a cell that it has not."""
+
+
+def parameters_of(code: Code) -> int:
+    """How many local variables of a code are parameters."""
+    return code.arg_count + code.kwonlyarg_count + bool(code.flags & HAS_VARARGS) + bool(code.flags & HAS_VARKEYWORDS)
+
+
+def check(code: Code) -> None:
+    """Raises Unfit where the parts of a code do not fit one another. What the compiler makes fits."""
+    count, cells = parameters_of(code), code.cell2arg or ()
+    if count > len(code.varnames) or code.posonlyarg_count > code.arg_count:
+        raise Unfit("%s has more parameters than local variables" % code.obj_name)
+    if len(cells) > len(code.cellvars) or any(not -1 <= it < count for it in cells):
+        raise Unfit("%s says of cells which it has not that they are parameters, or of parameters" % code.obj_name)
 
 
 class Instruction(NamedTuple):
@@ -90,6 +104,7 @@ class Translation:
     are told by the code around it."""
 
     def __init__(self, code: Code, qualname: Optional[str] = None, has_type_parameters: bool = False):
+        check(code)
         self.code, self.qualname, self.has_type_parameters = code, qualname or code.obj_name, has_type_parameters
         self.is_function = bool(code.flags & IS_OPTIMIZED)
         self.instructions = list(decoded(code))
@@ -310,6 +325,14 @@ class Translation:
             co_consts=tuple(map(self.standing, made.co_consts)),
         )
 
+    def names_are_told(self) -> bool:
+        """Whether cells bear the names of exactly those parameters that they begin as. CPython goes by these names; so
+        where it is otherwise, as in no compiled code, the words of the text stay."""
+        names, cells = self.code.varnames[: parameters_of(self.code)], self.code.cellvars
+        begun = {number: it for number, it in self.cell_to_parameter.items() if it >= 0 and it not in self.split()}
+        are_tied = all(cells[number] == names[it] for number, it in begun.items())
+        return are_tied and len(set(names + cells)) + len(begun) == len(names) + len(cells)
+
     def named(self, word: str) -> str:
         """The name of the program that a word of the text is for."""
         if word in ("stack", "blocks", "at") and self.is_function:
@@ -319,6 +342,8 @@ class Translation:
         kind, number, code = word[0], int(word[1:]), self.code
         if kind == "n" and number == len(code.names):
             return "__type_params__"
+        if kind in "vc" and not self.names_are_told():
+            return word
         return {"v": code.varnames, "c": code.cellvars, "f": code.freevars}.get(kind, code.names)[number]
 
     def standing(self, value: Any) -> Any:
