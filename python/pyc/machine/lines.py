@@ -33,6 +33,7 @@ def entries(spans: Sequence[tuple[int, Optional[int]]], first: int) -> Iterator[
 
 
 def table(code: types.CodeType, rows: Sequence[int], first: int) -> bytes:
-    """The table of a code whose lines are to become others: the line n of its text is the row `rows[n - 1]`."""
-    spans = [((end - start) // 2, None if line is None else rows[line - 1]) for start, end, line in code.co_lines()]
+    """The table of a code whose lines are to become others: the line n of its text is the row `rows[n - 1]`; before the
+    first one it is that of the first."""
+    spans = [((end - start) // 2, None if line is None else rows[max(line, 1) - 1]) for start, end, line in code.co_lines()]
     return b"".join(entries(spans, first))
