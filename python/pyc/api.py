@@ -46,11 +46,9 @@ def run(code: Code, globals: Optional[Dict[str, Any]] = None) -> Any:
 
     if sys.version_info < (3, 11):
         raise Error("Python 3.11 or later is wanted to run a code, and this is %d.%d" % sys.version_info[:2])
-    from .machine import hooks, interpreter
+    from . import machine
 
-    assert hooks
-    names_of_program = {"__name__": "__main__"} if globals is None else globals
-    return interpreter.execute(interpreter.Program(code), names_of_program)
+    return machine.execute(code, {"__name__": "__main__"} if globals is None else globals)
 
 
 def listing(code: Code) -> str:

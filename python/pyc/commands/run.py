@@ -8,10 +8,10 @@ import types
 from importlib.machinery import SourceFileLoader
 from typing import TYPE_CHECKING, Any, List, Sequence
 
-from .. import sources
-from ..errors import MISSING, REFUSED, Failed, WrongWords
+from .. import ends, program, refusals, sources
+from ..errors import MISSING, READ, REFUSED, Failed, Refused, WrongWords
 from ..options import Command, Option, parse
-from ..program import PROGRAM
+from .compile import LEVEL
 
 if TYPE_CHECKING:
     from ..machine.mains import Main
@@ -24,23 +24,26 @@ COMMAND = Command(
     (
         Option(("-c",), "run this text", "TEXT"),
         Option(("-m",), "run this module, or the package's __main__", "MODULE"),
-        Option(("-O", "--level"), "the level: 0, 1 (without assertions), 2 (without docstrings too)", "LEVEL", ("0", "1", "2"), "0"),
+        LEVEL,
         Option(("--import",), "compile the module NAME and those within it, too", "NAME", many=True),
         Option(("--texts",), "compile what the program hands to eval, exec and compile, too"),
         Option(("--literals",), "make a call of each literal that rows have no word for, as a float"),
         Option(("--no-cache",), "keep no code for the next run, and take none that was kept"),
-        Option(("--program",), "the program that compiles", "FILE", default=PROGRAM),
+        Option(("--program",), "compile by this program", "FILE"),
         Option(("--model",), "compile by tools/model, which no proof is about"),
     ),
     "The status is that of the program that runs; 1 where it is refused, 130 where it ends by KeyboardInterrupt.",
     True,
 )
 
+# The refusals of literals that --literals runs: floats, complex and wide numbers, surrogates.
+OF_LITERALS = ("R104", "R105", "R106", "R107")
+
 
 def main(words: List[str]) -> int:
     """Runs a program. The status is that with which it ends."""
     if sys.version_info < (3, 11):
-        sys.stderr.write("pyc run: Python 3.11 or later is wanted, and this is %d.%d\n" % sys.version_info[:2])
+        ends.say("pyc run: Python 3.11 or later is wanted, and this is %d.%d\n" % sys.version_info[:2])
         return MISSING
     end = end_of_options(words)
     found = parse(COMMAND, words[:end])
@@ -52,11 +55,13 @@ def main(words: List[str]) -> int:
     from ..machine import mains
 
     try:
-        program = prepared(found)
-    except Failed as failed:
-        sys.stderr.write(str(failed))
-        return failed.status
-    return mains.run(program)
+        main = prepared(found)
+    except Refused as refused:
+        ends.say(refusals.told(refused.refusal, ends.width(), ends.is_coloured()))
+        if refused.code in OF_LITERALS and not found.literals:
+            ends.say("pyc: --literals runs it: such a literal becomes a call of a built-in that gives its value\n")
+        return refused.status
+    return mains.run(main)
 
 
 def end_of_options(words: Sequence[str]) -> int:
@@ -77,9 +82,9 @@ def prepared(found: types.SimpleNamespace) -> Main:
     from ..machine.mains import Main
     from ..machine.sources import Compiler, Importer
 
-    path = None if found.model else found.program
-    if path is not None and not os.path.exists(path):
-        raise Failed("pyc run: the program is not built: %s is not there\n" % path, MISSING)
+    path = None if found.model else found.program or program.find()
+    if path is not None and not os.access(path, os.X_OK):
+        raise Failed("%s: there is no program\n" % path, READ)
     compiler = Compiler(path, int(found.level), found.literals, not found.no_cache)
     if found.texts:
         hooks.text_of = compiler.of_text
@@ -101,7 +106,7 @@ def prepared(found: types.SimpleNamespace) -> Main:
 
 def of_module(compiler: Any, name: str, words: List[str]) -> Main:
     """A module, or the `__main__` of a package, as a program."""
-    from ..machine.mains import Main, begin
+    from ..machine.mains import Main, begin, shown
 
     begin(os.getcwd())
     try:
@@ -115,4 +120,5 @@ def of_module(compiler: Any, name: str, words: List[str]) -> Main:
         raise Failed("pyc run: there is no source of a module %s\n" % name, REFUSED)
     path = spec.origin
     attributes = {"__file__": path, "__cached__": spec.cached, "__loader__": spec.loader, "__spec__": spec, "__package__": spec.parent}
-    return Main(compiler.code(spec.loader.get_data(path), path), attributes, [path, *words], os.getcwd())
+    with shown():
+        return Main(compiler.code(spec.loader.get_data(path), path), attributes, [path, *words], os.getcwd())

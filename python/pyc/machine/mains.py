@@ -2,10 +2,11 @@
 from __future__ import annotations
 
 import builtins
+import contextlib
 import os
 import sys
 import types
-from typing import Any, NamedTuple, Optional
+from typing import Any, Callable, Iterator, NamedTuple, Optional
 
 from . import bodies
 from .blocks import trim
@@ -25,21 +26,48 @@ class Main(NamedTuple):
     place: str
 
 
+# The modules of this package, once they are hidden: a program may have others of these names.
+HIDDEN: dict[str, types.ModuleType] = {}
+
+
+def taken(is_own: Callable[[str], bool]) -> dict[str, types.ModuleType]:
+    """Modules of such names, which are taken out of the list of modules."""
+    return {name: sys.modules.pop(name) for name in [it for it in sys.modules if is_own(it)]}
+
+
+def is_of_package(name: str) -> bool:
+    """Whether a module of this name would be one of this package."""
+    return name.partition(".")[0] == PACKAGE
+
+
+@contextlib.contextmanager
+def shown() -> Iterator[None]:
+    """Within, the modules of this package are found again, and none of the program's of these names."""
+    if not HIDDEN:
+        yield
+        return
+    of_program = taken(is_of_package)
+    sys.modules.update(HIDDEN)
+    try:
+        yield
+    finally:
+        HIDDEN.update(taken(is_of_package))
+        sys.modules.update(of_program)
+
+
 def begin(place: str) -> None:
-    """Makes a place the first where modules are looked for, in place of that of this package, whose modules are none of
-    the program's."""
+    """Makes a place the first where modules are looked for, in place of that of this package, and hides this package."""
     if sys.path and (not sys.flags.safe_path or sys.path[0] == AROUND):
         del sys.path[0]
     sys.path.insert(0, place)
-    for name in [it for it in sys.modules if it.partition(".")[0] == PACKAGE]:
-        del sys.modules[name]
+    HIDDEN.update(taken(is_of_package))
 
 
 def run(program: Main) -> int:
     """Runs a program as the main module. The status."""
     module = types.ModuleType("__main__")
     vars(module).update(__annotations__={}, __builtins__=builtins, **program.attributes)
-    if __name__ in sys.modules:
+    if not HIDDEN:
         begin(program.place)
     sys.modules["__main__"] = module
     sys.argv = program.words

@@ -14,14 +14,10 @@ from typing import Any, Optional, Sequence
 
 from .. import codefile, listing, program, rows
 from ..code_object import Code
-from ..errors import INPUT, READ, REFUSED, Failed
-from ..program import REFUSAL
-from ..sources import lines_of, told
-from . import bodies, literals, translation
+from ..errors import INPUT, READ, Error, Failed, Refused
+from ..refusals import refusal
+from . import bodies, literals, mains, translation
 from .kept import Kept
-
-# What is told behind a refusal of a literal that rows have no word for.
-HINT = "pyc run: --literals runs it: such a literal becomes a call of a built-in that gives it\n"
 
 
 class Compiler:
@@ -46,7 +42,7 @@ class Compiler:
 
     def made(self, data: bytes, path: str, mode: str, name: str) -> types.CodeType:
         """The code, with numbers for helpers."""
-        code = self.verified(data, name) if data.startswith(codefile.MAGIC[:7]) else self.compiled(data, path, mode, name)
+        code = self.verified(data, name) if is_code(data) else self.compiled(data, path, mode, name)
         try:
             return translation.translated(code)
         except translation.Unfit as unfit:
@@ -58,9 +54,8 @@ class Compiler:
         """The code of a file of code, which the program verifies first."""
         if self.program is None:
             raise Failed("%s: a file of code is verified by the program, which --model does without\n" % name, READ)
-        ended = subprocess.run([self.program, "unpack"], input=data, stdout=subprocess.DEVNULL, stderr=subprocess.PIPE)
-        if ended.returncode:
-            raise Failed("%s: %s\n" % (name, ended.stderr.decode("utf-8", "replace").strip()), ended.returncode)
+        status, _, said = program.call(self.program, ["unpack"], data, subprocess.DEVNULL)
+        program.check(status, said, name, b"", None, False)
         return codefile.read(data)
 
     def compiled(self, data: bytes, path: str, mode: str, name: str) -> Code:
@@ -68,15 +63,13 @@ class Compiler:
         try:
             text = self.rows_text(data, mode).encode("utf-8")
         except rows.Fault as fault:
-            hint = HINT if "no word for" in str(fault) and not self.has_literals else ""
-            raise Failed(told(name, fault.place, str(fault), lines_of(data)) + hint, REFUSED) from None
+            raise Refused(refusal(name, fault.place, str(fault), rows.lines_of(data))) from None
+        words = [mode, str(self.level), path]
         if self.program is None:
-            status, made, said = model_answer([mode, str(self.level), path], text)
+            status, made, said = model_answer(words, text)
         else:
-            ended = subprocess.run([self.program, "pack", mode, str(self.level), path], input=text, capture_output=True)
-            status, made, said = ended.returncode, ended.stdout, ended.stderr.decode("utf-8", "replace")
-        if status:
-            raise refusal(name, status, said, data)
+            status, made, said = program.call(self.program, ["pack", *words], text, subprocess.PIPE)
+        program.check(status, said, name, text, rows.lines_of(data), True)
         return codefile.read(made) if self.program else listing.read_listing(made)
 
     def rows_text(self, data: bytes, mode: str) -> str:
@@ -93,18 +86,15 @@ class Compiler:
             with warnings.catch_warnings():
                 warnings.simplefilter("ignore")
                 compile(text, path, mode, 0, True)
-            return translation.linked(self.made(text.encode("utf-8"), path if isinstance(path, str) else "<text>", mode, "<text>"))
-        except (Failed, SyntaxError, ValueError, OverflowError, RecursionError):
+            with mains.shown():
+                return self.code(text.encode("utf-8"), path if isinstance(path, str) else "<text>", mode)
+        except (Error, Failed, SyntaxError, ValueError, OverflowError, RecursionError):
             return None
 
 
-def refusal(name: str, status: int, said: str, data: bytes) -> Failed:
-    """What the program said of a source."""
-    found = REFUSAL.fullmatch(said)
-    if not found or status != REFUSED:
-        return Failed("%s: %s\n" % (name, said.strip() or "the program ended with %d" % status), status if status > 0 else 128 - status)
-    row, column, text = found.groups()
-    return Failed(told(name, None if row is None else (int(row), int(column)), text.rstrip("\n"), lines_of(data)), REFUSED)
+def is_code(data: bytes) -> bool:
+    """Whether bytes are a file of code and no source, of this or of another format."""
+    return data.startswith(codefile.MAGIC[:7])
 
 
 def model_answer(words: Sequence[str], text: bytes) -> tuple[int, str, str]:
@@ -151,7 +141,8 @@ class Loader(importlib.machinery.SourceFileLoader):
 
     def get_code(self, fullname: str) -> types.CodeType:
         try:
-            return bodies.fresh(self.compiler.code(self.get_data(self.path), self.path), ())[0]
-        except Failed as failed:
-            print("pyc run: Python runs the module %s: %s" % (self.name, str(failed).partition("\n")[0]), file=sys.stderr)
+            with mains.shown():
+                return bodies.fresh(self.compiler.code(self.get_data(self.path), self.path), ())[0]
+        except (Error, Failed) as fault:
+            print("pyc run: Python runs the module %s: %s" % (self.name, str(fault).partition("\n")[0]), file=sys.stderr)
             return super().get_code(fullname)
