@@ -1,0 +1,138 @@
+"""Blocks: what a code has open, and how it is left by a raise, a `break`, a `continue` and a return.
+
+A block is opened by an instruction (`SetupLoop`, `SetupExcept`, `SetupFinally`, `SetupWith`, `EnterFinally`), or by
+what enters a handler. Blocks stand in a list, the innermost last.
+"""
+from __future__ import annotations
+
+import os
+import sys
+import types
+
+from .handled import own_handled, set_handled
+
+# The kinds of blocks. A code that is left by an exception out of a handler has one of the last kind for a moment.
+LOOP, EXCEPT, FINALLY, EXCEPT_HANDLER, FINALLY_HANDLER, LEFT = "Loop", "Except", "Finally", "ExceptHandler", "FinallyHandler", "Left"
+
+# The ways on which blocks are left, but for a raise.
+BREAK, CONTINUE, RETURN = "break", "continue", "return"
+
+# What stands for a value that is not there, and the unit that stands for no unit: the code is left.
+UNSET = type("Unset", (), {})()
+NOWHERE = -1
+
+
+class Block:
+    """An open block: its kind, how many values lie below it, where its handler begins, and why a handler runs: by an
+    exception, before which another was handled, or since blocks are left on a way (with its value)."""
+
+    __slots__ = ("kind", "height", "handler", "error", "previous", "way", "value")
+
+    def __init__(self, kind, height, handler=None, error=None, previous=UNSET, way=None, value=None):
+        self.kind, self.height, self.handler = kind, height, handler
+        self.error, self.previous, self.way, self.value = error, previous, way, value
+
+
+def take(stack: list, blocks: list[Block]) -> int:
+    """The unit where the handler begins that takes the exception which is being handled. Its block is open then.
+
+    NOWHERE where no block takes it and no handler was left; where one was left, a block LEFT is open.
+    """
+    error = sys.exception()
+    trim(error)
+    previous = UNSET
+    while blocks:
+        block = blocks.pop()
+        if block.kind == EXCEPT or block.kind == FINALLY:
+            del stack[block.height :]
+            if block.kind == EXCEPT:
+                stack.append(error)
+            kind = EXCEPT_HANDLER if block.kind == EXCEPT else FINALLY_HANDLER
+            blocks.append(Block(kind, block.height, error=error, previous=previous))
+            return block.handler
+        if block.error is not None:
+            previous = block.previous
+    if previous is UNSET:
+        return NOWHERE
+    blocks.append(Block(LEFT, 0, error=error, previous=previous, value=(error.__context__, error.__traceback__)))
+    return 0
+
+
+def enter(blocks: list[Block]) -> None:
+    """Sets the exception of the innermost block as the one that is handled; raises it where the block is LEFT."""
+    block = blocks[-1]
+    if block.kind == LEFT:
+        set_handled(block.previous)
+        raise block.error
+    if block.previous is UNSET:
+        block.previous = own_handled()
+    set_handled(block.error)
+
+
+def again(blocks: list[Block]) -> None:
+    """Gives the exception of a block LEFT the context and the traceback that it had before it was raised again."""
+    block = blocks.pop()
+    block.error.__context__, block.error.__traceback__ = block.value
+
+
+def leave(stack: list, blocks: list[Block], way: str, value: object) -> int:
+    """Leaves blocks on a way, whose value is the unit where it leads, or what is returned. The unit that comes next.
+
+    NOWHERE where the code is left; what is returned is on top of the stack then.
+    """
+    while blocks:
+        block = blocks[-1]
+        if block.kind == LOOP and way == CONTINUE:
+            return value
+        close(blocks)
+        del stack[block.height :]
+        if block.kind == LOOP and way == BREAK:
+            return value
+        if block.kind == FINALLY:
+            blocks.append(Block(FINALLY_HANDLER, block.height, way=way, value=value))
+            return block.handler
+    if way != RETURN:
+        raise SystemError("%s without a loop" % way)
+    stack.append(value)
+    return NOWHERE
+
+
+def close(blocks: list[Block]) -> Block:
+    """Takes the innermost block away. Behind a handler of an exception the one before it is handled again."""
+    block = blocks.pop()
+    if block.error is not None:
+        set_handled(block.previous)
+    return block
+
+
+def go_on(stack: list, blocks: list[Block], following: int) -> int:
+    """Closes a finally handler that no exception entered. The unit that comes next, which is `following` where no way
+    led through the handler."""
+    block = blocks.pop()
+    return following if block.way is None else leave(stack, blocks, block.way, block.value)
+
+
+def trim(error: BaseException) -> None:
+    """Takes the functions of this package out of a traceback."""
+    first = error.__traceback__
+    while first is not None and is_machine(first.tb_frame.f_code):
+        first = first.tb_next
+    if first is not error.__traceback__:
+        error.__traceback__ = first
+    at = first
+    while at is not None:
+        following = at.tb_next
+        while following is not None and is_machine(following.tb_frame.f_code):
+            following = following.tb_next
+        if following is not at.tb_next:
+            at.tb_next = following
+        at = following
+
+
+# The folder of this package, whose functions are none of a program's.
+PACKAGE = os.path.join(os.path.dirname(os.path.dirname(os.path.abspath(__file__))), "")
+
+
+def is_machine(code: types.CodeType) -> bool:
+    """Whether a code is a function of this package."""
+    return code.co_filename.startswith(PACKAGE)
