@@ -14,6 +14,7 @@ usage: sh pyc.sh [-m MODE] [-O LEVEL] [-o FILE] [--rows] FILE.. | -
        sh pyc.sh step MODE LEVEL PATH SCRIPT <ROWS
        sh pyc.sh unpack <CODE
        sh pyc.sh names PATH <ROWS
+       sh pyc.sh rows [-m MODE] [FILE.py]
        sh pyc.sh sample N LEVEL
        sh pyc.sh --run FILE.py [ARG..]
        sh pyc.sh --try FILE..
@@ -194,7 +195,7 @@ is_there() {
 
 # Sees that one of the files at least has rows, before the program is built, which takes long.
 want_rows() {
-    [ -x "$pyc" ] || python3 -B "$root/tools/compile_files.py" --look --least $least -m "$mode" -- "$@" || exit
+    [ -x "$pyc" ] || python3 "$root/python/pyc/__main__.py" compile --look --least $least -m "$mode" -- "$@" || exit
 }
 
 # The words.
@@ -215,6 +216,15 @@ case $1 in
         is_command "$@" || wrong "'$1' is a command with other words after it; a file of that name is written ./$1"
         want_program
         exec "$pyc" "$@"
+        ;;
+    rows | lint | console | build | show | run | instructions)
+        if [ -e "$root/python/pyc/commands/$1.py" ]; then
+            has_python || {
+                say 'there is no python3 of 3.8 or later on the path'
+                exit 127
+            }
+            exec python3 "$root/python/pyc/__main__.py" "$@"
+        fi
         ;;
 esac
 while [ $# -gt 0 ]; do
@@ -291,13 +301,13 @@ if [ "$way" = try ]; then
         exit 127
     }
     say '--try: nothing is proved of this program, which is built anew for each file and checks itself while it runs'
-    exec python3 -B "$root/tools/compile_files.py" --unproved --least $least -m "$mode" -O "$level" ${to:+-o "$to"} $rows -- "$@"
+    exec python3 "$root/python/pyc/__main__.py" compile --unproved --least $least -m "$mode" -O "$level" ${to:+-o "$to"} $rows -- "$@"
 fi
 if [ "$way" = run ]; then
     want_rows "$1"
     want_program
-    exec python3 -B "$root/tools/run.py" --program "$pyc" --level "$level" -- "$@"
+    exec python3 "$root/python/pyc/__main__.py" run --program "$pyc" --level "$level" -- "$@"
 fi
 [ -n "$rows" ] || want_rows "$@"
 want_program
-exec python3 -B "$root/tools/compile_files.py" --program "$pyc" --least $least -m "$mode" -O "$level" ${to:+-o "$to"} $rows -- "$@"
+exec python3 "$root/python/pyc/__main__.py" compile --program "$pyc" --least $least -m "$mode" -O "$level" ${to:+-o "$to"} $rows -- "$@"

@@ -1,5 +1,5 @@
 #!/usr/bin/env python3
-"""Tests of pyc.sh, build.py, compile_files.py, speed.py and stdlib.py, with a small program in the place of pyc and of rt."""
+"""Tests of pyc.sh, build.py, the commands `compile` and `rows`, speed.py and stdlib.py, with a small program in the place of pyc and of rt."""
 import os
 import pathlib
 import shutil
@@ -57,7 +57,8 @@ class Fresh(unittest.TestCase):
         for name in ("pyc", "high", "low", "other"):
             (self.root / "crates" / name).mkdir(parents=True)
         (self.root / "crates.txt").write_text(CRATES)
-        shutil.copytree(ROOT / "tools", self.root / "tools", ignore=shutil.ignore_patterns("__pycache__"))
+        for name in ("tools", "python"):
+            shutil.copytree(ROOT / name, self.root / name, ignore=shutil.ignore_patterns("__pycache__"))
         shutil.copytree(ROOT / "examples", self.root / "examples")
         shutil.copy(ROOT / "pyc.sh", self.root)
         self.bin = self.folder / "bin"

@@ -1,24 +1,8 @@
-#!/usr/bin/env python3
-"""Writes the rows of a Python source, which pyc reads, on standard output. docs/ROWS.md says what rows are.
+"""The rows of a Python source, which the program reads. docs/ROWS.md says what rows are.
 
-usage: rows.py [--mode exec|eval|single|block|func_type] [FILE]
-
-Without FILE, or for `-`, the source is standard input. The mode is what the parser of Python is asked for: a file that
-is run (a Module), one expression (an Expression), what is entered at a prompt (an Interactive), a file whose last value
-is given (an Interactive of any length), or the comment that gives a function its type (a FunctionType).
-
-What is no Python, and what rows have no word for, is told on standard error as `FILE:ROW:COL: ..`; the status is then 1,
-and nothing is written. The status is 2 where the words are not as above.
-
-Python 3.8 or later. Places are those of the Python that runs this: before 3.12 it puts the texts in an f-string at its
-start, and some of what stands in its braces elsewhere.
+Places are those of the Python that runs this: before 3.12 it puts the texts in an f-string at its start, and some of what
+stands in its braces elsewhere.
 """
-import sys
-
-if sys.version_info < (3, 8):
-    sys.exit("rows.py: Python 3.8 or later is wanted, and this is %d.%d" % sys.version_info[:2])
-
-import argparse
 import ast
 import bisect
 import collections
@@ -29,6 +13,7 @@ import itertools
 import json
 import operator
 import re
+import sys
 import tokenize
 import warnings
 
@@ -468,32 +453,3 @@ def text_of_rows(data, mode):
         place_slices(tree, source)
     rows = rows_of(tree, source)
     return json.dumps(rows, separators=(",", ":"), ensure_ascii=False, check_circular=False)
-
-
-def main():
-    parser = argparse.ArgumentParser(prog="rows.py", description="Writes the rows of a Python source.")
-    modes = ("exec", "eval", "single", "block", "func_type")
-    parser.add_argument("--mode", choices=modes, default="exec", help="what the source is (exec: a file that is run)")
-    parser.add_argument("file", metavar="FILE", nargs="?", default="-", help="the source; standard input without it")
-    words = parser.parse_args()
-    name = "<stdin>" if words.file == "-" else words.file
-    try:
-        if words.file == "-":
-            data = sys.stdin.buffer.read()
-        else:
-            with open(words.file, "rb") as it:
-                data = it.read()
-        text = rows_text(data, words.mode)
-    except OSError as error:
-        sys.exit("%s: %s" % (name, error.strerror))
-    except Fault as fault:
-        sys.exit(fault.line(name))
-    try:
-        with open(1, "wb", closefd=False) as out:
-            out.write(text.encode("utf-8") + b"\n")
-    except OSError as error:
-        sys.exit("rows.py: standard output: %s" % error.strerror)
-
-
-if __name__ == "__main__":
-    main()
