@@ -1,5 +1,6 @@
 #!/usr/bin/env python3
-"""A machine that passes the suite, written from docs/INSTRUCTIONS.md alone; python/pyc/instructions.json is its table.
+"""A machine that passes the suite, written from docs/INSTRUCTIONS.md alone. The package pyc reads files of code for it,
+and python/pyc/instructions.json is its table.
 
 usage: machine.py                  the requests on standard input, the lines of each run on standard output
        machine.py PLACES SCRIPT    one run of the file of code on standard input
@@ -9,13 +10,18 @@ import json
 import pathlib
 import sys
 
-TABLE = json.loads((pathlib.Path(__file__).resolve().parent.parent / "python/pyc/instructions.json").read_text("utf-8"))
-ROWS, KINDS = TABLE["instructions"], {it["kind"]: it for it in TABLE["operands"]}
-# the places of entries before and after, the lowest first
+sys.path.insert(0, str(pathlib.Path(__file__).resolve().parent.parent / "python"))
+import pyc
+from pyc import codefile
+from pyc.code_object import Code
+
+TABLE = json.loads((pathlib.Path(pyc.__file__).parent / "instructions.json").read_text("utf-8"))
+ROWS, KINDS = {it["name"]: it for it in TABLE["instructions"]}, {it["kind"]: it for it in TABLE["operands"]}
+ADDS = {"ListAppend": 1, "SetAdd": 1, "MapAdd": 2}
+# entries of the stack before and after, the lowest first
 MOVES = {"Nop": ("", ""), "Pop": ("a", ""), "Rotate2": ("ab", "ba"), "Rotate3": ("abc", "cab"), "Duplicate": ("a", "aa"), "Duplicate2": ("ab", "abab")}
 CELLS = None  # what LoadClosure pushes; every other entry of the stack is the text of a value
 
-Code = collections.namedtuple("Code", "name depth units tables codes")
 Block = collections.namedtuple("Block", "kind height kept reason")  # kept: the handler's place, or what the slot was
 
 
@@ -31,55 +37,15 @@ def quote(text, plain):
     return "'%s'" % "".join("\\" + c if c in "'\\" else c if plain(c) else "\\x%02x" % ord(c) for c in text)
 
 
-def quoted(text):
-    return quote(text, lambda c: c >= " " and c != "\x7f")
-
-
-class File:
-    """A file of code, read from left to right."""
-
-    def __init__(self, data):
-        self.data, self.at = data, 8
-
-    def take(self, size):
-        self.at += size
-        return self.data[self.at - size:self.at]
-
-    def number(self, size=4):
-        return int.from_bytes(self.take(size), "big")
-
-    def text(self):
-        return self.take(self.number()).decode("utf-8")
-
-    def items(self, item):
-        return [item() for _ in range(self.number())]
-
-    def code(self):
-        self.take(14)  # the flags, and the counts of parameters
-        self.text(), self.number()
-        name, depth, units = self.text(), self.number(), self.items(lambda: (self.number(1), self.number(1)))
-        self.items(lambda: self.take(8))
-        constants = self.items(self.constant)
-        names, varnames, cells, free = ([quoted(it) for it in self.items(self.text)] for _ in range(4))
-        if self.number(1):
-            self.items(self.number)
-        texts = [text if code is None else "child" for text, code in constants]
-        return Code(name, depth, units, {"Const": texts, "Name": names, "Var": varnames, "Cell": cells + free}, [code for _, code in constants])
-
-    def constant(self):
-        """A constant as it stands in a tuple, and its code where it is one."""
-        kind = self.number(1)
-        if kind == 8:
-            code = self.code()
-            return "<code %s>" % quoted(code.name), code
-        if kind == 6:
-            texts = [text for text, _ in self.items(self.constant)]
-            return "(%s%s)" % (", ".join(texts), "," if len(texts) == 1 else ""), None
-        if kind == 5:
-            return str(int.from_bytes(self.take(16), "big", signed=True)), None
-        if kind == 4:
-            return "b" + quote(self.take(self.number()).decode("latin-1"), lambda c: " " <= c <= "~"), None
-        return quoted(self.text()) if kind == 3 else {0: "None", 1: "False", 2: "True", 7: "Ellipsis"}[kind], None
+def text_of(value):
+    """A constant, or a name, as a line tells it."""
+    if isinstance(value, str):
+        return quote(value, lambda c: c >= " " and c != "\x7f")
+    if isinstance(value, bytes):
+        return "b" + quote(value.decode("latin-1"), lambda c: " " <= c <= "~")
+    if isinstance(value, tuple):
+        return "(%s%s)" % (", ".join(map(text_of, value)), "," if len(value) == 1 else "")
+    return "<code %s>" % text_of(value.obj_name) if isinstance(value, Code) else str(value)
 
 
 def count(values, operand):
@@ -92,18 +58,22 @@ class Run:
     """A run of a code over answers."""
 
     def __init__(self, code, answers):
-        self.code, self.answers, self.taken, self.lines = code, answers, 0, []
+        texts = ["child" if isinstance(it, Code) else text_of(it) for it in code.constants]
+        names, varnames, cells = (list(map(text_of, it)) for it in (code.names, code.varnames, code.cellvars + code.freevars))
+        self.tables = {"Const": texts, "Name": names, "Var": varnames, "Cell": cells}
+        self.units, self.depth = code.instructions, code.max_stackdepth
+        self.answers, self.taken, self.lines = answers, 0, []
         self.place, self.stack, self.blocks, self.slot = 0, [], [], None
 
     def told(self):
         """The lines of the run."""
         try:
-            for _ in range((len(self.answers) + 1) * (2 * len(self.code.units) + 2)):
+            for _ in range((len(self.answers) + 1) * (2 * len(self.units) + 2)):
                 try:
                     self.step()
                 except Raised as raised:
                     self.leave("raise", raised.args[0])
-                self.want(len(self.stack) <= self.code.depth)
+                self.want(len(self.stack) <= self.depth)
             raise End("going")
         except End as end:
             return [*self.lines, end.args[0]]
@@ -160,55 +130,59 @@ class Run:
                 return
             if (block.kind, kind) == ("Except", "raise") or block.kind == "Finally":
                 return self.handle(block, kind, what)
-            if block.kind in ("ExceptHandler", "FinallyHandler"):
+            if block.kind.endswith("Handler"):
                 self.slot = block.kept
         self.want(kind in ("return", "raise"))
-        raise End("returned %s" % what if kind == "return" else "raised %s" % what)
+        raise End(("returned " if kind == "return" else "raised ") + what)
 
     def handle(self, block, kind, what):
-        self.blocks.append(Block(block.kind + "Handler", block.height, self.slot, (kind, what)))
+        reason = (kind, what) if block.kind == "Finally" else None
+        self.blocks.append(Block(block.kind + "Handler", block.height, self.slot, reason))
         self.place = block.kept
         if kind == "raise":
             self.slot = what
         if block.kind == "Except":
             self.stack.append(what)
 
-    def close(self, kinds):
-        self.want(self.blocks and self.blocks[-1].kind in kinds)
-        block = self.blocks.pop()
-        if block.kind in ("ExceptHandler", "FinallyHandler"):
-            self.slot = block.kept
-        return block
-
     # a step
     def fetch(self):
         operand, name = 0, "ExtendedArg"
         while name == "ExtendedArg":
-            self.want(self.place < len(self.code.units))
-            number, byte = self.code.units[self.place]
-            name, operand, self.place = ROWS[number]["name"], (operand * 256 + byte) % 2**32, self.place + 1
-        return ROWS[number], name, operand
+            self.want(self.place < len(self.units))
+            name, byte = self.units[self.place]
+            operand, self.place = (operand * 256 + byte) % 2**32, self.place + 1
+        return ROWS[name], name, operand
 
     def detail(self, kind, operand):
         """What a line says of an operand, which is to be in its range."""
-        table = self.code.tables.get(kind, KINDS[kind]["cases"])
-        self.want(operand < (len(table) or (len(self.code.units) if kind == "Label" else KINDS[kind]["below"] or 0)))
-        return table[operand] if table else "" if kind in ("None", "Label") else str(operand)
+        if kind in self.tables or KINDS[kind]["cases"]:
+            table = self.tables.get(kind, KINDS[kind]["cases"])
+            self.want(operand < len(table))
+            return table[operand]
+        self.want(operand < (len(self.units) if kind == "Label" else KINDS[kind]["below"]))
+        return "" if kind in ("None", "Label") else str(operand)
 
     def step(self):
         row, name, operand = self.fetch()
-        detail, lists = self.detail(row["operand"], operand), row["lists"]
-        if lists in ("load", "store", "delete"):
-            self.access(name, lists, detail)
+        detail = self.detail(row["operand"], operand)
+        if row["lists"] in ("load", "store", "delete"):
+            self.access(name, row["lists"], detail)
         elif name in MOVES:
-            before, after = MOVES[name]
-            self.want(len(before) <= len(self.stack))
-            entries = [self.stack.pop() for _ in before][::-1]
-            self.stack += [entries[before.index(it)] for it in after]
+            self.move(*MOVES[name])
+        elif name in ADDS:
+            values = self.pops(ADDS[name])
+            self.operation(name, "", [self.top(operand), *values], 0)
+        elif name.startswith("JumpIf"):
+            self.jump_if(name, operand)
+        elif name in ("Break", "Continue"):
+            self.want(any(block.kind == "Loop" for block in self.blocks))
+            self.leave(name.lower(), operand)
+        elif row["closes"]:
+            self.close(name, row["closes"].replace(",", "").split())
         elif hasattr(self, "do_" + name):
             getattr(self, "do_" + name)(operand, detail)
-        elif "JumpIf" in name:
-            self.jump_if(name, operand)
+        elif row["opens"]:
+            self.blocks.append(Block(row["opens"], len(self.stack), operand, None))
         else:
             values = self.pops(count(row["takes"], operand))
             self.stack += self.operation(name, detail, values, count(row["gives"], operand))[::-1 if row["first_on_top"] else 1]
@@ -219,11 +193,25 @@ class Run:
         else:
             self.stack += self.given(" ".join([lists, detail, *self.pops(lists == "store")]), int(lists == "load"))
 
+    def move(self, before, after):
+        self.want(len(before) <= len(self.stack))
+        entries = {it: self.stack.pop() for it in reversed(before)}
+        self.stack += [entries[it] for it in after]
+
     def jump_if(self, name, operand):
         [value] = self.pops(1)
         if (self.ask("truth " + value, "t", "f") == "t") == ("True" in name):
             self.place = operand
             self.stack += [value] if name.endswith("OrPop") else []
+
+    def close(self, name, kinds):
+        self.want(self.blocks and self.blocks[-1].kind in kinds)
+        block = self.blocks.pop()
+        if block.kind.endswith("Handler"):
+            self.slot = block.kept
+        dropped = name == "WithCleanupFinish" and self.ask("truth " + self.pops(1)[0], "t", "f") == "t"
+        if block.reason and not (dropped and block.reason[0] == "raise"):
+            self.leave(*block.reason)
 
     def do_LoadConst(self, operand, detail):
         self.stack.append(detail)
@@ -244,19 +232,6 @@ class Run:
         others = self.pops(bin(operand >> 1).count("1"))
         self.stack += self.operation("MakeFunction", str(operand - operand % 2), others + values, 1)
 
-    def add(self, name, many, depth):
-        values = self.pops(many)
-        self.operation(name, "", [self.top(depth), *values], 0)
-
-    def do_ListAppend(self, operand, detail):
-        self.add("ListAppend", 1, operand)
-
-    def do_SetAdd(self, operand, detail):
-        self.add("SetAdd", 1, operand)
-
-    def do_MapAdd(self, operand, detail):
-        self.add("MapAdd", 2, operand)
-
     def do_ImportFrom(self, operand, detail):
         self.stack += self.operation("ImportFrom", detail, [self.top()], 1)
 
@@ -271,8 +246,7 @@ class Run:
 
     def do_ReturnValue(self, operand, detail):
         self.want(self.stack)
-        value = self.stack.pop()
-        self.leave("return", "None" if value is CELLS else value)
+        self.leave("return", self.stack.pop() or "None")
 
     def do_Jump(self, operand, detail):
         self.place = operand
@@ -284,61 +258,26 @@ class Run:
         else:
             self.stack.append("#%d.0" % (self.taken - 1))
 
-    def do_Break(self, operand, detail):
-        self.want(any(block.kind == "Loop" for block in self.blocks))
-        self.leave("break", operand)
-
-    def do_Continue(self, operand, detail):
-        self.want(any(block.kind == "Loop" for block in self.blocks))
-        self.leave("continue", operand)
-
-    def do_SetupLoop(self, operand, detail):
-        self.blocks.append(Block("Loop", len(self.stack), None, None))
-
-    def do_SetupExcept(self, operand, detail):
-        self.blocks.append(Block("Except", len(self.stack), operand, None))
-
-    def do_SetupFinally(self, operand, detail):
-        self.blocks.append(Block("Finally", len(self.stack), operand, None))
-
     def do_SetupWith(self, operand, detail):
         leaver, entered = self.operation("SetupWith", "", self.pops(1), 2)
         self.stack.append(leaver)
-        self.do_SetupFinally(operand, detail)
+        self.blocks.append(Block("Finally", len(self.stack), operand, None))
         self.stack.append(entered)
-
-    def do_PopBlock(self, operand, detail):
-        self.close(("Loop", "Except", "Finally"))
-
-    def do_PopException(self, operand, detail):
-        self.close(("ExceptHandler",))
 
     def do_EnterFinally(self, operand, detail):
         self.blocks.append(Block("FinallyHandler", len(self.stack), self.slot, None))
-
-    def do_EndFinally(self, operand, detail):
-        reason = self.close(("FinallyHandler",)).reason
-        if reason is not None:
-            self.leave(*reason)
 
     def do_WithCleanupStart(self, operand, detail):
         self.want(self.blocks and self.blocks[-1].kind == "FinallyHandler")
         kind, what = self.blocks[-1].reason or ("none", None)
         self.stack[-1:] = self.operation("WithCleanupStart", "", [self.top(), what if kind == "raise" else "None"], 1)
 
-    def do_WithCleanupFinish(self, operand, detail):
-        reason = self.close(("FinallyHandler",)).reason
-        [answer] = self.pops(1)
-        truth = self.ask("truth " + answer, "t", "f")
-        if reason is not None and not (truth == "t" and reason[0] == "raise"):
-            self.leave(*reason)
-
 
 def run(data, places, script):
     """The lines of the run of a file's code, from the code at these places."""
-    code = File(data).code()
+    code = codefile.read(data)
     for place in places.split(",") if places else []:
-        code = code.codes[int(place)]
+        code = code.constants[int(place)]
     return "\n".join(Run(code, script.split(",") if script else []).told()) + "\n"
 
 

@@ -13,19 +13,18 @@ from __future__ import annotations
 
 import argparse
 import collections
+import dataclasses
 import functools
 import itertools
 import pathlib
-import struct
 import sys
 from typing import Any, Callable, Dict, Iterable, Iterator, List, NamedTuple, Set, Tuple
 
 TOP = pathlib.Path(__file__).resolve().parent.parent
 FOLDER = TOP / "conformance"
-sys.path.insert(0, str(TOP / "tools" / "model"))
+sys.path[:0] = [str(TOP / "tools" / "model"), str(TOP / "python")]
 
 import answers
-import code_files
 import code_objects
 import instr
 import listing
@@ -34,6 +33,8 @@ import step_rows
 from conformance_codes import Begun, alone, caught, flows, programs
 from conformance_hand import blocks, endless, faults, units
 from conformance_ways import Way, choices, expected, explore, tried, watch
+from pyc import codefile
+from pyc.code_object import Code
 
 OUTCOMES = ("returned", "raised", "stopped", "wrong", "leaked", "going")
 # For each file: what it holds, its codes, how many scripts of a code are tried, and how many of these are kept.
@@ -68,25 +69,19 @@ class Made(NamedTuple):
 
 
 # files of code
-def fields(code: code_objects.Code) -> Dict[str, Any]:
-    """A code as code_files.py spells it."""
-    counts = (code.posonlyarg_count, code.arg_count, code.kwonlyarg_count)
-    return {
-        "flags": code.flags, "counts": counts, "path": code.source_path, "line": code.first_line_number, "name": code.obj_name,
-        "depth": code.max_stackdepth, "units": [(instr.NUMBER[op], byte) for op, byte in code.instructions],
-        "locations": list(code.locations), "constants": [value(it) for it in code.constants], "names": list(code.names),
-        "varnames": list(code.varnames), "cellvars": list(code.cellvars), "freevars": list(code.freevars),
-        "cell2arg": None if code.cell2arg is None else list(code.cell2arg),
-    }
-
-
 def value(it: Tuple[Any, ...]) -> Any:
-    """A constant of the model as a Python value; a code as its fields."""
+    """A constant of the model as pyc.code_object has it."""
     if it[0] == "tuple":
-        return tuple(value(x) for x in it[1])
+        return tuple(map(value, it[1]))
     if it[0] == "code":
-        return fields(it[1])
+        return package_code(it[1])
     return {"none": None, "true": True, "false": False, "ellipsis": ...}[it[0]] if len(it) == 1 else it[1]
+
+
+def package_code(code: code_objects.Code) -> Code:
+    """A code of the model as pyc.code_object has it."""
+    fields = {it.name: getattr(code, it.name) for it in dataclasses.fields(code)}
+    return Code(**{**fields, "constants": tuple(map(value, code.constants))})
 
 
 # cases
@@ -124,12 +119,11 @@ def cases_of(name: str, begun: Begun, seen: Set[Way], turn: int) -> List[Case]:
 
 def drawn() -> Iterator[Made]:
     """The codes of crates/step_vectors, each with its script."""
-    make = step_rows.maker(code_objects.Code, instr.NAME_OF)
     at: Dict[str, Tuple[Begun, List[Case]]] = {}
     lines = (TOP / "crates/step_vectors/stdin").read_text(encoding="ascii").splitlines()
     for number, line in enumerate(lines):
         digits, _, script = line.partition(" ")
-        code = make(code_files.Reader(bytes.fromhex(digits)).file())
+        code = step_rows.code_of(codefile.read(bytes.fromhex(digits)))
         entry = at.setdefault(digits, (Begun("drawn %d" % number, "", code, ()), []))
         entry[1].append(case(code, step_rows.script_of(script)))
     for digits, (begun, found) in at.items():
@@ -142,7 +136,7 @@ def suite() -> Dict[str, List[Made]]:
     seen: Set[Way] = set()
     out = {}
     for name, (_, codes, _, _) in GROUPS.items():
-        out[name] = [Made(it, code_files.MAGIC + code_files.code(fields(it.code)), cases_of(name, it, seen, turn)) for turn, it in enumerate(codes())]
+        out[name] = [Made(it, codefile.write(package_code(it.code)), cases_of(name, it, seen, turn)) for turn, it in enumerate(codes())]
     out["drawn"] = list(drawn())
     return out
 
@@ -231,6 +225,9 @@ def main() -> int:
     way.add_argument("--check", action="store_true", help="write nothing, and fail where a file is another")
     way.add_argument("--table", action="store_true", help="write the table of ways on standard output")
     words = parser.parse_args()
+    if sys.version_info < (3, 9):
+        print("conformance.py: nothing was made or compared: tools/model reads no subscripts by a Python before 3.9", file=sys.stderr)
+        return 0 if words.check else 2
     if words.table:
         sys.stdout.write(table_text())
         return 0

@@ -19,6 +19,7 @@ import sound
 import step_trees
 from instruction_words import WORDS
 from instructions import COUNTS, counted
+from shapes import walk
 
 Code = code_objects.Code
 
@@ -246,15 +247,18 @@ def flows() -> Iterator[Begun]:
 
 
 def programs() -> Iterator[Begun]:
-    """The trees of step_tree_vectors, and all codes within."""
-    count = 0
-    for tree, ways in step_trees.trees():
+    """The trees of step_tree_vectors, and all codes within.
+
+    Those with f-strings are left out: Python 3.12 has another tree of some.
+    """
+    for count, (tree, ways) in enumerate(step_trees.trees()):
+        if any(it.kind == "JoinedStr" for it in walk(tree)):
+            continue
         for mode, level in ways:
             code = plain(emit.compile_top(tree, "m.py", mode, level))
             for places in within(code):
                 name = "tree %d %s %d" % (count, mode, level) + (", within" if places else "")
                 yield Begun(name + "".join(" %d" % it for it in places), "", code, places)
-        count += 1
 
 
 def within(code: Code, places: Tuple[int, ...] = ()) -> Iterator[Tuple[int, ...]]:

@@ -9,7 +9,7 @@ from __future__ import annotations
 from typing import Dict, NamedTuple, Tuple, Union
 
 # Values on the stack: a word for one value, or how many there are and a word. The counts are "n" and "2n" of the operand
-# n, "bits" (one for each flag of MakeFunction), "pair" (one more than UnpackEx has before and after), and "raise".
+# n, "bits" (one for each flag), "pair" (one more than UnpackEx has before and after), and "raise" (as many as its case says).
 Values = Tuple[Union[str, Tuple[str, str]], ...]
 
 
@@ -52,7 +52,7 @@ METHOD = ("function", "whether the object goes first", "object, or None")
 KEYWORDS = ("n", "map of keywords, where the operand is 1")
 VALUES = (("n", "values, the last on top"),)
 ITERABLES = (("n", "iterables, the last on top"),)
-FUNCTION_PARTS = ("qualified name", "code", ("bits", "one for each flag, in the order below"))
+FUNCTION_PARTS = ("qualified name", "code", ("bits", "one for each flag: cells (1), annotations (2), type parameters (16), keyword-only defaults (4), defaults (8)"))
 
 WORDS: Dict[str, Words] = {
     "ImportName": MODULE,

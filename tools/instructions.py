@@ -23,6 +23,11 @@ from typing import Any, Dict, List, NamedTuple, Tuple, Union
 from instruction_words import WORDS, Words
 
 TOP = pathlib.Path(__file__).resolve().parent.parent
+sys.path[:0] = [str(TOP / "python"), str(TOP / "tools" / "model")]
+
+import instr
+from pyc.commands.instructions import amount_text, values_text
+
 PAGE = TOP / "docs" / "INSTRUCTIONS.md"
 HEADER = TOP / "bindings" / "pyc_code.h"
 JSON = TOP / "python" / "pyc" / "instructions.json"
@@ -172,9 +177,6 @@ def compare_words(row: Row, limits: Dict[str, int]) -> None:
 
 def compare_model(table: List[Row]) -> None:
     """The model, which was written apart, has the same numbers, kinds, effects and cases."""
-    sys.path.insert(0, str(TOP / "tools" / "model"))
-    import instr
-
     if instr.NAME_OF != [row.name for row in table] or instr.CASES != cases():
         raise Wrong("the model has other names or cases")
     for row in table:
@@ -185,25 +187,6 @@ def compare_model(table: List[Row]) -> None:
 
 
 # the page
-def amount_text(it: Amount) -> str:
-    """An effect in words of the page."""
-    if it.of == "raise":
-        return "-1, -2 or 0"
-    if it.times == 0:
-        return str(it.base)
-    of = {"n": "n", "bits": "flags", "pair": "before + after"}[it.of]
-    factor = of if abs(it.times) == 1 else "%d%s" % (abs(it.times), of)
-    if it.base > 0 and it.times < 0:
-        return "%d - %s" % (it.base, factor)
-    return ("-" if it.times < 0 else "") + factor + ("" if it.base == 0 else " %s %d" % ("-" if it.base < 0 else "+", abs(it.base)))
-
-
-def values_text(values: Any) -> str:
-    """Values in words of the page, the top of the stack first."""
-    told = {"n": "n ", "2n": "2n ", "1": "", "bits": "", "pair": "before + 1 + after ", "raise": ""}
-    return "; ".join(told[count] + word for count, word in map(counted, values))
-
-
 def blocks_text(words: Words) -> str:
     """What an instruction has to do with blocks."""
     parts = (("wants ", words.wants), ("opens ", words.opens), ("closes ", words.closes))
@@ -229,10 +212,11 @@ def table_text(table: List[Row]) -> str:
     lines = ["| No. | Instruction | Operand | Takes | Gives | Looks at | Next | Jump | Blocks | Lists |", "|---|---|---|---|---|---|---|---|---|---|"]
     for row in table:
         words = WORDS[row.name]
-        falls, jumps = amount_text(row.falls), amount_text(row.jumps) if row.operand == "Label" else ""
+        falls, jumps = (amount_text(amount_json(it)) for it in (row.falls, row.jumps))
+        takes, gives = (values_text(values_json(it), row.operand) for it in (words.takes, words.gives))
         cells = [
-            str(row.number), "`%s`" % row.name, "" if row.operand == "None" else row.operand, values_text(words.takes), values_text(words.gives),
-            words.looks, "(%s)" % falls if row.leaves else falls, jumps, blocks_text(words), event_text(row, kinds),
+            str(row.number), "`%s`" % row.name, "" if row.operand == "None" else row.operand, takes, gives,
+            words.looks, "(%s)" % falls if row.leaves else falls, jumps if row.operand == "Label" else "", blocks_text(words), event_text(row, kinds),
         ]
         lines.append("| " + " | ".join(cells) + " |")
     return "\n".join(lines)
