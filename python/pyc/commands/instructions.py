@@ -3,18 +3,18 @@ from __future__ import annotations
 
 import json
 import pkgutil
-import sys
 from typing import Any, Dict, List
 
-from ..errors import DONE, WRITE, WrongWords
+from .. import ends
+from ..errors import DONE, WrongWords
 from ..options import Command, Option, parse
 
 COMMAND = Command(
     "instructions",
     "",
-    "Writes the table of instructions on standard output: the number, the name, the kind of the operand, the change of the height of the stack where the next instruction follows and where it jumps, and what is taken from the top of the stack down, and given.",
+    "Writes the table of instructions.",
     (Option(("--json",), "write it as JSON, with the cases of operands and the flags"),),
-    "docs/INSTRUCTIONS.md says what each instruction does.",
+    "A line has the number, the name, the kind of the operand, the change of the height of the stack where the next instruction follows and where it jumps, and what is taken from the top of the stack down, and given. docs/INSTRUCTIONS.md says what each instruction does.",
 )
 
 OF = {"n": "n", "bits": "flags", "pair": "before + after"}
@@ -66,10 +66,5 @@ def main(words: list[str]) -> int:
     text = table_text()
     if not given.json:
         text = "\n".join(map(line, json.loads(text)["instructions"])) + "\n"
-    try:
-        with open(1, "wb", closefd=False) as out:
-            out.write(text.encode("utf-8"))
-    except OSError as error:
-        sys.stderr.write("standard output: %s\n" % error.strerror)
-        return WRITE
+    ends.write(text)
     return DONE
