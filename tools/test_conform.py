@@ -69,6 +69,14 @@ class Machines(unittest.TestCase):
         self.assertGreaterEqual(count, 1500)
         self.assertEqual(conformed(*python(MACHINE)), (0, "%d of %d cases pass\n" % (count, count), ""))
 
+    def test_documents(self):
+        """The README shows how many cases there are, and what is said of a machine that unpacks the other way."""
+        readme = (TOP / "conformance" / "README.md").read_text(encoding="utf-8")
+        count = sum(len(conform.cases_of(path)) for path in CASES.glob("*.txt"))
+        self.assertIn("    $ python3 tools/conform.py python3 conformance/machine.py\n    %d of %d cases pass\n" % (count, count), readme)
+        _, out, _ = conformed(*python(self.faulty(*FAULTS["values are unpacked the other way"][:2])))
+        self.assertIn("".join("    %s\n" % line for line in out.split("\n")[:-1]), readme)
+
     def test_drawn(self):
         """The cases of step_vectors have the lines that stand there."""
         vectors = TOP / "crates" / "step_vectors"
