@@ -107,12 +107,20 @@ def stops(code: code_objects.Code, every: bool, seen: Set[Way], turn: int) -> It
                 yield first.script[:at] + end
 
 
+def code_loops_silently(code: code_objects.Code) -> bool:
+    """Whether a run asks nothing and takes more steps than the code has units; an answer lets it take more steps."""
+    run = watch(code, [])
+    return not run.w.events and run.steps > len(code.instructions)
+
+
 def cases_of(name: str, begun: Begun, seen: Set[Way], turn: int) -> List[Case]:
     """The cases of a code, no script twice."""
     _, _, tries, most = GROUPS[name]
     code = begun.within()
     scripts = [it.script for it in itertools.islice(explore(code, tries), most)]
     scripts += stops(code, name == "alone", seen, turn)
+    if code_loops_silently(code):
+        scripts.append([("G", 1)])
     found = {answers.show_script(script): script for script in scripts}
     return [case(code, script) for script in found.values()]
 

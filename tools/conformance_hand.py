@@ -159,6 +159,7 @@ UNITS: Dict[str, str] = {
     "cells are joined": "LoadClosure c; LoadClosure d; BuildTuple 2; LoadClosure e; BuildTuple 2; ReturnValue",
     "one cell is joined": "LoadClosure c; BuildTuple 1; LoadConst code; LoadConst 'm.inner'; MakeFunction 1; ReturnValue",
     "a cell of a class": "LoadClosure c; Duplicate; StoreLocal __classcell__; ReturnValue",
+    "a cell of a class is taken": "LoadConst 1; LoadClosure c; StoreLocal __classcell__; ReturnValue",
     "a value of that name": "LoadConst 1; StoreLocal __classcell__; ReturnConst 2",
     "None is returned": "ReturnConst None",
     "each kind of constant": """
@@ -233,7 +234,8 @@ WRONG: Dict[str, str] = {
     "a jump behind the end": "Jump @1",
     "a break without a loop": "Break A; A: ReturnConst 1",
     "a continue without a loop": "A: Continue A",
-    "a break in a finally without a loop": "SetupFinally Z; Break A; Z: EndFinally; A: ReturnConst 1",
+    "a break to a finally without a loop": "SetupFinally Z; Break A; Z: LoadNameAny a; Pop; EndFinally; A: ReturnConst 1",
+    "a continue to a finally without a loop": "A: SetupFinally Z; Continue A; Z: LoadNameAny a; Pop; EndFinally; ReturnConst 1",
     "PopBlock without a block": "PopBlock; ReturnConst 1",
     "PopBlock in a handler": "SetupExcept H; LoadNameAny a; Raise 0; H: PopBlock; ReturnConst 1",
     "PopBlock in a finally": "EnterFinally; PopBlock; ReturnConst 1",
@@ -257,6 +259,8 @@ WRONG: Dict[str, str] = {
     "a finally cuts above the stack": "LoadConst 1; SetupFinally Z; Pop; ReturnConst 1; Z: EndFinally",
     "a continue does not cut": "LoadConst 1; SetupLoop; W: Pop; Continue W",
     "a closure that is a value": "LoadConst 1; LoadConst code; LoadConst 'f'; MakeFunction 1; ReturnValue",
+    "no closure": "LoadConst code; LoadConst 'f'; MakeFunction 1; ReturnValue",
+    "fewer cells than are joined": "LoadClosure c; BuildTuple 2; ReturnValue",
     "a closure where none is taken": "LoadClosure c; LoadConst code; LoadConst 'f'; MakeFunction 8; ReturnValue",
     "a closure in the place of the code": "LoadClosure c; LoadConst 'f'; MakeFunction 0; ReturnValue",
     "cells below a value in a tuple": "LoadClosure c; LoadConst 1; BuildTuple 2; ReturnValue",
@@ -266,6 +270,16 @@ WRONG: Dict[str, str] = {
     "cells go to another name": "LoadClosure c; StoreLocal classcell; ReturnConst 1",
     "cells go to a global": "LoadClosure c; StoreGlobal __classcell__; ReturnConst 1",
     "cells go to a variable": "LoadClosure c; StoreFast __classcell__; ReturnConst 1",
+}
+
+
+# Loops that push until the stack is above the depth: in the last step that a run may take, and in the one behind it. The
+# first two with an empty script, and the others with one answer, which is left over.
+LIMITS: Dict[str, Tuple[str, int]] = {
+    "the last step without answers": ("A: Nop; LoadConst 1; Nop; Jump A", 2),
+    "a step too many without answers": ("A: Nop; Nop; LoadConst 1; Jump A", 2),
+    "the last step with an answer": ("A: Nop; Nop; Nop; LoadConst 1; Jump A", 4),
+    "a step too many with an answer": ("A: Nop; Nop; Nop; Nop; LoadConst 1; Jump A", 4),
 }
 
 
@@ -279,6 +293,8 @@ def faults() -> Iterator[Begun]:
         yield from outside(name)
     for depth in range(3):
         yield Begun("a stack of 3 where the depth is %d" % depth, "", assembled("LoadConst 1; LoadNameAny a; LoadConst 2; BuildTuple 3; ReturnValue", depth), ())
+    for name, (text, depth) in LIMITS.items():
+        yield Begun(name, "", assembled(text, depth), ())
     yield Begun("a handler above the depth", "", assembled("SetupExcept H; Raise 2; H: ReturnValue", 0), ())
     yield Begun("given values above the depth", "", assembled("LoadConst 1; UnpackSequence 3; BuildTuple 3; ReturnValue", 2), ())
 
