@@ -28,6 +28,7 @@ import ast
 import collections
 import datetime
 import dis
+import gc
 import io
 import json
 import math
@@ -113,7 +114,11 @@ def timed(words, source, out=subprocess.DEVNULL, bounds=None):
 
 
 def show_cpython(rows, source):
-    """Prints the seconds that CPython takes to read the rows, and to compile and show the source, in this process."""
+    """Prints the seconds that CPython takes to read the rows, and to compile and show the source, in this process.
+
+    The collector is off, as in rows.py: it would go over all rows again and again while they are read.
+    """
+    gc.disable()
     text = pathlib.Path(rows).read_text(encoding="utf-8")
     tree = ast.parse(pathlib.Path(source).read_bytes())
     found = []
