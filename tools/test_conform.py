@@ -86,7 +86,8 @@ class Machines(unittest.TestCase):
         self.assertEqual(found, wanted)
 
     def test_each(self):
-        self.assertEqual(conformed("--each", *file_of("endless"), *python(MACHINE)), (0, "10 of 10 cases pass\n", ""))
+        count = len(conform.cases_of(CASES / "endless.txt"))
+        self.assertEqual(conformed("--each", *file_of("endless"), *python(MACHINE)), (0, "%d of %d cases pass\n" % (count, count), ""))
 
     def test_faults(self):
         for name, (old, new, file, case) in FAULTS.items():
