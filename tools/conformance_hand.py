@@ -5,7 +5,7 @@ import itertools
 from typing import Dict, Iterator, List, Optional, Tuple
 
 import instr
-from conformance_codes import ADDS, Begun, assembled, given, instruction_text, operands_of, taken
+from conformance_codes import ADDS, Begun, assembled, instruction_text, operands_of, taken
 from instruction_words import WORDS
 
 # Blocks: a name, and the instructions. What lies on the stack at the end goes into a tuple.
@@ -292,7 +292,8 @@ def faults() -> Iterator[Begun]:
         yield from on_cells(name)
         yield from outside(name)
     for depth in range(3):
-        yield Begun("a stack of 3 where the depth is %d" % depth, "", assembled("LoadConst 1; LoadNameAny a; LoadConst 2; BuildTuple 3; ReturnValue", depth), ())
+        text = "LoadConst 1; LoadNameAny a; LoadConst 2; BuildTuple 3; ReturnValue"
+        yield Begun("a stack of 3 where the depth is %d" % depth, "", assembled(text, depth), ())
     for name, (text, depth) in LIMITS.items():
         yield Begun(name, "", assembled(text, depth), ())
     yield Begun("a handler above the depth", "", assembled("SetupExcept H; Raise 2; H: ReturnValue", 0), ())

@@ -154,7 +154,10 @@ def flags() -> Dict[str, Dict[str, int]]:
     return out
 
 
-COUNTS = {"1": Amount(1), "n": Amount(0, 1), "2n": Amount(0, 2), "bits": Amount(0, 1, "bits"), "pair": Amount(1, 1, "pair"), "raise": Amount(0, 1, "raise")}
+COUNTS = {
+    "1": Amount(1), "n": Amount(0, 1), "2n": Amount(0, 2), "bits": Amount(0, 1, "bits"), "pair": Amount(1, 1, "pair"),
+    "raise": Amount(0, 1, "raise"),
+}
 
 
 def counted(value: Union[str, Tuple[str, str]]) -> Tuple[str, str]:
@@ -292,7 +295,10 @@ def row_json(row: Row) -> Dict[str, Any]:
 def json_text(table: List[Row]) -> str:
     """The file, one line an instruction."""
     limits, kinds = ranges(), cases()
-    operands = [{"kind": kind, "below": limits.get(kind), "is": KINDS.get(kind, "the number of a case"), "cases": kinds.get(kind, [])} for kind in [*KINDS, *kinds]]
+    operands = [
+        {"kind": kind, "below": limits.get(kind), "is": KINDS.get(kind, "the number of a case"), "cases": kinds.get(kind, [])}
+        for kind in [*KINDS, *kinds]
+    ]
     parts = []
     for name, entries in (("operands", operands), ("instructions", [row_json(row) for row in table])):
         parts.append('"%s": [\n%s\n]' % (name, ",\n".join(map(json.dumps, entries))))
@@ -323,7 +329,10 @@ def enums_text(table: List[Row]) -> str:
         prefix = "PYC_%s_" % snake(kind.replace("Kind", ""))
         name = "pyc_%s_case" % snake(kind.replace("Kind", "")).lower()
         parts.append(enum_text("The cases of an operand of kind %s." % kind, name, [(prefix + snake(case), i) for i, case in enumerate(names)]))
-    told = {"CodeFlags": ("The flags of a code.", "pyc_code_flag", "PYC_CODE_"), "MakeFunctionFlags": ("What lies below the code for MakeFunction.", "pyc_make_function_flag", "PYC_MAKE_FUNCTION_")}
+    told = {
+        "CodeFlags": ("The flags of a code.", "pyc_code_flag", "PYC_CODE_"),
+        "MakeFunctionFlags": ("What lies below the code for MakeFunction.", "pyc_make_function_flag", "PYC_MAKE_FUNCTION_"),
+    }
     for of, (about, name, prefix) in told.items():
         parts.append(enum_text(about, name, [(prefix + flag, value) for flag, value in flags()[of].items()]))
     return "\n".join(parts)

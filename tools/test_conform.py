@@ -86,7 +86,11 @@ class Machines(unittest.TestCase):
         self.assertEqual(found, wanted)
 
     def test_each(self):
-        self.assertEqual(conformed("--each", *file_of("endless"), *python(MACHINE)), (0, "10 of 10 cases pass\n", ""))
+        lines = []
+        for case in [*conform.cases_of(CASES / "endless.txt")[:3], *conform.cases_of(CASES / "flows.txt")[:3]]:
+            lines += ["name " + case.code.name, "code " + case.code.digits, "begin " + case.code.places, "run " + case.script, *case.lines, ""]
+        suite = self.write("suite.txt", "\n".join(lines))
+        self.assertEqual(conformed("--each", "--cases", suite, *python(MACHINE)), (0, "6 of 6 cases pass\n", ""))
 
     def test_faults(self):
         for name, (old, new, file, case) in FAULTS.items():

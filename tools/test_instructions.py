@@ -16,6 +16,7 @@ import instr  # the model's
 
 # It writes the effects of each instruction with each of these operands, and some of the numbers.
 PROGRAM = """\
+#include "pyc.h"
 #include "pyc_code.h"
 #include <stdio.h>
 
