@@ -32,7 +32,7 @@ fn push_lines(out: &mut String, lines: &List<Text>) -> Result<(), AllocError> {
 }
 
 /// The child numbers that lead to a scope, with a dot before each.
-fn push_path(out: &mut String, path: &List<usize>) -> Result<(), AllocError> {
+fn push_path(out: &mut String, path: &List<u32>) -> Result<(), AllocError> {
     for child in path.as_slice() {
         write!(out, ".{child}")?;
     }

@@ -21,10 +21,10 @@ pub enum NameKind {
 #[derive(Debug, Drop)]
 pub struct NameItem {
     pub kind: NameKind,
-    pub scope: List<usize>,
+    pub scope: List<u32>,
     pub name: Text,
     /// The scope that binds the name too, or from which it comes.
-    pub other: Option<List<usize>>,
+    pub other: Option<List<u32>>,
 }
 
 /// The items, scope by scope in preorder, name by name in the order of the scope's table, and those of one name in the order
