@@ -5,6 +5,8 @@
 mod answers;
 #[cfg(test)]
 mod deep;
+#[cfg(test)]
+mod shown;
 
 use answers::answer;
 use std::io::{self, BufRead, BufReader, BufWriter, Write};

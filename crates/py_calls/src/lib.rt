@@ -19,5 +19,5 @@ pub use py_expr::{
 pub use py_expr_parts::calls::CallType;
 pub use py_expr_scopes::awaits::contains_await;
 pub use py_stmt_parts::{find_ann, split_doc};
-pub use py_table_calls::{IntoCodegenError, Scan};
 pub use statements::{compile_statement, compile_statements};
+pub use symboltable::{IntoCodegenError, Scan};

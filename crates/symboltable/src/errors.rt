@@ -29,3 +29,19 @@ pub fn into_codegen_error(error: SymbolTableError, source_path: Text) -> Codegen
         source_path,
     }
 }
+
+/// The error of a symbol table as one of the compile calls.
+pub trait IntoCodegenError: Sized {
+    /// The same error at the same location, with the path of the source. It takes no memory.
+    fn into_codegen_error(self, source_path: Text) -> CodegenError;
+}
+
+impl IntoCodegenError for SymbolTableError {
+    fn into_codegen_error(self, source_path: Text) -> CodegenError
+        ensures error { result.error ≡ codegen_error self.error }
+        ensures location { result.location ≡ self.location }
+        ensures path { result.source_path ≡ source_path }
+    {
+        into_codegen_error(self, source_path)
+    }
+}

@@ -46,7 +46,7 @@ impl Scan for SymbolTable {
         ensures first { IfErr result (λ e. IsFirst e (program_faults (stmts stmt_tree program.now))) }
         ensures placed { IfErr result IsPlaced }
     {
-        symboltable::scan_program(alloc, program)
+        py_tables::scan_program(alloc, program)
     }
 
     fn scan_expr(alloc: Global, expr: &Expr) -> Result<SymbolTable, SymbolTableError>
@@ -56,7 +56,7 @@ impl Scan for SymbolTable {
         ensures first { IfErr result (λ e. IsFirst e (expr_faults (expr_tree expr.now))) }
         ensures placed { IfErr result IsPlaced }
     {
-        symboltable::scan_expr(alloc, expr)
+        py_tables::scan_expr(alloc, expr)
     }
 
     fn scan_body(alloc: Global, program: &Stmts) -> Result<SymbolTable, SymbolTableError>
@@ -66,7 +66,7 @@ impl Scan for SymbolTable {
         ensures first { IfErr result (λ e. IsFirst e (body_faults (stmts stmt_tree program.now))) }
         ensures told { IfErr result IsTextOrMemory }
     {
-        symboltable::scan_body(alloc, program)
+        py_tables::scan_body(alloc, program)
     }
 
     fn scan_value(alloc: Global, expr: &Expr) -> Result<SymbolTable, SymbolTableError>
@@ -76,6 +76,6 @@ impl Scan for SymbolTable {
         ensures first { IfErr result (λ e. IsFirst e (value_faults (expr_tree expr.now))) }
         ensures told { IfErr result IsTextOrMemory }
     {
-        symboltable::scan_value(alloc, expr)
+        py_tables::scan_value(alloc, expr)
     }
 }
