@@ -1,6 +1,6 @@
 //! The commands over devices in memory. Expected texts are those of the model, and files those of the format's tables.
 
-use crate::fixtures::{bytes, only, room};
+use crate::fixtures::{bytes, only, room, split_words};
 use py_base::{List, Text};
 use py_devices::{CleanSink, CleanSource, MemSource};
 use py_run::{Status, Words, run};
@@ -206,14 +206,6 @@ const LINES: [(&str, &str, Status, &str); 36] = [
     ("sample 4 0 m.py", ONE, Status::Usage, USAGE),
     ("Sample 4 0", ONE, Status::Usage, USAGE),
 ];
-
-fn split_words(alloc: Global, line: &str) -> Result<List<Text>, AllocError> {
-    let mut words = Vec::new(alloc);
-    for word in line.split_whitespace() {
-        words.push(Text::from_string(String::from_str(alloc, word)?))?;
-    }
-    Ok(List::from_vec(words))
-}
 
 /// A run, and what its two sinks hold at its end.
 #[derive(Drop)]

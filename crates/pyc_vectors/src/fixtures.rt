@@ -12,6 +12,15 @@ pub fn words(alloc: Global, level: &str) -> Result<List<Text>, AllocError> {
     Ok(List::from_vec(words))
 }
 
+/// The words of this line, with one space between two of them.
+pub fn split_words(alloc: Global, line: &str) -> Result<List<Text>, AllocError> {
+    let mut words = Vec::new(alloc);
+    for word in line.split_whitespace() {
+        words.push(Text::from_string(String::from_str(alloc, word)?))?;
+    }
+    Ok(List::from_vec(words))
+}
+
 /// Only this number.
 pub fn only(alloc: Global, number: u32) -> Result<List<u32>, AllocError> {
     Ok(List::from_vec(vec![in alloc; number]?))

@@ -12,6 +12,10 @@ mod fixtures;
 #[cfg(test)]
 mod interrupted;
 #[cfg(test)]
+mod programs;
+#[cfg(test)]
 mod shapes;
+#[cfg(test)]
+mod worked;
 #[cfg(test)]
 mod wrong_rows;
