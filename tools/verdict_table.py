@@ -2,7 +2,7 @@
 
 usage: verdict_table.py
 
-The text on standard output is the file, before `rt fmt`.
+The text on standard output is the file, before `rt fmt`. It runs under a Python of 3.12 or later, which reads type parameters.
 Each source below is compiled by tools/model, which also finds the flaws (`sound.py`). Each code of it stands in the table, and then
 codes that differ from one of these in a unit, an operand, the depth or a table.
 A line has the depth, how many constants, names, varnames, cellvars and freevars there are, the units, each as the number of
@@ -35,11 +35,13 @@ SOURCES = [
     "def f():\n x = yield 1\n yield from x",
     "a, *b = c = d[1:2]\na.b += {1: 2, **c}",
     "a = b < c < d and not e or (f if g else h)",
+    "def f(a):\n def g[T: a](x: T = a, *, y=1): return a\n return g",
+    "class A[T](B): x = T",
 ]
 NUMBERS = {row[0]: number for number, row in enumerate(instr._ROWS)}
-NAMES = [row[0] for row in instr._ROWS if not row[0].startswith("TypeVar")]  # no code here has one of these
+NAMES = [row[0] for row in instr._ROWS]
 TABLES = ["constants", "names", "varnames", "cellvars", "freevars"]
-COUNT = 125
+COUNT = 132
 AT_MOST = 24  # codes with one kind of flaw
 
 
@@ -83,6 +85,14 @@ def changed(random, code):
     return replace(code, **{table: getattr(code, table)[:-1]})
 
 
+def flagged(code):
+    """A code that makes a function of all that its flags name, and this code with a flag that there is not."""
+    for place, (op, byte) in enumerate(code.instructions):
+        if (op, byte) == ("MakeFunction", 31):
+            yield code
+            yield with_unit(code, place, (op, 32))
+
+
 def line(code):
     """The code and the model's verdict."""
     flaws, _ = sound.walks(code, True)
@@ -95,7 +105,7 @@ def line(code):
 def lines():
     """Lines of compiled codes, and then of changed ones, so many of each verdict at most."""
     compiled = list(dict.fromkeys(codes()))
-    found = [line(code) for code in compiled]
+    found = list(dict.fromkeys(line(code) for code in compiled for code in (code, *flagged(code))))
     chance = random.Random(1)
     counts = {}
     while len(found) < COUNT:

@@ -7,6 +7,8 @@ mod answers;
 mod deep;
 #[cfg(test)]
 mod shown;
+#[cfg(test)]
+mod verified;
 
 use answers::answer;
 use std::io::{self, BufRead, BufReader, BufWriter, Write};
