@@ -28,8 +28,8 @@ use Rattle.py_capture.specs.Captures.{CapturesCells}
 use Rattle.py_capture.proofs.Capturing.{captures_cells}
 use Rattle.py_loads.proofs.Loading.{tree_loads_few}
 use Rattle.codegen.specs.Calls.{IsChecked, IsCompiled, IsWhole}
-use Rattle.codegen.specs.Compiled.{IsFirst, IsScanned, IsSealed, ScopesFollow, around_tree}
-use Rattle.codegen.proofs.Agreeing.{code_is_sealed, made_from_scope}
+use Rattle.codegen.specs.Compiled.{IsFirst, IsScanned, ScopesFollow, around_tree}
+use Rattle.codegen.proofs.Agreeing.{made_from_scope}
 use Rattle.codegen.proofs.DistinctTables.{distinct_names}
 use Rattle.codegen.proofs.Heights.{no_higher}
 use Rattle.codegen.proofs.Nested.{nested_below}
@@ -44,7 +44,6 @@ refused_whole e r t path m l p q s h = record {
   resolved = tt;
   captures = tt;
   emission = tt;
-  sealed = tt;
   ends = tt;
   sound = tt;
   depth = tt;
@@ -121,7 +120,6 @@ module _ (r : Result CodeObject (LocatedError CodegenErrorType)) (t : tree.Mod) 
     resolved = ok_so r (faults t m l ≡ []) (ScopesFollow t) (scopes_follow t m l) faultless;
     captures = captured;
     emission = e;
-    sealed = ok_with r (λ code. IsEmitted code around (emitted t m around)) (faults t m l ≡ []) (λ code. IsSealed (object code) around (emitted t m around)) (λ code h q. code_is_sealed code path m l (scopes_of t) t w.1 (tree_loads_few t m l q w.1) h) e faultless;
     ends = well_so _ (λ o w. w.ends);
     sound = well_so _ (λ o w. w.sound);
     depth = well_so _ (λ o w. no_higher o w.sound);

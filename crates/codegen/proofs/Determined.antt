@@ -5,13 +5,23 @@ use Rattle.py_bytecode.specs.Objects.{Object}
 use Rattle.py_steps.specs.Context.{Context}
 use Rattle.py_steps.specs.Emitting.{Outcome, Done, TooWide, Refused}
 use Rattle.py_emission.specs.EmissionMods.{emitted}
-use Rattle.codegen.specs.Calls.{EqualTreesHaveEqualCode}
+use Rattle.py_meaning.specs.Scanned.{scopes_of}
+use Rattle.py_loads.proofs.Loading.{tree_loads_few}
+use Rattle.py_fits.proofs.Premises.{small_tree}
+use Rattle.codegen.specs.Calls.{CompiledIsSealed, EqualTreesHaveEqualCode}
 use Rattle.codegen.specs.Compiled.{IsSealed, around_tree}
+use Rattle.codegen.proofs.Agreeing.{code_is_sealed}
 
 both_sealed : (c : Context) (r : Outcome) (o p : Object) → IsSealed o c r → IsSealed p c r → o ≡ p
 both_sealed c (Done s) o p h k = h ∙ sym k
 both_sealed c TooWide o p h k = absurd h
 both_sealed c (Refused e at) o p h k = absurd h
 
+-- a code comes only of a tree without faults, which is small and loads few cells
+pub compiled_sealed : CompiledIsSealed
+compiled_sealed t source m l a h =
+    let small = small_tree t m l h.clean in
+    code_is_sealed a source m l (scopes_of t) t small (tree_loads_few t m l h.clean small) h.emission
+
 pub equal_trees : EqualTreesHaveEqualCode
-equal_trees t source m l a b h k = both_sealed (around_tree t source l) (emitted t m (around_tree t source l)) _ _ h.sealed k.sealed
+equal_trees t source m l a b h k = both_sealed (around_tree t source l) (emitted t m (around_tree t source l)) _ _ (compiled_sealed t source m l a h) (compiled_sealed t source m l b k)

@@ -38,8 +38,6 @@ pub record IsCompiled (answer : Result CodeObject (LocatedError CodegenErrorType
   pub captures : IfOk answer (λ code. CapturesCells t m l (object code))
   -- it is made of what is emitted of the tree
   pub emission : IfOk answer (λ code. IsEmitted code (around_tree t source l) (emitted t m (around_tree t source l)))
-  -- which determines it: a tree, a path, a mode and a level have one code
-  pub sealed : IfOk answer (λ code. IsSealed (object code) (around_tree t source l) (emitted t m (around_tree t source l)))
   -- and each code object within it, at every depth, is so too
   pub ends : IfOk answer (λ code. Everywhere AlwaysEnds (object code))
   pub sound : IfOk answer (λ code. Everywhere sound (object code))
@@ -59,6 +57,11 @@ pub record IsCompiled (answer : Result CodeObject (LocatedError CodegenErrorType
   pub path : IfErr answer (λ e. e.source_path ≡ source)
   -- want of memory stands nowhere in the source
   pub nowhere : IfErr answer (λ e. e.error ≡ error.OutOfMemory → e.location ≡ None)
+
+-- a code is the one that what is emitted of its tree determines: a tree, a path, a mode and a level have one code
+abbrev pub CompiledIsSealed : Type 0
+CompiledIsSealed =
+    (t : tree.Mod) (source : List ℕ) (m : Mode) (l : ℕ) (a : CodeObject) → IsCompiled (Ok a) t source m l → IsSealed (object a) (around_tree t source l) (emitted t m (around_tree t source l))
 
 -- two answers for equal trees, paths, modes and levels are equal codes, where both are codes
 abbrev pub EqualTreesHaveEqualCode : Type 0

@@ -9,6 +9,6 @@ mod program;
 mod whole;
 
 pub use compile::CompileOpts;
-pub use laws::equal_trees_have_equal_code;
+pub use laws::{compiled_is_sealed, equal_trees_have_equal_code};
 pub use py_stmt_parts::{find_ann, split_doc};
 pub use symboltable;
