@@ -44,7 +44,7 @@ abbrev pub NoHigher : Object → Type 0
 NoHigher o =
     (answers : List Answer) (n : ℕ) → stack_height (steps (fetch_unit (tables o) (head o).instructions) n (At 0 [] [] None (start answers))) ≤ (head o).max_stackdepth
 
--- every run returns, raises or stops for want of an answer
+-- every run returns, raises, or stops because the answers end or one does not fit
 abbrev pub AlwaysEnds : Object → Type 0
 AlwaysEnds o = (answers : List Answer) → IsEnd (machine o answers).outcome
 
