@@ -28,6 +28,6 @@ mod FitImports
 mod FitStmts
 mod FitFutures
 mod FitMods
-mod Premises
+pub mod Premises
 pub mod Whole
 pub mod WithoutScopes
