@@ -28,7 +28,8 @@ use Rattle.py_fits.proofs.ShortTables.{IsShort}
 use Rattle.py_fits.proofs.FitExprs.{expr_fits, stores_fit}
 use Rattle.py_fits.proofs.FitStmts.{stmt_fits, stmts_fit}
 use Rattle.py_expr_scopes.specs.declared.comprehensions.ComprehensionElement.TheVariants as element
-use Rattle.py_faults.specs.Missing.{BodiesFindCells, ComprehensionsFindCells, DeletionsFindCells, ExpressionsFindCells, FindsCells, IsPlaced, StatementsFindCells, StoresFindCells, TestsFindCells, deletion_at, told}
+use Rattle.py_calls.specs.Placed.{deletion_at}
+use Rattle.py_faults.specs.Missing.{BodiesFindCells, ComprehensionsFindCells, DeletionsFindCells, ExpressionsFindCells, FindsCells, IsPlaced, StatementsFindCells, StoresFindCells, TestsFindCells, told}
 
 other_error : error.MissingCell ≡ error.OutOfMemory → ⊥
 other_error e = cc
@@ -104,14 +105,14 @@ unkept (Ok a) after o g = ap (λ x. go_on x keep) g
 unkept (Err e) after o g = λ n. ap (λ x. go_on x keep) (g n)
 
 -- one target is the only one of its statement
-deleted_alone : (s : State) (e : tree.Expr) → emission_of_stmt (deletion_at s e) s ≡ go_on (emission_of_delete e s) keep
+deleted_alone : (s : State) (e : tree.Expr) → emission_of_stmt (deletion_at s.location e) s ≡ go_on (emission_of_delete e s) keep
 unfolding move located
 deleted_alone s e = refl
 
 pub deletions_find : DeletionsFindCells
 deletions_find answer e before after h p =
     let s = state before in
-    finds answer (state after) _ _ _ (go_on (emission_of_delete e s) keep) (unkept answer (state after) (emission_of_delete e s) h.goes) (subst (FitsIn s.around _ _) (deleted_alone s e) (statement_fits s (deletion_at s e) p))
+    finds answer (state after) _ _ _ (go_on (emission_of_delete e s) keep) (unkept answer (state after) (emission_of_delete e s) h.goes) (subst (FitsIn s.around _ _) (deleted_alone s e) (statement_fits s (deletion_at s.location e) p))
 
 pub comprehensions_find : ComprehensionsFindCells
 unfolding move located

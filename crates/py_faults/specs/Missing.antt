@@ -21,7 +21,7 @@ use Rattle.py_owners.specs.Cells.{StandUpTo}
 use Rattle.py_fits.specs.Fitting.{HasShortTables}
 use Rattle.py_expr_scopes.specs.Comprehensions.{comprehension_of}
 use Rattle.py_expr_scopes.specs.declared.comprehensions.ComprehensionElement.{ComprehensionElement}
-use Rattle.py_faults.specs.CallParts.{comprehension_at}
+use Rattle.py_calls.specs.Placed.{comprehension_at, deletion_at}
 
 -- what the form of a node is told: what stands around it, but for the path of the source
 abbrev pub told : State → Context
@@ -60,13 +60,9 @@ abbrev pub StoresFindCells : Type 0
 StoresFindCells =
     (answer : Answer) (e : tree.Expr) (before after : Emitter) → Emits answer (emission_of_store e) before after → IsPlaced (state before) (kids_g (target_form (told (state before)) (state before).next e)) (64 * expr_size e) → FindsCells answer
 
--- a target that is deleted, as the one of a statement that stands where the emitter does
-abbrev pub deletion_at : State → tree.Expr → tree.Stmt
-deletion_at s e = tree.Delete s.location (tree.more_exprs e tree.no_exprs)
-
 abbrev pub DeletionsFindCells : Type 0
 DeletionsFindCells =
-    (answer : Answer) (e : tree.Expr) (before after : Emitter) → Emits answer (emission_of_delete e) before after → IsPlaced (state before) (kids (stmt_form (told (state before)) (state before).next (deletion_at (state before) e))) (192 * stmt_size (deletion_at (state before) e)) → FindsCells answer
+    (answer : Answer) (e : tree.Expr) (before after : Emitter) → Emits answer (emission_of_delete e) before after → IsPlaced (state before) (kids (stmt_form (told (state before)) (state before).next (deletion_at (state before).location e))) (192 * stmt_size (deletion_at (state before).location e)) → FindsCells answer
 
 abbrev pub StatementsFindCells : Type 0
 StatementsFindCells =
