@@ -39,9 +39,10 @@ use Rattle.py_expr_scopes.specs.declared.comprehensions.ComprehensionElement.The
 use Rattle.py_expr_parts.specs.Calls.{argument_tuple, keyworded, named_if_any, named_values, positional}
 use Rattle.py_expr_parts.specs.Turns.{closed}
 use Rattle.py_calls.specs.Entering.{entry, opening}
+use Rattle.py_calls.specs.Placed.{comprehension_at}
 use Rattle.py_faults.specs.Nodes.{EndsBy}
 use Rattle.py_faults.specs.Nodes as node
-use Rattle.py_faults.specs.CallParts.{ArgumentCalls, ComprehensionCalls, EnteringCalls, FeatureCalls, argument_faults, comprehension_at, entry_faults}
+use Rattle.py_faults.specs.CallParts.{ArgumentCalls, ComprehensionCalls, EnteringCalls, FeatureCalls, argument_faults, entry_faults}
 use Rattle.py_faults.proofs.Calls.{tells}
 use Rattle.py_faults.proofs.Nodes.{ends_by}
 use Rattle.py_faults.proofs.Nodes as node_proof

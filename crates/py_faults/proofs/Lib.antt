@@ -1,6 +1,7 @@
 pub mod Nodes
 pub mod Calls
 pub mod CallParts
+pub mod Missing
 pub mod Givens
 pub mod GivenExprs
 pub mod GivenParts

@@ -1,7 +1,6 @@
 -- What calls that emit parts of nodes answer, by the faults of these parts.
 use Rattle.std.specs.Prelude.{◌≡◌, ◌≢◌, ℕ, List, [], ◌++◌, Bool, Option, Result, IfErr, OnOk}
 use Rattle.py_tree.specs.Tree as tree
-use Rattle.py_tree.specs.View.{expr_tree}
 use Rattle.py_tree.specs.declared.statements.Alias.{Alias}
 use Rattle.py_base.specs.declared.errors.CodegenErrorType.{CodegenErrorType}
 use Rattle.py_base.specs.declared.errors.CodegenErrorType.TheVariants as error
@@ -23,19 +22,12 @@ use Rattle.py_meaning.specs.Faults.{feature_faults}
 use Rattle.py_meaning.specs.StmtEnds.{default_ends}
 use Rattle.py_expr_scopes.specs.Comprehensions.{comprehension_of}
 use Rattle.py_expr_scopes.specs.declared.comprehensions.ComprehensionElement.{ComprehensionElement}
-use Rattle.py_expr_scopes.specs.declared.comprehensions.ComprehensionElement.TheVariants as element
 use Rattle.py_expr_parts.specs.Calls.{arguments}
 use Rattle.py_expr_parts.specs.declared.calls.CallType.{CallType}
 use Rattle.py_calls.specs.Entering.{IsEntered, entry}
+use Rattle.py_calls.specs.Placed.{comprehension_at}
 use Rattle.py_faults.specs.Calls.{TellsFirst}
 use Rattle.py_faults.specs.Nodes.{in_function}
-
--- these clauses around this element, as an expression that stands there
-abbrev pub comprehension_at : SourceLocation → tree.Generators → ComprehensionElement → tree.Expr
-comprehension_at at gs (element.List e) = tree.ListComp at (expr_tree e.now) gs
-comprehension_at at gs (element.Set e) = tree.SetComp at (expr_tree e.now) gs
-comprehension_at at gs (element.Dict k v) = tree.DictComp at (expr_tree k.now) (expr_tree v.now) gs
-comprehension_at at gs (element.Generator e) = tree.GeneratorExp at (expr_tree e.now) gs
 
 -- arguments that begin there, the names of the keywords, and their values, as behind what is called
 abbrev pub argument_faults : (in_function : Bool) → SourceLocation → tree.Exprs → tree.Keywords → List Fault

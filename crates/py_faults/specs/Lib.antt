@@ -1,4 +1,5 @@
 pub mod Nodes
 pub mod Calls
 pub mod CallParts
+pub mod Missing
 pub mod Given

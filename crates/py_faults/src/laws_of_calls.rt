@@ -1,6 +1,7 @@
 //! The laws of the errors of calls that emit nodes and parts of nodes. Their bodies do nothing.
 ghost use Rattle.py_faults.specs.Calls.{BodyCalls, DeleteCalls, DeletionCalls, ExpressionCalls, StatementCalls, StoreCalls, TestCalls};
 ghost use Rattle.py_faults.specs.CallParts.{ArgumentCalls, ComprehensionCalls, EnteringCalls, FeatureCalls};
+ghost use Rattle.py_faults.specs.Missing.{BodiesFindCells, ComprehensionsFindCells, DeletionsFindCells, ExpressionsFindCells, StatementsFindCells, StoresFindCells, TestsFindCells};
 
 /// A call that emits a node of the right shapes answers Ok only where the node has no fault, and else the first of its
 /// faults, or that there is no memory, or that a cell is not there.
@@ -21,4 +22,17 @@ pub fn calls_on_parts_refused_first()
     ensures arguments { ArgumentCalls }
     ensures functions { EnteringCalls }
     ensures features { FeatureCalls }
+{}
+
+/// Where the present scope is as its table has it, the names that the scopes within the node have from outside are at hand, and
+/// there is room for the node, no call that emits it answers that a cell is not there. In a tree without faults the names are at
+/// hand.
+pub fn calls_find_cells()
+    ensures expressions { ExpressionsFindCells }
+    ensures tests { TestsFindCells }
+    ensures targets { StoresFindCells }
+    ensures deletions { DeletionsFindCells }
+    ensures statements { StatementsFindCells }
+    ensures bodies { BodiesFindCells }
+    ensures comprehensions { ComprehensionsFindCells }
 {}

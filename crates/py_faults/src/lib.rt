@@ -5,4 +5,4 @@ mod laws;
 mod laws_of_calls;
 
 pub use laws::{errors_that_never_come, nodes_refused_first};
-pub use laws_of_calls::{calls_on_parts_refused_first, calls_refused_first};
+pub use laws_of_calls::{calls_find_cells, calls_on_parts_refused_first, calls_refused_first};

@@ -1,21 +1,21 @@
-mod ShortTables
+pub mod ShortTables
 mod FewScopes
 mod Among
-mod Fits
+pub mod Fits
 mod Threads
 mod Turns
-mod Accesses
-mod FitParts
+pub mod Accesses
+pub mod FitParts
 mod FitTests
 mod FitScopes
 mod FitLambdas
-mod Standing
+pub mod Standing
 mod StandingForms
 mod StandingExprs
 mod Scopeless
 mod Hands
 mod FitPieces
-mod FitExprs
+pub mod FitExprs
 mod FitNotes
 mod FitDefs
 mod FitControl
@@ -25,7 +25,7 @@ mod FitClasses
 mod FitDefinitions
 mod FitHandlers
 mod FitImports
-mod FitStmts
+pub mod FitStmts
 mod FitFutures
 mod FitMods
 pub mod Premises

@@ -23,10 +23,16 @@ use Rattle.py_steps.specs.Emitting.{Begin, Done, Put, State, Step}
 use Rattle.py_emit.specs.declared.emitter.Emitter.{Emitter}
 use Rattle.py_emit.specs.States.{Emits, info, state}
 use Rattle.py_emit.specs.Steps.{steps_in}
-use Rattle.py_emission.specs.Emission.{emission, emission_of_store, emission_of_test}
+use Rattle.py_emission.specs.Emission.{all_emissions, emission, emission_of_delete, emission_of_store, emission_of_test, emissions, keyword_emissions}
 use Rattle.py_emission.specs.EmissionStmts.{emission_of_stmt, emission_of_stmts}
 use Rattle.py_meaning.specs.Table.{expr_form, target_form, test_form}
 use Rattle.py_meaning.specs.TableStmts.{stmt_form, stmts_form}
+use Rattle.py_steps.specs.EmissionParts.{elements}
+use Rattle.py_expr_parts.specs.Calls.{arguments, callee_value, calling, is_method, taken}
+use Rattle.py_expr_parts.specs.declared.calls.CallType.{CallType}
+use Rattle.py_expr_scopes.specs.Comprehensions.{comprehension_of}
+use Rattle.py_expr_scopes.specs.declared.comprehensions.ComprehensionElement.{ComprehensionElement}
+use Rattle.py_calls.specs.Placed.{comprehension_at, deletion_at}
 use Rattle.py_nodes.specs.Parts.{gave}
 use Rattle.py_nodes.specs.Adding.{AreTables, Begins, IsChild, IsReady, LoopIsMade, loops_in, present, seen, told}
 
@@ -120,7 +126,7 @@ BodiesRun = (ts : tree.Stmts) → stmts_size ts < 2 ^ 22 → (s r : State) → I
 abbrev pub FinishedHold : Type 0
 FinishedHold = (em : Emitter) (level : ℕ) (code : CodeObject) → IsFinal level (info em) code → Hold (state em) (map plain (info em).blocks) (tables_of (info em))
 
--- of a call that answers Ok: `compile_expression`, `compile_jump_if`, `compile_store` and `compile_statements`
+-- of a call that answers Ok: `compile_expression`, `compile_jump_if`, `compile_store`, `compile_statements`, and those that follow
 abbrev pub Answer : Type 0
 Answer = Result (Unit {0}) (LocatedError CodegenErrorType)
 
@@ -139,3 +145,31 @@ abbrev pub BodyCallsRun : Type 0
 BodyCallsRun =
     (answer : Answer) (ts : tree.Stmts) (before after : Emitter) → Emits answer (emission_of_stmts ts) before after → stmts_size ts < 2 ^ 22 → IsReady (state before) → LoopIsMade (state before).around.loops (state before).blocks
     → OnOk answer ((bs : List Blk) (tables : Tables) → Hold (state after) bs tables → BodyRuns ts (state before) (state after) bs tables)
+
+-- `compile_statement`
+abbrev pub StatementCallsRun : Type 0
+StatementCallsRun =
+    (answer : Answer) (t : tree.Stmt) (before after : Emitter) → Emits answer (emission_of_stmt t) before after → stmt_size t < 2 ^ 22 → IsReady (state before) → LoopIsMade (state before).around.loops (state before).blocks
+    → OnOk answer ((bs : List Blk) (tables : Tables) → Hold (state after) bs tables → StmtRuns t (state before) (state after) bs tables)
+
+-- `compile_delete`, as the statement of this one target that stands where the emitter does
+abbrev pub DeletionCallsRun : Type 0
+DeletionCallsRun =
+    (answer : Answer) (e : tree.Expr) (before after : Emitter) → Emits answer (emission_of_delete e) before after → stmt_size (deletion_at (state before).location e) < 2 ^ 22 → IsReady (state before) → LoopIsMade (state before).around.loops (state before).blocks
+    → OnOk answer ((bs : List Blk) (tables : Tables) → Hold (state after) bs tables → StmtRuns (deletion_at (state before).location e) (state before) (state after) bs tables)
+
+-- `compile_comprehension`, as the expression that stands where the emitter does
+abbrev pub ComprehensionCallsRun : Type 0
+ComprehensionCallsRun =
+    (answer : Answer) (gs : tree.Generators) (e : ComprehensionElement) (before after : Emitter) → Emits answer (comprehension_of gs e) before after → expr_size (comprehension_at (state before).location gs e) < 2 ^ 22 → IsReady (state before)
+    → OnOk answer ((bs : List Blk) (tables : Tables) → Hold (state after) bs tables → ExprRuns (comprehension_at (state before).location gs e) (state before) (state after) bs tables)
+
+-- `compile_call_inner` behind what is called, where the instruction of a call comes next, by what is answered: the call that stands where what is called begins
+abbrev pub ArgumentCallsRun : Type 0
+ArgumentCallsRun =
+    (answer : Result CallType (LocatedError CodegenErrorType)) (func : tree.Expr) (args : tree.Exprs) (keywords : tree.Keywords) (r s : State) (before after : Emitter)
+    → callee_value (emissions func).callee r ≡ Done (state before)
+    → Emits answer (arguments 0 (elements (all_emissions args)) (keyword_emissions keywords)) before after
+    → calling (is_method (emissions func).callee) (taken 0 (elements (all_emissions args)) (keyword_emissions keywords)) (state after) ≡ Done s
+    → expr_size (tree.Call r.location func args keywords) < 2 ^ 22 → IsReady r
+    → OnOk answer ((bs : List Blk) (tables : Tables) → Hold s bs tables → ExprRuns (tree.Call r.location func args keywords) r s bs tables)
