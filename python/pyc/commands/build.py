@@ -1,0 +1,198 @@
+"""The command `build`: keeps files of code, or of listings, beside sources, and makes those that are stale."""
+from __future__ import annotations
+
+import functools
+import os
+import shutil
+import sys
+from typing import Dict, Iterator, List, Optional, Sequence, Tuple, Union
+
+from .. import stamps
+from ..building import Job, Outcome, jobs_of, known, make, pattern_of, shown, sources_of
+from ..errors import DONE, MISSING, READ, REFUSED, WRITE, Failed, WrongWords
+from ..options import Command, Option, parse
+from ..program import PROGRAM
+from ..stamps import Recipe
+from ..workers import Lost, processors, results
+
+MODES = ("exec", "eval", "single", "block")
+LEVELS = ("0", "1", "2")
+
+COMMAND = Command(
+    "build",
+    "PATH..",
+    "Makes a file of code of each source, and again only where it is stale. PATH is a source, or a folder of sources *.py. "
+    "The file of m.py is __pyccode__/m.exec-0.code beside it; `pyc run` and `unpack` take it.",
+    (
+        Option(("-j", "--jobs"), "so many sources at once (1); 0 is one for each processor", "N", default="1"),
+        Option(("-d", "--to"), "put the files into DIR, where they stand as the sources do in the folders that are named", "DIR"),
+        Option(("-q", "--quiet"), "tell refusals and failures alone"),
+        Option(("-f", "--force"), "make all files again, those that are fresh too"),
+        Option(("-x", "--exclude"), "leave out sources in whose path the regular expression finds something", "REGEXP"),
+        Option(("--strip",), "leave out the folder with which paths begin in the paths that the codes name", "DIR"),
+        Option(("--check",), "write nothing, tell what is stale, and end with 1 where something is"),
+        Option(("--listings",), "make listings; without -d they are written on standard output, in the order of the sources"),
+        Option(("-m", "--mode"), "what the sources hold (exec): exec, eval, single or block", "MODE", MODES, "exec"),
+        Option(("-O", "--level"), "the level of optimisation (0)", "LEVEL", LEVELS, "0"),
+        Option(("--program",), "the program that compiles rows", "FILE", default=PROGRAM),
+    ),
+    "The status is the highest of the sources' (README.md, \"Statuses\"). docs/BUILD.md says more.",
+)
+
+
+class Progress:
+    """A line on a terminal that says how far a build is; nothing elsewhere."""
+
+    def __init__(self, count: int, is_quiet: bool) -> None:
+        self.count = count
+        self.is_shown = not is_quiet and sys.stderr.isatty()
+        self.done = 0
+
+    def step(self, job: Job) -> None:
+        """One more job is done, which is this one."""
+        self.done += 1
+        if self.is_shown:
+            width = len(str(self.count))
+            line = "[%*d/%d] %s" % (width, self.done, self.count, printable(shown(job.file)))
+            self.put(line[: shutil.get_terminal_size().columns - 1])
+
+    def clear(self) -> None:
+        """Takes the line away, so that something else may be written there."""
+        if self.is_shown:
+            self.put("")
+
+    def put(self, line: str) -> None:
+        sys.stderr.write("\r%s\x1b[K" % line)
+        sys.stderr.flush()
+
+
+def printable(text: str) -> str:
+    """A text without characters that move the cursor."""
+    return "".join(it if it.isprintable() else "?" for it in text)
+
+
+class Report:
+    """Tells of jobs in their order, whatever the order in which they end."""
+
+    def __init__(self, jobs: Sequence[Job], progress: Progress, is_quiet: bool) -> None:
+        self.jobs, self.progress, self.is_quiet = jobs, progress, is_quiet
+        self.waiting: Dict[int, Outcome] = {}
+        self.told = 0
+        self.status = DONE
+        self.counts = dict.fromkeys(("compiled", "stale", "fresh", "refused", "failed"), 0)
+
+    def add(self, at: int, outcome: Outcome) -> None:
+        """The job at that place has this outcome."""
+        self.progress.step(self.jobs[at])
+        self.waiting[at] = outcome
+        while self.told in self.waiting:
+            self.tell(self.jobs[self.told], self.waiting.pop(self.told))
+            self.told += 1
+
+    def tell(self, job: Job, outcome: Outcome) -> None:
+        """Tells of the next job."""
+        self.counts[outcome.kind] += 1
+        self.status = max(self.status, outcome.status)
+        if outcome.text:
+            self.progress.clear()
+            sys.stderr.write(outcome.text)
+            sys.stderr.flush()
+        if outcome.kind == "stale" and not self.is_quiet:
+            self.progress.clear()
+            sys.stdout.write("%s: stale\n" % shown(job.file))
+        if outcome.data:
+            sys.stdout.buffer.write(outcome.data)
+
+    def summary(self) -> str:
+        """How many files there are of each kind."""
+        count = len(self.jobs)
+        kinds = ", ".join("%d %s" % (number, kind) for kind, number in self.counts.items() if number)
+        return "%d %s%s\n" % (count, "file" if count == 1 else "files", ": " + kinds if kinds else "")
+
+
+def main(words: List[str]) -> int:
+    """Builds what the words say, and gives the status."""
+    given = parse(COMMAND, words)
+    if not given.files:
+        raise WrongWords("build wants a file or a folder")
+    if given.check and given.listings and given.to is None:
+        raise WrongWords("--check has nothing to look at, since listings are not kept without -d")
+    count = workers_of(given.jobs)
+    passed = None if given.exclude is None else pattern_of(given.exclude)
+    for stream in (sys.stdout, sys.stderr):
+        stream.reconfigure(encoding="utf-8", errors="backslashreplace")
+    try:
+        recipe = stamps.recipe_of("listing" if given.listings else "code", given.mode, given.level, given.program)
+    except OSError as error:
+        sys.stderr.write("pyc: the program is not there: %s: %s\n" % (error.filename, error.strerror))
+        return MISSING
+    jobs, status = found(given, recipe, passed)
+    try:
+        return max(status, build(given, recipe, jobs, count))
+    except OSError as error:
+        # A listing or a summary was not taken. Python would say so once more where it ends.
+        sys.stderr.write("pyc: standard output: %s\n" % error.strerror)
+        os.dup2(os.open(os.devnull, os.O_WRONLY), sys.stdout.fileno())
+        return WRITE
+
+
+def workers_of(text: str) -> int:
+    """How many sources are compiled at once, by the word behind -j."""
+    if not (text.isascii() and text.isdigit()) or len(text) > 4:
+        raise WrongWords("-j is followed by a number, and not by '%s'" % text)
+    return int(text) or processors()
+
+
+def found(given, recipe: Recipe, passed) -> Tuple[List[Job], int]:
+    """The jobs, and the status of what was named and is not there, which is told."""
+    if "-" in given.files:
+        raise WrongWords("build reads files and no standard input; a file of that name is written ./-")
+    sources, status = [], DONE
+    for it in sources_of(given.files, passed):
+        if isinstance(it, Failed):
+            sys.stderr.write(str(it))
+            status = max(status, it.status)
+        else:
+            sources.append(it)
+    jobs = jobs_of(sources, recipe, given.to, given.strip)
+    return ([it._replace(target=None) for it in jobs] if given.listings and given.to is None else jobs), status
+
+
+def build(given, recipe: Recipe, jobs: List[Job], count: int) -> int:
+    """Makes what is stale, tells of all, and gives the status."""
+    report = Report(jobs, Progress(len(jobs), given.quiet), given.quiet)
+    left: List[int] = []
+    for at, job in enumerate(jobs):
+        outcome = None if job.target is None or given.force else known(job, recipe)
+        if outcome is not None:
+            report.add(at, counted_fresh(outcome) if given.check else outcome)
+        elif given.check:
+            report.add(at, Outcome("stale", REFUSED))
+        else:
+            left.append(at)
+    make_all(recipe, jobs, left, count, report)
+    report.progress.clear()
+    if not given.quiet and not (given.listings and given.to is None):
+        sys.stdout.write(report.summary())
+    sys.stdout.flush()
+    return report.status
+
+
+def counted_fresh(outcome: Outcome) -> Outcome:
+    """An outcome as --check counts it: a refusal that is known is nothing that a build would change."""
+    return Outcome("refused") if outcome.kind == "refused" else outcome
+
+
+def make_all(recipe: Recipe, jobs: Sequence[Job], left: Sequence[int], count: int, report: Report) -> None:
+    """Makes the files of the jobs at these places, so many at once."""
+    for folder in {os.path.dirname(jobs[at].target or "") for at in left if jobs[at].target is not None}:
+        stamps.remove_leavings(folder)
+    ended = results(functools.partial(make, recipe), [jobs[at] for at in left], count)
+    for place, outcome in ended:
+        report.add(left[place], lost(jobs[left[place]], outcome) if isinstance(outcome, Lost) else outcome)
+
+
+def lost(job: Job, it: Lost) -> Outcome:
+    """The outcome of a job whose worker was ended."""
+    status = 128 - it.exit_code if it.exit_code < 0 else READ
+    return Outcome("failed", status, "%s: the process that compiled it was ended\n" % shown(job.file))
