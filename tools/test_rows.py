@@ -736,7 +736,7 @@ class Program(unittest.TestCase):
         self.assertEqual(self.run_with(["--mode", "eval", "-"], b"\xc3\xa9")[1], '[["Name",1,1,"é"],["Expression",0]]\n'.encode("utf-8"))
 
     def test_faults(self):
-        self.assertEqual(self.run_with([], b"1.5"), (1, b"", "<stdin>:1:1: rows have no word for a float\n"))
+        self.assertEqual(self.run_with([], b"1.5"), (1, b"", "<stdin>:1:1: rows have no word for a float\n1.5\n^\nnote: a float: pyc compiles no literals that are floats (--explain R104)\n"))
         status, out, told = self.run_with(["no-such-file.py"])
         self.assertEqual((status, out), (4, b""))
         self.assertRegex(told, r"^no-such-file\.py: .+\n$")

@@ -12,7 +12,17 @@ if not __package__:
     HERE = os.path.dirname(os.path.realpath(__file__))
     sys.path[:] = [os.path.dirname(HERE)] + [it for it in sys.path if os.path.realpath(it or ".") != HERE]
 
-from pyc.cli import main
+from pyc import cli, options
+
+
+def main() -> int:
+    """The status of the call that this process is. pyc.sh says in the first word how it was called."""
+    words = sys.argv[1:]
+    if words[:1] == ["--called"]:
+        options.CALLED = words[1]
+        del words[:2]
+    return cli.main(words)
+
 
 if __name__ == "__main__":
-    sys.exit(main(sys.argv[1:]))
+    sys.exit(main())

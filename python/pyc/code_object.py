@@ -18,7 +18,7 @@ class Unit(NamedTuple):
     column: int
 
 
-@dataclasses.dataclass(frozen=True, eq=False)
+@dataclasses.dataclass(frozen=True, eq=False, repr=False)
 class Code:
     """The code of a file, a function, a class or a comprehension (docs/LISTING.md).
 
@@ -58,6 +58,38 @@ class Code:
         from . import codefile
 
         return codefile.write(self)
+
+    @classmethod
+    def from_bytes(cls, data: bytes) -> Code:
+        """The code that a file of code holds; nothing is verified of it. Raises BadCode, with the offset of what is bad."""
+        from . import codefile
+
+        return codefile.read(data)
+
+    def to_json(self) -> str:
+        """The code as JSON in one line (docs/COMMANDS.md). Raises ValueError where its codes nest too deep for JSON."""
+        from . import codejson
+
+        return codejson.as_text(self)
+
+    @classmethod
+    def from_json(cls, text: str) -> Code:
+        """The code that `to_json` made this text of. Raises ValueError where it is none."""
+        from . import codejson
+
+        return codejson.read_text(text)
+
+    def listing(self) -> str:
+        """The listing (docs/LISTING.md), which the program makes once the code is verified.
+
+        Raises NoProgram, OutOfMemory, and ValueError where the code does not verify.
+        """
+        from . import api
+
+        return api.listing(self)
+
+    def __repr__(self) -> str:
+        return "<Code %r from %r line %s>" % (self.obj_name, self.source_path, self.first_line_number)
 
     def __eq__(self, other: object) -> bool:
         return self.to_bytes() == other.to_bytes() if isinstance(other, Code) else NotImplemented

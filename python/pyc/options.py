@@ -1,4 +1,4 @@
-"""The table of options: what each command takes. From it the words are parsed, and --help is told.
+"""The table of options: what each command takes. From it the words are parsed, and --help, the manual and completions made.
 
 A module of `commands/` has a row of the table as `COMMAND`. Its `main(words)` calls `parse(COMMAND, words)`, which gives a
 namespace: a value for each option by its key (its longest name, with _ for -), and `files`, the other words.
@@ -10,6 +10,9 @@ import types
 from typing import Dict, List, NamedTuple, Optional, Sequence, Tuple, Union
 
 from .errors import WrongWords
+
+# How the command is called here: by `pyc`, or in a checkout by its starter.
+CALLED = "pyc"
 
 
 class Option(NamedTuple):
@@ -38,7 +41,8 @@ class Command(NamedTuple):
     words: str
     about: str
     options: Tuple[Option, ...] = ()
-    # Paragraphs that --help tells behind the options.
+    # Paragraphs that --help tells behind the options, with empty lines between them. One that begins with a blank is
+    # an example, and is told as it stands.
     more: str = ""
     # Whether the first word that is no option ends the options, as the words of a program that is run are its own.
     is_first_last: bool = False
@@ -57,8 +61,7 @@ class HelpWanted(Exception):
 
 def parse(command: Command, words: Sequence[str]) -> types.SimpleNamespace:
     """The values of the options and the files. Raises WrongWords, and HelpWanted for -h and --help."""
-    options = (*command.options, HELP)
-    by_name = {name: option for option in options for name in option.names}
+    by_name = {name: option for option in (*command.options, HELP) for name in option.names}
     short = "".join(name[1] + ":" * bool(it.value) for name, it in by_name.items() if not name.startswith("--"))
     long = [name[2:] + "=" * bool(it.value) for name, it in by_name.items() if name.startswith("--")]
     read = getopt.getopt if command.is_first_last else getopt.gnu_getopt
@@ -94,20 +97,48 @@ def one_of(words: Sequence[str]) -> str:
     return words[0] if len(words) == 1 else "%s or %s" % (", ".join(words[:-1]), words[-1])
 
 
-def help_of(command: Command) -> str:
-    """The text of --help: usage, what it does, a line or more for each option."""
+# How wide --help is, and where what an option does begins.
+WIDTH, INDENT = 100, 22
+
+
+def usage_of(command: Command) -> str:
+    """The line that says how a command is called; `compile` is meant where no command is named."""
+    name = command.name if command.name != "compile" else ""
+    return " ".join(filter(None, (CALLED, name, "[OPTION..]" if command.options else "", command.words)))
+
+
+def heads_of(option: Option) -> str:
+    """The names of an option, with the word behind it."""
+    return ", ".join(option.names) + (" " + option.value if option.value else "")
+
+
+def in_two_columns(pairs: Sequence[Tuple[str, str]]) -> List[str]:
+    """Lines of which each has a name, and what is told of it behind or below."""
     import textwrap
 
-    usage = "usage: pyc %s" % " ".join(filter(None, (command.name, "[OPTION..]" if command.options else "", command.words)))
-    lines = [usage, "", *textwrap.wrap(command.about, 118), ""]
-    for option in (*command.options, HELP):
-        names = ", ".join(option.names) + (" " + option.value if option.value else "")
-        told = textwrap.wrap(option.about, 118 - 20) or [""]
-        if len(names) > 16:
-            lines.append("  " + names)
+    lines = []
+    for head, about in pairs:
+        told = textwrap.wrap(about, WIDTH - INDENT)
+        if len(head) > INDENT - 4:
+            lines.append("  " + head)
         else:
-            lines.append("  %-18s%s" % (names, told.pop(0)))
-        lines += [" " * 20 + it for it in told]
-    for paragraph in command.more.split("\n\n") if command.more else ():
-        lines += ["", *textwrap.wrap(paragraph, 118)]
-    return "\n".join(lines) + "\n"
+            lines.append("  %-*s%s" % (INDENT - 2, head, told.pop(0)))
+        lines += [" " * INDENT + it for it in told]
+    return lines
+
+
+def paragraphs_of(text: str) -> List[str]:
+    """The lines of paragraphs, each behind an empty line."""
+    import textwrap
+
+    lines = []
+    for paragraph in text.split("\n\n") if text else ():
+        lines += ["", *(paragraph.split("\n") if paragraph.startswith(" ") else textwrap.wrap(paragraph, WIDTH))]
+    return lines
+
+
+def help_of(command: Command) -> str:
+    """The text of --help of one command: usage, what it does, and what each option does."""
+    lines = ["usage: " + usage_of(command), *paragraphs_of(command.about), ""]
+    lines += in_two_columns([(heads_of(it), it.about) for it in (*command.options, HELP)])
+    return "\n".join(lines + paragraphs_of(command.more)) + "\n"

@@ -1,53 +1,25 @@
-"""Reads sources, makes their rows, and tells what is wrong at a place of a source."""
+"""Reads sources and makes their rows."""
 from __future__ import annotations
 
+import os
 import sys
-import unicodedata
-from typing import List, Optional, Tuple
+from typing import Optional
 
 from . import rows as rows_of_python
-from .errors import READ, REFUSED, Failed
-
-
-def told(name: str, place: Optional[Tuple[int, int]], text: str, source: Optional[List[str]]) -> str:
-    """The lines that tell a fault at a place of a source, which is None where it is not at hand."""
-    if place is None:
-        return "%s: %s\n" % (name, text)
-    said = "%s:%d:%d: %s\n" % (name, *place, text)
-    row, column = place
-    if source is None or not 1 <= row <= len(source):
-        return said
-    line = source[row - 1].rstrip()
-    return said + "%s\n%s^\n" % (line, "".join(map(blank, line[: column - 1]))) if line else said
-
-
-def blank(character: str) -> str:
-    """A blank as wide as a character."""
-    if character == "\t":
-        return character
-    if unicodedata.combining(character):
-        return ""
-    return "  " if unicodedata.east_asian_width(character) in "WF" else " "
-
-
-def lines_of(data: bytes) -> Optional[List[str]]:
-    """The lines of the bytes of a source, or None where they have no text."""
-    try:
-        text = rows_of_python.text_of(data)
-    except rows_of_python.Fault:
-        return None
-    return text.replace("\r\n", "\n").replace("\r", "\n").split("\n")
+from .errors import READ, Failed, Refused
+from .refusals import refusal, shown
 
 
 def bytes_of(file: str) -> bytes:
-    """The bytes of a file or of standard input."""
+    """The bytes of a file, or of standard input for `-`. Raises Failed."""
     try:
         if file == "-":
             return sys.stdin.buffer.read()
         with open(file, "rb") as it:
             return it.read()
-    except OSError as error:
-        raise Failed("%s: %s\n" % (name_of(file), error.strerror), READ) from None
+    except (OSError, AttributeError) as error:
+        why = getattr(error, "strerror", None) or "it is closed"
+        raise Failed("%s: %s\n" % (shown(name_of(file)), why), READ) from None
 
 
 def name_of(file: str) -> str:
@@ -55,10 +27,17 @@ def name_of(file: str) -> str:
     return "<stdin>" if file == "-" else file
 
 
-def rows_of(name: str, data: bytes, mode: str) -> bytes:
-    """The bytes of the rows of a source. Raises Failed where it has none."""
+def text_of_name(name: str) -> Optional[str]:
+    """The name of a file as a text, which a code can bear; None where its bytes are not UTF-8."""
     try:
-        text = rows_of_python.rows_text(data, mode)
+        return os.fsencode(name).decode("utf-8")
+    except UnicodeError:
+        return None
+
+
+def rows_of(name: str, data: bytes, mode: str) -> bytes:
+    """The bytes of the rows of a source. Raises Refused where it has none."""
+    try:
+        return rows_of_python.rows_text(data, mode).encode("utf-8")
     except rows_of_python.Fault as fault:
-        raise Failed(told(name, fault.place, str(fault), lines_of(data)), REFUSED) from None
-    return text.encode("utf-8")
+        raise Refused(refusal(name, fault.place, str(fault), rows_of_python.lines_of(data))) from None

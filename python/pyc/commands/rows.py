@@ -1,13 +1,9 @@
 """The command `rows`: writes the rows of a Python source, which the program reads (docs/ROWS.md)."""
 from __future__ import annotations
 
-import sys
-
-from ..errors import DONE, REFUSED, WRITE, WrongWords
+from .. import ends, refusals, sources
+from ..errors import DONE, Refused, WrongWords
 from ..options import Command, Option, parse
-from ..rows import Fault, rows_text
-from ..sources import bytes_of, name_of
-from ..errors import Failed
 
 MODES = ("exec", "eval", "single", "block", "func_type")
 
@@ -27,17 +23,9 @@ def main(words: list[str]) -> int:
         raise WrongWords("rows takes one file, and '%s' is another" % given.files[1])
     file = given.files[0] if given.files else "-"
     try:
-        text = rows_text(bytes_of(file), given.mode)
-    except Failed as failed:
-        sys.stderr.write(str(failed))
-        return failed.status
-    except Fault as fault:
-        sys.stderr.write(fault.line(name_of(file)) + "\n")
-        return REFUSED
-    try:
-        with open(1, "wb", closefd=False) as out:
-            out.write(text.encode("utf-8") + b"\n")
-    except OSError as error:
-        sys.stderr.write("standard output: %s\n" % error.strerror)
-        return WRITE
+        text = sources.rows_of(sources.name_of(file), sources.bytes_of(file), given.mode)
+    except Refused as refused:
+        ends.say(refusals.told(refused.refusal, ends.width(), ends.is_coloured()))
+        return refused.status
+    ends.write(text + b"\n")
     return DONE
