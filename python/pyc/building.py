@@ -6,11 +6,11 @@ import re
 import subprocess
 from typing import Dict, Iterable, Iterator, List, NamedTuple, Optional, Pattern, Sequence, Union
 
-from . import rows, stamps
-from .errors import INPUT, MEMORY, READ, REFUSED, WORDS, WRITE, Failed, WrongWords
-from .program import REFUSAL
-from .sources import bytes_of, lines_of, told
-from .stamps import Made, Recipe, Refusal
+from . import program, refusals, rows, stamps
+from .errors import MEMORY, MISSING, READ, WORDS, WRITE, Error, Failed, Refused, WrongWords
+from .refusals import Refusal
+from .sources import bytes_of, rows_of, text_of_name
+from .stamps import Made, Recipe, Unmade
 
 # The folder beside sources in which their files are made, and those in which no sources are looked for.
 CACHE = "__pyccode__"
@@ -47,7 +47,8 @@ class Outcome(NamedTuple):
     """`fresh`, `compiled`, `stale`, `refused` or `failed`."""
     status: int = 0
     text: str = ""
-    """The lines that are told of it."""
+    """The lines that are told of it, with their ends; empty where there are none."""
+    refusal: Optional[Refusal] = None
     data: bytes = b""
     """What was made, where the job has no target."""
 
@@ -137,88 +138,102 @@ def known(job: Job, recipe: Recipe) -> Optional[Outcome]:
     """What became of a job before, where that is fresh; None where its file is stale."""
     assert job.target is not None
     try:
-        check_path(job)
+        path = path_of(job)
         source = bytes_of(job.file)
     except Failed as failed:
-        return Outcome("failed", failed.status, str(failed))
-    result = stamps.fresh(job.target, recipe, job.path, source)
+        return failure(failed)
+    result = stamps.fresh(job.target, recipe, path, source)
     if result is None:
         return None
-    return Outcome("fresh") if isinstance(result, Made) else refused(job, result, source)
+    return Outcome("fresh") if isinstance(result, Made) else refused(refusal_of(job, result, source))
 
 
 def make(recipe: Recipe, job: Job) -> Outcome:
     """Compiles a source and writes its file, or hands back its bytes."""
     try:
-        check_path(job)
+        path = path_of(job)
         source = bytes_of(job.file)
-        made = compiled(recipe, job, source)
-        if job.target is not None:
-            write(recipe, job, source, made)
-    except Failed as failed:
-        return Outcome("failed", failed.status, str(failed))
+        try:
+            made = compiled(recipe, shown(job.file), path, source)
+        except Refused as fault:
+            write(recipe, job, path, source, unmade(fault.refusal))
+            return refused(fault.refusal)
+        write(recipe, job, path, source, made)
+        return Outcome("compiled", data=made if job.target is None else b"")
+    except (Failed, Error) as fault:
+        return failure(fault)
     except MemoryError:
-        return Outcome("failed", MEMORY)
-    if isinstance(made, Refusal):
-        return refused(job, made, source)
-    return Outcome("compiled", data=made if job.target is None else b"")
+        return Outcome("failed", MEMORY, "%s: no memory\n" % shown(job.file))
 
 
-def check_path(job: Job) -> None:
-    """Raises Failed where the path is none that a code may name."""
+def failure(fault: Union[Failed, Error]) -> Outcome:
+    """The outcome where something went wrong that may go well another time."""
+    return Outcome("failed", fault.status, str(fault) if isinstance(fault, Failed) else "%s\n" % fault)
+
+
+def refused(refusal: Refusal) -> Outcome:
+    """The outcome of a source that is refused."""
+    return Outcome("refused", refusal.status, refusal=refusal)
+
+
+def unmade(refusal: Refusal) -> Unmade:
+    """A refusal as a stamp has it."""
+    return Unmade(refusal.text, refusal.code, refusal.note, refusal.status, *(refusal.place or ()))
+
+
+def refusal_of(job: Job, it: Unmade, source: bytes) -> Refusal:
+    """A refusal that a stamp has, as it is told of a source."""
+    place = None if it.row is None or it.column is None else (it.row, it.column)
+    found = refusals.refusal(shown(job.file), place, it.refused, rows.lines_of(source), status=it.status)
+    return found._replace(code=it.code, note=it.note)
+
+
+def path_of(job: Job) -> str:
+    """The path that the code names. Raises Failed where it is none that a code may name."""
+    path = text_of_name(job.path)
+    if path is None:
+        raise Failed("%s: the name is not UTF-8\n" % shown(job.file), WORDS)
+    return path
+
+
+def found_program(named: Optional[str]) -> str:
+    """The program that is named, or the one that is found. Raises NoProgram, and Failed where the one named is not there."""
+    if named is None:
+        return program.find()
+    if not os.access(named, os.X_OK):
+        raise Failed("%s: there is no such program\n" % shown(named), MISSING)
+    return named
+
+
+def compiled(recipe: Recipe, name: str, path: str, source: bytes) -> bytes:
+    """What the program makes of a source; `name` is that by which the source is told.
+
+    Raises Refused; Failed, Ended and OutOfMemory where the program did not come to an answer.
+    """
+    data = rows_of(name, source, recipe.mode)
+    words = [*WORDS_OF_FORMS[recipe.form], recipe.mode, recipe.level, path]
     try:
-        job.path.encode("utf-8")
-    except UnicodeEncodeError:
-        raise Failed("%s: the name is not UTF-8\n" % shown(job.file), WORDS) from None
-
-
-def compiled(recipe: Recipe, job: Job, source: bytes) -> Union[bytes, Refusal]:
-    """What the program makes of a source. Raises Failed where that is neither a file nor a refusal."""
-    try:
-        text = rows.rows_text(source, recipe.mode)
-    except rows.Fault as fault:
-        return Refusal(str(fault), REFUSED, *(fault.place or ()))
-    words = [recipe.program, *WORDS_OF_FORMS[recipe.form], recipe.mode, recipe.level, job.path]
-    try:
-        ended = subprocess.run(words, input=text.encode("utf-8"), stdout=subprocess.PIPE, stderr=subprocess.PIPE)
+        status, made, said = program.call(recipe.program, words, data, subprocess.PIPE)
     except OSError as error:
-        raise Failed("%s: %s\n" % (recipe.program, error.strerror), MEMORY) from None
-    status, said = ended.returncode, ended.stderr.decode("utf-8", "replace").rstrip("\n")
-    if status < 0:
-        raise Failed("%s: the program was ended by signal %d\n" % (shown(job.file), -status), 128 - status)
-    if status in (REFUSED, INPUT):
-        return refusal_of(status, said)
+        raise Failed("%s: %s\n" % (shown(recipe.program), error.strerror), MEMORY) from None
     if status:
-        raise Failed("%s: %s\n" % (shown(job.file), said) if said else "", status)
-    return ended.stdout
+        program.check(status, said, name, data, rows.lines_of(source), True)
+    return made
 
 
-def refusal_of(status: int, said: str) -> Refusal:
-    """The refusal that the program told."""
-    found = REFUSAL.fullmatch(said)
-    if found is None:
-        return Refusal(said, status)
-    row, column, text = found.groups()
-    return Refusal(text, status) if row is None else Refusal(text, status, int(row), int(column))
-
-
-def write(recipe: Recipe, job: Job, source: bytes, made: Union[bytes, Refusal]) -> None:
-    """Puts what was made into its place. Raises Failed where it is not written."""
-    assert job.target is not None
+def write(recipe: Recipe, job: Job, path: str, source: bytes, made: Union[bytes, Unmade]) -> None:
+    """Puts what was made into its place, where it has one. Raises Failed where it is not written."""
+    if job.target is None:
+        return
     try:
-        stamps.write(job.target, recipe, job.path, source, made)
+        stamps.write(job.target, recipe, path, source, made)
     except OSError as error:
         raise Failed("%s: %s\n" % (shown(job.target), error.strerror), WRITE) from None
 
 
-def refused(job: Job, refusal: Refusal, source: bytes) -> Outcome:
-    """The outcome of a source that is refused."""
-    return Outcome("refused", refusal.status, told(shown(job.file), refusal.place, refusal.refused, lines_of(source)))
-
-
 def shown(name: str) -> str:
     """A path as it is told, also where it is not UTF-8."""
-    return os.fsencode(name).decode("utf-8", "replace")
+    return refusals.shown(os.fsencode(name).decode("utf-8", "backslashreplace"))
 
 
 def pattern_of(text: str) -> Pattern[str]:

@@ -53,6 +53,7 @@ code, .lines, .graph, .tree, .sample { font-family: var(--mono); font-variant-li
 .refusal { color: var(--raise); padding: 0 16px 4px 56px; white-space: pre-wrap; }
 .refusal code { white-space: pre; }
 .refusal .caret { font-family: var(--mono); font-weight: 700; }
+.refusal em { display: block; width: max-content; max-width: 60ch; position: sticky; left: 56px; font: 13px/20px var(--sans); color: var(--muted); white-space: normal; }
 .refusal strong { display: block; width: max-content; position: sticky; left: 56px; font: 600 13px/20px var(--sans); }
 #source > .refusal { padding: 12px 16px; }
 
@@ -145,7 +146,7 @@ kbd { font: 11px var(--mono); border: 1px solid var(--hair); border-radius: 3px;
   .pane > h2 { padding: 0 12px; }
   .lines .nr { width: 40px; padding-right: 10px; }
   .refusal { padding-left: 40px; }
-  .refusal strong { left: 40px; }
+  .refusal strong, .refusal em { left: 40px; }
   .graph { font-size: 11.5px; }
   .blocks { min-width: 330px; }
   .u { grid-template-columns: 28px 4ch 6.5ch 18.5ch 3.5ch minmax(6ch, 1fr); }

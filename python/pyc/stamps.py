@@ -14,6 +14,7 @@ import time
 from typing import Dict, Iterator, NamedTuple, Optional, Tuple, Union
 
 from . import codefile, rows
+from .stamp import sum_of_file
 
 # What stands in a stamp, and how; another number makes all files stale.
 STAMP = 1
@@ -34,20 +35,18 @@ class Recipe(NamedTuple):
     """The Python that reads the sources, and the sum of the module that makes their rows."""
 
 
-class Refusal(NamedTuple):
+class Unmade(NamedTuple):
     """Why no file is made of a source, which stays so while its stamp is fresh."""
 
     refused: str
     """The reason, in words."""
+    code: str
+    """Of the kind of refusal, as `--explain` takes it."""
+    note: str
     status: int
     row: Optional[int] = None
     """From 1; None where it has no place."""
     column: Optional[int] = None
-
-    @property
-    def place(self) -> Optional[Tuple[int, int]]:
-        """The row and the column, or None."""
-        return None if self.row is None or self.column is None else (self.row, self.column)
 
 
 class Made(NamedTuple):
@@ -57,18 +56,12 @@ class Made(NamedTuple):
     """The sum of its bytes."""
 
 
-Result = Union[Made, Refusal]
+Result = Union[Made, Unmade]
 
 
 def sum_of(data: bytes) -> str:
     """The sum by which bytes are known again."""
     return hashlib.sha256(data).hexdigest()
-
-
-def sum_of_file(path: str) -> str:
-    """The sum of a file's bytes. Raises OSError where it is not read."""
-    with open(path, "rb") as file:
-        return sum_of(file.read())
 
 
 def recipe_of(form: str, mode: str, level: str, program: str) -> Recipe:
@@ -114,19 +107,19 @@ def fresh(target: str, recipe: Recipe, path: str, source: bytes) -> Optional[Res
             return None
         if "made" in result:
             return Made(**result) if sum_of_file(target) == result["made"] else None
-        return Refusal(**result)
+        return Unmade(**result)
     except (OSError, ValueError, TypeError, KeyError, AttributeError):
         # There is no stamp, or it is none of this form.
         return None
 
 
-def write(target: str, recipe: Recipe, path: str, source: bytes, made: Union[bytes, Refusal]) -> None:
+def write(target: str, recipe: Recipe, path: str, source: bytes, made: Union[bytes, Unmade]) -> None:
     """Puts a file and its stamp in place; of a refusal the stamp alone, and an older file goes.
 
     Raises OSError where one of them is not written. Whenever this is stopped, each file that is there is whole.
     """
     os.makedirs(os.path.dirname(target) or ".", exist_ok=True)
-    if isinstance(made, Refusal):
+    if isinstance(made, Unmade):
         with contextlib.suppress(FileNotFoundError):
             os.remove(target)
         result: Result = made

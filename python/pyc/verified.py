@@ -2,33 +2,29 @@
 from __future__ import annotations
 
 import subprocess
+from typing import Optional
 
-from . import codefile
+from . import codefile, program
 from .code_object import Code
-from .errors import INPUT, MEMORY, Failed
-from .program import PROGRAM
+from .errors import INPUT, Failed
 
 
-def unpacked(data: bytes, name: str = "<code>", program: str = PROGRAM) -> str:
-    """The listing of a file of code, once the program has verified it.
+def unpacked(data: bytes, name: str = "<code>", by: Optional[str] = None) -> str:
+    """The listing of a file of code, once the program has verified it: that program, or the one that is found.
 
-    Raises Failed, with the lines that are told of the file of that name, where the bytes are no file of code that verifies
-    (status 3), and where the program ends otherwise.
+    Raises Failed, with the line that is told of the file of that name, where the bytes are no file of code that verifies
+    (status 3); NoProgram; and Ended or OutOfMemory where the program ends otherwise.
     """
-    try:
-        ended = subprocess.run([program, "unpack"], input=data, stdout=subprocess.PIPE, stderr=subprocess.PIPE)
-    except OSError as error:
-        raise Failed("%s: %s\n" % (program, error.strerror), MEMORY) from None
-    if ended.returncode < 0:
-        raise Failed("%s: the program was ended by signal %d\n" % (name, -ended.returncode), 128 - ended.returncode)
-    if ended.returncode:
-        raise Failed("%s: %s" % (name, ended.stderr.decode("utf-8", "replace") or "\n"), ended.returncode)
-    return ended.stdout.decode("utf-8")
+    status, listing, said = program.call(by or program.find(), ["unpack"], data, subprocess.PIPE)
+    if status == INPUT and said:
+        raise Failed("%s: %s\n" % (name, said.rstrip("\n")), INPUT)
+    program.check(status, said, name, b"", None, False)
+    return listing.decode("utf-8")
 
 
-def verified_code(data: bytes, name: str = "<code>", program: str = PROGRAM) -> Code:
-    """The code in a file of code, once the program has verified it. Raises Failed as `unpacked` does."""
-    unpacked(data, name, program)
+def verified_code(data: bytes, name: str = "<code>", by: Optional[str] = None) -> Code:
+    """The code in a file of code, once the program has verified it. Raises as `unpacked` does."""
+    unpacked(data, name, by)
     try:
         return codefile.read(data)
     except codefile.BadCode as bad:

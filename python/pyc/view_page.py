@@ -1,13 +1,13 @@
 """A file as one page for a browser, which takes nothing from elsewhere (docs/SHOW.md)."""
 from __future__ import annotations
 
-import unicodedata
 from html import escape
 from typing import Dict, Iterator, List, Optional, Tuple
 
 from . import page_style
 from .graph import Block, Edge, Instruction
 from .lanes import Line, lanes_of
+from .refusals import Refusal, width_of
 from .view_source import INSTEAD, Piece, pieces_of
 from .views import Cell, Shown, View
 
@@ -89,11 +89,12 @@ def source_pane(lines: List[str], places: set, view: View) -> Iterator[str]:
     refusal = view.refusal
     yield '<section class="pane" id="source" aria-labelledby="source-title">'
     yield '<h2 id="source-title">Source</h2>'
-    if refusal is not None and (refusal.row is None or not 1 <= refusal.row <= len(lines)):
-        yield '<p class="refusal" role="note">%s</p>' % text(refusal.refused)
+    row_of_refusal, column = (refusal and refusal.place) or (0, 0)
+    if refusal is not None and not 1 <= row_of_refusal <= len(lines):
+        yield '<p class="refusal" role="note">%s</p>' % text(refusal.text)
     yield '<ol class="lines">'
     for row, pieces in enumerate(pieces_of(lines, places), 1):
-        is_refused = refusal is not None and refusal.row == row
+        is_refused = row == row_of_refusal
         yield '<li id="L%d"%s><span class="nr">%d</span><code>%s</code>' % (
             row,
             ' class="refused"' if is_refused else "",
@@ -101,7 +102,7 @@ def source_pane(lines: List[str], places: set, view: View) -> Iterator[str]:
             "".join(piece_text(it, row) for it in pieces) or " ",
         )
         if is_refused:
-            yield mark_of(lines[row - 1], refusal.column or 1, refusal.refused)
+            yield mark_of(lines[row - 1], column, refusal)
         yield "</li>"
     yield "</ol>"
     yield "</section>"
@@ -116,18 +117,12 @@ def piece_text(piece: Piece, row: int) -> str:
     return '<span class="%s">%s</span>' % (piece.kind, escape(piece.text)) if piece.kind else escape(piece.text)
 
 
-def mark_of(line: str, column: int, reason: str) -> str:
-    """The mark below the column of a refusal, and the reason."""
+def mark_of(line: str, column: int, refusal: Refusal) -> str:
+    """The mark below the column of a refusal, the reason, and what kind it is."""
     before = line[: column - 1]
     blanks = "".join(it if it == "\t" else " " * width_of(it) for it in before)
-    return '<p class="refusal" role="note"><code>%s</code><span class="caret">^</span><strong>%s</strong></p>' % (blanks, text(reason))
-
-
-def width_of(character: str) -> int:
-    """How many columns of a fixed font a character takes."""
-    if unicodedata.combining(character):
-        return 0
-    return 2 if unicodedata.east_asian_width(character) in "WF" else 1
+    reason, note = text(refusal.text), text(refusal.note)
+    return '<p class="refusal" role="note"><code>%s</code><span class="caret">^</span><strong>%s</strong> <em>%s</em></p>' % (blanks, reason, note)
 
 
 # The code.
@@ -138,8 +133,8 @@ def code_pane(view: View) -> Iterator[str]:
     yield '<section class="pane" id="code" aria-labelledby="code-title">'
     yield '<h2 id="code-title">Code</h2>'
     if view.refusal is not None:
-        place = "" if view.refusal.row is None else "%d:%d: " % (view.refusal.row, view.refusal.column or 1)
-        yield '<p class="empty">Nothing was compiled. <strong>%s%s</strong></p>' % (place, text(view.refusal.refused))
+        place = "" if view.refusal.place is None else "%d:%d: " % view.refusal.place
+        yield '<p class="empty">Nothing was compiled. <strong>%s%s</strong></p>' % (place, text(view.refusal.text))
     for shown in view.codes:
         yield from code_article(shown)
     yield "</section>"

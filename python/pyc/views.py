@@ -5,11 +5,13 @@ import re
 from typing import Dict, Iterator, List, NamedTuple, Optional, Tuple
 
 from . import codefile, graph
-from .building import Job, compiled
+from .building import compiled
 from .code_object import Code
+from .errors import Refused
 from .graph import Block, Heights
+from .refusals import Refusal
 from .rows import Fault, text_of
-from .stamps import Recipe, Refusal
+from .stamps import Recipe
 from .verified import unpacked
 
 UNIT = re.compile(r"(\d+) (\d+:\d+|-:-) (\w+)(?: (\d+))?(?: (.*))?", re.S)
@@ -100,16 +102,17 @@ class View(NamedTuple):
 
 
 def view_of_source(recipe: Recipe, name: str, source: bytes) -> View:
-    """What is shown of a source. Raises Failed where the program ends otherwise than with a code or a refusal."""
-    made = compiled(recipe, Job(name, name, None), source)
+    """What is shown of a source. Raises as `compiled` does, but for a source that is refused."""
     lines = lines_shown(source)
-    if isinstance(made, Refusal):
-        return View(name, lines, [], made)
+    try:
+        made = compiled(recipe, name, name, source)
+    except Refused as refused:
+        return View(name, lines, [], refused.refusal)
     return View(name, lines, codes_of(made, unpacked(made, name, recipe.program)), None)
 
 
 def view_of_code(name: str, data: bytes, program: str) -> View:
-    """What is shown of a file of code. Raises Failed where the program does not verify it."""
+    """What is shown of a file of code. Raises as `unpacked` does."""
     return View(name, None, codes_of(data, unpacked(data, name, program)), None)
 
 

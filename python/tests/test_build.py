@@ -2,7 +2,6 @@
 """Tests of `build`, of stamps and of workers, with a small program in the place of pyc."""
 from __future__ import annotations
 
-import io
 import os
 import pathlib
 import re
@@ -15,9 +14,10 @@ import time
 import unittest
 
 HERE = pathlib.Path(__file__).resolve().parent
-sys.path.insert(0, str(HERE.parent))
+sys.path[:0] = [str(HERE.parent), str(HERE)]
 
-from pyc import cli, rows, stamps, verified
+from in_process import call
+from pyc import rows, stamps, verified
 from pyc.errors import Failed
 from pyc.workers import Lost, results
 
@@ -50,6 +50,11 @@ def wait_until(is_so, seconds=30):
             return True
         time.sleep(0.01)
     return False
+
+
+def without_notes(told):
+    """What was told, without the lines that say what kind of refusal it is."""
+    return re.sub(r"(?m)^note: .*\n", "", told)
 
 
 def is_there(number):
@@ -88,22 +93,12 @@ class Building(unittest.TestCase):
         return [sys.executable, "-B", "-m", "pyc", "build", "--program", str(self.program), *map(str, words)]
 
     def environment(self):
-        return dict(os.environ, PYTHONPATH=str(HERE.parent))
+        return dict(os.environ, PYTHONPATH=str(HERE.parent), NO_COLOR="1")
 
     def build(self, *words):
-        """The status of a build, what it wrote, and what it told. It is a call in this process."""
-        before = os.getcwd(), sys.stdout, sys.stderr
-        out, told = (io.TextIOWrapper(io.BytesIO(), encoding="utf-8") for _ in range(2))
-        os.chdir(self.folder)
-        sys.stdout, sys.stderr = out, told
-        try:
-            status = cli.main(["build", "--program", str(self.program), *words])
-            out.flush()
-            told.flush()
-        finally:
-            os.chdir(before[0])
-            sys.stdout, sys.stderr = before[1:]
-        return status, out.buffer.getvalue().decode(), told.buffer.getvalue().decode()
+        """The status of a build, what it wrote, and what it told but for notes. It is a call in this process."""
+        status, out, told = call(["build", "--program", str(self.program), *words], str(self.folder))
+        return status, out, without_notes(told)
 
     def starts(self):
         """The words of each start of the program since this was asked before."""
@@ -219,7 +214,7 @@ class Refusing(Building):
                 it.write(b"x = 1\n")
         except OSError:
             self.skipTest("this file system has no such names")
-        self.assertEqual(self.build("lib"), (2, "4 files: 3 compiled, 1 failed\n", "lib/\ufffd.py: the name is not UTF-8\n"))
+        self.assertEqual(self.build("lib"), (2, "4 files: 3 compiled, 1 failed\n", "lib/\\xff.py: the name is not UTF-8\n"))
         self.assertEqual(self.build("lib")[1], "4 files: 3 fresh, 1 failed\n")
 
     def test_a_program_that_ends_otherwise(self):
@@ -228,7 +223,7 @@ class Refusing(Building):
         self.program.unlink()
         status, out, told = self.build("lib")
         self.assertEqual((status, out), (127, ""))
-        self.assertEqual(told, "pyc: the program is not there: %s: No such file or directory\n" % self.program)
+        self.assertEqual(told, "%s: there is no such program\n" % self.program)
 
 
 class Stopping(Building):
@@ -326,7 +321,7 @@ class Placing(Building):
     def test_two_sources_for_one_file(self):
         (self.folder / "other").mkdir()
         (self.folder / "other" / "a.py").write_text("x = 1\n")
-        self.assertEqual(self.build("-d", "out", "lib", "other"), (2, "", "pyc: lib/a.py and other/a.py would both be written to out/a.exec-0.code\npyc: 'pyc build --help' says which words there are\n"))
+        self.assertEqual(self.build("-d", "out", "lib", "other"), (2, "", "pyc: lib/a.py and other/a.py would both be written to out/a.exec-0.code\npyc: 'pyc build --help' lists the words\n"))
         self.assertFalse((self.folder / "out").exists())
 
     def test_a_source_where_a_file_would_be(self):
@@ -434,9 +429,8 @@ class WithTheProgram(unittest.TestCase):
 
     def test_the_examples(self):
         with tempfile.TemporaryDirectory() as to:
-            words = [sys.executable, "-B", "-m", "pyc", "build", "-j", "2", "-d", to, "--strip", "examples", "examples"]
-            ended = subprocess.run(words, cwd=ROOT, env=dict(os.environ, PYTHONPATH=str(HERE.parent)), stdout=subprocess.PIPE, stderr=subprocess.PIPE)
-            self.assertIn(ended.returncode, (0, 1), ended.stderr)
+            status, _, told = call(["build", "-j", "2", "-d", to, "--strip", "examples", "examples"], str(ROOT))
+            self.assertIn(status, (0, 1), told)
             found = sorted(pathlib.Path(to).glob("*.code"))
             self.assertGreaterEqual(len(found), 5)
             for it in found:
@@ -447,7 +441,11 @@ class WithTheProgram(unittest.TestCase):
                 code = verified.verified_code(it.read_bytes(), it.name, str(PROGRAM))
                 self.assertEqual((code.source_path, code.to_bytes()), (name, packed.stdout))
                 listing = (ROOT / "examples" / name).with_suffix(".txt").read_text()
-                self.assertEqual(verified.unpacked(it.read_bytes(), program=str(PROGRAM)), listing)
+                self.assertEqual(verified.unpacked(it.read_bytes(), by=str(PROGRAM)), listing)
+
+    def test_listings_are_those_of_compile(self):
+        files = ["examples/%s.py" % it for it in ("closure", "handlers", "function", "classes")]
+        self.assertEqual(call(["build", "--listings", "-j", "3", *files], str(ROOT)), call(files, str(ROOT)))
 
     def test_what_does_not_verify(self):
         with self.assertRaises(Failed) as raised:

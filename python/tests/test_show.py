@@ -15,15 +15,16 @@ import unittest
 
 HERE = pathlib.Path(__file__).resolve().parent
 ROOT = HERE.parent.parent
-sys.path[:0] = [str(HERE.parent), str(ROOT / "tools" / "model")]
+sys.path[:0] = [str(HERE.parent), str(HERE), str(ROOT / "tools" / "model")]
 
 import instr
 import layout
 import sound
+from in_process import call
 from pyc import codefile, graph, listing, view_dot, view_page, view_text, views
 from pyc.flow import LABELS, flow_of
 from pyc.lanes import Line, lanes_of
-from pyc.stamps import Refusal
+from pyc.refusals import Refusal, refusal
 from pyc.view_source import pieces_of
 
 EXAMPLES = sorted((ROOT / "examples").glob("*.py"))
@@ -264,14 +265,14 @@ class Pages(unittest.TestCase):
 
     def test_a_refusal_stands_at_its_place(self):
         lines = ["x = '<script>' # \x1b[31m \u202e", "\tif 日本: break"]
-        page_text = view_page.page_of_view(views.View("<b>.py", lines, [], Refusal("'break' outside <loop>", 1, 2, 9)), "exec", "0")
+        page_text = view_page.page_of_view(views.View("<b>.py", lines, [], Refusal("<b>.py", (2, 9), "'break' outside <loop>", "R0", "a <note>")), "exec", "0")
         page = Page(page_text)
         self.assertEqual([it["tag"] for it in page.elements if it["tag"] in ("b", "loop", "script")], ["script"])
-        self.assertEqual(page.ids["L2"]["text"], "2\tif 日本: break\n\t         ^'break' outside <loop>\n")
+        self.assertEqual(page.ids["L2"]["text"], "2\tif 日本: break\n\t         ^'break' outside <loop> a <note>\n")
         self.assertEqual(page.of_class("refused"), [page.ids["L2"]])
         self.assertNotRegex(page_text, "[\x00-\x08\x0b-\x1f\x7f\u202e]")
         self.assertIn("Nothing was compiled. 2:9: 'break' outside <loop>", page.ids["code"]["text"])
-        Page(view_page.page_of_view(views.View("m.py", [""], [], Refusal("too large", 1)), "exec", "0"))
+        Page(view_page.page_of_view(views.View("m.py", [""], [], refusal("m.py", None, "tree is too large: nodes")), "exec", "0"))
 
     def test_pieces(self):
         found = pieces_of(["f'a{b} {é}' if x else 'c'"], [(1, 1), (1, 5), (1, 9), (1, 13)])[0]
@@ -359,11 +360,9 @@ class Dots(unittest.TestCase):
             self.assertEqual((ended.returncode, ended.stderr), (0, b""))
 
 
-def call(*words):
-    """The status of a call, what it wrote, and what it told."""
-    environment = dict(os.environ, PYTHONPATH=str(HERE.parent))
-    ended = subprocess.run([sys.executable, "-B", "-m", "pyc", "show", *map(str, words)], env=environment, stdout=subprocess.PIPE, stderr=subprocess.PIPE)
-    return ended.returncode, ended.stdout.decode(), ended.stderr.decode()
+def show(*words):
+    """The status of a call of `show`, what it wrote, and what it told."""
+    return call(["show", *map(str, words)], str(ROOT))
 
 
 @unittest.skipUnless(PROGRAM.exists(), "the program is not built")
@@ -376,16 +375,16 @@ class Commands(unittest.TestCase):
         self.loop.write_text(LOOP)
 
     def test_text(self):
-        status, out, told = call(self.loop)
+        status, out, told = show(self.loop)
         self.assertEqual((status, told), (0, ""))
         self.assertEqual(out.replace(str(self.loop), "loop.py"), LOOP_SHOWN)
-        self.assertEqual(call("-s", self.loop), (0, out, ""))
+        self.assertEqual(show("-s", self.loop), (0, out, ""))
 
     def test_a_page_and_a_graph(self):
         page = self.folder / "page.html"
-        self.assertEqual(call("--html", "-o", page, self.loop), (0, "", ""))
+        self.assertEqual(show("--html", "-o", page, self.loop), (0, "", ""))
         self.assertEqual(len(Page(page.read_text()).of_class("u")), 16)
-        self.assertTrue(call("--dot", self.loop)[1].startswith("digraph "))
+        self.assertTrue(show("--dot", self.loop)[1].startswith("digraph "))
 
     def test_a_file_of_code(self):
         from pyc.rows import rows_text
@@ -394,20 +393,20 @@ class Commands(unittest.TestCase):
         file = self.folder / "loop.code"
         file.write_bytes(packed)
         wanted = "".join(it + "\n" for it in LOOP_SHOWN.split("\n")[:-1] if not re.match(r"\d  ", it))
-        status, out, told = call(file)
+        status, out, told = show(file)
         self.assertEqual((status, told), (0, ""))
         self.assertEqual([it.strip() for it in out.split("\n")], [it.strip() for it in wanted.split("\n")])
-        self.assertEqual(len(Page(call("--html", file)[1]).of_class("u")), 16)
+        self.assertEqual(len(Page(show("--html", file)[1]).of_class("u")), 16)
         file.write_bytes(packed[:-1])
-        self.assertEqual(call(file), (3, "", "%s: input: bad code file at %d\n" % (file, len(packed) - 1)))
+        self.assertEqual(show(file), (3, "", "%s: input: bad code file at %d\n" % (file, len(packed) - 1)))
 
     def test_a_refusal(self):
         self.loop.write_text("if x:\n    break\n")
-        status, out, told = call(self.loop)
+        status, out, told = show(self.loop)
         self.assertEqual((status, out), (1, ""))
         self.assertTrue(told.startswith("%s:2:5: 'break' outside loop\n" % self.loop), told)
-        self.assertEqual(call("--dot", self.loop)[:2], (1, ""))
-        status, out, again = call("--html", self.loop)
+        self.assertEqual(show("--dot", self.loop)[:2], (1, ""))
+        status, out, again = show("--html", self.loop)
         self.assertEqual((status, again), (1, told))
         self.assertIn("'break' outside loop", Page(out).ids["L2"]["text"])
 
@@ -416,13 +415,13 @@ class Commands(unittest.TestCase):
             ([], "show wants one file"),
             ([self.loop, "b.py"], "show takes one file, and 'b.py' is another"),
             (["--html", "--dot", self.loop], "-s, --html and --dot are three ways to show a file, and one is wanted"),
-            (["-o", self.loop, self.loop], "-o names the file that is shown"),
+            (["-o", self.loop, self.loop], "-o %s is the file that is shown, and would be overwritten" % self.loop),
         ):
-            status, out, said = call(*words)
+            status, out, said = show(*words)
             self.assertEqual((status, out, said.split("\n")[0]), (2, "", "pyc: " + told))
         self.assertEqual(self.loop.read_text(), LOOP)
-        self.assertEqual(call(self.folder / "no.py")[0], 4)
-        self.assertEqual(call("-o", self.folder / "no" / "page", self.loop)[0], 5)
+        self.assertEqual(show(self.folder / "no.py")[0], 4)
+        self.assertEqual(show("-o", self.folder / "no" / "page", self.loop)[0], 5)
 
 
 # What is tried in a page: it is run in it, and gives a list.
@@ -432,8 +431,10 @@ TRIED = """
   function said(word, is) { out.push([word, !!is]); }
   function on(pane) { return document.querySelectorAll("#" + pane + " .on"); }
   function press(key) { document.activeElement.dispatchEvent(new KeyboardEvent("keydown", {key: key, bubbles: true, cancelable: true})); }
+  // A window that is not in front tells no focus.
+  function focus(it) { it.focus(); it.dispatchEvent(new FocusEvent("focusin", {bubbles: true})); }
   var unit = document.getElementById("c1u1");
-  unit.focus();
+  focus(unit);
   said("a unit joins its place", on("source").length === 1 && on("source")[0].dataset.place === unit.dataset.place);
   said("and the others of it", on("code").length === document.querySelectorAll('#code [data-place="' + unit.dataset.place + '"]').length);
   press("ArrowDown");
@@ -451,7 +452,7 @@ TRIED = """
   var jump = document.querySelector(".edge.jump[data-from]");
   if (jump) {
     var from = document.getElementById(jump.dataset.from);
-    from.focus();
+    focus(from);
     said("a jump is lit", jump.classList.contains("lit"));
     press("ArrowRight");
     said("and followed", document.activeElement.id === jump.dataset.to);

@@ -1,22 +1,19 @@
 """The command `build`: keeps files of code, or of listings, beside sources, and makes those that are stale."""
 from __future__ import annotations
 
+import contextlib
 import functools
 import os
 import shutil
-import sys
-from typing import Dict, Iterator, List, Optional, Sequence, Tuple, Union
+from typing import Dict, List, Optional, Pattern, Sequence, Tuple
 
-from .. import stamps
-from ..building import Job, Outcome, jobs_of, known, make, pattern_of, shown, sources_of
-from ..errors import DONE, MISSING, READ, REFUSED, WRITE, Failed, WrongWords
+from .. import ends, refusals, stamps
+from ..building import Job, Outcome, found_program, jobs_of, known, make, pattern_of, shown, sources_of
+from ..errors import DONE, MEMORY, MISSING, REFUSED, Failed, WrongWords
 from ..options import Command, Option, parse
-from ..program import PROGRAM
 from ..stamps import Recipe
 from ..workers import Lost, processors, results
-
-MODES = ("exec", "eval", "single", "block")
-LEVELS = ("0", "1", "2")
+from .compile import LEVEL, MODE
 
 COMMAND = Command(
     "build",
@@ -32,9 +29,9 @@ COMMAND = Command(
         Option(("--strip",), "leave out the folder with which paths begin in the paths that the codes name", "DIR"),
         Option(("--check",), "write nothing, tell what is stale, and end with 1 where something is"),
         Option(("--listings",), "make listings; without -d they are written on standard output, in the order of the sources"),
-        Option(("-m", "--mode"), "what the sources hold (exec): exec, eval, single or block", "MODE", MODES, "exec"),
-        Option(("-O", "--level"), "the level of optimisation (0)", "LEVEL", LEVELS, "0"),
-        Option(("--program",), "the program that compiles rows", "FILE", default=PROGRAM),
+        MODE,
+        LEVEL,
+        Option(("--program",), "compile by this program", "FILE"),
     ),
     "The status is the highest of the sources' (README.md, \"Statuses\"). docs/BUILD.md says more.",
 )
@@ -45,7 +42,7 @@ class Progress:
 
     def __init__(self, count: int, is_quiet: bool) -> None:
         self.count = count
-        self.is_shown = not is_quiet and sys.stderr.isatty()
+        self.is_shown = not is_quiet and os.isatty(2)
         self.done = 0
 
     def step(self, job: Job) -> None:
@@ -53,7 +50,7 @@ class Progress:
         self.done += 1
         if self.is_shown:
             width = len(str(self.count))
-            line = "[%*d/%d] %s" % (width, self.done, self.count, printable(shown(job.file)))
+            line = "[%*d/%d] %s" % (width, self.done, self.count, shown(job.file))
             self.put(line[: shutil.get_terminal_size().columns - 1])
 
     def clear(self) -> None:
@@ -62,13 +59,7 @@ class Progress:
             self.put("")
 
     def put(self, line: str) -> None:
-        sys.stderr.write("\r%s\x1b[K" % line)
-        sys.stderr.flush()
-
-
-def printable(text: str) -> str:
-    """A text without characters that move the cursor."""
-    return "".join(it if it.isprintable() else "?" for it in text)
+        ends.say("\r%s\x1b[K" % line)
 
 
 class Report:
@@ -82,7 +73,7 @@ class Report:
         self.counts = dict.fromkeys(("compiled", "stale", "fresh", "refused", "failed"), 0)
 
     def add(self, at: int, outcome: Outcome) -> None:
-        """The job at that place has this outcome."""
+        """The job at that place has this outcome. Raises Failed where standard output is closed or full."""
         self.progress.step(self.jobs[at])
         self.waiting[at] = outcome
         while self.told in self.waiting:
@@ -93,15 +84,17 @@ class Report:
         """Tells of the next job."""
         self.counts[outcome.kind] += 1
         self.status = max(self.status, outcome.status)
+        is_stale = outcome.kind == "stale" and not self.is_quiet
+        if outcome.text or outcome.refusal or is_stale:
+            self.progress.clear()
         if outcome.text:
-            self.progress.clear()
-            sys.stderr.write(outcome.text)
-            sys.stderr.flush()
-        if outcome.kind == "stale" and not self.is_quiet:
-            self.progress.clear()
-            sys.stdout.write("%s: stale\n" % shown(job.file))
+            ends.say(outcome.text)
+        if outcome.refusal is not None:
+            ends.say(refusals.told(outcome.refusal, ends.width(), ends.is_coloured()))
+        if is_stale:
+            ends.write("%s: stale\n" % shown(job.file))
         if outcome.data:
-            sys.stdout.buffer.write(outcome.data)
+            ends.write(outcome.data)
 
     def summary(self) -> str:
         """How many files there are of each kind."""
@@ -115,25 +108,24 @@ def main(words: List[str]) -> int:
     given = parse(COMMAND, words)
     if not given.files:
         raise WrongWords("build wants a file or a folder")
+    if "-" in given.files:
+        raise WrongWords("build reads files and no standard input; a file of that name is written ./-")
     if given.check and given.listings and given.to is None:
         raise WrongWords("--check has nothing to look at, since listings are not kept without -d")
     count = workers_of(given.jobs)
     passed = None if given.exclude is None else pattern_of(given.exclude)
-    for stream in (sys.stdout, sys.stderr):
-        stream.reconfigure(encoding="utf-8", errors="backslashreplace")
-    try:
-        recipe = stamps.recipe_of("listing" if given.listings else "code", given.mode, given.level, given.program)
-    except OSError as error:
-        sys.stderr.write("pyc: the program is not there: %s: %s\n" % (error.filename, error.strerror))
-        return MISSING
+    recipe = recipe_of(given)
     jobs, status = found(given, recipe, passed)
+    return max(status, build(given, recipe, jobs, count))
+
+
+def recipe_of(given) -> Recipe:
+    """How files are made, by the words. Raises NoProgram, and Failed where a program that is named is not there."""
+    path = found_program(given.program)
     try:
-        return max(status, build(given, recipe, jobs, count))
+        return stamps.recipe_of("listing" if given.listings else "code", given.mode, given.level, path)
     except OSError as error:
-        # A listing or a summary was not taken. Python would say so once more where it ends.
-        sys.stderr.write("pyc: standard output: %s\n" % error.strerror)
-        os.dup2(os.open(os.devnull, os.O_WRONLY), sys.stdout.fileno())
-        return WRITE
+        raise Failed("%s: %s\n" % (shown(error.filename), error.strerror), MISSING) from None
 
 
 def workers_of(text: str) -> int:
@@ -143,14 +135,12 @@ def workers_of(text: str) -> int:
     return int(text) or processors()
 
 
-def found(given, recipe: Recipe, passed) -> Tuple[List[Job], int]:
+def found(given, recipe: Recipe, passed: Optional[Pattern[str]]) -> Tuple[List[Job], int]:
     """The jobs, and the status of what was named and is not there, which is told."""
-    if "-" in given.files:
-        raise WrongWords("build reads files and no standard input; a file of that name is written ./-")
     sources, status = [], DONE
     for it in sources_of(given.files, passed):
         if isinstance(it, Failed):
-            sys.stderr.write(str(it))
+            ends.say(str(it))
             status = max(status, it.status)
         else:
             sources.append(it)
@@ -173,8 +163,7 @@ def build(given, recipe: Recipe, jobs: List[Job], count: int) -> int:
     make_all(recipe, jobs, left, count, report)
     report.progress.clear()
     if not given.quiet and not (given.listings and given.to is None):
-        sys.stdout.write(report.summary())
-    sys.stdout.flush()
+        ends.write(report.summary())
     return report.status
 
 
@@ -187,12 +176,12 @@ def make_all(recipe: Recipe, jobs: Sequence[Job], left: Sequence[int], count: in
     """Makes the files of the jobs at these places, so many at once."""
     for folder in {os.path.dirname(jobs[at].target or "") for at in left if jobs[at].target is not None}:
         stamps.remove_leavings(folder)
-    ended = results(functools.partial(make, recipe), [jobs[at] for at in left], count)
-    for place, outcome in ended:
-        report.add(left[place], lost(jobs[left[place]], outcome) if isinstance(outcome, Lost) else outcome)
+    with contextlib.closing(results(functools.partial(make, recipe), [jobs[at] for at in left], count)) as ended:
+        for place, outcome in ended:
+            report.add(left[place], lost(jobs[left[place]], outcome) if isinstance(outcome, Lost) else outcome)
 
 
 def lost(job: Job, it: Lost) -> Outcome:
     """The outcome of a job whose worker was ended."""
-    status = 128 - it.exit_code if it.exit_code < 0 else READ
+    status = 128 - it.exit_code if it.exit_code < 0 else MEMORY
     return Outcome("failed", status, "%s: the process that compiled it was ended\n" % shown(job.file))

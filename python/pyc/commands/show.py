@@ -2,34 +2,30 @@
 from __future__ import annotations
 
 import os
-import sys
-from typing import List
+from typing import List, Optional
 
-from .. import view_dot, view_text, views
-from ..building import shown
+from .. import ends, files, refusals, view_dot, view_text, views
+from ..building import found_program, shown
 from ..codefile import MAGIC
-from ..errors import DONE, MISSING, WORDS, WRITE, Failed, WrongWords
+from ..errors import DONE, WORDS, WRITE, Failed, WrongWords
 from ..options import Command, Option, parse
-from ..program import PROGRAM
-from ..sources import bytes_of, lines_of, name_of, told
+from ..sources import bytes_of, name_of, text_of_name
 from ..stamps import Recipe
-
-MODES = ("exec", "eval", "single", "block")
-LEVELS = ("0", "1", "2")
+from .compile import LEVEL, MODE
 
 COMMAND = Command(
     "show",
     "FILE",
-    "Shows a source beside its code: as text, each line of the source above its units, with >> before the goals of jumps. "
-    "FILE is a source, - for standard input, or a file of code, which is verified first.",
+    "Shows a source beside its code. As text each line of the source stands above its units, with >> before the goals of "
+    "jumps. FILE is a source, - for standard input, or a file of code, which is verified first.",
     (
         Option(("-s", "--text"), "as text, which is what is done without an option"),
         Option(("--html",), "as a page for a browser, which takes nothing from elsewhere"),
         Option(("--dot",), "as graphs of blocks for graphviz: show --dot m.py | dot -Tsvg"),
         Option(("-o", "--output"), "write to FILE, and not on standard output", "FILE"),
-        Option(("-m", "--mode"), "what the source holds (exec): exec, eval, single or block", "MODE", MODES, "exec"),
-        Option(("-O", "--level"), "the level of optimisation (0)", "LEVEL", LEVELS, "0"),
-        Option(("--program",), "the program that compiles rows", "FILE", default=PROGRAM),
+        MODE,
+        LEVEL,
+        Option(("--program",), "compile by this program", "FILE"),
     ),
     "A source that is refused is told as elsewhere, with status 1; a page is written of it too, with the refusal at its "
     "place. docs/SHOW.md says more.",
@@ -43,25 +39,19 @@ def main(words: List[str]) -> int:
         raise WrongWords("show wants one file" if not given.files else "show takes one file, and '%s' is another" % given.files[1])
     if given.text + given.html + given.dot > 1:
         raise WrongWords("-s, --html and --dot are three ways to show a file, and one is wanted")
-    sys.stderr.reconfigure(encoding="utf-8", errors="backslashreplace")
     file = given.files[0]
-    if given.output is not None and is_same(given.output, file):
-        raise WrongWords("-o names the file that is shown")
-    try:
-        if not os.path.exists(given.program):
-            raise Failed("pyc: the program is not there: %s\n" % given.program, MISSING)
-        data = bytes_of(file)
-        view = view_of(given, name_of(file), data)
-        status = DONE
-        if view.refusal is not None:
-            sys.stderr.write(told(view.name, view.refusal.place, view.refusal.refused, lines_of(data)))
-            status = view.refusal.status
-        if status == DONE or given.html:
-            write(given.output, text_of(given, view))
-        return status
-    except Failed as failed:
-        sys.stderr.write(str(failed))
-        return failed.status
+    output = None if given.output == "-" else given.output
+    if output is not None and is_same(output, file):
+        raise WrongWords("-o %s is the file that is shown, and would be overwritten" % output)
+    given.program = found_program(given.program)
+    view = view_of(given, name_of(file), bytes_of(file))
+    status = DONE
+    if view.refusal is not None:
+        ends.say(refusals.told(view.refusal, ends.width(), ends.is_coloured()))
+        status = view.refusal.status
+    if status == DONE or given.html:
+        write(output, text_of(given, view))
+    return status
 
 
 def is_same(one: str, other: str) -> bool:
@@ -70,14 +60,13 @@ def is_same(one: str, other: str) -> bool:
 
 
 def view_of(given, name: str, data: bytes) -> views.View:
-    """What is shown of the bytes of a file. Raises Failed where that is nothing."""
+    """What is shown of the bytes of a file. Raises as the functions of `views` do."""
     if data.startswith(MAGIC):
         return views.view_of_code(shown(name), data, given.program)
-    try:
-        name.encode("utf-8")
-    except UnicodeEncodeError:
-        raise Failed("%s: the name is not UTF-8\n" % shown(name), WORDS) from None
-    return views.view_of_source(Recipe("code", given.mode, given.level, given.program, "", ""), name, data)
+    path = text_of_name(name)
+    if path is None:
+        raise Failed("%s: the name is not UTF-8\n" % shown(name), WORDS)
+    return views.view_of_source(Recipe("code", given.mode, given.level, given.program, "", ""), path, data)
 
 
 def text_of(given, view: views.View) -> str:
@@ -90,10 +79,12 @@ def text_of(given, view: views.View) -> str:
     return view_dot.dot_of_view(view) if given.dot else view_text.text_of_view(view)
 
 
-def write(file, text: str) -> None:
+def write(file: Optional[str], text: str) -> None:
     """Writes a text to a file, or on standard output. Raises Failed where it is not taken."""
+    if file is None:
+        return ends.write(text)
     try:
-        with open(1 if file is None else file, "wb", closefd=file is not None) as out:
+        with files.replacing(file) as out:
             out.write(text.encode("utf-8"))
     except OSError as error:
-        raise Failed("%s: %s\n" % ("standard output" if file is None else file, error.strerror), WRITE) from None
+        raise Failed("%s: %s\n" % (shown(file), error.strerror), WRITE) from None
