@@ -1,17 +1,17 @@
 """A file as one page for a browser, which takes nothing from elsewhere (docs/SHOW.md)."""
 from __future__ import annotations
 
+import os
 from html import escape
 from typing import Dict, Iterator, List, Optional, Tuple
 
-from . import page_style
 from .graph import Block, Edge, Instruction
 from .lanes import Line, lanes_of
 from .refusals import Refusal, width_of
 from .view_source import INSTEAD, Piece, pieces_of
 from .views import Cell, Shown, View
 
-# Heights of rows, in pixels; page_style.py has them once more.
+# Heights of rows, in pixels; page.css has them once more.
 ROW, GAP = 22, 16
 SCOPE_ROW = 26
 # How far lanes stand from one another, from the rows, and how wide all of them may be.
@@ -34,7 +34,7 @@ def page_of_view(view: View, mode: str, level: str) -> str:
         '<meta charset="utf-8">',
         '<meta name="viewport" content="width=device-width, initial-scale=1">',
         "<title>%s</title>" % text(view.name),
-        "<style>%s</style>" % page_style.STYLE,
+        "<style>\n%s</style>" % part("page.css"),
         "</head>",
         "<body>",
         *header(view, mode, level),
@@ -44,8 +44,14 @@ def page_of_view(view: View, mode: str, level: str) -> str:
         parts += source_pane(view.source, places, view)
     parts += code_pane(view)
     parts += scopes_pane(view.codes)
-    parts += ["</main>", *(legend() if view.codes else ()), "<script>%s</script>" % page_style.SCRIPT, "</body>", "</html>"]
+    parts += ["</main>", *(legend() if view.codes else ()), "<script>\n%s</script>" % part("page.js"), "</body>", "</html>"]
     return "\n".join(parts) + "\n"
+
+
+def part(name: str) -> str:
+    """A part of the page that stands beside this module as a file."""
+    with open(os.path.join(os.path.dirname(os.path.abspath(__file__)), name), encoding="utf-8") as it:
+        return it.read()
 
 
 def text(value: str) -> str:
