@@ -71,7 +71,10 @@ def sources_of(named: Sequence[str], passed: Optional[Pattern[str]]) -> Iterator
 
 
 def below(folder: str) -> Iterator[Union[Source, Failed]]:
-    """The sources below a folder, by their names; links to folders are not followed."""
+    """The sources below a folder, by their names. Links to folders are not followed; what is no file, as a pipe, is none.
+
+    A link that leads nowhere is one, and fails where it is read.
+    """
     left = [""]
     while left:
         within = left.pop()
@@ -86,7 +89,7 @@ def below(folder: str) -> Iterator[Union[Source, Failed]]:
             if entry.is_dir():
                 if not entry.is_symlink() and entry.name not in PASSED_OVER:
                     folders.append(os.path.join(within, entry.name))
-            elif entry.name.endswith(".py"):
+            elif entry.name.endswith(".py") and (entry.is_file() or not os.path.exists(entry.path)):
                 yield Source(os.path.join(place, entry.name), os.path.join(within, entry.name))
         left += reversed(folders)
 
@@ -156,14 +159,22 @@ def make(recipe: Recipe, job: Job) -> Outcome:
         try:
             made = compiled(recipe, shown(job.file), path, source)
         except Refused as fault:
-            write(recipe, job, path, source, unmade(fault.refusal))
-            return refused(fault.refusal)
+            return refuse(recipe, job, path, source, fault.refusal)
         write(recipe, job, path, source, made)
         return Outcome("compiled", data=made if job.target is None else b"")
     except (Failed, Error) as fault:
         return failure(fault)
     except MemoryError:
         return Outcome("failed", MEMORY, "%s: no memory\n" % shown(job.file))
+
+
+def refuse(recipe: Recipe, job: Job, path: str, source: bytes, refusal: Refusal) -> Outcome:
+    """Keeps a refusal by a stamp. Where that is not written, both are told."""
+    try:
+        write(recipe, job, path, source, unmade(refusal))
+    except Failed as failed:
+        return refused(refusal)._replace(status=max(failed.status, refusal.status), text=str(failed))
+    return refused(refusal)
 
 
 def failure(fault: Union[Failed, Error]) -> Outcome:

@@ -198,6 +198,15 @@ class Refusing(Building):
         status, out, told = self.build("-j", "2", "lib")
         self.assertEqual((status, out), (5, "3 files: 1 compiled, 1 fresh, 1 failed\n"))
         self.assertRegex(told, r"^lib/in/__pyccode__/c\.exec-0\.code: [A-Z].+\n$")
+        self.write("in/c.py", "break\n")
+        status, out, told = self.build("lib")
+        self.assertEqual((status, out), (5, "3 files: 2 fresh, 1 refused\n"))
+        self.assertRegex(told, r"^lib/in/__pyccode__/c\.exec-0\.code: [A-Z].+\nlib/in/c\.py:1:1: 'break' outside loop\nbreak\n\^\n$")
+
+    def test_what_is_no_file(self):
+        os.mkfifo(str(self.lib / "pipe.py"))
+        (self.lib / "in" / "gone.py").symlink_to("nowhere.py")
+        self.assertEqual(self.build("lib"), (4, "4 files: 3 compiled, 1 failed\n", "lib/in/gone.py: No such file or directory\n"))
 
     @unittest.skipIf(os.name == "nt" or os.geteuid() == 0, "a folder can be written by this user whatever its mode is")
     def test_a_folder_that_can_only_be_read(self):
