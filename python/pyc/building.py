@@ -6,11 +6,11 @@ import re
 import subprocess
 from typing import Dict, Iterable, Iterator, List, NamedTuple, Optional, Pattern, Sequence, Union
 
-from . import program, refusals, rows, stamps
+from . import freshness, program, refusals, rows
 from .errors import MEMORY, MISSING, READ, WORDS, WRITE, Error, Failed, Refused, WrongWords
 from .refusals import Refusal
 from .sources import bytes_of, rows_of, text_of_name
-from .stamps import Made, Recipe, Unmade
+from .freshness import Made, Recipe, Unmade
 
 # The folder beside sources in which their files are made, and those in which no sources are looked for.
 CACHE = "__pyccode__"
@@ -113,11 +113,17 @@ def jobs_of(sources: Iterable[Source], recipe: Recipe, into: Optional[str], stri
             raise WrongWords("%s and %s would both be written to %s" % names)
     if strip is not None and found and not stripped:
         raise WrongWords("no source stands below %s, which --strip names" % shown(strip))
-    files = {os.path.realpath(it.file) for it in found.values()}
-    for target in found:
+    check_targets(found)
+    return list(found.values())
+
+
+def check_targets(jobs: Dict[str, Job]) -> None:
+    """Sees that no file that is made is a source, which would be lost. The jobs stand by the paths of their files."""
+    # No file that is made has the name of a module.
+    files = {os.path.realpath(it.file) for it in jobs.values() if not it.file.endswith(".py")}
+    for target in jobs if files else ():
         if os.path.realpath(target) in files:
             raise WrongWords("%s is a source, and would be overwritten" % shown(target))
-    return list(found.values())
 
 
 def stripped_path(file: str, strip: Optional[str]) -> Optional[str]:
@@ -134,7 +140,7 @@ def stripped_path(file: str, strip: Optional[str]) -> Optional[str]:
 def target_of(source: Source, recipe: Recipe, into: Optional[str]) -> str:
     """The path of the file that is made of a source."""
     folder, name = os.path.split(source.file if into is None else os.path.join(into, source.below))
-    return os.path.join(folder, CACHE if into is None else "", stamps.name_of(name, recipe))
+    return os.path.join(folder, CACHE if into is None else "", freshness.name_of(name, recipe))
 
 
 def known(job: Job, recipe: Recipe) -> Optional[Outcome]:
@@ -145,7 +151,7 @@ def known(job: Job, recipe: Recipe) -> Optional[Outcome]:
         source = bytes_of(job.file)
     except Failed as failed:
         return failure(failed)
-    result = stamps.fresh(job.target, recipe, path, source)
+    result = freshness.fresh(job.target, recipe, path, source)
     if result is None:
         return None
     return Outcome("fresh") if isinstance(result, Made) else refused(refusal_of(job, result, source))
@@ -195,8 +201,9 @@ def unmade(refusal: Refusal) -> Unmade:
 def refusal_of(job: Job, it: Unmade, source: bytes) -> Refusal:
     """A refusal that a stamp has, as it is told of a source."""
     place = None if it.row is None or it.column is None else (it.row, it.column)
-    found = refusals.refusal(shown(job.file), place, it.refused, rows.lines_of(source), status=it.status)
-    return found._replace(code=it.code, note=it.note)
+    lines = rows.lines_of(source) or []
+    line = lines[place[0] - 1].rstrip() if place is not None and 1 <= place[0] <= len(lines) else ""
+    return Refusal(shown(job.file), place, it.refused, it.code, it.note, line or None, it.status)
 
 
 def path_of(job: Job) -> str:
@@ -237,7 +244,7 @@ def write(recipe: Recipe, job: Job, path: str, source: bytes, made: Union[bytes,
     if job.target is None:
         return
     try:
-        stamps.write(job.target, recipe, path, source, made)
+        freshness.write(job.target, recipe, path, source, made)
     except OSError as error:
         raise Failed("%s: %s\n" % (shown(job.target), error.strerror), WRITE) from None
 

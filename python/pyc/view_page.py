@@ -128,7 +128,7 @@ def mark_of(line: str, column: int, refusal: Refusal) -> str:
     before = line[: column - 1]
     blanks = "".join(it if it == "\t" else " " * width_of(it) for it in before)
     reason, note = text(refusal.text), text(refusal.note)
-    return '<p class="refusal" role="note"><code>%s</code><span class="caret">^</span><strong>%s</strong> <em>%s</em></p>' % (blanks, reason, note)
+    return '<p class="refusal" role="note"><code>%s</code><span class="caret">^</span><strong>%s</strong><em>%s</em></p>' % (blanks, reason, note)
 
 
 # The code.

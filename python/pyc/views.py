@@ -11,7 +11,7 @@ from .errors import Refused
 from .graph import Block, Heights
 from .refusals import Refusal
 from .rows import Fault, text_of
-from .stamps import Recipe
+from .freshness import Recipe
 from .verified import unpacked
 
 UNIT = re.compile(r"(\d+) (\d+:\d+|-:-) (\w+)(?: (\d+))?(?: (.*))?", re.S)

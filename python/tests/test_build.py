@@ -17,7 +17,7 @@ HERE = pathlib.Path(__file__).resolve().parent
 sys.path[:0] = [str(HERE.parent), str(HERE)]
 
 from in_process import call
-from pyc import rows, stamps, verified
+from pyc import freshness, rows, verified
 from pyc.errors import Failed
 from pyc.workers import Lost, results
 
@@ -153,15 +153,15 @@ class Freshness(Building):
 
     def test_the_file_of_one_recipe_with_the_stamp_of_another(self):
         target = str(self.folder / "x.code")
-        one = stamps.Recipe("code", "exec", "0", "program", "1", "reader")
+        one = freshness.Recipe("code", "exec", "0", "program", "1", "reader")
         other = one._replace(program_sum="2")
-        stamps.write(target, one, "x.py", b"1", b"made by one")
-        self.assertEqual(stamps.fresh(target, one, "x.py", b"1"), stamps.Made(stamps.sum_of(b"made by one")))
-        self.assertIsNone(stamps.fresh(target, other, "x.py", b"1"))
-        self.assertIsNone(stamps.fresh(target, one, "y.py", b"1"))
-        self.assertIsNone(stamps.fresh(target, one, "x.py", b"2"))
-        stamps.replace(target, b"made by another")
-        self.assertIsNone(stamps.fresh(target, one, "x.py", b"1"))
+        freshness.write(target, one, "x.py", b"1", b"made by one")
+        self.assertEqual(freshness.fresh(target, one, "x.py", b"1"), freshness.Made(freshness.sum_of(b"made by one")))
+        self.assertIsNone(freshness.fresh(target, other, "x.py", b"1"))
+        self.assertIsNone(freshness.fresh(target, one, "y.py", b"1"))
+        self.assertIsNone(freshness.fresh(target, one, "x.py", b"2"))
+        freshness.replace(target, b"made by another")
+        self.assertIsNone(freshness.fresh(target, one, "x.py", b"1"))
 
     def test_check_writes_nothing(self):
         self.assertEqual(self.build("--check", "lib"), (1, "lib/a.py: stale\nlib/b.py: stale\nlib/in/c.py: stale\n3 files: 3 stale\n", ""))

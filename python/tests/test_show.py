@@ -268,7 +268,7 @@ class Pages(unittest.TestCase):
         page_text = view_page.page_of_view(views.View("<b>.py", lines, [], Refusal("<b>.py", (2, 9), "'break' outside <loop>", "R0", "a <note>")), "exec", "0")
         page = Page(page_text)
         self.assertEqual([it["tag"] for it in page.elements if it["tag"] in ("b", "loop", "script")], ["script"])
-        self.assertEqual(page.ids["L2"]["text"], "2\tif 日本: break\n\t         ^'break' outside <loop> a <note>\n")
+        self.assertEqual(page.ids["L2"]["text"], "2\tif 日本: break\n\t         ^'break' outside <loop>a <note>\n")
         self.assertEqual(page.of_class("refused"), [page.ids["L2"]])
         self.assertNotRegex(page_text, "[\x00-\x08\x0b-\x1f\x7f\u202e]")
         self.assertIn("Nothing was compiled. 2:9: 'break' outside <loop>", page.ids["code"]["text"])

@@ -7,11 +7,11 @@ import os
 import shutil
 from typing import Dict, List, Optional, Pattern, Sequence, Tuple
 
-from .. import ends, refusals, stamps
+from .. import ends, freshness, refusals
 from ..building import Job, Outcome, found_program, jobs_of, known, make, pattern_of, shown, sources_of
 from ..errors import DONE, MEMORY, MISSING, REFUSED, Failed, WrongWords
 from ..options import Command, Option, parse
-from ..stamps import Recipe
+from ..freshness import Recipe
 from ..workers import Lost, processors, results
 from .compile import LEVEL, MODE
 
@@ -123,7 +123,7 @@ def recipe_of(given) -> Recipe:
     """How files are made, by the words. Raises NoProgram, and Failed where a program that is named is not there."""
     path = found_program(given.program)
     try:
-        return stamps.recipe_of("listing" if given.listings else "code", given.mode, given.level, path)
+        return freshness.recipe_of("listing" if given.listings else "code", given.mode, given.level, path)
     except OSError as error:
         raise Failed("%s: %s\n" % (shown(error.filename), error.strerror), MISSING) from None
 
@@ -175,7 +175,7 @@ def counted_fresh(outcome: Outcome) -> Outcome:
 def make_all(recipe: Recipe, jobs: Sequence[Job], left: Sequence[int], count: int, report: Report) -> None:
     """Makes the files of the jobs at these places, so many at once."""
     for folder in {os.path.dirname(jobs[at].target or "") for at in left if jobs[at].target is not None}:
-        stamps.remove_leavings(folder)
+        freshness.remove_leavings(folder)
     with contextlib.closing(results(functools.partial(make, recipe), [jobs[at] for at in left], count)) as ended:
         for place, outcome in ended:
             report.add(left[place], lost(jobs[left[place]], outcome) if isinstance(outcome, Lost) else outcome)

@@ -10,7 +10,7 @@ from ..codefile import MAGIC
 from ..errors import DONE, WORDS, WRITE, Failed, WrongWords
 from ..options import Command, Option, parse
 from ..sources import bytes_of, name_of, text_of_name
-from ..stamps import Recipe
+from ..freshness import Recipe
 from .compile import LEVEL, MODE
 
 COMMAND = Command(

@@ -131,7 +131,7 @@ def write(target: str, recipe: Recipe, path: str, source: bytes, made: Union[byt
 
 
 def replace(target: str, data: bytes) -> None:
-    """Writes a file under another name beside it, and gives it its own name once it is whole."""
+    """Writes a file under another name beside it, and gives it its own name once it is whole; never where it stands."""
     folder, name = os.path.split(target)
     other = os.path.join(folder, ".%s.%d.new" % (name, os.getpid()))
     try:
