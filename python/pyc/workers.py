@@ -2,13 +2,14 @@
 from __future__ import annotations
 
 import contextlib
-import multiprocessing
 import os
 import signal
 import sys
-from multiprocessing.connection import Connection, wait
-from multiprocessing.process import BaseProcess
-from typing import Any, Callable, Dict, Iterator, List, Sequence, Tuple
+from typing import TYPE_CHECKING, Any, Callable, Dict, Iterator, List, Sequence, Tuple
+
+if TYPE_CHECKING:
+    from multiprocessing.connection import Connection
+    from multiprocessing.process import BaseProcess
 
 
 class Lost:
@@ -56,19 +57,21 @@ class Pool:
         """By the pipe to a worker, the worker and the place of its job."""
 
     def start(self) -> None:
-        """Starts a worker, where a job is left."""
-        for at, job in self.left:
-            mine, theirs = multiprocessing.Pipe()
-            others: List[Connection] = [*self.busy, mine]
-            process = multiprocessing.Process(target=serve, args=(self.work, theirs, others), daemon=True)
-            start(process)
-            theirs.close()
-            mine.send(job)
-            self.busy[mine] = (process, at)
-            return
+        """Starts a worker, and gives it a job where one is left."""
+        # Here alone, since it takes long to import.
+        import multiprocessing
+
+        mine, theirs = multiprocessing.Pipe()
+        others: List[Connection] = [*self.busy, mine]
+        process = multiprocessing.Process(target=serve, args=(self.work, theirs, others), daemon=True)
+        start(process)
+        theirs.close()
+        self.hand_out(mine, process)
 
     def ended(self) -> Iterator[Tuple[int, Any]]:
         """The jobs that have ended, at least one. Their workers get the next ones."""
+        from multiprocessing.connection import wait
+
         for pipe in wait(list(self.busy)):
             process, at = self.busy[pipe]
             try:
@@ -79,20 +82,18 @@ class Pool:
                 self.start()
                 yield at, Lost(process.exitcode or 0)
                 continue
-            self.hand_out(pipe)
+            self.hand_out(pipe, process)
             yield at, result
 
-    def hand_out(self, pipe: Connection) -> None:
-        """Gives a worker its next job, or its end."""
-        process, _ = self.busy.pop(pipe)
+    def hand_out(self, pipe: Connection, process: BaseProcess) -> None:
+        """Gives a worker its next job, or its end where none is left."""
         for at, job in self.left:
             self.busy[pipe] = (process, at)
-            try:
+            # Where it was ended meanwhile, that is seen where its result is read.
+            with contextlib.suppress(OSError):
                 pipe.send(job)
-            except OSError:
-                # It was ended meanwhile, which is seen where its result is read.
-                pass
             return
+        self.busy.pop(pipe, None)
         pipe.close()
         process.join()
 

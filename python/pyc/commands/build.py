@@ -10,8 +10,8 @@ from typing import Dict, List, Optional, Pattern, Sequence, Tuple
 from .. import ends, freshness, refusals
 from ..building import Job, Outcome, found_program, jobs_of, known, make, pattern_of, shown, sources_of
 from ..errors import DONE, MEMORY, MISSING, REFUSED, Failed, WrongWords
-from ..options import Command, Option, parse
 from ..freshness import Recipe
+from ..options import Command, Option, parse
 from ..workers import Lost, processors, results
 from .compile import LEVEL, MODE
 
