@@ -107,7 +107,8 @@ def fresh(target: str, recipe: Recipe, path: str, source: bytes) -> Optional[Res
             return None
         if "made" in result:
             return Made(**result) if sum_of_file(target) == result["made"] else None
-        return Unmade(**result)
+        # A file that is there is one of another source, which a call at the same time has put there.
+        return None if os.path.lexists(target) else Unmade(**result)
     except (OSError, ValueError, TypeError, KeyError, AttributeError):
         # There is no stamp, or it is none of this form.
         return None

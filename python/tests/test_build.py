@@ -162,6 +162,12 @@ class Freshness(Building):
         self.assertIsNone(freshness.fresh(target, one, "x.py", b"2"))
         freshness.replace(target, b"made by another")
         self.assertIsNone(freshness.fresh(target, one, "x.py", b"1"))
+        refused = freshness.Unmade("no", "R0", "a note", 1, 2, 3)
+        freshness.write(target, one, "x.py", b"1", refused)
+        self.assertEqual(freshness.fresh(target, one, "x.py", b"1"), refused)
+        self.assertFalse(os.path.exists(target))
+        freshness.replace(target, b"made by another")
+        self.assertIsNone(freshness.fresh(target, one, "x.py", b"1"))
 
     def test_check_writes_nothing(self):
         self.assertEqual(self.build("--check", "lib"), (1, "lib/a.py: stale\nlib/b.py: stale\nlib/in/c.py: stale\n3 files: 3 stale\n", ""))
