@@ -10,6 +10,7 @@ compiled, and the numbers that stand for constants and helpers get their values 
 """
 from __future__ import annotations
 
+import functools
 import os
 import re
 import threading
@@ -147,18 +148,17 @@ class Translation:
     def cell_word(self, number: int) -> str:
         """The word for a cell of a function: that of the parameter which it begins as, where it is one."""
         parameter = self.cell_to_parameter.get(number, -1)
-        return "c%d" % number if parameter < 0 or parameter in self.split() else "v%d" % parameter
+        return "c%d" % number if parameter < 0 or parameter in self.split else "v%d" % parameter
 
     @staticmethod
     def free_word(number: int) -> str:
         return "f%05d" % number
 
+    @functools.cached_property
     def split(self) -> set[int]:
         """The parameters that are in a cell and are asked for as local variables too. No compiled code has one."""
-        if not hasattr(self, "both"):
-            fast = {it.operand for it in self.instructions if it.name.endswith("Fast")}
-            self.both = fast.intersection(self.cell_to_parameter.values())
-        return self.both
+        fast = {it.operand for it in self.instructions if it.name.endswith("Fast")}
+        return fast.intersection(self.cell_to_parameter.values())
 
     def word(self, wanted: str, it: Instruction) -> Any:
         """What the function of an instruction is told under a name."""
@@ -247,7 +247,7 @@ class Translation:
             yield "if 0: yield"
         for number in range(len(code.cellvars)):
             parameter = self.cell_to_parameter.get(number, -1)
-            if parameter in self.split():
+            if parameter in self.split:
                 yield "c%d = v%d" % (number, parameter)
 
     def inside(self, depth: int) -> list[tuple[int, str, int]]:
@@ -325,11 +325,12 @@ class Translation:
             co_consts=tuple(map(self.standing, made.co_consts)),
         )
 
+    @functools.cached_property
     def names_are_told(self) -> bool:
         """Whether cells bear the names of exactly those parameters that they begin as. CPython goes by these names; so
         where it is otherwise, as in no compiled code, the words of the text stay."""
         names, cells = self.code.varnames[: parameters_of(self.code)], self.code.cellvars
-        begun = {number: it for number, it in self.cell_to_parameter.items() if it >= 0 and it not in self.split()}
+        begun = {number: it for number, it in self.cell_to_parameter.items() if it >= 0 and it not in self.split}
         are_tied = all(cells[number] == names[it] for number, it in begun.items())
         return are_tied and len(set(names + cells)) + len(begun) == len(names) + len(cells)
 
@@ -342,7 +343,7 @@ class Translation:
         kind, number, code = word[0], int(word[1:]), self.code
         if kind == "n" and number == len(code.names):
             return "__type_params__"
-        if kind in "vc" and not self.names_are_told():
+        if kind in "vc" and not self.names_are_told:
             return word
         return {"v": code.varnames, "c": code.cellvars, "f": code.freevars}.get(kind, code.names)[number]
 
@@ -360,8 +361,9 @@ class Translation:
     def constant(self, number: int) -> Any:
         """A constant as a value of Python: a code within becomes one of CPython's."""
         value = self.code.constants[number]
-        return value if not isinstance(value, Code) else Translation(value, *self.within().get(number, ())).made()
+        return value if not isinstance(value, Code) else Translation(value, *self.within.get(number, ())).made()
 
+    @functools.cached_property
     def within(self) -> dict[int, tuple[str, bool]]:
         """Of each code within of which a function is made: its qualified name, and whether it has type parameters."""
         found = {}
