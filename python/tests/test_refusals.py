@@ -128,6 +128,10 @@ class Kinds(unittest.TestCase):
                 self.assertIsNotNone(it, kind.code)
                 self.assertEqual(it.code, kind.code, it.text)
 
+    def test_the_line_decides_where_no_rows_are_at_hand(self):
+        for line, column, code in (("  async def f(): pass", 3, "R301"), ("async  for a in b:", 1, "R302"), ("async with a:", 1, "R303"), ("try:", 1, "R304"), ("[a async for a in b]", 1, "R305"), ("a: f'{b}'", 1, "R306")):
+            self.assertEqual(refusals.refusal("m.py", (1, column), refusals.NOT_YET, [line]).code, code)
+
     def test_too_deep_has_a_place(self):
         deep = "if a: pass\n" + "elif a: pass\n" * 2000
         for source, row in (("\na = " + "-" * 1100 + "b\n", 2), (deep, None)):
@@ -228,10 +232,15 @@ class ByTheProgram(unittest.TestCase):
         for kind in explanations.KINDS:
             if kind.code == "R111" or sys.version_info < kind.since or len(kind.example) >= LARGE:
                 continue
-            words = [sys.executable, "-I", "-S", STARTER, "--json", "-m", kind.mode, *(["--rows"] if kind.is_rows else []), "-"]
-            ended = subprocess.run(words, input=kind.example.encode(), stdout=subprocess.PIPE, stderr=subprocess.PIPE)
-            self.assertEqual(json.loads(ended.stderr)["code"], kind.code)
-            self.assertEqual((ended.stdout, ended.returncode), (b"", 3 if kind.code == "R701" else 1))
+            data = kind.example.encode()
+            try:
+                made = data if kind.is_rows else sources.rows_of("m.py", data, kind.mode)
+                status, _, said = program.call(program.PROGRAM, [kind.mode, "0", "m.py"], made, subprocess.PIPE)
+                program.check(status, said, "m.py", made, None, not kind.is_rows)
+            except Refused as fault:
+                self.assertEqual((fault.code, fault.status), (kind.code, 3 if kind.code == "R701" else 1))
+                continue
+            self.fail(kind.code)
 
 
 if __name__ == "__main__":
