@@ -41,6 +41,15 @@ HANDLERS = frozenset(("SetupExcept", "SetupFinally", "SetupWith", "EnterFinally"
 ENDS = frozenset(("Jump", "Break", "Continue", "ReturnValue", "ReturnConst", "Raise"))
 
 
+# The lines, each with its depth, that take what the instructions raise.
+HANDLING = (
+    (1, "except:"),
+    (2, "at = TAKE(stack, blocks)"),
+    (2, "if at < 0: raise"),
+    (1, "try: ENTER(blocks)"),
+    (1, "except: AGAIN(blocks); raise"),
+)
+
 # Whether each instruction is followed by a look at the height of the stack, which a code says the greatest of.
 CHECKS = bool(os.environ.get("PYC_CHECK_STACK"))
 
@@ -111,12 +120,13 @@ class Translation:
         self.instructions = list(decoded(code))
         seen = {it.name for it in self.instructions}
         self.has_handlers, self.has_jumps = not seen.isdisjoint(HANDLERS), not seen.isdisjoint(JUMPS | {"EndFinally"})
+        self.has_blocks = self.has_handlers or "SetupLoop" in seen
         self.hooked = "HOOKED(%s)" if not hooks.NAMES.isdisjoint(code.names) else "%s"
         self.leaves = "return stack.pop()" if self.is_function else "stack.result = stack.pop()" + "; break" * self.has_jumps
         self.first = min(code.first_line_number or 1, LAST_LINE)
         self.cell_to_parameter = dict(enumerate(code.cell2arg or ()))
-        self.used: set[str] = set()
-        self.cells_used: set[int] = set()
+        # The words for names of the module, which the text has to declare.
+        self.globals: set[str] = set()
 
     # Words of the text
 
@@ -131,7 +141,7 @@ class Translation:
             raise Unfit("%s stands in the function %s" % (it.name, self.code.obj_name))
         word = "%s%d" % ("g" if is_global else "n", it.operand)
         if is_global:
-            self.used.add(word)
+            self.globals.add(word)
         return word
 
     def cell(self, it: Instruction) -> Cell:
@@ -188,30 +198,27 @@ class Translation:
 
     def text(self) -> Text:
         """The text of the function."""
-        text, depth = Text(), 0
-        inner = self.inside(depth)
+        text, inside, depth = Text(), self.inside(), int(self.is_function)
+        if self.is_function:
+            text.add(0, "def function(%s):" % self.parameters(), self.first)
         for line in self.opening():
-            text.add(0 if line.startswith("def ") else int(self.is_function), line, self.first)
-        depth = int(self.is_function)
-        for offset, line, row in inner:
+            text.add(depth, line, self.first)
+        for offset, line, row in inside:
             text.add(depth + offset, line, row)
         return text
 
     def opening(self) -> Iterator[str]:
         """The lines before those of the instructions."""
-        stores = sorted(self.used)
+        if self.globals:
+            yield "global %s" % ", ".join(sorted(self.globals))
         if self.is_function:
-            yield "def function(%s):" % self.parameters()
-            if stores:
-                yield "global %s" % ", ".join(stores)
             yield from self.mentions()
             yield "stack = []"
-        else:
-            if stores:
-                yield "global %s" % ", ".join(stores)
-            if self.has_type_parameters:
-                yield "n%d = stack.type_parameters" % len(self.code.names)
-        if self.has_handlers or any(it.name == "SetupLoop" for it in self.instructions):
+        elif self.has_type_parameters:
+            yield "n%d = stack.type_parameters" % len(self.code.names)
+        if self.has_handlers:
+            yield "ROOM()"
+        if self.has_blocks:
             yield "blocks = []"
         if self.has_jumps:
             yield "at = 0"
@@ -250,24 +257,26 @@ class Translation:
             if parameter in self.split:
                 yield "c%d = v%d" % (number, parameter)
 
-    def inside(self, depth: int) -> list[tuple[int, str, int]]:
+    def inside(self) -> list[tuple[int, str, int]]:
         """The lines of the instructions, each with its depth and its row."""
-        found: list[tuple[int, str, int]] = []
         if not self.has_jumps:
-            for it in self.instructions:
-                found += [(0, line, it.row) for line in self.told(it)]
-                if it.name in ENDS:
-                    break
-            return found
-        found.append((0, "while True:", self.first))
+            return self.straight()
+        found = [(0, "while True:", self.first)]
         if self.has_handlers:
             found.append((1, "try:", self.first))
         parts = self.parts()
         self.tree(parts, 0, len(parts), 1 + self.has_handlers, found)
         if self.has_handlers:
-            row = self.instructions[-1].row
-            handled = ((1, "except:"), (2, "at = TAKE(stack, blocks)"), (2, "if at < 0: raise"), (1, "try: ENTER(blocks)"), (1, "except: AGAIN(blocks); raise"))
-            found += [(offset, line, row) for offset, line in handled]
+            found += [(depth, line, self.instructions[-1].row) for depth, line in HANDLING]
+        return found
+
+    def straight(self) -> list[tuple[int, str, int]]:
+        """The lines of the instructions of a code without jumps, up to the first that ends it."""
+        found: list[tuple[int, str, int]] = []
+        for it in self.instructions:
+            found += [(0, line, it.row) for line in self.told(it)]
+            if it.name in ENDS:
+                break
         return found
 
     def parts(self) -> list[list[Instruction]]:
