@@ -11,6 +11,7 @@ import signal
 import subprocess
 import sys
 import tempfile
+import textwrap
 import unittest
 
 HERE = pathlib.Path(__file__).resolve().parent
@@ -57,7 +58,7 @@ class Case(unittest.TestCase):
         """A program ends, writes and tells as it does by Python, but for marks in a traceback."""
         wanted = ended(words, self.folder, data)
         found = self.run_pyc(*options, *words, data=data)
-        self.assertEqual(found, (*wanted[:2], MARKS.sub("", wanted[2])))
+        self.assertEqual(found, (wanted[0], MARKS.sub("", wanted[1]), MARKS.sub("", wanted[2])))
         return found
 
 
@@ -142,11 +143,15 @@ a, b = 1
         """No function of the machine stands in a traceback, where an instruction raises and where it calls."""
         texts = ("from os import no_such", "with 5: pass", "a, *b = 5", "a, b = 1, 2, 3", "{**1}", "print(**1)", "del x")
         texts += ("try: 1 // 0\nexcept 5: pass", "raise 5", "import no_such_module", "class A: no_such", "f'{1:no}'")
+        texts += ("[*5]", "[1][2]", "1 < ''", "-''", "not_there.x = 1", "del not_there[0]", "print(1, **{1: 2})")
         texts += ("class A:\n    def __enter__(self): 1 // 0\n    def __exit__(self, *words): pass\nwith A(): pass",)
         texts += ("class A:\n    def __iter__(self): 1 // 0\nfor x in A(): pass", "class A:\n    def __iadd__(self, x): 1 // 0\na = A()\na += 1")
+        program = "import traceback\n"
         for text in texts:
-            with self.subTest(text):
-                self.check_same(self.write("m.py", text + "\n"))
+            program += "try:\n%s\nexcept Exception:\n    traceback.print_exc()\n" % textwrap.indent(text, "    ")
+        told = self.check_same(self.write("m.py", program + texts[0]))[2]
+        # One for each text, one more for the chain of one of them, and that of the end.
+        self.assertEqual(told.count("Traceback"), len(texts) + 2)
 
     def test_hook(self):
         self.check_same(self.write("m.py", "import sys\nsys.excepthook = lambda *found: print(found[:2], found[2].tb_lineno)\n1 // 0\n"))

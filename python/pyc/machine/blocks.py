@@ -12,7 +12,8 @@ import types
 from .handled import own_handled, set_handled
 
 # The kinds of blocks. A code that is left by an exception out of a handler has one of the last kind for a moment.
-LOOP, EXCEPT, FINALLY, EXCEPT_HANDLER, FINALLY_HANDLER, LEFT = "Loop", "Except", "Finally", "ExceptHandler", "FinallyHandler", "Left"
+LOOP, EXCEPT, FINALLY = "Loop", "Except", "Finally"
+EXCEPT_HANDLER, FINALLY_HANDLER, LEFT = "ExceptHandler", "FinallyHandler", "Left"
 
 # The ways on which blocks are left, but for a raise.
 BREAK, CONTINUE, RETURN = "break", "continue", "return"
@@ -72,7 +73,8 @@ def enter(blocks: list[Block]) -> None:
 def again(blocks: list[Block]) -> None:
     """Gives the exception of a block LEFT the context and the traceback that it had before it was raised again."""
     block = blocks.pop()
-    block.error.__context__, block.error.__traceback__ = block.value
+    if block.kind == LEFT:
+        block.error.__context__, block.error.__traceback__ = block.value
 
 
 def leave(stack: list, blocks: list[Block], way: str, value: object) -> int:
@@ -114,25 +116,22 @@ def go_on(stack: list, blocks: list[Block], following: int) -> int:
 
 def trim(error: BaseException) -> None:
     """Takes the functions of this package out of a traceback."""
-    first = error.__traceback__
-    while first is not None and is_machine(first.tb_frame.f_code):
-        first = first.tb_next
-    if first is not error.__traceback__:
-        error.__traceback__ = first
-    at = first
+    before, at = None, error.__traceback__
     while at is not None:
-        following = at.tb_next
-        while following is not None and is_machine(following.tb_frame.f_code):
-            following = following.tb_next
-        if following is not at.tb_next:
-            at.tb_next = following
-        at = following
+        if not at.tb_frame.f_code.co_filename.startswith(PACKAGE):
+            before = at
+        elif before is None:
+            error.__traceback__ = at.tb_next
+        else:
+            before.tb_next = at.tb_next
+        at = at.tb_next
 
 
 # The folder of this package, whose functions are none of a program's.
 PACKAGE = os.path.join(os.path.dirname(os.path.dirname(os.path.abspath(__file__))), "")
 
 
-def is_machine(code: types.CodeType) -> bool:
-    """Whether a code is a function of this package."""
-    return code.co_filename.startswith(PACKAGE)
+def room(calls: int = 6) -> None:
+    """Raises RecursionError where calls cannot go as deep as those of this module, so that later they can."""
+    if calls:
+        room(calls - 1)

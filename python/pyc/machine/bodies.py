@@ -44,7 +44,9 @@ def fresh(code: types.CodeType, cells: tuple, type_parameters: Optional[tuple] =
     return code.replace(co_consts=tuple(map(standing, code.co_consts))), stack
 
 
-def function_of(code: types.CodeType, names: dict, defaults: Optional[tuple], cells: tuple, type_parameters: Optional[tuple]) -> types.FunctionType:
+def function_of(
+    code: types.CodeType, names: dict, defaults: Optional[tuple], cells: tuple, type_parameters: Optional[tuple]
+) -> types.FunctionType:
     """A function of a code, whose module has these names."""
     if is_body(code):
         return types.FunctionType(fresh(code, cells, type_parameters)[0], names, code.co_name)

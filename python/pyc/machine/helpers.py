@@ -53,9 +53,10 @@ def name_or_contents(names: Mapping, name: str, cell: types.CellType) -> Any:
 
 def unbound(name: str, is_free: bool) -> NameError:
     """The error of an empty cell."""
+    text = "cannot access %s variable '%s' where it is not associated with a value%s"
     if is_free:
-        return NameError("cannot access free variable '%s' where it is not associated with a value in enclosing scope" % name, name=name)
-    return UnboundLocalError("cannot access local variable '%s' where it is not associated with a value" % name, name=name)
+        return NameError(text % ("free", name, " in enclosing scope"), name=name)
+    return UnboundLocalError(text % ("local", name, ""), name=name)
 
 
 def called_text(called: Any) -> str:
@@ -191,14 +192,12 @@ def module_within(module: Any, name: str) -> Any:
 def no_name(module: Any, name: str) -> ImportError:
     """The error of a name that is imported from a module and is not there."""
     package, path = getattr(module, "__name__", None), getattr(module, "__file__", None)
-    where = "'%s' (%s)" % (package or "<unknown module name>", path or "unknown location")
-    spec = getattr(module, "__spec__", None)
-    if getattr(spec, "_initializing", False):
-        return ImportError(
-            "cannot import name '%s' from partially initialized module %s" % (name, where.replace(" (", " (most likely due to a circular import) (", 1)),
-            name=package, path=path,
-        )
-    return ImportError("cannot import name '%s' from %s" % (name, where), name=package, path=path)
+    whole, where = package or "<unknown module name>", path or "unknown location"
+    if getattr(getattr(module, "__spec__", None), "_initializing", False):
+        text = "cannot import name '%s' from partially initialized module '%s' (most likely due to a circular import) (%s)"
+    else:
+        text = "cannot import name '%s' from '%s' (%s)"
+    return ImportError(text % (name, whole, where), name=package, path=path)
 
 
 def import_star(names: Any, module: Any) -> None:
@@ -216,13 +215,34 @@ def check(stack: list, most: int) -> None:
 
 INFERRED: dict = {"infer_variance": True} if sys.version_info >= (3, 12) else {}
 
+BUILT_IN = (ascii, format, getattr, globals, iter, len, locals, next, repr, set, slice, str, tuple, type)
+OF_BLOCKS = (blocks.again, blocks.close, blocks.enter, blocks.go_on, blocks.leave, blocks.room, blocks.take)
+OWN = (
+    builtin,
+    check,
+    contents,
+    exit_and_enter,
+    exit_arguments,
+    import_star,
+    keywords,
+    make,
+    matches,
+    module_within,
+    name_or_contents,
+    named,
+    no_name,
+    once,
+    set_up_annotations,
+    unbound,
+)
+CONSTANTS = "LOOP EXCEPT FINALLY EXCEPT_HANDLER FINALLY_HANDLER BREAK CONTINUE RETURN UNSET"
+INPLACE = "IADD ISUB IMUL IMATMUL ITRUEDIV IFLOORDIV IMOD IPOW ILSHIFT IRSHIFT IOR IXOR IAND"
+
+# What each word in capitals stands for.
 HELPERS: dict[str, Any] = {
-    **{"I" + it: getattr(operator, "i" + it.lower().rstrip("_")) for it in "ADD SUB MUL MATMUL TRUEDIV FLOORDIV MOD POW LSHIFT RSHIFT OR XOR AND".split()},
-    **{it.__name__.upper(): it for it in (ascii, format, getattr, globals, iter, len, locals, next, repr, set, slice, str, tuple, type)},
-    **{it.__name__.upper(): it for it in (blocks.again, blocks.close, blocks.enter, blocks.go_on, blocks.leave, blocks.take, hooks.hooked)},
-    **{it.__name__.upper(): it for it in (builtin, check, contents, exit_and_enter, exit_arguments, import_star, keywords, make, matches)},
-    **{it.__name__.upper(): it for it in (module_within, name_or_contents, named, no_name, once, set_up_annotations, unbound)},
-    **{it: getattr(blocks, it) for it in "LOOP EXCEPT FINALLY EXCEPT_HANDLER FINALLY_HANDLER BREAK CONTINUE RETURN UNSET".split()},
+    **{it.__name__.upper(): it for it in (*BUILT_IN, *OF_BLOCKS, *OWN, hooks.hooked)},
+    **{it: getattr(blocks, it) for it in CONSTANTS.split()},
+    **{it: getattr(operator, it.lower()) for it in INPLACE.split()},
     "BLOCK": Block,
     "BOUND": bound_of,
     "INFERRED": INFERRED,

@@ -243,7 +243,7 @@ def delete_subscript() -> str:
 
 UNARY = ("+", "-", "not ", "~")
 BINARY = ("+", "-", "*", "@", "/", "//", "%", "**", "<<", ">>", "|", "^", "&")
-INPLACE = ("IADD", "ISUB", "IMUL", "IMATMUL", "ITRUEDIV", "IFLOORDIV", "IMOD", "IPOW", "ILSHIFT", "IRSHIFT", "IOR", "IXOR", "IAND")
+INPLACE = "IADD ISUB IMUL IMATMUL ITRUEDIV IFLOORDIV IMOD IPOW ILSHIFT IRSHIFT IOR IXOR IAND".split()
 COMPARISONS = ("<", ">", "!=", "==", "<=", ">=")
 TESTS = ("in", "not in", "is", "is not")
 CONVERSIONS = ("%s", "STR(%s)", "ASCII(%s)", "REPR(%s)")

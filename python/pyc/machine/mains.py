@@ -91,12 +91,12 @@ def told(error: BaseException) -> int:
 
 
 def trim_chain(error: Optional[BaseException]) -> None:
-    """Takes the functions of this package out of the tracebacks of an exception, its cause and its context."""
+    """Takes the functions of this package out of the tracebacks of an exception, its cause, its context and its parts."""
     seen: list[BaseException] = []
-    waiting = [error]
+    waiting: list[Any] = [error]
     while waiting:
         it = waiting.pop()
-        if it is not None and not any(it is other for other in seen):
+        if isinstance(it, BaseException) and not any(it is other for other in seen):
             seen.append(it)
             trim(it)
-            waiting += [it.__cause__, it.__context__]
+            waiting += [it.__cause__, it.__context__, *getattr(it, "exceptions", ())]

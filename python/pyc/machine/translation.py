@@ -10,6 +10,7 @@ compiled, and the numbers that stand for constants and helpers get their values 
 """
 from __future__ import annotations
 
+import functools
 import os
 import re
 import threading
@@ -39,6 +40,15 @@ JUMPS = frozenset(name for name, wanted in WANTED.items() if "target" in wanted)
 HANDLERS = frozenset(("SetupExcept", "SetupFinally", "SetupWith", "EnterFinally"))
 ENDS = frozenset(("Jump", "Break", "Continue", "ReturnValue", "ReturnConst", "Raise"))
 
+
+# The lines, each with its depth, that take what the instructions raise.
+HANDLING = (
+    (1, "except:"),
+    (2, "at = TAKE(stack, blocks)"),
+    (2, "if at < 0: raise"),
+    (1, "try: ENTER(blocks)"),
+    (1, "except: AGAIN(blocks); raise"),
+)
 
 # Whether each instruction is followed by a look at the height of the stack, which a code says the greatest of.
 CHECKS = bool(os.environ.get("PYC_CHECK_STACK"))
@@ -110,12 +120,13 @@ class Translation:
         self.instructions = list(decoded(code))
         seen = {it.name for it in self.instructions}
         self.has_handlers, self.has_jumps = not seen.isdisjoint(HANDLERS), not seen.isdisjoint(JUMPS | {"EndFinally"})
+        self.has_blocks = self.has_handlers or "SetupLoop" in seen
         self.hooked = "HOOKED(%s)" if not hooks.NAMES.isdisjoint(code.names) else "%s"
         self.leaves = "return stack.pop()" if self.is_function else "stack.result = stack.pop()" + "; break" * self.has_jumps
         self.first = min(code.first_line_number or 1, LAST_LINE)
         self.cell_to_parameter = dict(enumerate(code.cell2arg or ()))
-        self.used: set[str] = set()
-        self.cells_used: set[int] = set()
+        # The words for names of the module, which the text has to declare.
+        self.globals: set[str] = set()
 
     # Words of the text
 
@@ -130,7 +141,7 @@ class Translation:
             raise Unfit("%s stands in the function %s" % (it.name, self.code.obj_name))
         word = "%s%d" % ("g" if is_global else "n", it.operand)
         if is_global:
-            self.used.add(word)
+            self.globals.add(word)
         return word
 
     def cell(self, it: Instruction) -> Cell:
@@ -147,18 +158,17 @@ class Translation:
     def cell_word(self, number: int) -> str:
         """The word for a cell of a function: that of the parameter which it begins as, where it is one."""
         parameter = self.cell_to_parameter.get(number, -1)
-        return "c%d" % number if parameter < 0 or parameter in self.split() else "v%d" % parameter
+        return "c%d" % number if parameter < 0 or parameter in self.split else "v%d" % parameter
 
     @staticmethod
     def free_word(number: int) -> str:
         return "f%05d" % number
 
+    @functools.cached_property
     def split(self) -> set[int]:
         """The parameters that are in a cell and are asked for as local variables too. No compiled code has one."""
-        if not hasattr(self, "both"):
-            fast = {it.operand for it in self.instructions if it.name.endswith("Fast")}
-            self.both = fast.intersection(self.cell_to_parameter.values())
-        return self.both
+        fast = {it.operand for it in self.instructions if it.name.endswith("Fast")}
+        return fast.intersection(self.cell_to_parameter.values())
 
     def word(self, wanted: str, it: Instruction) -> Any:
         """What the function of an instruction is told under a name."""
@@ -188,30 +198,27 @@ class Translation:
 
     def text(self) -> Text:
         """The text of the function."""
-        text, depth = Text(), 0
-        inner = self.inside(depth)
+        text, inside, depth = Text(), self.inside(), int(self.is_function)
+        if self.is_function:
+            text.add(0, "def function(%s):" % self.parameters(), self.first)
         for line in self.opening():
-            text.add(0 if line.startswith("def ") else int(self.is_function), line, self.first)
-        depth = int(self.is_function)
-        for offset, line, row in inner:
+            text.add(depth, line, self.first)
+        for offset, line, row in inside:
             text.add(depth + offset, line, row)
         return text
 
     def opening(self) -> Iterator[str]:
         """The lines before those of the instructions."""
-        stores = sorted(self.used)
+        if self.globals:
+            yield "global %s" % ", ".join(sorted(self.globals))
         if self.is_function:
-            yield "def function(%s):" % self.parameters()
-            if stores:
-                yield "global %s" % ", ".join(stores)
             yield from self.mentions()
             yield "stack = []"
-        else:
-            if stores:
-                yield "global %s" % ", ".join(stores)
-            if self.has_type_parameters:
-                yield "n%d = stack.type_parameters" % len(self.code.names)
-        if self.has_handlers or any(it.name == "SetupLoop" for it in self.instructions):
+        elif self.has_type_parameters:
+            yield "n%d = stack.type_parameters" % len(self.code.names)
+        if self.has_handlers:
+            yield "ROOM()"
+        if self.has_blocks:
             yield "blocks = []"
         if self.has_jumps:
             yield "at = 0"
@@ -247,27 +254,29 @@ class Translation:
             yield "if 0: yield"
         for number in range(len(code.cellvars)):
             parameter = self.cell_to_parameter.get(number, -1)
-            if parameter in self.split():
+            if parameter in self.split:
                 yield "c%d = v%d" % (number, parameter)
 
-    def inside(self, depth: int) -> list[tuple[int, str, int]]:
+    def inside(self) -> list[tuple[int, str, int]]:
         """The lines of the instructions, each with its depth and its row."""
-        found: list[tuple[int, str, int]] = []
         if not self.has_jumps:
-            for it in self.instructions:
-                found += [(0, line, it.row) for line in self.told(it)]
-                if it.name in ENDS:
-                    break
-            return found
-        found.append((0, "while True:", self.first))
+            return self.straight()
+        found = [(0, "while True:", self.first)]
         if self.has_handlers:
             found.append((1, "try:", self.first))
         parts = self.parts()
         self.tree(parts, 0, len(parts), 1 + self.has_handlers, found)
         if self.has_handlers:
-            row = self.instructions[-1].row
-            handled = ((1, "except:"), (2, "at = TAKE(stack, blocks)"), (2, "if at < 0: raise"), (1, "try: ENTER(blocks)"), (1, "except: AGAIN(blocks); raise"))
-            found += [(offset, line, row) for offset, line in handled]
+            found += [(depth, line, self.instructions[-1].row) for depth, line in HANDLING]
+        return found
+
+    def straight(self) -> list[tuple[int, str, int]]:
+        """The lines of the instructions of a code without jumps, up to the first that ends it."""
+        found: list[tuple[int, str, int]] = []
+        for it in self.instructions:
+            found += [(0, line, it.row) for line in self.told(it)]
+            if it.name in ENDS:
+                break
         return found
 
     def parts(self) -> list[list[Instruction]]:
@@ -325,11 +334,12 @@ class Translation:
             co_consts=tuple(map(self.standing, made.co_consts)),
         )
 
+    @functools.cached_property
     def names_are_told(self) -> bool:
         """Whether cells bear the names of exactly those parameters that they begin as. CPython goes by these names; so
         where it is otherwise, as in no compiled code, the words of the text stay."""
         names, cells = self.code.varnames[: parameters_of(self.code)], self.code.cellvars
-        begun = {number: it for number, it in self.cell_to_parameter.items() if it >= 0 and it not in self.split()}
+        begun = {number: it for number, it in self.cell_to_parameter.items() if it >= 0 and it not in self.split}
         are_tied = all(cells[number] == names[it] for number, it in begun.items())
         return are_tied and len(set(names + cells)) + len(begun) == len(names) + len(cells)
 
@@ -342,7 +352,7 @@ class Translation:
         kind, number, code = word[0], int(word[1:]), self.code
         if kind == "n" and number == len(code.names):
             return "__type_params__"
-        if kind in "vc" and not self.names_are_told():
+        if kind in "vc" and not self.names_are_told:
             return word
         return {"v": code.varnames, "c": code.cellvars, "f": code.freevars}.get(kind, code.names)[number]
 
@@ -360,8 +370,9 @@ class Translation:
     def constant(self, number: int) -> Any:
         """A constant as a value of Python: a code within becomes one of CPython's."""
         value = self.code.constants[number]
-        return value if not isinstance(value, Code) else Translation(value, *self.within().get(number, ())).made()
+        return value if not isinstance(value, Code) else Translation(value, *self.within.get(number, ())).made()
 
+    @functools.cached_property
     def within(self) -> dict[int, tuple[str, bool]]:
         """Of each code within of which a function is made: its qualified name, and whether it has type parameters."""
         found = {}
