@@ -98,7 +98,3 @@ def run_text(source: str, script: str) -> str:
 def parts() -> Dict[str, str]:
     """The parts of the page."""
     return {name: run_text(source, script) for name, (source, script) in RUNS.items()}
-
-
-if __name__ == "__main__":
-    print("\n\n".join(parts().values()))

@@ -14,7 +14,7 @@ import sys
 
 MODEL = str(pathlib.Path(__file__).resolve().parent / "model")
 sys.path.insert(0, MODEL)
-import pyc
+import compile_rows
 from py2rows import rows_text
 
 HEAD = '''//! Worked programs, with what is written of them. The file is made by tools/worked_table.py.
@@ -88,7 +88,7 @@ def programs(python):
 
 def told(words, source, rows):
     """The lines of a program."""
-    status, out, err, _ = pyc.run([*words.split(" "), "m.py"], rows.encode("utf-8"), True)
+    status, out, err, _ = compile_rows.run([*words.split(" "), "m.py"], rows.encode("utf-8"), True)
     assert status in (0, 1), (source, err)
     line = source.replace("\\", "\\\\").replace("\n", "\\n")
     return f"{line}\n{words} m.py\n{rows.strip()}\n{(out or err).rstrip()}\n"
