@@ -6,7 +6,7 @@ use Rattle.py_tree.specs.View.{expr_tree}
 use Rattle.py_base.specs.declared.errors.CodegenErrorType.{CodegenErrorType}
 use Rattle.py_base.specs.declared.errors.CodegenErrorType.TheVariants as error
 use Rattle.py_base.specs.declared.location.LocatedError.{LocatedError}
-use Rattle.py_counts.specs.Counts.{scopes_in, scopes_in_stmt}
+use Rattle.py_counts.specs.Counts.{scopes_in}
 use Rattle.py_limits.specs.Size.{expr_size, stmt_size}
 use Rattle.py_bytecode.specs.Objects as const
 use Rattle.py_bytecode.specs.Objects.{Const, codes_in}
@@ -18,6 +18,7 @@ use Rattle.py_emit.specs.States.{Goes, state}
 use Rattle.py_emission.specs.Emission.{emission, emission_of_delete}
 use Rattle.py_emission.specs.EmissionStmts.{emission_of_stmt}
 use Rattle.py_meaning.specs.Table.{expr_form}
+use Rattle.py_meaning.specs.StmtCounts.{scopes_in_stmt}
 use Rattle.py_meaning.specs.TableStmts.{stmt_form}
 use Rattle.py_owners.specs.Cells.{StandUpTo}
 use Rattle.py_fits.specs.Fitting.{HasShortTables}
