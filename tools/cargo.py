@@ -47,26 +47,24 @@ PLAIN_LIBRARIES = {"thiserror": "1"}
 
 # Forms that a proof wants, or that Rust would write otherwise, in sources that are not changed for it.
 ALLOWED_LINTS = (
-    "collapsible_else_if",
     "collapsible_if",
-    "collapsible_match",
+    "enum_variant_names",
+    "explicit_counter_loop",
+    "iter_skip_next",
     "large_enum_variant",
     "len_without_is_empty",
-    "len_zero",
-    "manual_flatten",
     "manual_map",
-    "needless_lifetimes",
+    "manual_unwrap_or",
+    "match_like_matches_macro",
+    "needless_as_bytes",
     "needless_range_loop",
-    "new_without_default",
     "question_mark",
     "redundant_closure",
+    "redundant_pattern_matching",
     "result_large_err",
-    "result_unit_err",
     "should_implement_trait",
     "single_match",
-    "too_many_arguments",
     "type_complexity",
-    "unnecessary_cast",
 )
 
 FORMAT = """edition = "2024"
@@ -191,7 +189,7 @@ class Workspace:
         extra = PARTS / "extra" / (crate.name + ".rs")
         if extra.exists():
             sources["conversions.rs"] = extra.read_text(encoding="utf-8")
-            sources["lib.rs"] += "\nmod conversions;\n"
+            sources["lib.rs"] += "\nmod conversions;\n" + exported(sources["conversions.rs"])
         for name, text in sources.items():
             guard = "#![forbid(unsafe_code)]\n" if name in ("lib.rs", "main.rs") else ""
             self.files[f"{folder}/src/{name}"] = behind_docs(text, guard)
@@ -284,6 +282,12 @@ def behind_docs(text: str, line: str) -> str:
     lines = text.splitlines(True)
     at = next((at for at, it in enumerate(lines) if not it.startswith("//!")), len(lines))
     return "".join(lines[:at]) + line + "".join(lines[at:])
+
+
+def exported(text: str) -> str:
+    """The line that shows the public types of a module."""
+    names = re.findall(r"^pub (?:struct|enum) (\w+)", text, re.MULTILINE)
+    return f"pub use conversions::{{{', '.join(names)}}};\n" if names else ""
 
 
 def config_of(registry: pathlib.Path) -> str:

@@ -46,13 +46,14 @@ STD_PATHS: Dict[str, str] = {
 SHIM_NAMES = frozenset({"AllocGlobal", "HostRuntime", "String", "Vec"})
 
 # Methods that take an allocator, the names under which rshim has them, and the traits that they are of.
-SHIM_METHODS = {"collect": ("collect_in", "CollectIn"), "to_vec": ("to_vec_in", "ToVecIn")}
+SHIM_METHODS = {"collect": ("collect_in", "CollectIn"), "to_vec": ("copied_in", "CopyIn")}
 
 # Functions of `Box`, and those of rshim that stand for them.
 SHIM_BOXES = {"new": "rshim::boxed", "into_inner": "rshim::unboxed"}
 
-# Traits that are imported for their methods, and so may stand in a file that does not name them.
-METHOD_TRAITS = frozenset({"BufRead", "Flags", "Hash", "Hasher", "Read", "Write"})
+# Traits that are imported for their methods, and so may stand in a file that does not name them. (The methods of
+# `BufRead`, and of `fmt::Write` for texts, are in rshim those of the types themselves.)
+METHOD_TRAITS = frozenset({"Flags", "Hash", "Hasher", "Write"})
 
 CLOSING = {"(": ")", "[": "]", "{": "}"}
 VISIBLE = ("pub",)

@@ -26,6 +26,9 @@ struct Bucket<K, V> {
     before: Option<usize>,
 }
 
+/// What an insertion answers: a place and the value that was there; or both come back.
+pub type Inserted<K, V> = Result<(usize, Option<V>), AllocFailed<(K, V)>>;
+
 /// The hasher of hashes, which are kept as they are.
 #[derive(Debug, Default)]
 struct Kept(u64);
@@ -125,7 +128,7 @@ impl<K: Eq + Hash, V> IndexMap<K, V> {
     ///
     /// # Errors
     /// There is no memory for it: both come back, and nothing has changed.
-    pub fn insert_full(&mut self, key: K, value: V) -> Result<(usize, Option<V>), AllocFailed<(K, V)>> {
+    pub fn insert_full(&mut self, key: K, value: V) -> Inserted<K, V> {
         let hash = self.state.hash_one(&key);
         if let Some(place) = self.place(hash, &key) {
             let old = mem::replace(&mut self.entries[place].value, value);

@@ -77,6 +77,7 @@ pub fn boxed<T>(_: Global, value: T) -> Result<Box<T>, AllocFailed<T>> {
 }
 
 /// The value of a box.
+#[allow(clippy::boxed_local)]
 pub fn unboxed<T>(value: Box<T>) -> T {
     *value
 }

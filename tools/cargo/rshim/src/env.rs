@@ -27,6 +27,11 @@ pub trait Env {}
 impl Env for HostRuntime {}
 
 impl HostRuntime {
+    /// The allocator.
+    pub fn alloc(&self) -> Global {
+        Global
+    }
+
     /// Standard input, without a buffer.
     pub fn stdin(&self) -> End {
         End::stdin()

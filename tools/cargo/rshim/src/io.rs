@@ -55,6 +55,25 @@ impl Write for End {
     }
 }
 
+impl End {
+    /// Puts all bytes that are left behind those of a vector, and gives how many there were.
+    ///
+    /// # Errors
+    /// A read failed, or there was no memory. Bytes that came before that stay in the vector.
+    pub fn read_to_end(&mut self, bytes: &mut Vec<u8>) -> Result<usize> {
+        let before = bytes.len();
+        let mut part = [0; ROOM];
+        loop {
+            match self.read(&mut part) {
+                Ok(0) => return Ok(bytes.len() - before),
+                Ok(count) => bytes.extend_from_slice(&part[..count])?,
+                Err(error) if error.kind() == ErrorKind::Interrupted => {}
+                Err(error) => return Err(error),
+            }
+        }
+    }
+}
+
 #[cfg(not(unix))]
 #[derive(Debug)]
 enum Inner {
@@ -207,13 +226,17 @@ impl<R: Read> Iterator for Lines<R> {
     type Item = Result<String>;
 
     fn next(&mut self) -> Option<Self::Item> {
-        Some(self.0.next()?.and_then(line_of))
+        match self.0.reader.part(self.0.alloc, self.0.mark) {
+            Ok((part, false)) if part.is_empty() => None,
+            Ok((part, has_end)) => Some(line_of(part, has_end)),
+            Err(error) => Some(Err(error)),
+        }
     }
 }
 
-/// The line that bytes are, without a carriage return at its end.
-fn line_of(mut bytes: Vec<u8>) -> Result<String> {
-    if bytes.last() == Some(&b'\r') {
+/// The line that bytes are. A carriage return right before its end is part of that.
+fn line_of(mut bytes: Vec<u8>, has_end: bool) -> Result<String> {
+    if has_end && bytes.last() == Some(&b'\r') {
         bytes.pop();
     }
     String::from_utf8(bytes).map_err(|_| ErrorKind::InvalidData.into())

@@ -15,7 +15,7 @@ mod vector;
 pub use alloc::{boxed, unboxed};
 pub use env::{AllocGlobal, HostRuntime};
 pub use string::String;
-pub use vector::{CollectIn, ToVecIn, Vec};
+pub use vector::{CollectIn, CopyIn, Vec};
 
 #[doc(hidden)]
 pub use string::formatted;

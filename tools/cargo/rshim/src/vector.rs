@@ -223,16 +223,16 @@ pub trait CollectIn: Iterator + Sized {
 impl<I: Iterator> CollectIn for I {}
 
 /// Slices of which a [`Vec`] is made.
-pub trait ToVecIn<T> {
+pub trait CopyIn<T> {
     /// A copy.
     ///
     /// # Errors
     /// There is no memory for it.
-    fn to_vec_in(&self, alloc: Global) -> Result<Vec<T>, AllocError>;
+    fn copied_in(&self, alloc: Global) -> Result<Vec<T>, AllocError>;
 }
 
-impl<T: Clone> ToVecIn<T> for [T] {
-    fn to_vec_in(&self, alloc: Global) -> Result<Vec<T>, AllocError> {
+impl<T: Clone> CopyIn<T> for [T] {
+    fn copied_in(&self, alloc: Global) -> Result<Vec<T>, AllocError> {
         Vec::from_slice(alloc, self)
     }
 }
@@ -268,7 +268,7 @@ mod tests {
     fn macros_and_iterators_make_the_same() -> Result<(), AllocError> {
         let made = crate::vec![in Global; 1, 2, 3]?;
         assert_eq!(made, (1..=3).collect_in(Global)?);
-        assert_eq!(made, [1, 2, 3][..].to_vec_in(Global)?);
+        assert_eq!(made, [1, 2, 3][..].copied_in(Global)?);
         assert_eq!(crate::vec![in Global; 7; 2]?.as_slice(), [7, 7]);
         let none: Vec<u8> = crate::vec![in Global]?;
         assert!(none.is_empty());
