@@ -67,6 +67,12 @@ ALLOWED_LINTS = (
     "type_complexity",
 )
 
+# What the program has beside its source: serde_json's parser answers no refusal, so it is given a reserve.
+ALLOCATOR = """
+#[global_allocator]
+static ALLOCATOR: rshim::reserve::Reserving = rshim::reserve::Reserving::over(std::alloc::System);
+"""
+
 FORMAT = """edition = "2024"
 style_edition = "2024"
 max_width = 100
@@ -234,6 +240,7 @@ class Workspace:
         for file in sorted(folder.rglob("*")):
             if file.is_file():
                 self.files["pyc/" + str(file.relative_to(folder))] = file.read_text(encoding="utf-8")
+        program["main.rs"] += ALLOCATOR
         for name, text in program.items():
             self.files["pyc/src/" + name] = behind_docs(text, "#![forbid(unsafe_code)]\n")
             self.lines += text.count("\n")
@@ -360,13 +367,25 @@ def workspace(names: Sequence[str], wanted: Wanted, root: pathlib.Path = ROOT) -
     return made
 
 
+def sources_of_stamp(root: pathlib.Path = ROOT) -> List[pathlib.Path]:
+    """The files that a workspace is written of: the sources, the adapters and these tools."""
+    found = [root / "crates.txt", *PARTS.rglob("*"), *TOOLS.glob("rattle_*.py"), TOOLS / "cargo.py", TOOLS / "build.py"]
+    for crate in (root / "crates").iterdir():
+        found += (crate / "src").rglob("*.rt")
+    return sorted(it for it in found if it.is_file())
+
+
+def digest(data: bytes) -> str:
+    """A number of bytes."""
+    return hashlib.sha256(data).hexdigest()
+
+
 def stamp(root: pathlib.Path = ROOT) -> str:
-    """A number of all that a workspace is written of: the sources, the adapters and this tool."""
-    state = hashlib.sha256()
-    files = [root / "crates.txt", *root.glob("crates/*/src/**/*.rt"), *PARTS.rglob("*"), *TOOLS.glob("rattle_*.py"), TOOLS / "cargo.py"]
-    for file in sorted(it for it in files if it.is_file()):
-        state.update(str(file.relative_to(root)).encode("utf-8") + b"\0" + file.read_bytes() + b"\0")
-    return state.hexdigest()
+    """A number of all that a workspace is written of."""
+    parts = []
+    for file in sources_of_stamp(root):
+        parts.append(str(file.relative_to(root)).encode("utf-8") + b" " + digest(file.read_bytes()).encode("ascii"))
+    return digest(b"\n".join(parts))
 
 
 def main(words: Sequence[str]) -> int:
