@@ -1,61 +1,10 @@
 #!/bin/sh
-# pyc.sh compiles Python sources by the proved compiler and writes the listings of their code. It looks at its words
-# first: what can be answered is answered at once, and only then the program is proved and built, where it is not yet.
+# pyc.sh is the command, in a checkout and in an installation. Words that the program itself reads go to the program, and
+# want no Python; all others go to the package in python/. In a checkout the first call that wants the program proves and
+# builds it.
 
 say() {
     echo "pyc.sh: $*" >&2
-}
-
-usage() {
-    cat <<'END'
-usage: sh pyc.sh [-m MODE] [-O LEVEL] [-o FILE] [--rows] FILE.. | -
-       sh pyc.sh MODE LEVEL PATH <ROWS
-       sh pyc.sh pack MODE LEVEL PATH <ROWS >CODE
-       sh pyc.sh step MODE LEVEL PATH SCRIPT <ROWS
-       sh pyc.sh unpack <CODE
-       sh pyc.sh names PATH <ROWS
-       sh pyc.sh sample N LEVEL
-       sh pyc.sh --run FILE.py [ARG..]
-       sh pyc.sh --try FILE..
-       sh pyc.sh --help | --version
-END
-}
-
-help() {
-    usage
-    cat <<'END'
-
-Compiles Python files and writes the listings of their code; `-` is standard input. Options stand before the files.
-
-  -m MODE    exec (the default): a file that is run; eval: one expression; single: what is entered at a prompt;
-             block: a file whose last value is given
-  -O LEVEL   0 (the default), 1: without assertions, __debug__ is False; 2: without docstrings too
-  -o FILE    write the listings to FILE, once all files have compiled
-  --rows     the files hold trees as rows (docs/ROWS.md) and no Python; this and what follows want python3, 3.8 or later
-  --run      compile FILE.py and run it, on a machine in Python (docs/RUNNING.md); what follows FILE.py is its own
-  --try      compile by the program as it is, without proof; it is built for each file, which takes about a minute
-  --help     this text
-  --version  the commit of this checkout, and the kit
-
-MODE LEVEL PATH: compiles the rows on standard input; PATH is the path that the code names. `pack` writes the code to a
-file in place of its listing, `step` runs the code and the tree over a script of answers, `unpack` verifies a file of
-code and writes its listing, `names` reports on the names of the tree that the rows are, and `sample` compiles a made
-program of N statements and says in numbers what it became (docs/COMMANDS.md). These want no python3. A file of such a
-name is written ./names.
-
-The first call that compiles proves the program and all below it, and builds it (README.md says how long that takes).
-
-Status: 0 compiled; 1 refused, with the place and the reason; 2 wrong words; 3 the input is not the rows of a tree;
-4 a read failed, or a file is not there; 5 a write failed; 6 no memory; 127 the program could not be built, or there is
-no python3. Of several files the highest.
-END
-}
-
-# Ends the call for words that are not as `usage` says.
-wrong() {
-    say "$*"
-    usage >&2
-    exit 2
 }
 
 # The folder of this file, also where it is called by a symbolic link.
@@ -68,16 +17,10 @@ while [ -L "$self" ]; do
     esac
 done
 root=$(CDPATH='' cd -- "$(dirname -- "$self")" && pwd -P) || exit 127
-pyc=$root/crates/pyc/out/pyc
-
-version() {
-    commit='no commit'
-    if [ -e "$root/.git" ]; then
-        commit=$(git -C "$root" rev-parse --short HEAD 2>/dev/null) || commit='no commit'
-    fi
-    kit=$(rt version 2>/dev/null) || kit='no kit'
-    echo "pyc $commit, $kit"
-}
+program=$root/crates/pyc/out/pyc called='sh pyc.sh'
+if [ ! -e "$root/crates.txt" ]; then
+    program=$root/python/pyc/bin/pyc called=pyc
+fi
 
 # Whether a word is MODE, and whether one is LEVEL.
 is_mode() {
@@ -92,23 +35,21 @@ is_number() {
     case $1 in '' | *[!0-9]*) return 1 ;; esac
 }
 
-# Whether the words are those of a command, which the program itself reads; $1 is one.
-is_command() {
+# Whether the words are those that the program itself reads.
+is_of_program() {
     case $1 in
+        exec | eval | single | block) [ $# -eq 3 ] && is_level "$2" ;;
         pack) [ $# -eq 4 ] && is_mode "$2" && is_level "$3" ;;
         step) [ $# -eq 5 ] && is_mode "$2" && is_level "$3" ;;
         unpack) [ $# -eq 1 ] ;;
-        names) [ $# -eq 2 ] ;;
+        names) [ $# -eq 2 ] && [ "$2" = "${2#-}" ] ;;
         sample) [ $# -eq 3 ] && is_number "$2" && is_level "$3" ;;
+        *) return 1 ;;
     esac
 }
 
 has_python() {
     python3 -c 'import sys; sys.exit(sys.version_info < (3, 8))' 2>/dev/null
-}
-
-machine() {
-    echo "$(uname -sm), $(getconf _NPROCESSORS_ONLN) processors, $(awk '/^MemTotal/ { printf "%d GB", $2 / 1000000 }' /proc/meminfo)"
 }
 
 # The crates that pyc stands on, those below others first, and pyc itself; crates.txt says which uses which.
@@ -126,178 +67,93 @@ crates() {
     ' "$root/crates.txt"
 }
 
-# Proves the crates below the program one after the other, where there is no python3 for tools/build.py. What was proved
-# before is taken as it is, and what is wrong is shown.
+# Runs rt in a crate, over a file. What ends this call ends it too, and all that it has started, where setsid gives it a
+# group of its own.
+run_rt() {
+    crate=$1 input=$2
+    shift 2
+    group=''
+    command -v setsid >/dev/null && group=setsid
+    (cd "$root/crates/$crate" && exec $group rt "$@" <"$input" >"$log" 2>&1) &
+    child=$!
+    trap 'kill -TERM ${group:+-}$child 2>/dev/null; exit 143' TERM HUP
+    trap 'kill -TERM ${group:+-}$child 2>/dev/null; exit 130' INT
+    wait $child
+    status=$?
+    trap - TERM HUP INT
+    [ $status -eq 0 ] || cat "$log" >&2
+    return $status
+}
+
+# Waits for a call that builds, where flock can tell of one.
+wait_for_lock() {
+    mkdir -p "$root/crates/pyc/out" || return
+    command -v flock >/dev/null || return 0
+    exec 9>>"$root/crates/pyc/out/lock" || return
+    flock -n 9 || {
+        say "another call (pid $(tail -n 1 "$root/crates/pyc/out/lock")) is building: waiting for it (^C leaves it alone)"
+        flock 9
+    }
+    echo $$ >"$root/crates/pyc/out/lock"
+}
+
+# Proves the crates below the program one after the other and builds it, where there is no python3 for tools/build.py. What
+# was proved before is taken as it is, and what is wrong is shown. The build ends with a run of the program, which gets a
+# file of the repository and not the input of this call.
 prove_in_turn() {
+    all=$(crates)
+    count=$(($(echo "$all" | wc -l)))
+    say "the program is not built yet: this call proves its $count crates and builds it, in $root/crates"
+    say 'one crate at a time that took 63 minutes on a machine with 4 processors; it may be stopped, and the next call goes on'
+    wait_for_lock
     at=0
+    log=$root/crates/pyc/out/build.log
     for crate in $all; do
         at=$((at + 1))
         [ "$crate" = pyc ] && continue
         say "$at of $count: $crate"
-        said=$(cd "$root/crates/$crate" && rt lib 2>&1) || {
-            echo "$said" >&2
-            return 1
-        }
+        run_rt "$crate" /dev/null lib || return
     done
-}
-
-# What a call that was stopped has proved is there for the next. The build ends with a run of the program, which gets a
-# file of the repository and not the input of this call.
-build() {
-    if ! command -v rt >/dev/null; then
-        say 'the program is not built yet, and rt, which proves and builds it, is not on the path: install the Rattle kit'
-        return
-    fi
-    all=$(crates)
-    count=$(($(echo "$all" | wc -l)))
-    say "the program is not built yet: this call proves its $count crates and builds it, in $root/crates"
-    say 'from nothing that took 46 minutes on a machine with 4 processors and 24 GB, and up to 11 GB of memory'
-    say 'it may be stopped: the next call goes on with what is proved'
-    say 'sh pyc.sh --try FILE.py compiles at once, without proof'
-    start=$(date +%s)
-    if has_python; then
-        python3 -B "$root/tools/build.py" pyc || return
-    else
-        prove_in_turn || return
-    fi
     say "$count of $count: pyc"
-    (cd "$root/crates/pyc" && rt run -- exec 0 m.py <"$root/examples/call.json" >/dev/null) >&2
-    took=$(($(date +%s) - start))
-    if [ -x "$pyc" ]; then
-        say "proved and built in $((took / 60)) minutes $((took % 60)) seconds ($(machine))"
-    fi
+    run_rt pyc "$root/examples/call.json" run -- exec 0 m.py
 }
 
-# Sees that the program is there, and builds it where it is not.
-want_program() {
-    [ -x "$pyc" ] || build
-    if [ ! -x "$pyc" ]; then
+# Proves and builds the program; the call is then made anew.
+build() {
+    if [ ! -e "$root/crates.txt" ]; then
+        say "the program is not there: $program"
+        exit 127
+    elif ! command -v rt >/dev/null; then
+        say 'the program is not built yet, and rt, which proves and builds it, is not on the path: install the Rattle kit'
+    elif has_python; then
+        exec python3 "$root/tools/build.py" --then "$root/pyc.sh" pyc "$@"
+    else
+        prove_in_turn
+    fi
+    if [ ! -x "$program" ]; then
         say 'the program could not be built'
         exit 127
     fi
 }
 
-# Whether a file is there, which is told where it is not. An option behind the files is no file, unless -- came first.
-is_there() {
-    if [ -d "$1" ]; then
-        echo "$1: Is a directory" >&2
-    elif [ -e "$1" ]; then
-        return 0
-    else
-        case $named$1 in
-            -?*) wrong "there is no file $1: options stand before the files, and before --run" ;;
-        esac
-        echo "$1: No such file or directory" >&2
-    fi
-    return 1
-}
-
-# Sees that one of the files at least has rows, before the program is built, which takes long.
-want_rows() {
-    [ -x "$pyc" ] || python3 -B "$root/tools/compile_files.py" --look --least $least -m "$mode" -- "$@" || exit
-}
-
-# The words.
-mode=exec level=0 rows='' to='' way=built named=''
-if [ $# -eq 0 ]; then
-    usage >&2
-    exit 2
+if is_of_program "$@"; then
+    [ -x "$program" ] || build "$@"
+    exec "$program" "$@"
 fi
-if is_mode "$1"; then
-    if [ $# -ne 3 ] || ! is_level "$2"; then
-        wrong "'$1' is a mode, which a level (0, 1 or 2) and one path follow; a file of that name is written ./$1"
-    fi
-    want_program
-    exec "$pyc" "$@"
-fi
-case $1 in
-    pack | step | unpack | names | sample)
-        is_command "$@" || wrong "'$1' is a command with other words after it; a file of that name is written ./$1"
-        want_program
-        exec "$pyc" "$@"
-        ;;
-esac
-while [ $# -gt 0 ]; do
+if ! command -v python3 >/dev/null; then
     case $1 in
-        -h | --help)
-            help
-            exit 0
+        exec | eval | single | block | pack | step | unpack | names | sample)
+            say "'$1' is followed by other words, or by other options where there is a python3; a file of that name is ./$1"
+            exit 2
             ;;
-        --version)
-            version
-            exit 0
-            ;;
-        -m | -O | -o)
-            [ $# -gt 1 ] || wrong "$1 wants a word after it"
-            case $1 in
-                -m) mode=$2 ;;
-                -O) level=$2 ;;
-                -o) to=$2 ;;
-            esac
-            shift 2
-            ;;
-        -O?*)
-            level=${1#-O}
-            shift
-            ;;
-        --rows)
-            rows=--rows
-            shift
-            ;;
-        --try | --run)
-            way=${1#--}
-            shift
-            [ "$way" = run ] && break
-            ;;
-        --)
-            shift
-            named=yes
-            break
-            ;;
-        -?*) wrong "there is no option $1" ;;
-        *) break ;;
     esac
-done
-is_mode "$mode" || wrong "there is no mode '$mode': exec, eval, single or block"
-is_level "$level" || wrong "there is no level '$level': 0, 1 or 2"
-[ $# -gt 0 ] || wrong 'no file is named'
-if [ "$way" = run ] && { [ "$mode" != exec ] || [ -n "$rows$to" ]; }; then
-    wrong '--run takes no option but -O'
-fi
-
-# The files: what is not there is told before anything is built. Of --run the first word alone is a file.
-least=0
-if [ "$way" = run ]; then
-    is_there "$1" || exit 4
-else
-    for file in "$@"; do
-        shift
-        if [ "$file" = - ] || is_there "$file"; then
-            set -- "$@" "$file"
-        else
-            least=4
-        fi
-    done
-    [ $# -gt 0 ] || exit 4
-fi
-if ! has_python; then
-    say 'there is no python3 of 3.8 or later on the path, which reads the files'
+    say 'there is no python3 of 3.8 or later on the path, which reads the files and these words'
+    say 'without it these are read: MODE LEVEL PATH, pack, unpack, step, names PATH, sample (docs/COMMANDS.md)'
     exit 127
 fi
-
-if [ "$way" = try ]; then
-    command -v rt >/dev/null || {
-        say 'rt, which builds the program, is not on the path: install the Rattle kit'
-        exit 127
-    }
-    say '--try: nothing is proved of this program, which is built anew for each file and checks itself while it runs'
-    exec python3 -B "$root/tools/compile_files.py" --unproved --least $least -m "$mode" -O "$level" ${to:+-o "$to"} $rows -- "$@"
-fi
-if [ "$way" = run ]; then
-    want_rows "$1"
-    want_program
-    exec python3 -B "$root/tools/run.py" --program "$pyc" --level "$level" -- "$@"
-fi
-[ -n "$rows" ] || want_rows "$@"
-want_program
-exec python3 -B "$root/tools/compile_files.py" --program "$pyc" --least $least -m "$mode" -O "$level" ${to:+-o "$to"} $rows -- "$@"
+# Where no code of the user runs, Python needs nothing of the user's.
+flags='-I -S'
+case " $* " in
+    *' --run '* | ' run '* | ' console '* | ' lint '*) flags='' ;;
+esac
+exec python3 $flags "$root/python/pyc/__main__.py" --called "$called" "$@"

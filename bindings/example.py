@@ -10,8 +10,8 @@ import ctypes
 import pathlib
 import sys
 
-sys.path.insert(0, str(pathlib.Path(__file__).resolve().parent.parent / "tools"))
-import rows as rows_of_python
+sys.path.insert(0, str(pathlib.Path(__file__).resolve().parent.parent / "python"))
+from pyc import rows as rows_of_python
 
 LISTING, FILE = 0, 1
 MODES = {"exec": 0, "eval": 1, "single": 2, "block": 3}

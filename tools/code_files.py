@@ -4,184 +4,46 @@ can be.
 
 usage: code_files.py
 
-The text on standard output is the file. The grammar is read and written here once more, in Python,
-from its description in crates/py_codefile/README.md and not from the program. The edits are drawn by chance from a
+The text on standard output is the file. The grammar is read and written by `pyc.codefile`, in Python, from
+its description in crates/py_codefile/README.md and not from the program. The edits are drawn by chance from a
 fixed seed, so that each run writes the same file.
 """
 import argparse
+import pathlib
 import random
-import struct
+import sys
 
-MAGIC = b"PYCODE\x00\x01"
-# the first number above those of the instructions
-NO_INSTRUCTION = 92
-DEEPEST = 2 ** 11
-
-
-class Refused(Exception):
-    """Why bytes are no file, and the offset of the first bad field."""
-
-
-class Reader:
-    """Bytes that are read from left to right, a field at a time."""
-
-    def __init__(self, data):
-        self.data = data
-        self.at = 0
-        self.counts = []
-
-    def field(self, size):
-        if len(self.data) - self.at < size:
-            raise Refused("Truncated", self.at)
-        self.at += size
-        return self.data[self.at - size:self.at]
-
-    def number(self, form):
-        return struct.unpack(">" + form, self.field(struct.calcsize(">" + form)))[0]
-
-    def count(self):
-        self.counts.append(self.at)
-        return self.number("I")
-
-    def text(self):
-        size = self.count()
-        at = self.at
-        try:
-            return self.field(size).decode("utf-8")
-        except UnicodeDecodeError:
-            raise Refused("BadText", at) from None
-
-    def items(self, item):
-        return [item() for _ in range(self.count())]
-
-    def unit(self):
-        at = self.at
-        op = self.number("B")
-        if op >= NO_INSTRUCTION:
-            raise Refused("BadOpcode", at)
-        return op, self.number("B")
-
-    def positive(self):
-        at = self.at
-        number = self.number("I")
-        if number == 0:
-            raise Refused("ZeroLocation", at)
-        return number
-
-    def location(self):
-        return self.positive(), self.positive()
-
-    def cells(self):
-        at = self.at
-        byte = self.number("B")
-        if byte > 1:
-            raise Refused("BadTag", at)
-        return self.items(lambda: self.number("i")) if byte else None
-
-    def constant(self, depth):
-        """A constant around which codes and tuples nest so deep."""
-        at = self.at
-        byte = self.number("B")
-        if byte > 8:
-            raise Refused("BadTag", at)
-        if byte in (6, 8) and depth + 1 >= DEEPEST:
-            raise Refused("TooDeep", at)
-        if byte == 3:
-            return "str", self.text()
-        if byte == 4:
-            return "bytes", self.items(lambda: self.number("B"))
-        if byte == 5:
-            return "int", int.from_bytes(self.field(16), "big", signed=True)
-        if byte == 6:
-            return "tuple", self.items(lambda: self.constant(depth + 1))
-        if byte == 8:
-            return "code", self.code(depth + 1)
-        return {0: None, 1: False, 2: True, 7: ...}[byte]
-
-    def code(self, depth):
-        return [
-            self.number("H"), self.number("I"), self.number("I"), self.number("I"), self.text(),
-            self.number("I") or None, self.text(), self.number("I"), self.items(self.unit), self.items(self.location),
-            self.items(lambda: self.constant(depth)), self.items(self.text), self.items(self.text),
-            self.items(self.text), self.items(self.text), self.cells(),
-        ]
-
-    def file(self):
-        if self.field(8) != MAGIC:
-            raise Refused("Magic", 0)
-        code = self.code(1)
-        if self.at < len(self.data):
-            raise Refused("Trailing", self.at)
-        return code
+sys.path.insert(0, str(pathlib.Path(__file__).resolve().parent.parent / "python"))
+from pyc import codefile
+from pyc.code_object import Code
+from pyc.opcodes import NAMES
 
 
 def answer(data):
-    """What reading a file answers; None where a unit has a number that is kept free."""
-    reader = Reader(data)
+    """What reading a file answers."""
     try:
-        reader.file()
-        want = "Ok"
-    except Refused as refused:
-        cause, at = refused.args
-        want = f"{cause} {at}"
-    return want
-
-
-def number(n):
-    return struct.pack(">I", n)
-
-
-def text(t):
-    data = t.encode()
-    return number(len(data)) + data
-
-
-def items(spell, xs):
-    return number(len(xs)) + b"".join(map(spell, xs))
-
-
-def constant(c):
-    if isinstance(c, bool):
-        return b"\x02" if c else b"\x01"
-    if isinstance(c, str):
-        return b"\x03" + text(c)
-    if isinstance(c, bytes):
-        return b"\x04" + items(lambda b: bytes([b]), c)
-    if isinstance(c, int):
-        return b"\x05" + c.to_bytes(16, "big", signed=True)
-    if isinstance(c, tuple):
-        return b"\x06" + items(constant, c)
-    if isinstance(c, dict):
-        return b"\x08" + code(c)
-    return {None: b"\x00", ...: b"\x07"}[c]
-
-
-def code(c):
-    cells = c["cell2arg"]
-    return b"".join([
-        struct.pack(">HIII", c["flags"], *c["counts"]), text(c["path"]), number(c["line"] or 0), text(c["name"]),
-        number(c["depth"]), items(bytes, c["units"]), items(lambda l: struct.pack(">II", *l), c["locations"]),
-        items(constant, c["constants"]), *[items(text, c[t]) for t in ("names", "varnames", "cellvars", "freevars")],
-        b"\x00" if cells is None else b"\x01" + items(lambda z: struct.pack(">i", z), cells),
-    ])
+        codefile.read(data)
+    except codefile.BadCode as bad:
+        return f"{bad.cause} {bad.offset}"
+    return "Ok"
 
 
 # the Expression `1` at 1:1, compiled from m.py
-ONE = {
-    "flags": 1, "counts": (0, 0, 0), "path": "m.py", "line": 1, "name": "<module>", "depth": 0, "units": [(26, 0)],
-    "locations": [(1, 1)], "constants": [1], "names": [], "varnames": [], "cellvars": [], "freevars": [],
-    "cell2arg": None,
-}
+ONE = Code(
+    flags=1, posonlyarg_count=0, arg_count=0, kwonlyarg_count=0, source_path="m.py", first_line_number=1, obj_name="<module>",
+    max_stackdepth=0, instructions=(("ReturnConst", 0),), locations=((1, 1),), constants=(1,), names=(), varnames=(),
+    cellvars=(), freevars=(), cell2arg=None,
+)
 
 # every kind of constant, every table, no first line, all flags
-ALL = {
-    "flags": 0xffff, "counts": (1, 2, 3), "path": "é.py", "line": None, "name": "f", "depth": 4294967295,
-    "units": [(0, 0), (89, 255)], "locations": [(1, 4294967295), (2, 1)],
-    "constants": [None, False, True, "é", b"\x00\xff", -2 ** 127, (None, (), ...), ..., ONE],
-    "names": ["a", "bc"], "varnames": [""], "cellvars": ["c", "d"], "freevars": ["€"], "cell2arg": [-1, 0],
-}
+ALL = Code(
+    flags=0xffff, posonlyarg_count=1, arg_count=2, kwonlyarg_count=3, source_path="é.py", first_line_number=None, obj_name="f",
+    max_stackdepth=4294967295, instructions=((NAMES[0], 0), (NAMES[89], 255)), locations=((1, 4294967295), (2, 1)),
+    constants=(None, False, True, "é", b"\x00\xff", -2 ** 127, (None, (), ...), ..., ONE),
+    names=("a", "bc"), varnames=("",), cellvars=("c", "d"), freevars=("€",), cell2arg=(-1, 0),
+)
 
-FILES = {"one": MAGIC + code(ONE), "all": MAGIC + code(ALL)}
+FILES = {"one": codefile.write(ONE), "all": codefile.write(ALL)}
 WANTED = {
     "Magic": 8, "Truncated": 65, "BadOpcode": 22, "BadTag": 37, "BadText": 30, "ZeroLocation": 25, "Trailing": 13,
     "Ok": 40,
@@ -238,7 +100,7 @@ def highest_counts():
     """For each count and length of a file: what reading answers where it is 2^32 - 1."""
     rows = []
     for name, data in FILES.items():
-        reader = Reader(data)
+        reader = codefile.Reader(data)
         reader.file()
         edits = [(name, at, 4, b"\xff" * 4) for at in reader.counts]
         rows += [(edit, answer(edited(edit))) for edit in edits]

@@ -3,7 +3,7 @@
 
 usage: examples.py [--check] [--program PROGRAM]
 
-The rows of examples/NAME.py are examples/NAME.json, which tools/rows.py makes, and its listing is examples/NAME.txt, which
+The rows of examples/NAME.py are examples/NAME.json, which `pyc.sh rows` makes, and its listing is examples/NAME.txt, which
 tools/model gives. With --check nothing is written: rows and listings are made again and compared, and the program, where it
 is built, is to write the same listings. The rows of an example with type parameters are made by Python 3.12 or later alone.
 The status is 1 where something differs.
@@ -21,10 +21,10 @@ PROGRAM = TOOLS.parent / "crates" / "pyc" / "out" / "pyc"
 NEWER = {"type_parameters"}
 
 sys.path.insert(0, str(TOOLS / "model"))
-import pyc
+import compile_rows
 
-sys.path.insert(0, str(TOOLS))
-import rows
+sys.path.insert(0, str(TOOLS.parent / "python"))
+from pyc import rows
 
 
 def sources():
@@ -41,7 +41,7 @@ def rows_of(source):
 
 def listing_of(source, made):
     """The listing that the model gives for the rows of a source."""
-    status, listing, told, _ = pyc.run(["exec", "0", source.name], made)
+    status, listing, told, _ = compile_rows.run(["exec", "0", source.name], made)
     if status:
         raise ValueError("%s: %s" % (source.name, told))
     return listing.encode("utf-8")

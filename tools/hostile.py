@@ -20,6 +20,7 @@ Python 3.8 or later, on Linux.
 import argparse
 import collections
 import contextlib
+import dataclasses
 import fcntl
 import json
 import os
@@ -41,9 +42,12 @@ import tty
 import code_files
 import hostile_cases as cases
 import names_table
-import rows as rows_of_python
 
 TOOLS = pathlib.Path(__file__).resolve().parent
+sys.path.insert(0, str(TOOLS.parent / "python"))
+from pyc import codefile
+from pyc import rows as rows_of_python
+
 CRATE = TOOLS.parent / "crates" / "pyc"
 SINGLE_CALLS = TOOLS.parent / "crates" / "single_calls"
 
@@ -82,7 +86,7 @@ CALLED = Ended(DONE, CALL_LISTING, b"")
 
 NOTHING = b'[["Module",[]]]'
 NOTHING_LISTING = b"code '<module>' from 'm.py' line 1 flags 1 args 0 0 0 depth 0\nconstants: None\n0 1:1 ReturnConst 0 None\n"
-NOTHING_FILE = code_files.MAGIC + code_files.code({**code_files.ONE, "constants": [None]})
+NOTHING_FILE = codefile.write(dataclasses.replace(code_files.ONE, constants=(None,)))
 NOTHING_RUNS = b"code\nreturned None\ntree\nreturned None\n"
 
 # A made program, and the summary of its code, as docs/COMMANDS.md has both.
@@ -330,7 +334,7 @@ UNSOUND = b"input: code does not verify\n"
 
 def counts_of(data):
     """The offsets of the counts and lengths of a code file."""
-    reader = code_files.Reader(data)
+    reader = codefile.Reader(data)
     reader.file()
     return reader.counts
 
@@ -349,7 +353,7 @@ def mutant(data, counts, draw):
         return data[:at] + data[at + draw.randrange(1, 9):]
     at = draw.choice(counts)
     large = draw.choice([2**32 - 1, 2**31, 2**24, draw.randrange(2**32)])
-    return data[:at] + code_files.number(large) + data[at + 4:]
+    return data[:at] + codefile.number(large) + data[at + 4:]
 
 
 def unpacking_ends(data, got):
@@ -701,13 +705,13 @@ def least_stack(program, words, data, wanted, most, step):
 
 def around_constant():
     """What stands before and behind the only constant of a small code, in the spelling of code files."""
-    return code_files.code({**code_files.ONE, "constants": ["hole"]}).split(code_files.constant("hole"))
+    return codefile.constant(dataclasses.replace(code_files.ONE, constants=("hole",)))[1:].split(codefile.constant("hole"))
 
 
 def deep_file(depth, begins, ends):
     """A code file in which something nests so deep, the outermost code counting one, that begins and ends with these bytes."""
     before, behind = around_constant()
-    return code_files.MAGIC + before + begins * (depth - 1) + code_files.constant(None) + ends * (depth - 1) + behind
+    return codefile.MAGIC + before + begins * (depth - 1) + codefile.constant(None) + ends * (depth - 1) + behind
 
 
 # Scripts by which a run gets deep into a tree: each question is answered by a value, or every other one by yes.
@@ -726,8 +730,8 @@ def deep_inputs(depth):
         for answers, script in DEEP_SCRIPTS.items() if deep.line is None else ():
             yield "%s, run over %s" % (deep.title, answers), ["step", *WORDS, ",".join(script)], data, done
     before, behind = around_constant()
-    yield "tuples of a code file", UNPACK, deep_file(code_files.DEEPEST - 1, b"\x06" + code_files.number(1), b""), done
-    yield "codes of a code file", UNPACK, deep_file(code_files.DEEPEST - 1, b"\x08" + before, behind), done
+    yield "tuples of a code file", UNPACK, deep_file(codefile.DEEPEST - 1, b"\x06" + codefile.number(1), b""), done
+    yield "codes of a code file", UNPACK, deep_file(codefile.DEEPEST - 1, b"\x08" + before, behind), done
 
 
 def check_stack(arguments):

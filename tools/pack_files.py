@@ -12,9 +12,10 @@ import pathlib
 import subprocess
 import sys
 
-import rows as rows_of_python
-
 ROOT = pathlib.Path(__file__).resolve().parent.parent
+sys.path.insert(0, str(ROOT / "python"))
+from pyc import rows as rows_of_python
+
 
 
 def sources(paths):

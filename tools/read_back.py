@@ -28,6 +28,7 @@ import random
 import subprocess
 import sys
 
+sys.path.insert(0, str(pathlib.Path(__file__).resolve().parent.parent / "python"))
 import hostile_cases
 
 CRATE = pathlib.Path(__file__).resolve().parent.parent / "crates" / "py_rows_vectors"
@@ -580,7 +581,7 @@ def nests(rows):
 
 def pieces_of(body, source):
     """The rows of statements: of all together, else of each, and of those that stand in one that rows cannot say."""
-    import rows
+    from pyc import rows
 
     try:
         whole = rows.rows_of(ast.Module(body, []), source)
@@ -601,7 +602,7 @@ def pieces_of(body, source):
 
 def library_rows(folder):
     """The rows of the files of a folder, without installed packages."""
-    import rows
+    from pyc import rows
     import stdlib
 
     for file in stdlib.library_files(folder):
@@ -618,7 +619,7 @@ def library_rows(folder):
 
 def few_rows(counts):
     """The rows of sources of the kinds that were seen too seldom."""
-    import rows
+    from pyc import rows
 
     for kind, (mode, source) in FEW.items():
         for number in range(WANTED):

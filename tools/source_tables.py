@@ -22,7 +22,7 @@ TOOLS = pathlib.Path(__file__).resolve().parent
 MODEL = str(TOOLS / "model")
 sys.path.insert(0, MODEL)
 import hostile_cases
-import pyc
+import compile_rows
 from py2rows import rows_text, tree_of
 from tree import Node
 from tree import rows_of as rows_of_tree
@@ -2722,7 +2722,7 @@ def refused_trees():
     """Trees that are refused, of each shape and each fault, under what is told of them, which is the same at each level."""
     for number, (tree, line) in enumerate(hostile_cases.refused_trees()):
         rows = hostile_cases.text_of(hostile_cases.rows_of(tree)).decode("utf-8")
-        status, _, told, _ = pyc.run(["exec", "012"[number % 3], "m.py"], rows.encode("utf-8"), True)
+        status, _, told, _ = compile_rows.run(["exec", "012"[number % 3], "m.py"], rows.encode("utf-8"), True)
         assert (status, told) == (1, line + "\n"), (line, told)
         yield f"a tree that is refused: {line}", rows
 
@@ -2748,7 +2748,7 @@ def case(source, mode, level):
         source, rows = source
     else:
         rows = rows_text(source, "eval" if mode == "eval" else "exec")
-    status, out, err, _ = pyc.run([mode, level, "m.py"], rows.encode(), True)
+    status, out, err, _ = compile_rows.run([mode, level, "m.py"], rows.encode(), True)
     assert status in (0, 1, 3), (source, err)
     return f"{mode} {level} {escaped(source)}", rows, out if status == 0 else err
 

@@ -16,7 +16,7 @@ functions, closures, classes, methods with super, comprehensions, decorators, de
 --growth times made inputs whose cost may grow faster than their size, each at several sizes n, and tells how the rows, the
 time and the listing grow: as which power of n, by the line through the logarithms that has the least squares. A run
 that takes more seconds than --limit or more memory than --memory is ended, and the input with it. --source times files
-from the source on: tools/rows.py and the program apart, and `python -m dis` beside them. --instructions counts what the
+from the source on: the rows and the program apart, and `python -m dis` beside them. --instructions counts what the
 program executes, by callgrind of valgrind: over 10^4 statements of a series, and over files, or each 34th of those of the
 library that pyc compiles. That is the same in each run, whatever else the machine does.
 
@@ -45,6 +45,9 @@ import made_inputs
 
 TOOLS = pathlib.Path(__file__).resolve().parent
 PROGRAM = TOOLS.parent / "crates" / "pyc" / "out" / "pyc"
+# The command, by its path.
+STARTER = TOOLS.parent / "python" / "pyc" / "__main__.py"
+sys.path.insert(0, str(TOOLS.parent / "python"))
 SIZES = (1000, 3160, 10000, 31600, 100000)
 # The files of the library that are taken together have rows of so many bytes at most: pyc reads fewer than 2^26.
 LIBRARY_ROWS = 30000000
@@ -137,7 +140,7 @@ class Bench:
         """The file of the rows of a source, or None where it has none."""
         file = self.folder / "rows"
         with open(file, "wb") as out:
-            run = timed([sys.executable, TOOLS / "rows.py"], source, out)
+            run = timed([sys.executable, STARTER, "rows"], source, out)
         return file if run.status == 0 else None
 
     def pyc(self, rows, wanted=0):
@@ -208,7 +211,7 @@ class Bench:
         reading = []
         for _ in range(self.runs):
             with open(file, "wb") as out:
-                reading.append(timed([sys.executable, TOOLS / "rows.py"], source, out))
+                reading.append(timed([sys.executable, STARTER, "rows"], source, out))
         ours = self.pyc(file) if all(it.status == 0 for it in reading) else None
         if ours is None:
             return None
@@ -272,7 +275,7 @@ def how_ended(status, limit):
 def gather(program, library, together):
     """Writes the files of a folder that the program compiles into one, one after the other, and prints their number."""
     # Here alone, since they take memory, which a process that is started counts as its own.
-    import rows
+    from pyc import rows
     import stdlib
 
     texts, size = [], 0
@@ -298,7 +301,7 @@ def summary_of(text):
 
 def sample(program, library):
     """Each 34th of the files of a folder that the program compiles, as `gather` takes them."""
-    import rows
+    from pyc import rows
     import stdlib
 
     files = stdlib.library_files(pathlib.Path(library))

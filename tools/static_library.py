@@ -5,7 +5,7 @@ usage: static_library.py [--after-ci] [--to FOLDER] [--timeout SECONDS]
 
 libpyc_c.a is built from crates/pyc_c, once that and all below it is proved. With it and bindings/pyc.c the C compiler (`cc`)
 makes libpyc.so and the program `example`; --to puts these three into a folder. By both, the rows in examples/ have to give
-the listings that stand there, and files of code that tools/code_files.py reads, and, where crates/pyc/out/pyc is built, those
+the listings that stand there, and files of code that `pyc.codefile` reads, and, where crates/pyc/out/pyc is built, those
 that it packs. What is refused is tried too, and arguments that the library refuses.
 
 What is not proved yet is proved first, which may take an hour. With --after-ci nothing is but crates/pyc_c: it stands on what
@@ -39,9 +39,10 @@ DONE, ARGUMENT = 0, 7
 
 sys.path.insert(0, str(BINDINGS))
 sys.dont_write_bytecode = True
+sys.path.insert(0, str(ROOT / "python"))
 import build
-import code_files
 import example
+from pyc import codefile
 
 
 class Failed(Exception):
@@ -108,6 +109,14 @@ def linked(archive, kit, folder):
     return shared, program
 
 
+def is_file(data):
+    """Whether these bytes are a file of code."""
+    try:
+        return codefile.write(codefile.read(data)) == data
+    except codefile.BadCode:
+        return False
+
+
 def examples():
     """The path, the rows and the listing of each example."""
     for rows in sorted((ROOT / "examples").glob("*.json")):
@@ -123,7 +132,7 @@ def by_library(shared):
         if compiler.compile_rows(rows, path) != (DONE, listing):
             yield "%s: another listing, by the library" % path
         status, code = compiler.compile_rows(rows, path, output=example.FILE)
-        if status != DONE or code_files.answer(code) != "Ok":
+        if status != DONE or not is_file(code):
             yield "%s: no file of code, by the library" % path
         if PROGRAM.exists() and code != subprocess.run([str(PROGRAM), "pack", "exec", "0", path], input=rows, stdout=subprocess.PIPE).stdout:
             yield "%s: another file than the program packs, by the library" % path

@@ -7,7 +7,7 @@ The program is crates/pyc/out/pyc, which pyc.sh builds. FOLDER takes the place o
 (site-packages) are left out. With --files each file has a line of its own first: how it ended, and its path. The counts
 are by kind of fault: the line that is told, without its place; where a kind of node is not compiled, with the kind.
 With --kinds the rows of the files that were read are counted by their kind too. The status is 1 where the rows of a file
-are refused as input: rows.py makes none that are.
+are refused as input: `pyc rows` makes none that are.
 """
 import argparse
 import collections
@@ -19,9 +19,11 @@ import subprocess
 import sys
 import time
 
-import rows
+ROOT = pathlib.Path(__file__).resolve().parent.parent
+sys.path.insert(0, str(ROOT / "python"))
+from pyc import rows
 
-PROGRAM = pathlib.Path(__file__).resolve().parent.parent / "crates" / "pyc" / "out" / "pyc"
+PROGRAM = ROOT / "crates" / "pyc" / "out" / "pyc"
 
 # What the program tells of a kind that is not compiled.
 NOT_YET = "RustPython does not implement this feature yet"

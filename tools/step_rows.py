@@ -10,49 +10,35 @@ py_script writes them, and an empty line. Standard output gets the text.
 """
 import argparse
 import pathlib
-import re
 import sys
 
 TOP = pathlib.Path(__file__).resolve().parent.parent
-sys.path.insert(0, str(TOP / "tools"))
+sys.path.insert(0, str(TOP / "python"))
 sys.path.insert(0, str(TOP / "tools" / "model"))
-import code_files
 import code_objects
 import machine
+from pyc import codefile
+from pyc.code_object import Code
 from shapes import constant_text, quote
 
 USAGES = {"Load": "load ", "Store": "store ", "Delete": "delete "}
 SINGLE = {None: ("none",), False: ("false",), True: ("true",), ...: ("ellipsis",)}
 
 
-def instruction_names():
-    """The names of the instructions by number."""
-    source = (TOP / "crates/py_bytecode/src/instruction.rt").read_text(encoding="utf-8")
-    body = re.search(r"pub enum Instruction \{(.*?)\n\}", source, re.S)[1]
-    return re.findall(r"^\s*(\w+),$", body, re.M)
-
-
-def constant(c, make):
+def constant(value):
     """A constant as the model has it."""
-    kind, value = c if isinstance(c, tuple) else (None, c)
-    if kind == "tuple":
-        return "tuple", tuple(constant(x, make) for x in value)
-    if kind == "code":
-        return "code", make(value)
-    if kind == "bytes":
-        return "bytes", bytes(value)
-    return SINGLE[value] if kind is None else (kind, value)
+    if isinstance(value, tuple):
+        return "tuple", tuple(map(constant, value))
+    if isinstance(value, Code):
+        return "code", code_of(value)
+    if value is None or value is ... or isinstance(value, bool):
+        return SINGLE[value]
+    return type(value).__name__, value
 
 
-def maker(model_code, names):
-    """What makes a code of the model from the fields of a file."""
-    def make(fields):
-        flags, positional_only, positional, keyword_only, path, line, name, depth, units, locations, constants, *tables, cells = fields
-        return model_code(
-            flags, positional_only, positional, keyword_only, path, line, name, depth,
-            tuple((names[op], byte) for op, byte in units), tuple(locations), tuple(constant(c, make) for c in constants),
-            *map(tuple, tables), cells)
-    return make
+def code_of(code):
+    """A code as the model has it."""
+    return code_objects.Code(**dict(vars(code), constants=tuple(map(constant, code.constants))))
 
 
 def value_text(v):
@@ -105,10 +91,9 @@ def script_of(text):
 
 def main():
     argparse.ArgumentParser(description=__doc__, formatter_class=argparse.RawDescriptionHelpFormatter).parse_args()
-    make = maker(code_objects.Code, instruction_names())
     for line in (TOP / "crates/step_vectors/stdin").read_text(encoding="ascii").splitlines():
         digits, _, script = line.partition(" ")
-        code = make(code_files.Reader(bytes.fromhex(digits)).file())
+        code = code_of(codefile.read(bytes.fromhex(digits)))
         run = machine.machine(code, script_of(script))
         sys.stdout.write("\n".join(lines(run, machine.KIND)) + "\n\n")
 

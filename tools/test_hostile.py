@@ -19,7 +19,7 @@ import code_files
 import hostile
 import hostile_cases as cases
 import names_table
-import pyc as model
+import compile_rows as model
 import read_back
 import step_trees
 
@@ -142,7 +142,7 @@ class Hostile(unittest.TestCase):
         self.assertEqual(hostile.named(cases.text_of(cases.rows_of(cases.module(("Break", 3, 5))))), hostile.Ended(0, b"", b""))
 
     def test_an_empty_program_is_packed_and_run_as_the_model_does(self):
-        self.assertEqual(code_files.Reader(hostile.NOTHING_FILE).file()[10], [None])
+        self.assertEqual(hostile.codefile.read(hostile.NOTHING_FILE).constants, (None,))
         tree = names_table.read_rows(hostile.NOTHING)
         lines = step_trees.both_lines(tree, "exec", 0, step_trees.script_of("g1"))
         self.assertEqual(hostile.NOTHING_RUNS.decode("utf-8"), "".join(it + "\n" for it in lines))

@@ -1,5 +1,5 @@
 #!/usr/bin/env python3
-"""Tests of pyc.sh, build.py, compile_files.py, speed.py and stdlib.py, with a small program in the place of pyc and of rt."""
+"""Tests of pyc.sh, build.py, the commands `compile` and `rows`, speed.py and stdlib.py, with a small program in the place of pyc and of rt."""
 import os
 import pathlib
 import shutil
@@ -20,6 +20,10 @@ esac
 printf '%s;' "$@"
 echo "${#input}"
 """
+
+# What is told below a refusal.
+FLOAT = "note: a float: pyc compiles no literals that are floats (--explain R104)\n"
+CLASS = "note: an f-string in an annotation that is postponed (--explain R306)\n"
 
 # It stands for rt, which proves the crates below the program and then builds this.
 BUILDER = """#!/bin/sh
@@ -57,9 +61,11 @@ class Fresh(unittest.TestCase):
         for name in ("pyc", "high", "low", "other"):
             (self.root / "crates" / name).mkdir(parents=True)
         (self.root / "crates.txt").write_text(CRATES)
-        shutil.copytree(ROOT / "tools", self.root / "tools", ignore=shutil.ignore_patterns("__pycache__"))
+        for name in ("tools", "python"):
+            shutil.copytree(ROOT / name, self.root / name, ignore=shutil.ignore_patterns("__pycache__"))
         shutil.copytree(ROOT / "examples", self.root / "examples")
-        shutil.copy(ROOT / "pyc.sh", self.root)
+        for name in ("pyc.sh", "VERSION"):
+            shutil.copy(ROOT / name, self.root)
         self.bin = self.folder / "bin"
         self.bin.mkdir()
         write_program(self.folder / "program", PROGRAM)
@@ -110,34 +116,28 @@ class Fresh(unittest.TestCase):
         self.assertEqual((status, told), (0, ""))
         self.assertTrue(out.startswith("usage: sh pyc.sh "), out)
         self.assertEqual(self.pyc("-m", "eval", "-h"), (0, out, ""))
-        self.assertEqual(self.pyc("--version"), (0, "pyc no commit, kit-1\n", ""))
+        number = (ROOT / "VERSION").read_text().strip()
+        self.assertEqual(self.pyc("--version"), (0, "pyc %s, the program is not built\n" % number, ""))
         self.assertEqual(self.pyc("no.py", "nor this.py"), (4, "", "no.py: No such file or directory\nnor this.py: No such file or directory\n"))
-        self.assertEqual(self.pyc("--run", "no.py", "-x"), (4, "", "no.py: No such file or directory\n"))
-        usage = out[: out.index("\n\n") + 1]
-        self.assertEqual(self.pyc(), (2, "", usage))
         for words in (["exec"], ["exec", "0"], ["exec", "3", "m.py"], ["eval", "0", "m.py", "n.py"], ["pack", "exec", "0"], ["pack", "exec", "3", "m.py"], ["step", "exec", "0", "m.py"], ["step", "exec", "0", "m.py", "d", "t"], ["unpack", "m.py"], ["names"], ["sample"], ["sample", "8"], ["sample", "+8", "0"], ["sample", "", "0"], ["sample", "8", "3"], ["sample", "8", "0", "m.py"], ["-O", "3", "m.py"], ["-m", "x", "m.py"]):
-            self.check_wrong(words, usage)
-        for words in (["-m"], ["-O2"], ["--rows"], ["--frob", "m.py"], ["--run"], ["-o", "x", "--run", "m.py"]):
-            self.check_wrong(words, usage)
-        self.write("m.py", "a\n")
-        for words in (["--run", "-O", "1", "m.py"], ["m.py", "-o", "x"], ["m.py", "--help"]):
-            self.check_wrong(words, usage)
+            self.check_wrong(words)
+        for words in ([], ["-m"], ["-O2"], ["--rows"], ["--frob", "m.py"], ["--run"], ["-o", "x", "--run", "m.py"], ["m.py", "--frob"]):
+            self.check_wrong(words)
+        self.assertEqual(self.pyc("m.py", "--help"), (0, out, ""))
         self.assertEqual(self.pyc("--", "-o"), (4, "", "-o: No such file or directory\n"))
         self.assertEqual(self.pyc(self.folder), (4, "", "%s: Is a directory\n" % self.folder))
         self.write("f.py", "a = 1.5\n")
         self.write("g.py", "a = (\n")
-        told = "f.py:1:5: rows have no word for a float\na = 1.5\n    ^\n"
-        self.assertEqual(self.pyc("--run", "f.py"), (1, "", told))
+        told = "f.py:1:5: rows have no word for a float\na = 1.5\n    ^\n" + FLOAT
         self.assertEqual(self.pyc("f.py", "no.py", "g.py")[:2], (4, ""))
         self.assertEqual(self.pyc("f.py"), (1, "", told))
         self.assertFalse((self.root / "proved").exists())
 
-    def check_wrong(self, words, usage):
-        """Words that are told, with the usage, and build nothing."""
+    def check_wrong(self, words):
+        """Words that are told in two lines, and build nothing."""
         status, out, told = self.pyc(*words)
         self.assertEqual((status, out), (2, ""), words)
-        self.assertRegex(told, r"^pyc\.sh: .+\n")
-        self.assertTrue(told.endswith(usage), told)
+        self.assertRegex(told, r"^pyc: .+\npyc: 'sh pyc\.sh( [a-z]+)? --help' lists the words\n$")
 
     def test_links_and_folders(self):
         self.built()
@@ -162,6 +162,7 @@ class Fresh(unittest.TestCase):
         self.assertEqual(self.pyc("-m", "eval", "-O", "2", "m.py"), (0, "eval;2;m.py;35\n", ""))
         self.assertEqual(self.pyc("-m", "block", "-O1", "m.py"), (0, "block;1;m.py;%d\n" % len(rows.replace("Module", "Interactive")), ""))
         self.assertEqual(self.pyc("m.py", "no.py"), (4, "exec;0;m.py;48\n", "no.py: No such file or directory\n"))
+        self.assertEqual(self.pyc("m.py", "-O2", "-m", "eval"), (0, "eval;2;m.py;35\n", ""))
         self.assertEqual(self.pyc("."), (4, "", ".: Is a directory\n"))
 
     def test_rows(self):
@@ -171,7 +172,8 @@ class Fresh(unittest.TestCase):
         self.write("class.json", '[["ClassDef"]]')
         self.assertEqual(self.pyc("--rows", "m.json"), (0, "exec;0;m.json;2\n", ""))
         self.assertEqual(self.pyc("--rows", "-", data=b"[ ]"), (0, "exec;0;<stdin>;3\n", ""))
-        told = "class.json:1:1: RustPython does not implement this feature yet\nodd.json: input: not rows\n"
+        told = "class.json:1:1: RustPython does not implement this feature yet\n" + CLASS + "odd.json: input: not rows\n"
+        told += "note: the input is not the rows of a tree (--explain R701)\n"
         self.assertEqual(self.pyc("--rows", "class.json", "odd.json", "m.json"), (3, "exec;0;m.json;2\n", told))
 
     def test_output(self):
@@ -183,20 +185,31 @@ class Fresh(unittest.TestCase):
         self.assertEqual(self.pyc("-o", "two", "m.py", "c.py")[0], 1)
         self.assertFalse((self.folder / "two").exists())
         self.assertEqual(self.pyc("-o", "no/two", "m.py"), (5, "", "no/two: No such file or directory\n"))
+        self.assertEqual(self.pyc("m.py", "-o", "-"), (0, "exec;0;m.py;48\n", ""))
+        (self.folder / "link").symlink_to("m.py")
+        for name in ("m.py", "link"):
+            status, out, told = self.pyc("-o", name, "m.py")
+            self.assertEqual((status, out), (2, ""))
+            self.assertIn("would be overwritten", told)
+        self.assertEqual((self.folder / "m.py").read_text(), "a\n")
+        (self.folder / "one").chmod(0o640)
+        self.assertEqual(self.pyc("-o", "one", "m.py")[0], 0)
+        self.assertEqual((self.folder / "one").stat().st_mode & 0o777, 0o640)
+        self.assertEqual(self.pyc("-o", "/dev/null", "m.py"), (0, "", ""))
 
     def test_faults(self):
         self.built()
         self.write("f.py", "a = 1.5\n")
-        self.assertEqual(self.pyc("f.py"), (1, "", "f.py:1:5: rows have no word for a float\na = 1.5\n    ^\n"))
+        self.assertEqual(self.pyc("f.py"), (1, "", "f.py:1:5: rows have no word for a float\na = 1.5\n    ^\n" + FLOAT))
         self.write("s.py", "if a:\n\t'\u00e9\u65e5' + 1.5\n")
-        self.assertEqual(self.pyc("s.py"), (1, "", "s.py:2:9: rows have no word for a float\n\t'\u00e9\u65e5' + 1.5\n\t        ^\n"))
+        self.assertEqual(self.pyc("s.py"), (1, "", "s.py:2:9: rows have no word for a float\n    '\u00e9\u65e5' + 1.5\n            ^\n" + FLOAT))
         self.write("c.py", "class C:\n    pass\n")
         status, out, told = self.pyc("c.py", "f.py")
         self.assertEqual((status, out), (1, ""))
-        text = "c.py:1:1: RustPython does not implement this feature yet\nclass C:\n^\n"
-        self.assertEqual(told, text + "f.py:1:5: rows have no word for a float\na = 1.5\n    ^\n")
+        text = "c.py:1:1: RustPython does not implement this feature yet\nclass C:\n^\n" + CLASS
+        self.assertEqual(told, text + "f.py:1:5: rows have no word for a float\na = 1.5\n    ^\n" + FLOAT)
         (self.folder / "latin.py").write_bytes(b"a\n'\xe9'\n")
-        self.assertEqual(self.pyc("latin.py"), (1, "", "latin.py:2:2: the source is not utf-8\n"))
+        self.assertEqual(self.pyc("latin.py"), (1, "", "latin.py:2:2: the source is not utf-8\nnote: the bytes of the source are no text of its encoding (--explain R102)\n"))
 
     def test_without_proof(self):
         write_program(self.bin / "rt", "#!/bin/sh\n[ \"$1 $2\" = 'try --' ] && shift 2 && echo \"${PWD##*/} $*\" && cat && echo proved=no >&2\n")
@@ -204,7 +217,7 @@ class Fresh(unittest.TestCase):
         self.write("m.py", "a\n")
         status, out, told = self.pyc("--try", "-m", "eval", "m.py")
         self.assertEqual((status, out), (0, 'pyc eval 0 m.py\n[["Name",1,1,"a"],["Expression",0]]'))
-        self.assertRegex(told, r"^pyc\.sh: --try: nothing is proved of this program, .+\n$")
+        self.assertRegex(told, r"^pyc: --try: nothing is proved of this program, .+\n$")
 
     def test_lanes(self):
         sys.path.insert(0, str(ROOT / "tools"))
@@ -237,7 +250,7 @@ esac
         lanes = {(self.root / "crates" / name / "out" / "rlib" / "stamp").read_text().split("/lanes-")[1].split("/")[1] for name in ("low", "other")}
         self.assertEqual(lanes, {"0", "1"})
         self.assertTrue((self.root / "crates" / "high" / "out" / "incremental" / "work").exists())
-        self.assertEqual(list((self.root / "crates" / "pyc" / "out").iterdir()), [])
+        self.assertEqual({it.name for it in (self.root / "crates" / "pyc" / "out").iterdir()}, {"lock", "build.log"})
 
     def test_a_crate_that_is_not_proved(self):
         self.with_builder()
@@ -247,7 +260,7 @@ esac
         self.assertTrue(told.endswith("pyc.sh: 1 of 3: low\nopen goal\npyc.sh: low is not proved\npyc.sh: the program could not be built\n"), told)
 
     def test_without_rt(self):
-        for name in ("sh", "cat", "dirname", "readlink", "awk", "wc"):
+        for name in ("sh", "cat", "dirname", "readlink", "awk", "wc", "mkdir", "flock", "setsid", "tail"):
             (self.bin / name).symlink_to(shutil.which(name))
         status, out, told = self.call([self.bin / "sh", self.root / "pyc.sh", "exec", "0", "x"], path="")
         self.assertEqual((status, out), (127, ""))
@@ -259,7 +272,10 @@ esac
         self.assertTrue(told.endswith("pyc.sh: 1 of 3: low\nno\npyc.sh: the program could not be built\n"), told)
         self.write("m.py", "a\n")
         status, out, told = self.call([self.bin / "sh", self.root / "pyc.sh", "m.py"], path="")
-        self.assertEqual((status, out, told), (127, "", "pyc.sh: there is no python3 of 3.8 or later on the path, which reads the files\n"))
+        self.assertEqual((status, out), (127, ""))
+        self.assertTrue(told.startswith("pyc.sh: there is no python3 of 3.8 or later on the path, which reads the files and these words\n"), told)
+        write_program(self.root / "crates" / "pyc" / "out" / "pyc", PROGRAM)
+        self.assertEqual(self.call([self.bin / "sh", self.root / "pyc.sh", "exec", "0", "x"], path="", data=b"[]"), (0, "exec;0;x;2\n", ""))
 
     def library(self):
         """A folder of sources."""

@@ -1,13 +1,14 @@
 #!/usr/bin/env python3
-"""Tests of rows.py: what it writes for each kind of node, worked out by hand, and what it refuses."""
+"""Tests of `pyc.rows`: what it writes for each kind of node, worked out by hand, and what it refuses."""
 import json
 import pathlib
 import subprocess
 import sys
 import unittest
 
-sys.path.insert(0, str(pathlib.Path(__file__).resolve().parent))
-import rows
+ROOT = pathlib.Path(__file__).resolve().parent.parent
+sys.path.insert(0, str(ROOT / "python"))
+from pyc import rows
 
 VERSION = sys.version_info[:2]
 
@@ -726,18 +727,18 @@ class Refusals(unittest.TestCase):
 class Program(unittest.TestCase):
     def run_with(self, words, data=b""):
         """The status, the output and the errors of a run."""
-        ended = subprocess.run([sys.executable, rows.__file__, *words], input=data, stdout=subprocess.PIPE, stderr=subprocess.PIPE)
+        ended = subprocess.run([sys.executable, ROOT / "python" / "pyc" / "__main__.py", "rows", *words], input=data, stdout=subprocess.PIPE, stderr=subprocess.PIPE)
         return ended.returncode, ended.stdout, ended.stderr.decode("utf-8")
 
     def test_runs(self):
-        wanted = (pathlib.Path(__file__).resolve().parent.parent / "examples" / "call.json").read_bytes().strip() + b"\n"
+        wanted = (ROOT / "examples" / "call.json").read_bytes().strip() + b"\n"
         self.assertEqual(self.run_with([], b"f(a + 1)"), (0, wanted, ""))
         self.assertEqual(self.run_with(["--mode", "eval", "-"], b"\xc3\xa9")[1], '[["Name",1,1,"é"],["Expression",0]]\n'.encode("utf-8"))
 
     def test_faults(self):
-        self.assertEqual(self.run_with([], b"1.5"), (1, b"", "<stdin>:1:1: rows have no word for a float\n"))
+        self.assertEqual(self.run_with([], b"1.5"), (1, b"", "<stdin>:1:1: rows have no word for a float\n1.5\n^\nnote: a float: pyc compiles no literals that are floats (--explain R104)\n"))
         status, out, told = self.run_with(["no-such-file.py"])
-        self.assertEqual((status, out), (1, b""))
+        self.assertEqual((status, out), (4, b""))
         self.assertRegex(told, r"^no-such-file\.py: .+\n$")
         self.assertEqual(self.run_with(["--mode", "blocks"])[:2], (2, b""))
 

@@ -9,7 +9,7 @@ import unittest
 
 TOOLS = pathlib.Path(__file__).resolve().parent
 PROGRAM = TOOLS.parent / "crates" / "pyc" / "out" / "pyc"
-PROGRAMS = sorted((TOOLS / "vm" / "programs").glob("*.py"))
+PROGRAMS = sorted((TOOLS.parent / "python" / "tests" / "programs").glob("*.py"))
 
 # This one has type parameters.
 NEWER = {"params.py"}
@@ -19,6 +19,19 @@ def ended(words):
     """The status, the output and the errors of a call."""
     it = subprocess.run([sys.executable, "-B", *map(str, words)], stdout=subprocess.PIPE, stderr=subprocess.PIPE)
     return it.returncode, it.stdout.decode("utf-8"), it.stderr.decode("utf-8")
+
+
+def plain(it):
+    """A code of the model, or one of its constants, as the package has it."""
+    from pyc.code_object import Code
+
+    if not isinstance(it, tuple):
+        constants = tuple(map(plain, it.constants))
+        return Code(**dict(vars(it), constants=constants))
+    kind, *value = it
+    if kind in ("tuple", "code"):
+        return tuple(map(plain, value[0])) if kind == "tuple" else plain(value[0])
+    return value[0] if value else {"none": None, "true": True, "false": False, "ellipsis": ...}[kind]
 
 
 class Run(unittest.TestCase):
@@ -67,15 +80,15 @@ class Run(unittest.TestCase):
         self.assertEqual((status, out, told), (0, "[1, 'leaf'] 3 [2, 'leaf']\n", ""))
 
     def test_listings(self):
-        sys.path[:0] = [str(TOOLS / "vm"), str(TOOLS / "model")]
+        sys.path[:0] = [str(TOOLS.parent / "python"), str(TOOLS / "model")]
         import emit
         import listing
-        import listings
         import py2rows
+        from pyc.listing import read_listing
 
         for source in ("a", "def f(a, *b, c=(1, b'\\x00'), **d):\n return lambda: (a, 'x\\'y', ...)", "class A:\n def f(self): return super().f()"):
             code = emit.compile_top(py2rows.tree_of(source))
-            self.assertEqual(listings.read_listing(listing.listing(code)), code)
+            self.assertEqual(read_listing(listing.listing(code)), plain(code))
 
 
 if __name__ == "__main__":

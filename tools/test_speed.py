@@ -10,11 +10,11 @@ import tempfile
 import unittest
 
 TOOLS = pathlib.Path(__file__).resolve().parent
-sys.path.insert(0, str(TOOLS))
+sys.path[:0] = [str(TOOLS), str(TOOLS.parent / "python")]
 
 import made_inputs
-import rows
 import speed
+from pyc import rows
 
 # It stands for the program: it writes as many bytes as it gets, and refuses 2,000 parameters.
 PROGRAM = """#!/bin/sh

@@ -16,7 +16,7 @@ from dataclasses import replace
 
 sys.path.insert(0, str(pathlib.Path(__file__).resolve().parent / "model"))
 import instr
-import pyc
+import compile_rows
 import sound
 from py2rows import rows_text
 
@@ -47,9 +47,9 @@ def codes():
     """The codes of each source, at a level of its own."""
     for number, source in enumerate(SOURCES):
         words = ["exec", str(number % 3), "m.py"]
-        status, _, fault, code = pyc.run(words, rows_text(source).encode(), True)
+        status, _, fault, code = compile_rows.run(words, rows_text(source).encode(), True)
         assert status == 0, fault
-        yield from (each for each in pyc.all_codes(code) if len(each.instructions) < 60)
+        yield from (each for each in compile_rows.all_codes(code) if len(each.instructions) < 60)
 
 
 def with_unit(code, place, unit):

@@ -20,7 +20,7 @@ use std::test::Fail;
 const CALL: &str =
     r#"[["Name",1,1,"f"],["Name",1,3,"a"],["int","1"],["Constant",1,7,2],["BinOp",1,3,1,"Add",3],["Call",1,1,0,[4],[]],["Expr",1,1,5],["Module",[6]]]"#;
 
-/// The listing of its code, as tools/model/pyc.py gives it.
+/// The listing of its code, as tools/model/compile_rows.py gives it.
 const LISTING: &str =
     "code '<module>' from 'm.py' line 1 flags 1 args 0 0 0 depth 3\nconstants: 1, None\nnames: 'f', 'a'\n0 1:1 LoadNameAny 0 'f'\n1 1:3 LoadNameAny 1 'a'\n2 1:7 LoadConst 0 1\n3 1:7 BinaryOperation 0 Add\n4 1:7 CallFunctionPositional 1\n5 1:7 Pop\n6 1:7 ReturnConst 1 None\n";
 

@@ -1,8 +1,8 @@
 #!/usr/bin/env python3
 """The model of the program.
 
-usage: pyc.py MODE LEVEL PATH      the rows on standard input, the listing on standard output
-       pyc.py sample N LEVEL       what a made tree of N statements compiles to, in numbers
+usage: compile_rows.py MODE LEVEL PATH      the rows on standard input, the listing on standard output
+       compile_rows.py sample N LEVEL       what a made tree of N statements compiles to, in numbers
 """
 import sys
 from code_objects import Code

@@ -12,8 +12,9 @@ import sys
 import types
 import warnings
 
-from frames import CALL, HAS_VARARGS, HAS_VARKEYWORDS, IS_GENERATOR, IS_OPTIMIZED, LEAVES, PLAIN, RERAISE, YIELD, YIELD_FROM, VM_CODES, Frame
-from instructions import TABLE
+from ..code_object import Code
+from .frames import CALL, HAS_VARARGS, HAS_VARKEYWORDS, IS_GENERATOR, IS_OPTIMIZED, LEAVES, PLAIN, RERAISE, YIELD, YIELD_FROM, VM_CODES, Frame
+from .instructions import TABLE
 
 # What this module names is its own, whatever a program does to the built-ins.
 __builtins__ = dict(vars(builtins))
@@ -30,7 +31,7 @@ def within(run, code):
 
 
 class Program:
-    """A code object (code_objects.py of the model has its fields), ready to run."""
+    """A code object (code_object.py), ready to run."""
 
     def __init__(self, code):
         self.code, self.name, self.qualname = code, code.obj_name, code.obj_name
@@ -59,12 +60,9 @@ class Program:
             arg, first = 0, None
 
     def value(self, c):
-        kind = c[0]
-        if kind in ("none", "true", "false", "ellipsis"):
-            return {"none": None, "true": True, "false": False, "ellipsis": ...}[kind]
-        if kind == "tuple":
-            return tuple(map(self.value, c[1]))
-        return Program(c[1]) if kind == "code" else c[1]
+        if isinstance(c, tuple):
+            return tuple(map(self.value, c))
+        return Program(c) if isinstance(c, Code) else c
 
     @functools.cached_property
     def carrier(self):

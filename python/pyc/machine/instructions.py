@@ -9,7 +9,7 @@ import sys
 import types
 import typing
 
-from frames import (
+from .frames import (
     ANNOTATIONS,
     CALL,
     CLOSURE,

@@ -2,8 +2,8 @@
 import builtins
 import sys
 
-from frames import UNSET, VM_CODES
-from interpreter import HOOKS, execute
+from .frames import UNSET, VM_CODES
+from .interpreter import HOOKS, execute
 
 # What this module names is its own, whatever a program does to the built-ins.
 __builtins__ = dict(vars(builtins))

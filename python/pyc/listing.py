@@ -2,12 +2,15 @@
 import collections
 import re
 
-from code_objects import Code
+from .code_object import Code
 
 TOKEN = re.compile(r"b?'(?:[^'\\]|\\x[0-9a-f]{2}|\\.)*'|<code '(?:[^'\\]|\\x[0-9a-f]{2}|\\.)*'>|-?[0-9]+|None|True|False|Ellipsis|\(|\)|,")
 ESCAPE = re.compile(r"\\x([0-9a-f]{2})|\\(.)", re.S)
 HEAD = re.compile(r"code ('(?:[^'\\]|\\.)*') from ('(?:[^'\\]|\\.)*') line (-|\d+) flags (\d+) args (\d+) (\d+) (\d+) depth (\d+)$")
 UNIT = re.compile(r"\d+ (?:(\d+):(\d+)|-:-) (\w+)(?: (\d+))?")
+
+
+SINGLE = {"None": None, "True": True, "False": False, "Ellipsis": ...}
 
 
 def unquote(text):
@@ -26,17 +29,17 @@ def entries(text, read):
 
 
 def read_constant(tokens):
-    """A constant. A code stands there as a place, since its own lines come later."""
+    """A constant. The class Code stands for a code, since its own lines come later."""
     token = tokens.popleft()
-    if token in ("None", "True", "False", "Ellipsis"):
-        return (token.lower(),)
+    if token in SINGLE:
+        return SINGLE[token]
     if token == "(":
-        return ("tuple", tuple(read_parts(tokens)))
+        return tuple(read_parts(tokens))
     if token[0] == "<":
-        return ("code", None)
+        return Code
     if token[0] == "b":
-        return ("bytes", unquote(token[1:]).encode("latin-1"))
-    return ("str", unquote(token)) if token[0] == "'" else ("int", int(token))
+        return unquote(token[1:]).encode("latin-1")
+    return unquote(token) if token[0] == "'" else int(token)
 
 
 def read_parts(tokens):
@@ -86,7 +89,7 @@ def read_code(lines):
         if lines and lines[0].startswith(word + ": "):
             tables[word] = entries(lines.popleft()[len(word) + 2 :], read)
     units, places = read_units(lines)
-    constants = [("code", read_code(lines)) if it == ("code", None) else it for it in tables.get("constants", [])]
+    constants = [read_code(lines) if it is Code else it for it in tables.get("constants", [])]
     of_arguments = tables.get("cell2arg")
     return Code(
         flags=int(flags),

@@ -8,9 +8,9 @@ import subprocess
 import sys
 import warnings
 
-import interpreter
-import listings
-import rows
+from .. import listing as listings
+from .. import rows
+from . import interpreter
 
 # What this module names is its own, whatever a program does to the built-ins.
 __builtins__ = dict(vars(builtins))
@@ -82,9 +82,9 @@ class Compiler:
     def answer(self, words, text):
         """The status, the listing and what is told of rows."""
         if self.program is None:
-            import pyc
+            import compile_rows
 
-            return pyc.run(words, text)[:3]
+            return compile_rows.run(words, text)[:3]
         ended = subprocess.run([self.program, *words], input=text, capture_output=True)
         return ended.returncode, ended.stdout.decode("utf-8"), ended.stderr.decode("utf-8", "replace")
 
@@ -129,6 +129,6 @@ class Loader(importlib.machinery.SourceFileLoader):
         try:
             prepared = self.compiler.prepared(self.get_data(self.path), self.path)
         except Refused as refused:
-            print("run.py: Python runs the module %s: %s" % (self.name, refused), file=sys.stderr)
+            print("pyc run: Python runs the module %s: %s" % (self.name, refused), file=sys.stderr)
             return super().exec_module(module)
         return interpreter.execute(prepared, module.__dict__)

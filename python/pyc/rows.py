@@ -1,36 +1,22 @@
-#!/usr/bin/env python3
-"""Writes the rows of a Python source, which pyc reads, on standard output. docs/ROWS.md says what rows are.
+"""The rows of a Python source, which the program reads. docs/ROWS.md says what rows are.
 
-usage: rows.py [--mode exec|eval|single|block|func_type] [FILE]
-
-Without FILE, or for `-`, the source is standard input. The mode is what the parser of Python is asked for: a file that
-is run (a Module), one expression (an Expression), what is entered at a prompt (an Interactive), a file whose last value
-is given (an Interactive of any length), or the comment that gives a function its type (a FunctionType).
-
-What is no Python, and what rows have no word for, is told on standard error as `FILE:ROW:COL: ..`; the status is then 1,
-and nothing is written. The status is 2 where the words are not as above.
-
-Python 3.8 or later. Places are those of the Python that runs this: before 3.12 it puts the texts in an f-string at its
-start, and some of what stands in its braces elsewhere.
+Places are those of the Python that runs this: before 3.12 it puts the texts in an f-string at its start, and some of what
+stands in its braces elsewhere.
 """
-import sys
+from __future__ import annotations
 
-if sys.version_info < (3, 8):
-    sys.exit("rows.py: Python 3.8 or later is wanted, and this is %d.%d" % sys.version_info[:2])
-
-import argparse
 import ast
 import bisect
 import collections
 import functools
 import gc
-import io
 import itertools
 import json
 import operator
 import re
-import tokenize
+import sys
 import warnings
+from typing import List, Optional, Tuple, Union
 
 # The fields of each kind of node, in the order of its row. A field is a node or None; behind a name stands * for a list of
 # nodes, ! for a name, a number or None that rows take as it is, ? for what `truth_of` and the like make of it.
@@ -135,7 +121,7 @@ Parameter = collections.namedtuple("Parameter", "arg default")
 class Fault(Exception):
     """What keeps a source from being rows, at a row and a column, or at no place (None)."""
 
-    def __init__(self, text, place=None):
+    def __init__(self, text: str, place: Optional[Tuple[int, int]] = None):
         super().__init__(text)
         self.place = place
 
@@ -200,6 +186,23 @@ class Source:
     def end(self, node):
         """The offset of a node's end."""
         return self.offset(node.end_lineno, node.end_col_offset)
+
+
+class NoSource:
+    """In the place of a Source for a tree of which no source is at hand: columns are taken to be characters."""
+
+    narrow: dict = {}
+    bytes = b""
+    starts = (0, 0)
+
+    def place(self, line, column):
+        return (max(line, 1), max(column, 0) + 1)
+
+    def after(self, offset, tokens):
+        return offset
+
+    def end(self, node):
+        return 0
 
 
 def place_slices(tree, source):
@@ -413,15 +416,27 @@ def walked(tree, source, is_forward):
     return rows
 
 
-def text_of(data):
-    """The text of the bytes of a source, in the encoding that it names, UTF-8 if none."""
+def encoding_of(data: bytes) -> str:
+    """The encoding that a source names in its first two lines, UTF-8 if none."""
+    is_marked = data.startswith(b"\xef\xbb\xbf")
+    if not is_marked and not any(b"coding" in line for line in data.split(b"\n", 2)[:2]):
+        return "utf-8"
+    # Here alone, since it takes long to import.
+    import io
+    import tokenize
+
     try:
-        encoding, _ = tokenize.detect_encoding(io.BytesIO(data).readline)
+        return tokenize.detect_encoding(io.BytesIO(data).readline)[0]
     except (SyntaxError, LookupError) as error:
         # Of a first line or second line that is not UTF-8 this tells no place.
-        encoding = "utf-8" if "invalid or missing" in str(error) else None
-        if encoding is None:
-            raise Fault("%s" % error, (1, 1)) from None
+        if "invalid or missing" in str(error):
+            return "utf-8"
+        raise Fault("%s" % error, (1, 1)) from None
+
+
+def text_of(data: bytes) -> str:
+    """The text of the bytes of a source, in the encoding that it names, UTF-8 if none."""
+    encoding = encoding_of(data)
     try:
         return data.decode(encoding)
     except UnicodeDecodeError as error:
@@ -430,7 +445,16 @@ def text_of(data):
         raise Fault("the source is not %s" % error.encoding, (line, column + 1)) from None
 
 
-def tree_of(text, mode):
+def lines_of(source: Union[bytes, str]) -> Optional[List[str]]:
+    """The lines of the bytes or the text of a source, or None where the bytes have no text."""
+    try:
+        text = source if isinstance(source, str) else text_of(source)
+    except Fault:
+        return None
+    return text.replace("\r\n", "\n").replace("\r", "\n").split("\n")
+
+
+def tree_of(text: str, mode: str) -> ast.AST:
     """The tree of a source, by Python's own parser."""
     try:
         with warnings.catch_warnings():
@@ -447,53 +471,32 @@ def tree_of(text, mode):
         raise Fault("%s" % error, (1, 1)) from None
 
 
-def rows_text(data, mode="exec"):
-    """The rows of the bytes of a source, as JSON in one line. It raises a Fault where there are none."""
+def rows_text(source: Union[bytes, str], mode: str = "exec") -> str:
+    """The rows of the bytes or the text of a source, as JSON in one line. It raises a Fault where there are none."""
     # Trees and rows hold no circles, so there is nothing for the collector to find in them.
     is_collecting = gc.isenabled()
     gc.disable()
     try:
-        return text_of_rows(data, mode)
+        text = source if isinstance(source, str) else text_of(source)
+        return json_of(tree_of(text, mode), Source(text))
     finally:
         if is_collecting:
             gc.enable()
 
 
-def text_of_rows(data, mode):
-    """The rows of the bytes of a source, as JSON in one line."""
-    text = text_of(data)
-    tree = tree_of(text, mode)
-    source = Source(text)
+def tree_text(tree: ast.AST) -> str:
+    """The rows of a tree of which no source is at hand, as JSON in one line. It raises a Fault where there are none."""
+    try:
+        return json_of(tree, NoSource())
+    except AttributeError as error:
+        raise Fault("the tree is not whole: %s; ast.fix_missing_locations gives places" % error) from None
+    except (TypeError, ValueError, KeyError) as error:
+        raise Fault("the tree is none that Python makes: %s" % error) from None
+
+
+def json_of(tree, source):
+    """The rows of a tree, as JSON in one line."""
     if sys.version_info < (3, 9):
         place_slices(tree, source)
     rows = rows_of(tree, source)
     return json.dumps(rows, separators=(",", ":"), ensure_ascii=False, check_circular=False)
-
-
-def main():
-    parser = argparse.ArgumentParser(prog="rows.py", description="Writes the rows of a Python source.")
-    modes = ("exec", "eval", "single", "block", "func_type")
-    parser.add_argument("--mode", choices=modes, default="exec", help="what the source is (exec: a file that is run)")
-    parser.add_argument("file", metavar="FILE", nargs="?", default="-", help="the source; standard input without it")
-    words = parser.parse_args()
-    name = "<stdin>" if words.file == "-" else words.file
-    try:
-        if words.file == "-":
-            data = sys.stdin.buffer.read()
-        else:
-            with open(words.file, "rb") as it:
-                data = it.read()
-        text = rows_text(data, words.mode)
-    except OSError as error:
-        sys.exit("%s: %s" % (name, error.strerror))
-    except Fault as fault:
-        sys.exit(fault.line(name))
-    try:
-        with open(1, "wb", closefd=False) as out:
-            out.write(text.encode("utf-8") + b"\n")
-    except OSError as error:
-        sys.exit("rows.py: standard output: %s" % error.strerror)
-
-
-if __name__ == "__main__":
-    main()
