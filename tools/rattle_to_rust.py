@@ -497,7 +497,7 @@ class Rewriter:
         goals = {self.tokens[it].text for it in labels if self.tokens[it - 1].text in ("break", "continue")}
         for it in labels:
             if self._is(it + 1, ":") and self.tokens[it + 2].text in ("while", "for", "loop") and self.tokens[it].text not in goals:
-                self._replace(it, it + 1, "")
+                self.edits.append(Edit(self.tokens[it].start, self.tokens[it + 2].start, ""))
 
     def _unused(self, at: int, opening: int, end: int) -> None:
         """Marks the names by `_` that clauses alone read: parameters, and the counters of loops."""
