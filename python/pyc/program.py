@@ -7,7 +7,10 @@ import subprocess
 from typing import IO, List, Optional, Sequence, Tuple, Union
 
 from .errors import DONE, INPUT, MEMORY, REFUSED, Ended, NoProgram, OutOfMemory, Refused
+from .refusals import OF_TREE as REFUSAL
 from .refusals import of_program
+
+__all__ = ("HERE", "PROGRAM", "REFUSAL", "ROOT", "call", "check", "find", "is_checkout")
 
 HERE = os.path.dirname(os.path.abspath(__file__))
 # The checkout in which this package stands, where it does.

@@ -47,6 +47,22 @@ class Refusal(NamedTuple):
     status: int = REFUSED
 
 
+# How what is not compiled begins, where the kinds of nodes at the place are not at hand.
+BEGINNINGS = (
+    (r"async\s+def\b", "AsyncFunctionDef"),
+    (r"async\s+for\b", "AsyncFor"),
+    (r"async\s+with\b", "AsyncWith"),
+    (r"try\b", "TryStar"),
+    (r"[\[({].*\b(async|await)\b", "ListComp"),
+)
+
+
+def nodes_of(line: Optional[str], place: Place) -> List[str]:
+    """The kinds of nodes that seem to begin at a place of a line."""
+    text = "" if line is None or place is None else line[place[1] - 1 :]
+    return [node for pattern, node in BEGINNINGS if re.match(pattern, text)]
+
+
 def kind_of(text: str, nodes: Sequence[str] = ()) -> Kind:
     """The kind of a refusal of this text, with nodes of these kinds at its place."""
     from .explanations import KINDS, OTHER
@@ -57,12 +73,15 @@ def kind_of(text: str, nodes: Sequence[str] = ()) -> Kind:
     return OTHER
 
 
-def refusal(path: str, place: Place, text: str, lines: Optional[List[str]] = None, nodes: Sequence[str] = (), status: int = REFUSED) -> Refusal:
-    """The refusal of a file, at a place of the lines of its source, where these are at hand."""
-    kind = kind_of(text, nodes)
+def refusal(path: str, place: Place, text: str, lines: Optional[List[str]] = None, nodes: Optional[Sequence[str]] = None, status: int = REFUSED) -> Refusal:
+    """The refusal of a file, at a place of the lines of its source, where these are at hand.
+
+    The nodes are the kinds of those at the place; where they are None the line decides what they seem to be.
+    """
     line = None
     if lines is not None and place is not None and 1 <= place[0] <= len(lines):
         line = lines[place[0] - 1].rstrip() or None
+    kind = kind_of(text, nodes_of(line, place) if nodes is None else nodes)
     return Refusal(path, place, text, kind.code, kind.note, line, status)
 
 

@@ -3,11 +3,13 @@ from __future__ import annotations
 
 import os
 import sys
-from typing import Optional
+from typing import List, Optional
 
+from . import ends, refusals
 from . import rows as rows_of_python
 from .errors import READ, Failed, Refused
-from .refusals import refusal, shown
+from .refusals import Place, refusal, shown
+from .rows import lines_of
 
 
 def bytes_of(file: str) -> bytes:
@@ -20,6 +22,12 @@ def bytes_of(file: str) -> bytes:
     except (OSError, AttributeError) as error:
         why = getattr(error, "strerror", None) or "it is closed"
         raise Failed("%s: %s\n" % (shown(name_of(file)), why), READ) from None
+
+
+def told(name: str, place: Place, text: str, source: Optional[List[str]]) -> str:
+    """The lines that tell a fault at a place of a source, as standard error takes them; the source is None where it is not at
+    hand."""
+    return refusals.told(refusal(name, place, text, source), ends.width(), ends.is_coloured())
 
 
 def name_of(file: str) -> str:
@@ -40,4 +48,4 @@ def rows_of(name: str, data: bytes, mode: str) -> bytes:
     try:
         return rows_of_python.rows_text(data, mode).encode("utf-8")
     except rows_of_python.Fault as fault:
-        raise Refused(refusal(name, fault.place, str(fault), rows_of_python.lines_of(data))) from None
+        raise Refused(refusal(name, fault.place, str(fault), lines_of(data))) from None

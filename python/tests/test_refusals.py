@@ -128,6 +128,10 @@ class Kinds(unittest.TestCase):
                 self.assertIsNotNone(it, kind.code)
                 self.assertEqual(it.code, kind.code, it.text)
 
+    def test_the_line_decides_where_no_rows_are_at_hand(self):
+        for line, column, code in (("  async def f(): pass", 3, "R301"), ("async  for a in b:", 1, "R302"), ("async with a:", 1, "R303"), ("try:", 1, "R304"), ("[a async for a in b]", 1, "R305"), ("a: f'{b}'", 1, "R306")):
+            self.assertEqual(refusals.refusal("m.py", (1, column), refusals.NOT_YET, [line]).code, code)
+
     def test_too_deep_has_a_place(self):
         deep = "if a: pass\n" + "elif a: pass\n" * 2000
         for source, row in (("\na = " + "-" * 1100 + "b\n", 2), (deep, None)):
