@@ -1,8 +1,14 @@
+#!/usr/bin/env python3
 """The inputs of hostile.py: what is no rows, trees that are refused, and trees that nest as deep as is taken.
+
+usage: hostile_cases.py
+
+It writes how many inputs there are of each sort. hostile.py runs them.
 
 A tree is a tuple of a word and its fields, as in docs/ROWS.md, with a tree in the place of the number of its row. What is
 wanted of each is written here from the definitions; test_hostile.py holds it beside what tools/model answers.
 """
+import argparse
 import json
 
 # The place in a tree of another that it is made around.
@@ -619,3 +625,15 @@ def deep_trees():
     shown = module(POSTPONED, ("AnnAssign", 1, 1, name(), HOLE, None, True))
     kinds = WRAPPED + YIELDING + [("Await", ("Await", 1, 1, HOLE)), ("Starred", ("Starred", 1, 1, HOLE))]
     yield from (Deep("annotation: " + title, step, shown) for title, step in kinds)
+
+
+def main():
+    parser = argparse.ArgumentParser(prog="hostile_cases.py", description=__doc__, formatter_class=argparse.RawDescriptionHelpFormatter)
+    parser.parse_args()
+    print("%d inputs that are no rows" % len(INPUTS))
+    print("%d trees that are refused" % len(list(refused_trees())))
+    print("%d trees that nest deep" % len(list(deep_trees())))
+
+
+if __name__ == "__main__":
+    main()

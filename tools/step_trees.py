@@ -9,6 +9,7 @@ chance from a fixed seed, so that each run writes the same files: the model asks
 A tree is a line with its rows. Behind it stands a line `run` with a mode, a level and a script for each of its runs. In
 stdout the lines of both runs stand behind that line.
 """
+import argparse
 import pathlib
 import random
 import sys
@@ -195,8 +196,8 @@ def cases():
 
 
 def main():
-    if len(sys.argv) != 1:
-        sys.exit(__doc__.strip())
+    parser = argparse.ArgumentParser(prog="step_trees.py", description=__doc__, formatter_class=argparse.RawDescriptionHelpFormatter)
+    parser.parse_args()
     asked, wanted, runs = [], [], 0
     for line, lines in cases():
         asked.append(line)

@@ -49,7 +49,7 @@ def write_program(file, text):
     file.chmod(0o755)
 
 
-class Fresh(unittest.TestCase):
+class Checkout(unittest.TestCase):
     """Each test has a folder with a fresh checkout, as far as these tools go."""
 
     def setUp(self):
@@ -96,6 +96,8 @@ class Fresh(unittest.TestCase):
         self.with_builder()
         self.assertEqual(self.pyc("exec", "0", "x")[0], 0)
 
+
+class Fresh(Checkout):
     def test_the_first_call_says_what_it_does(self):
         self.with_builder()
         status, out, told = self.pyc("exec", "0", "m.py", data=b"[]")
@@ -285,6 +287,13 @@ esac
         for name, text in sources.items():
             (library / name).write_text(text)
         return library
+
+    def test_help_of_tools(self):
+        for tool in sorted((ROOT / "tools").glob("*.py")):
+            if not tool.name.startswith("test_"):
+                status, out, told = self.call([sys.executable, "-B", tool, "--help"])
+                self.assertEqual((status, told), (0, ""), tool)
+                self.assertRegex(out, r"\n\n\w[^\n]*(\n[^\n]+)*\.\n\n", tool)
 
     def test_stdlib(self):
         words = [sys.executable, self.root / "tools" / "stdlib.py", "--program", self.folder / "program", "--files", "--kinds", self.library()]

@@ -50,7 +50,7 @@ def with_list(text, lines):
 
 
 def main():
-    parser = argparse.ArgumentParser(prog="wrong_bodies.py", description=__doc__.split("\n")[0])
+    parser = argparse.ArgumentParser(prog="wrong_bodies.py", description=" ".join(__doc__.partition("\n\n")[0].split()))
     parser.add_argument("--check", action="store_true", help="write nothing, and fail where the list is not that of the files")
     words = parser.parse_args()
     old = DOCUMENT.read_text(encoding="utf-8")

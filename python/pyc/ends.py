@@ -25,7 +25,14 @@ def open_ends() -> None:
 
 def write(data: Union[bytes, str]) -> None:
     """Writes on standard output. Raises Failed where it is closed or full."""
+    if sys.stdout is not sys.__stdout__:
+        # A program that calls this one has put something in its place.
+        sys.stdout.write(data if isinstance(data, str) else data.decode("utf-8"))
+        return
     try:
+        # What print has kept back comes first. A stream of its own keeps nothing back that could fail once more at the end.
+        if sys.stdout is not None:
+            sys.stdout.flush()
         with open(1, "wb", closefd=False) as out:
             out.write(data.encode("utf-8", "backslashreplace") if isinstance(data, str) else data)
     except OSError as error:
@@ -34,6 +41,9 @@ def write(data: Union[bytes, str]) -> None:
 
 def say(text: str) -> None:
     """Writes on standard error; where that is closed nobody hears it."""
+    if sys.stderr is not sys.__stderr__:
+        sys.stderr.write(text)
+        return
     try:
         with open(2, "wb", closefd=False) as out:
             out.write(text.encode("utf-8", "backslashreplace"))

@@ -15,9 +15,15 @@ __all__ = ("HERE", "PROGRAM", "REFUSAL", "ROOT", "call", "check", "find", "is_ch
 HERE = os.path.dirname(os.path.abspath(__file__))
 # The checkout in which this package stands, where it does.
 ROOT = os.path.dirname(os.path.dirname(HERE))
-# Where the program is in an installation, and where in a checkout.
-INSTALLED = os.path.join(HERE, "bin", "pyc")
-PROGRAM = INSTALLED if os.path.exists(INSTALLED) else os.path.join(ROOT, "crates", "pyc", "out", "pyc")
+
+
+def is_checkout() -> bool:
+    """Whether this package stands in a checkout, which can build the program."""
+    return os.path.exists(os.path.join(ROOT, "tools", "build.py")) and os.path.exists(os.path.join(ROOT, "crates.txt"))
+
+
+# Where the program is: in a checkout where rt builds it, and in an installation within the package.
+PROGRAM = os.path.join(ROOT, "crates", "pyc", "out", "pyc") if is_checkout() else os.path.join(HERE, "bin", "pyc")
 
 # The lines that `rt try` writes of itself on standard error, beside those of the program.
 OF_TRY = re.compile(r"^(?:allocations: |interpreter: |checked: |run=|rt: ).*\n?", re.M)
@@ -28,11 +34,6 @@ def find() -> str:
     if os.access(PROGRAM, os.X_OK):
         return PROGRAM
     raise NoProgram("the program is not built: %s is not there" % PROGRAM)
-
-
-def is_checkout() -> bool:
-    """Whether this package stands in a checkout, which can build the program."""
-    return os.path.exists(os.path.join(ROOT, "tools", "build.py")) and os.path.exists(os.path.join(ROOT, "crates.txt"))
 
 
 def call(program: Optional[str], words: Sequence[str], data: bytes, output: Union[None, int, IO[bytes]]) -> Tuple[int, bytes, str]:

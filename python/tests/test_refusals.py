@@ -232,10 +232,15 @@ class ByTheProgram(unittest.TestCase):
         for kind in explanations.KINDS:
             if kind.code == "R111" or sys.version_info < kind.since or len(kind.example) >= LARGE:
                 continue
-            words = [sys.executable, "-I", "-S", STARTER, "--json", "-m", kind.mode, *(["--rows"] if kind.is_rows else []), "-"]
-            ended = subprocess.run(words, input=kind.example.encode(), stdout=subprocess.PIPE, stderr=subprocess.PIPE)
-            self.assertEqual(json.loads(ended.stderr)["code"], kind.code)
-            self.assertEqual((ended.stdout, ended.returncode), (b"", 3 if kind.code == "R701" else 1))
+            data = kind.example.encode()
+            try:
+                made = data if kind.is_rows else sources.rows_of("m.py", data, kind.mode)
+                status, _, said = program.call(program.PROGRAM, [kind.mode, "0", "m.py"], made, subprocess.PIPE)
+                program.check(status, said, "m.py", made, None, not kind.is_rows)
+            except Refused as fault:
+                self.assertEqual((fault.code, fault.status), (kind.code, 3 if kind.code == "R701" else 1))
+                continue
+            self.fail(kind.code)
 
 
 if __name__ == "__main__":

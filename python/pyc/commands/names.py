@@ -4,7 +4,6 @@ from __future__ import annotations
 import json
 import os
 import subprocess
-import sys
 from typing import List
 
 from .. import ends, program, report, rows, sources
@@ -68,6 +67,5 @@ def report_on(file: str, given, path: str) -> int:
         text = "".join(json.dumps(it, ensure_ascii=False) + "\n" for it in items)
     elif given.source and len(given.files) > 1:
         text = "".join("%s: %s\n" % (name, line) for line in text.splitlines())
-    sys.stdout.flush()
     ends.write(text)
     return DONE
