@@ -19,7 +19,6 @@ Status: 0 written; 1 where a source has a construct that this tool does not know
 from __future__ import annotations
 
 import argparse
-import hashlib
 import pathlib
 import re
 import shutil
@@ -365,27 +364,6 @@ def workspace(names: Sequence[str], wanted: Wanted, root: pathlib.Path = ROOT) -
     if not wanted.plain:
         made.files = formatted(made.files)
     return made
-
-
-def sources_of_stamp(root: pathlib.Path = ROOT) -> List[pathlib.Path]:
-    """The files that a workspace is written of: the sources, the adapters and these tools."""
-    found = [root / "crates.txt", *PARTS.rglob("*"), *TOOLS.glob("rattle_*.py"), TOOLS / "cargo.py", TOOLS / "build.py"]
-    for crate in (root / "crates").iterdir():
-        found += (crate / "src").rglob("*.rt")
-    return sorted(it for it in found if it.is_file())
-
-
-def digest(data: bytes) -> str:
-    """A number of bytes."""
-    return hashlib.sha256(data).hexdigest()
-
-
-def stamp(root: pathlib.Path = ROOT) -> str:
-    """A number of all that a workspace is written of."""
-    parts = []
-    for file in sources_of_stamp(root):
-        parts.append(str(file.relative_to(root)).encode("utf-8") + b" " + digest(file.read_bytes()).encode("ascii"))
-    return digest(b"\n".join(parts))
 
 
 def main(words: Sequence[str]) -> int:

@@ -1,17 +1,18 @@
 #!/usr/bin/env python3
 """Builds the program by cargo, without proof, where it is not there or older than its sources.
 
-usage: quick_build.py [--quiet]
+usage: quick_build.py [--without-note]
 
 The workspace of tools/cargo.py is written into out/cargo, as --offline has it, and built there, so that cargo alone is
-wanted. The path of the program goes to standard output; what is done, and how long it took, to standard error. Two calls
-at once build once: the second waits. What is built so is tested and not proved.
+wanted. The path of the program goes to standard output; what is done, how long it took, and a note that this build is not
+proved, to standard error. Two calls at once build once: the second waits.
 
 Status: 0 the program is there; 1 it could not be built; 127 there is no cargo.
 """
 from __future__ import annotations
 
 import contextlib
+import hashlib
 import json
 import os
 import pathlib
@@ -19,18 +20,14 @@ import shutil
 import subprocess
 import sys
 import time
-from typing import Callable, Dict, Iterator, List, Optional, Sequence
+from typing import Callable, Iterator, Optional, Sequence
 
 TOOLS = pathlib.Path(__file__).resolve().parent
-sys.path.insert(0, str(TOOLS))
+sys.path[:0] = [str(TOOLS), str(TOOLS.parent / "python")]
 
 import cargo  # noqa: E402
+from pyc import quick  # noqa: E402
 from rattle_tokens import Unknown  # noqa: E402
-
-FOLDER = cargo.ROOT / "out" / "cargo"
-
-# What is said of each run of such a program.
-NOTE = "this build is tested and not proved; sh pyc.sh --prove proves and builds the program, in about 46 minutes on 4 processors"
 
 Say = Callable[[str], None]
 
@@ -45,52 +42,41 @@ def has_cargo() -> bool:
 
 
 def say_on_stderr(line: str) -> None:
-    """Says a line as pyc.sh does."""
-    print("pyc.sh: " + line, file=sys.stderr, flush=True)
+    """Says a line as the command does."""
+    print("pyc: " + line, file=sys.stderr, flush=True)
 
 
 class Build:
     """The program in a folder: the workspace, what cargo keeps, and what it was built of."""
 
-    def __init__(self, folder: pathlib.Path = FOLDER, root: pathlib.Path = cargo.ROOT) -> None:
+    def __init__(self, folder: pathlib.Path = pathlib.Path(quick.FOLDER), root: pathlib.Path = cargo.ROOT) -> None:
         self.folder = folder
         self.root = root
-        self.program = folder / "target" / "release" / "pyc"
-        self.record = folder / "built.json"
+        self.program = pathlib.Path(quick.program_in(str(folder)))
 
     def is_fresh(self) -> bool:
-        """Whether the program is there, and built of the sources as they stand."""
+        """Whether the program is there, and built of the sources as they stand. Where only their times differ from those
+        that were seen, the new ones are noted."""
         if not os.access(str(self.program), os.X_OK):
             return False
-        try:
-            built: Dict[str, str] = json.loads(self.record.read_text(encoding="utf-8"))
-        except (OSError, ValueError):
-            return False
-        seen = self._seen()
-        if built.get("seen") == seen:
+        record = quick.read_record(str(self.folder))
+        seen = quick.seen(str(self.root))
+        if record.get("seen") == seen:
             return True
-        if built.get("stamp") != cargo.stamp(self.root):
+        if record.get("stamp") != stamp_of(self.root):
             return False
-        self._write_record(str(built["stamp"]), seen)
+        self._write_record(record["stamp"], seen)
         return True
 
-    def _seen(self) -> str:
-        """The names, sizes and times of the sources, which are read anew only where these differ."""
-        states = []
-        for file in cargo.sources_of_stamp(self.root):
-            state = file.stat()
-            states.append(f"{file.relative_to(self.root)} {state.st_size} {state.st_mtime_ns}")
-        return cargo.digest("\n".join(states).encode("utf-8"))
-
     def _write_record(self, stamp: str, seen: str) -> None:
-        beside = self.record.with_suffix(".new")
+        beside = self.folder / "built.json.new"
         beside.write_text(json.dumps({"stamp": stamp, "seen": seen}), encoding="utf-8")
-        os.replace(str(beside), str(self.record))
+        os.replace(str(beside), str(self.folder / "built.json"))
 
     def build(self, say: Say) -> None:
         """Writes the workspace and builds the program. Raises NotBuilt."""
         start = time.monotonic()
-        seen, stamp = self._seen(), cargo.stamp(self.root)
+        seen, stamp = quick.seen(str(self.root)), stamp_of(self.root)
         say("building the program by cargo, without proof, which takes 15 to 60 seconds")
         try:
             cargo.check_folder(self.folder / "workspace")
@@ -110,6 +96,15 @@ class Build:
                               stdout=subprocess.PIPE, stderr=subprocess.STDOUT, check=False)  # fmt: skip
         if said.returncode or not self.program.exists():
             raise NotBuilt("cargo could not build it:\n" + said.stdout.decode("utf-8", "replace").strip())
+
+
+def stamp_of(root: pathlib.Path) -> str:
+    """A sum of all that the program is made of."""
+    state = hashlib.sha256()
+    for path in quick.files_of(str(root)):
+        state.update(os.path.relpath(path, str(root)).encode("utf-8", "surrogateescape") + b"\0")
+        state.update(hashlib.sha256(pathlib.Path(path).read_bytes()).digest())
+    return state.hexdigest()
 
 
 @contextlib.contextmanager
@@ -146,17 +141,19 @@ def program(say: Say = say_on_stderr, build: Optional[Build] = None) -> pathlib.
 
 def main(words: Sequence[str]) -> int:
     """Builds the program and tells where it is."""
-    known: List[str] = [it for it in words if it != "--quiet"]
-    if known:
-        print(__doc__, file=sys.stdout if known in (["--help"], ["-h"]) else sys.stderr)
-        return 0 if known in (["--help"], ["-h"]) else 2
+    if list(words) not in ([], ["--without-note"]):
+        is_asked = list(words) in (["--help"], ["-h"])
+        print(__doc__, file=sys.stdout if is_asked else sys.stderr)
+        return 0 if is_asked else 2
     if not Build().is_fresh() and not has_cargo():
         return 127
     try:
-        print(program((lambda line: None) if "--quiet" in words else say_on_stderr))
+        print(program())
     except NotBuilt as fault:
         say_on_stderr(str(fault))
         return 1
+    if not words:
+        say_on_stderr(quick.NOTE)
     return 0
 
 

@@ -32,7 +32,7 @@ import hostile
 import quick_build
 import rattle_to_rust
 import rattle_tokens
-from pyc import rows
+from pyc import quick, rows
 
 ALL = "--all" in sys.argv
 SEEN = os.environ.get("PYC_TEST_CARGO") or str(ROOT / "out" / "test_cargo")
@@ -253,9 +253,9 @@ class Quick(unittest.TestCase):
         patch = mock.patch.dict(os.environ, {"PATH": f"{tools}:/usr/bin:/bin"})
         patch.start()
         self.addCleanup(patch.stop)
-        sources = mock.patch.object(cargo, "sources_of_stamp", lambda root: [self.source])
-        sources.start()
-        self.addCleanup(sources.stop)
+        files = mock.patch.object(quick, "files_of", lambda root: [str(self.source)])
+        files.start()
+        self.addCleanup(files.stop)
 
     def builds(self) -> int:
         """How often it was built."""
@@ -298,8 +298,8 @@ class Quick(unittest.TestCase):
 
     def test_two_calls_at_once_build_once(self) -> None:
         code = (
-            "import pathlib, sys; sys.path.insert(0, sys.argv[1]); import cargo, quick_build;"
-            "cargo.sources_of_stamp = lambda root: [pathlib.Path(sys.argv[4])];"
+            "import pathlib, sys; sys.path.insert(0, sys.argv[1]); import quick_build;"
+            "quick_build.quick.files_of = lambda root: [sys.argv[4]];"
             "quick_build.program(quick_build.say_on_stderr, quick_build.Build(pathlib.Path(sys.argv[2]), pathlib.Path(sys.argv[3])))"
         )
         self.put_cargo("sleep 1; " + CARGO)
@@ -448,7 +448,7 @@ class Offline(Built):
             (folder / "Cargo.toml").write_text('[package]\nname = "made"\nversion = "0.1.0"\nedition = "2024"\n\n'
                                                f'[dependencies]\npyc = {{ path = "{self.folder}/pyc" }}\n')  # fmt: skip
             said = call(["cargo", "run", "--release", "--offline", "--quiet"], folder, self.env())
-        wanted = subprocess.run([sys.executable, "-B", str(TOOLS / "model" / "compile_rows.py"), "--stage", "e", "exec", "0", "made.py"],
+        wanted = subprocess.run([sys.executable, "-B", str(TOOLS / "model" / "compile_rows.py"), "exec", "0", "made.py"],
                                 input=rows.rows_text("print(6 * 7)").encode("utf-8"), stdout=subprocess.PIPE, check=True)  # fmt: skip
         self.assertEqual(said, "1 of 7 units call\n" + wanted.stdout.decode("utf-8"))
 

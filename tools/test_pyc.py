@@ -62,7 +62,7 @@ class Checkout(unittest.TestCase):
             (self.root / "crates" / name).mkdir(parents=True)
         (self.root / "crates.txt").write_text(CRATES)
         for name in ("tools", "python"):
-            shutil.copytree(ROOT / name, self.root / name, ignore=shutil.ignore_patterns("__pycache__"))
+            shutil.copytree(ROOT / name, self.root / name, ignore=shutil.ignore_patterns("__pycache__", "quick_build.py"))
         shutil.copytree(ROOT / "examples", self.root / "examples")
         for name in ("pyc.sh", "VERSION"):
             shutil.copy(ROOT / name, self.root)
