@@ -31,8 +31,8 @@ TOOLS = pathlib.Path(__file__).resolve().parent
 sys.path.insert(0, str(TOOLS))
 
 import build  # noqa: E402
-import rattle_to_rust  # noqa: E402
-from rattle_tokens import Unknown  # noqa: E402
+from rattle import rust  # noqa: E402
+from rattle.tokens import Unknown  # noqa: E402
 
 ROOT = TOOLS.parent
 PARTS = TOOLS / "cargo"
@@ -134,7 +134,7 @@ def macros_of(root: pathlib.Path, crates: Sequence[Crate]) -> FrozenSet[str]:
     found: Set[str] = set()
     for crate in crates:
         for file in sorted(crate.root.parent.rglob("*.rt")):
-            found.update(rattle_to_rust.macro_names(str(file.relative_to(root)), file.read_text(encoding="utf-8")))
+            found.update(rust.macro_names(str(file.relative_to(root)), file.read_text(encoding="utf-8")))
     return frozenset(found)
 
 
@@ -144,7 +144,7 @@ def module_file(folder: pathlib.Path, name: str) -> pathlib.Path:
     return beside if beside.exists() else folder / name / "mod.rt"
 
 
-def sources_of(root: pathlib.Path, crate: Crate, options: rattle_to_rust.Options) -> Dict[str, str]:
+def sources_of(root: pathlib.Path, crate: Crate, options: rust.Options) -> Dict[str, str]:
     """The sources of a crate in Rust, by their names in src/: those that its root reaches by `mod`. Raises Unknown."""
     found: Dict[str, str] = {}
     waiting = [(crate.root, crate.root.parent)]
@@ -152,9 +152,9 @@ def sources_of(root: pathlib.Path, crate: Crate, options: rattle_to_rust.Options
         file, folder = waiting.pop()
         is_root = file == crate.root
         given = options if is_root else options._replace(head="")
-        rust = rattle_to_rust.rust_of(str(file.relative_to(root)), file.read_text(encoding="utf-8"), given)
-        found[str(file.relative_to(crate.root.parent).with_suffix(".rs"))] = rust.text
-        for name in rust.modules:
+        made = rust.rust_of(str(file.relative_to(root)), file.read_text(encoding="utf-8"), given)
+        found[str(file.relative_to(crate.root.parent).with_suffix(".rs"))] = made.text
+        for name in made.modules:
             inner = module_file(folder, name)
             waiting.append((inner, folder / name))
     return found
@@ -176,7 +176,7 @@ class Workspace:
         macros = macros_of(self.root, self.crates)
         for crate in self.crates:
             head = "".join("//! %s\n" % line for line in (NOTE,)) + "//!\n"
-            options = rattle_to_rust.Options(macros, self.wanted.clauses, head)
+            options = rust.Options(macros, self.wanted.clauses, head)
             if crate.name != "pyc":
                 self._crate(crate, sources_of(self.root, crate, options))
             else:

@@ -27,7 +27,7 @@ sys.path[:0] = [str(TOOLS), str(TOOLS.parent / "python")]
 
 import cargo  # noqa: E402
 from pyc import quick  # noqa: E402
-from rattle_tokens import Unknown  # noqa: E402
+from rattle.tokens import Unknown  # noqa: E402
 
 Say = Callable[[str], None]
 

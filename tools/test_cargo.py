@@ -30,9 +30,8 @@ sys.path[:0] = [str(TOOLS), str(ROOT / "python")]
 import cargo
 import hostile
 import quick_build
-import rattle_to_rust
-import rattle_tokens
 from pyc import quick, rows
+from rattle import rust, tokens
 
 ALL = "--all" in sys.argv
 SEEN = os.environ.get("PYC_TEST_CARGO") or str(ROOT / "out" / "test_cargo")
@@ -55,14 +54,14 @@ WANTS_ALL = unittest.skipUnless(ALL, "only with --all")
 
 def rewritten(text: str, clauses: bool = False, macros: Sequence[str] = ()) -> str:
     """A source in Rust."""
-    return rattle_to_rust.rust_of("made.rt", text, rattle_to_rust.Options(frozenset(macros), clauses)).text
+    return rust.rust_of("made.rt", text, rust.Options(frozenset(macros), clauses)).text
 
 
 class Rewriting(unittest.TestCase):
     """One source at a time."""
 
-    def becomes(self, rattle: str, rust: str, clauses: bool = False) -> None:
-        self.assertEqual(rewritten(rattle, clauses), rust)
+    def becomes(self, rattle: str, wanted: str, clauses: bool = False) -> None:
+        self.assertEqual(rewritten(rattle, clauses), wanted)
 
     def test_clauses_go(self) -> None:
         self.becomes("fn f(a: u8) -> u8\n    requires { a < 9 }\n    ensures more { result ≡ a + 1 }\n{\n    a + 1\n}\n",
@@ -149,7 +148,7 @@ class Rewriting(unittest.TestCase):
             ("fn f() {\n    a)\n}\n", "made.rt:2: a ) that closes nothing"),
             ("struct S {\n    a: u8 §\n}\n", "made.rt:2: the character '§'"),
         ]:
-            with self.subTest(text), self.assertRaises(rattle_tokens.Unknown) as raised:
+            with self.subTest(text), self.assertRaises(tokens.Unknown) as raised:
                 rewritten(text)
             self.assertEqual(str(raised.exception), said)
 
@@ -195,7 +194,7 @@ class Writing(unittest.TestCase):
     def test_a_source_that_is_not_known_is_refused(self) -> None:
         self.put("crates/low/src/inner.rt", "pub fn one() {\n    debug_assert!(true);\n}\n")
         with mock.patch.object(cargo, "ROOT", self.root), contextlib.redirect_stderr(io.StringIO()) as said:
-            with self.assertRaises(rattle_tokens.Unknown) as raised:
+            with self.assertRaises(tokens.Unknown) as raised:
                 self.written(["high"])
         self.assertEqual(str(raised.exception), "crates/low/src/inner.rt:2: the macro debug_assert!")
         self.assertEqual(said.getvalue(), "")

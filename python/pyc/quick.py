@@ -41,11 +41,11 @@ def files_of(root: str) -> List[str]:
         crates = stamp.read_crates(it.read())
     tools = os.path.join(root, "tools")
     found = [os.path.join(root, "crates.txt")]
-    found += [os.path.join(tools, it) for it in ("build.py", "cargo.py", "rattle_to_rust.py", "rattle_tokens.py")]
+    found += [os.path.join(tools, it) for it in ("build.py", "cargo.py", "quick_build.py")]
     tops = [os.path.join(root, "crates", name, "src") for name in stamp.below("pyc", crates)]
-    for top in [*tops, os.path.join(tools, "cargo")]:
+    for top in [*tops, os.path.join(tools, "cargo"), os.path.join(tools, "rattle")]:
         for folder, _, names in os.walk(top):
-            found += [os.path.join(folder, it) for it in names]
+            found += [os.path.join(folder, it) for it in names if not it.endswith(".pyc")]
     return sorted(found)
 
 

@@ -9,7 +9,7 @@ from __future__ import annotations
 import re
 from typing import Dict, FrozenSet, Iterator, List, NamedTuple, Optional, Sequence, Set, Tuple
 
-from rattle_tokens import Kind, Token, Tokens, Unknown
+from .tokens import Kind, Token, Tokens, Unknown
 
 # Attributes that only proofs read, and those that Rust knows too.
 PROOF_ATTRIBUTES = frozenset({"tactic", "cycle"})
