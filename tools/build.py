@@ -475,10 +475,9 @@ def main():
         signal.signal(number, end_by)
     try:
         is_done = (build_all if words.then else prove_alone)(words, names, crates)
-    except KeyboardInterrupt:
-        return 130
-    except Ended as ended:
-        return 128 + ended.args[0]
+    except (KeyboardInterrupt, Ended) as ended:
+        RUNS.end()
+        return 128 + (ended.args[0] if isinstance(ended, Ended) else signal.SIGINT)
     if not words.then:
         return 0 if is_done else 1
     if not is_done:

@@ -3,6 +3,7 @@
 next call goes on. A small program stands in the place of rt."""
 import os
 import pathlib
+import shutil
 import signal
 import subprocess
 import sys
@@ -18,7 +19,7 @@ SLEEPER = """#!/bin/sh
 name=${PWD##*/}
 echo "$1 $name" >>"%(root)s/calls"
 case $1 in
-    run) mkdir -p out && cp "%(program)s" out/pyc; exit ;;
+    run) [ -e "%(root)s/slow" ] || { mkdir -p out && cp "%(program)s" out/pyc; exit; } ;;
 esac
 [ -e out/rlib/stamp ] && exit
 if grep -qx "$name" "%(root)s/quick"; then
@@ -67,10 +68,10 @@ class FirstBuild(test_pyc.Checkout):
         for number in sleepers(self.mark):
             os.kill(number, signal.SIGKILL)
 
-    def start(self):
+    def start(self, path=None):
         """Begins a call that builds, in the background, as another shell would."""
-        env = dict(os.environ, PATH="%s%s%s" % (self.bin, os.pathsep, os.environ["PATH"]))
-        words = ["sh", str(self.root / "pyc.sh"), "exec", "0", "x"]
+        env = dict(os.environ, PATH="%s%s%s" % (self.bin, os.pathsep, os.environ["PATH"]) if path is None else path)
+        words = [shutil.which("sh"), str(self.root / "pyc.sh"), "exec", "0", "x"]
         pipes = {"stdin": subprocess.DEVNULL, "stdout": subprocess.PIPE, "stderr": subprocess.PIPE}
         call = subprocess.Popen(words, cwd=str(self.folder), env=env, **pipes)
         self.addCleanup(call.stderr.close)
@@ -87,6 +88,30 @@ class FirstBuild(test_pyc.Checkout):
             self.assertEqual(call.wait(60), 128 + number)
             self.assertTrue(until(lambda: not sleepers(self.mark), 5))
             self.assertEqual(list((self.root / "crates" / "pyc" / "out").glob("lanes-*")), [])
+
+    def test_what_ends_the_last_step_ends_it(self):
+        (self.root / "quick").write_text("low\nhigh\n")
+        (self.root / "slow").touch()
+        call = self.start()
+        self.assertTrue(until(lambda: sleepers(self.mark)))
+        self.assertIn("run pyc", (self.root / "calls").read_text())
+        call.terminate()
+        self.assertEqual(call.wait(60), 143)
+        self.assertTrue(until(lambda: not sleepers(self.mark), 5))
+
+    @unittest.skipUnless(shutil.which("setsid"), "there is no setsid")
+    def test_what_ends_the_call_ends_all_without_a_python(self):
+        folder = self.folder / "few"
+        folder.mkdir()
+        for name in ("sh", "cat", "dirname", "readlink", "awk", "wc", "mkdir", "setsid", "tail", "grep", "sleep"):
+            (folder / name).symlink_to(shutil.which(name))
+        (folder / "rt").symlink_to(self.bin / "rt")
+        for number in (signal.SIGTERM, signal.SIGHUP):
+            call = self.start(str(folder))
+            self.assertTrue(until(lambda: sleepers(self.mark)))
+            call.send_signal(number)
+            self.assertEqual(call.wait(60), 143)
+            self.assertTrue(until(lambda: not sleepers(self.mark), 5))
 
     def test_the_next_call_goes_on(self):
         call = self.start()
