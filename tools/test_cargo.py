@@ -310,6 +310,105 @@ class Quick(unittest.TestCase):
         self.assertEqual(self.builds(), 1)
 
 
+# It stands for the program: it writes what it is and its words.
+PROGRAM = """#!/bin/sh
+cat >/dev/null
+printf '%s;' WHICH "$@"
+echo
+"""
+
+# It stands for cargo, and builds that.
+STARTING = (
+    'mkdir -p "$CARGO_TARGET_DIR/release"; p="$CARGO_TARGET_DIR/release/pyc"; '
+    "sed 's/WHICH/unproved/' \"$PROGRAM\" >\"$p\"; chmod +x \"$p\""
+)
+
+
+class Starting(unittest.TestCase):
+    """pyc.sh in a fresh checkout, with a small cargo in the place of cargo, and none of rt."""
+
+    def setUp(self) -> None:
+        folder = tempfile.TemporaryDirectory()
+        self.addCleanup(folder.cleanup)
+        self.folder = pathlib.Path(folder.name).resolve()
+        # A blank in the name, as users have it.
+        self.root = self.folder / "check out"
+        skip = shutil.ignore_patterns("__pycache__", "model", "target")
+        for name in "tools", "python":
+            shutil.copytree(str(ROOT / name), str(self.root / name), ignore=skip)
+        for name in "pyc.sh", "VERSION":
+            shutil.copy(str(ROOT / name), str(self.root))
+        (self.root / "crates" / "pyc" / "src").mkdir(parents=True)
+        (self.root / "crates.txt").write_text("pyc:\n")
+        (self.root / "crates" / "pyc" / "src" / "main.rt").write_text("//! A program.\nfn main() {}\n")
+        self.bin = self.folder / "bin"
+        self.bin.mkdir()
+        (self.bin / "python3").symlink_to(sys.executable)
+        (self.folder / "program").write_text(PROGRAM)
+        (self.folder / "m.py").write_text("a\n")
+        for name in "cargo", "rustc":
+            self.put(self.bin / name, "#!/bin/sh\n" + STARTING + "\n")
+
+    def put(self, file: pathlib.Path, text: str) -> None:
+        """Writes a file that can be run."""
+        file.parent.mkdir(parents=True, exist_ok=True)
+        file.write_text(text)
+        file.chmod(0o755)
+
+    def pyc(self, *words: str) -> Tuple[int, str, List[str]]:
+        """The status of a call, what it writes, and the lines that it says."""
+        env = dict(os.environ, PATH=f"{self.bin}:/usr/bin:/bin", PROGRAM=str(self.folder / "program"), PYTHONDONTWRITEBYTECODE="1")
+        said = subprocess.run(["sh", str(self.root / "pyc.sh"), *words], cwd=str(self.folder), env=env, input=b"[]",
+                              stdout=subprocess.PIPE, stderr=subprocess.PIPE, check=False)  # fmt: skip
+        return said.returncode, said.stdout.decode("utf-8"), said.stderr.decode("utf-8").splitlines()
+
+    def test_the_first_call_builds_and_each_says_that_nothing_is_proved(self) -> None:
+        for words, wanted in ((["m.py"], "unproved;exec;0;m.py;\n"), (["exec", "0", "x"], "unproved;exec;0;x;\n")):
+            with self.subTest(words):
+                shutil.rmtree(str(self.root / "out"), ignore_errors=True)
+                status, out, said = self.pyc(*words)
+                self.assertEqual((status, out, len(said)), (0, wanted, 3), said)
+                self.assertEqual(said[0], "pyc: building the program by cargo, without proof, which takes 15 to 60 seconds")
+                self.assertRegex(said[1], r"^pyc: built in \d+ seconds$")
+                self.assertEqual(said[2], "pyc: " + quick.NOTE)
+                self.assertEqual(self.pyc(*words), (0, wanted, ["pyc: " + quick.NOTE]))
+
+    def test_the_version_says_which_program_answers(self) -> None:
+        self.assertIn("the program is not built", self.pyc("--version")[1])
+        self.pyc("m.py")
+        self.assertRegex(self.pyc("--version")[1], r"^pyc [0-9.]+, not proved: built by cargo of these sources\n$")
+        self.put(self.root / "crates" / "pyc" / "out" / "pyc", PROGRAM.replace("WHICH", "other"))
+        self.assertNotIn("cargo", self.pyc("--version")[1])
+
+    def test_a_program_that_rt_built_comes_first(self) -> None:
+        self.pyc("m.py")
+        self.put(self.root / "crates" / "pyc" / "out" / "pyc", PROGRAM.replace("WHICH", "other"))
+        self.assertEqual(self.pyc("m.py"), (0, "other;exec;0;m.py;\n", []))
+        self.assertEqual(self.pyc("exec", "0", "x"), (0, "other;exec;0;x;\n", []))
+        self.assertEqual(self.pyc("--try", "m.py"), (0, "unproved;exec;0;m.py;\n", ["pyc: " + quick.NOTE]))
+        self.assertEqual(self.pyc("--prove", "m.py"), (0, "other;exec;0;m.py;\n", []))
+
+    def test_without_cargo_rt_is_wanted(self) -> None:
+        (self.bin / "cargo").unlink()
+        for words in ["m.py"], ["exec", "0", "x"]:
+            status, out, said = self.pyc(*words)
+            self.assertEqual((status, out), (127, ""))
+            self.assertIn("rt, which proves and builds it, is not on the path", said[0])
+            self.assertFalse((self.root / "out").exists())
+
+    def test_proving_is_asked_for_by_a_word(self) -> None:
+        status, _, said = self.pyc("--prove")
+        self.assertEqual(status, 127)
+        self.assertIn("rt, which proves and builds it, is not on the path", said[0])
+        self.assertFalse((self.root / "out").exists())
+
+    def test_a_build_that_fails_is_told(self) -> None:
+        self.put(self.bin / "cargo", "#!/bin/sh\necho 'error: no room'\nexit 1\n")
+        status, out, said = self.pyc("m.py")
+        self.assertEqual((status, out), (127, ""))
+        self.assertEqual(said[1:3], ["pyc: cargo could not build it:", "error: no room"])
+
+
 # Programs that cargo builds
 
 def environment(folder: pathlib.Path, **more: str) -> Dict[str, str]:
