@@ -384,7 +384,8 @@ def main(words: Sequence[str]) -> int:
         print(f"cargo.py: {fault}", file=sys.stderr)
         return 1
     put(given.to, made.files)
-    print(f"wrote {len(made.crates)} crates, {made.lines} lines, and {len(made.members) - len(made.crates)} of std and libraries, to {given.to}")
+    others = len(made.members) - len(made.crates)
+    print(f"wrote {len(made.crates)} crates, {made.lines} lines, and {others} of std and libraries, to {given.to}")
     print(NOTE)
     return 0
 

@@ -76,6 +76,7 @@ class Rewriting(unittest.TestCase):
 
     def test_clauses_are_kept_as_comments(self) -> None:
         self.becomes("/// One.\npub fn f()\n    ensures { a }\n{}\n", "/// One.\n// ensures { a }\npub fn f()\n{}\n", True)
+        self.becomes("trait T {\n    // Seen.\n    ghost seen: { Self };\n}\n", "trait T {\n    // Seen.\n// ghost seen: { Self };\n}\n", True)
 
     def test_ghost_items_go_with_the_comments_above_them(self) -> None:
         self.becomes("ghost use Rattle.std.{◌≡◌, A};\n\nstruct S {\n    a: u8,\n    // Few.\n    pub ghost few: { a < 9 } by { refl },\n}\n",

@@ -648,7 +648,8 @@ class Rewriter:
 
 def commented(text: str) -> str:
     """Each line of a text as a line comment."""
-    return "\n".join("// " + line.strip() for line in text.strip().split("\n"))
+    lines = [line.strip() for line in text.strip().split("\n")]
+    return "\n".join(line if line.startswith("//") else ("// " + line).strip() for line in lines)
 
 
 def applied(text: str, edits: Sequence[Edit]) -> str:
