@@ -290,7 +290,8 @@ esac
 
     def test_help_of_tools(self):
         for tool in sorted((ROOT / "tools").glob("*.py")):
-            if not tool.name.startswith("test_"):
+            # Those without a main are parts of others.
+            if not tool.name.startswith("test_") and "__main__" in tool.read_text(encoding="utf-8"):
                 status, out, told = self.call([sys.executable, "-B", tool, "--help"])
                 self.assertEqual((status, told), (0, ""), tool)
                 self.assertRegex(out, r"\w\.(\n|$)", tool)

@@ -85,6 +85,9 @@ def called(words: List[str]) -> int:
     """Calls the command that the words name, or `compile` where they name none."""
     module = command(words[0]) if words else None
     if module is not None:
+        if len(words) > 1 and words[1] in options.HELP.names and words[0] in MODULES:
+            # Also where what the command wants is not there.
+            raise options.HelpWanted(row_of(words[0], module))
         return module.main(words if hasattr(module, "COMMANDS") else words[1:])
     if "--run" in words:
         from .commands import compile

@@ -7,7 +7,7 @@ from __future__ import annotations
 
 import getopt
 import types
-from typing import Dict, List, NamedTuple, Optional, Sequence, Tuple, Union
+from typing import Dict, Iterable, List, NamedTuple, Optional, Sequence, Tuple, Union
 
 from .errors import WrongWords
 
@@ -68,7 +68,7 @@ def parse(command: Command, words: Sequence[str]) -> types.SimpleNamespace:
     try:
         found, files = read(list(words), short, long)
     except getopt.GetoptError as error:
-        raise WrongWords(fault_of(error)) from None
+        raise WrongWords(fault_of(error) + like(error, by_name)) from None
     values: Dict[str, Union[None, bool, str, List[str]]] = {
         it.key: [] if it.many else it.default if it.value else False for it in command.options
     }
@@ -90,6 +90,16 @@ def fault_of(error: getopt.GetoptError) -> str:
     if "must not" in error.msg:
         return "%s is followed by no word" % name
     return "%s wants a word after it" % name if "requires" in error.msg else "there is no option %s" % name
+
+
+def like(error: getopt.GetoptError, names: Iterable[str]) -> str:
+    """The option that may be meant by one that there is not."""
+    if "not recognized" not in error.msg or len(error.opt) < 2:
+        return ""
+    import difflib
+
+    found = difflib.get_close_matches("--" + error.opt, [it for it in names if it.startswith("--")], 1, 0.75)
+    return "; %s is one" % found[0] if found else ""
 
 
 def one_of(words: Sequence[str]) -> str:

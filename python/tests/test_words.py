@@ -52,6 +52,7 @@ class Parsing(unittest.TestCase):
         for words, wanted in (
             (["-z"], "there is no option -z"),
             (["--zeal=1"], "there is no option --zeal"),
+            (["--kinds=one"], "there is no option --kinds; --kind is one"),
             (["-j"], "-j wants a word after it"),
             (["--kind"], "--kind wants a word after it"),
             (["--quiet-please=no"], "--quiet-please is followed by no word"),
