@@ -7,7 +7,7 @@ usage: speed.py [--program PATH] [--runs N] [--series plain|scopes] [--most N] [
        speed.py [--program PATH] [--series plain|scopes] [--library FOLDER] --instructions [FILE..]
        speed.py [--program PATH] [--runs N] [--series plain|scopes] [--most N] --beside PATH
 
-The program is crates/pyc/out/pyc, which pyc.sh builds. The trees are made ones of 10^3 to 10^5 statements, and
+The program is crates/pyc/out/pyc, which `sh pyc.sh --prove` builds. The trees are made ones of 10^3 to 10^5 statements, and
 one of --most at most, and those files of the library of this Python, or of FOLDER, that pyc compiles and that import
 nothing from the future, as one file. CPython gets the same rows, as text, to read, and the tree of the same source, which is
 parsed before, to compile and to show. "JSON" is the program on an object that holds the rows: it reads all of it, and
@@ -461,7 +461,7 @@ def words_of():
 def main():
     words = words_of()
     if not os.access(words.program, os.X_OK):
-        sys.exit("speed.py: there is no program %s: sh pyc.sh builds it" % words.program)
+        sys.exit("speed.py: there is no program %s: sh pyc.sh --prove builds it" % words.program)
     if words.beside and not os.access(words.beside, os.X_OK):
         sys.exit("speed.py: there is no program %s" % words.beside)
     missing = [str(it) for it in (words.source or []) + (words.instructions or []) if not it.is_file()]

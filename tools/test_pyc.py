@@ -318,7 +318,7 @@ esac
         for tool in ("speed.py", "stdlib.py"):
             status, out, told = self.call([sys.executable, self.root / "tools" / tool])
             self.assertEqual((status, out), (1, ""))
-            self.assertTrue(told.endswith("/check out/crates/pyc/out/pyc: sh pyc.sh builds it\n"), told)
+            self.assertTrue(told.endswith("/check out/crates/pyc/out/pyc: sh pyc.sh --prove builds it\n"), told)
 
 
 if __name__ == "__main__":
