@@ -121,7 +121,10 @@ prove_in_turn() {
 # Runs the program as cargo builds it, without proof, where cargo and python3 are there; tools/quick_build.py says so.
 run_unproved() {
     [ -e "$root/tools/quick_build.py" ] && has_python || return 0
-    unproved=$(python3 -I -S -B "$root/tools/quick_build.py") && exec "$unproved" "$@"
+    unproved=$(python3 -I -S -B "$root/tools/quick_build.py")
+    status=$?
+    [ $status -ne 0 ] || exec "$unproved" "$@"
+    [ $status -lt 128 ] || exit $status
 }
 
 # Proves and builds the program; the call is then made anew.

@@ -7,7 +7,7 @@ The workspace of tools/cargo.py is written into out/cargo, as --offline has it, 
 wanted. The path of the program goes to standard output; what is done, how long it took, and a note that this build is not
 proved, to standard error. Two calls at once build once: the second waits.
 
-Status: 0 the program is there; 1 it could not be built; 127 there is no cargo.
+Status: 0 the program is there; 1 it could not be built; 127 there is no cargo; 130 and 143 where a signal ends the call.
 """
 from __future__ import annotations
 
@@ -17,6 +17,7 @@ import json
 import os
 import pathlib
 import shutil
+import signal
 import subprocess
 import sys
 import time
@@ -147,11 +148,15 @@ def main(words: Sequence[str]) -> int:
         return 0 if is_asked else 2
     if not Build().is_fresh() and not has_cargo():
         return 127
+    # What ends this call ends cargo too.
+    signal.signal(signal.SIGTERM, lambda number, frame: sys.exit(128 + number))
     try:
         print(program())
     except NotBuilt as fault:
         say_on_stderr(str(fault))
         return 1
+    except KeyboardInterrupt:
+        return 130
     if not words:
         say_on_stderr(quick.NOTE)
     return 0

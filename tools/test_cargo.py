@@ -403,6 +403,18 @@ class Starting(unittest.TestCase):
         self.assertIn("rt, which proves and builds it, is not on the path", said[0])
         self.assertFalse((self.root / "out").exists())
 
+    def test_a_signal_ends_the_build(self) -> None:
+        self.put(self.bin / "cargo", "#!/bin/sh\n: >\"$CARGO_TARGET_DIR.begun\"\nexec sleep 60\n")
+        env = dict(os.environ, PATH=f"{self.bin}:/usr/bin:/bin")
+        words = [sys.executable, "-B", str(self.root / "tools" / "quick_build.py")]
+        call = subprocess.Popen(words, env=env, stdout=subprocess.PIPE, stderr=subprocess.PIPE)
+        while not (self.root / "out" / "cargo" / "target.begun").exists() and call.poll() is None:
+            time.sleep(0.05)
+        call.terminate()
+        # It would not end so soon, nor close its ends, while the other goes on.
+        out, _ = call.communicate(timeout=50)
+        self.assertEqual((call.returncode, out), (143, b""))
+
     def test_a_build_that_fails_is_told(self) -> None:
         self.put(self.bin / "cargo", "#!/bin/sh\necho 'error: no room'\nexit 1\n")
         status, out, said = self.pyc("m.py")
@@ -645,5 +657,4 @@ class Checked(Built):
 
 if __name__ == "__main__":
     sys.argv = [it for it in sys.argv if it != "--all"]
-    start = time.monotonic()
     unittest.main()
