@@ -522,6 +522,18 @@ class Built(unittest.TestCase):
                 self.assertTrue(ended(self.program(), ["unpack"], wanted[1]) == ended(OTHER, ["unpack"], wanted[1]), number)
 
 
+    def check_hostile(self) -> None:
+        """What hostile.py wants, but for ends that are closed: Rust's std opens these as /dev/null before `main` begins."""
+        for command in "words", "devices", "files", "rows":
+            words = [sys.executable, "-B", str(TOOLS / "hostile.py"), command, "--program", str(self.program())]
+            said = subprocess.run(words, cwd=str(ROOT), stdout=subprocess.PIPE, universal_newlines=True, check=False)
+            lines = said.stdout.splitlines()
+            differ = [it for it in lines if it.startswith(command + ": ")]
+            with self.subTest(command):
+                self.assertRegex(lines[-1], r"^%s: \d+ runs, " % command)
+                self.assertEqual([it for it in differ[:-1] if not re.search(r" (is|are) closed", it)], [])
+
+
 @WANTS_CARGO
 class Offline(Built):
     """The workspace with stand-ins."""
@@ -565,9 +577,7 @@ class Offline(Built):
 
     @WANTS_ALL
     def test_hostile_inputs(self) -> None:
-        for command in "rows", "words", "devices", "files":
-            with self.subTest(command):
-                call([sys.executable, "-B", str(TOOLS / "hostile.py"), command, "--program", str(self.program())], ROOT)
+        self.check_hostile()
 
     @WANTS_ALL
     def test_refused_memory(self) -> None:
@@ -636,9 +646,7 @@ class Real(Built):
         self.check_library(1000)
         call(["cargo", "test", "--release", *packages(OWN)], self.folder, self.env())
         check_refusals(self.folder, self.env())
-        for command in "rows", "words", "devices", "files":
-            with self.subTest(command):
-                call([sys.executable, "-B", str(TOOLS / "hostile.py"), command, "--program", str(self.program())], ROOT)
+        self.check_hostile()
 
 
 @WANTS_CARGO
