@@ -1,7 +1,7 @@
 #!/bin/sh
 # pyc.sh is the command, in a checkout and in an installation. Words that the program itself reads go to the program, and
-# want no Python; all others go to the package in python/. In a checkout the first call that wants the program proves and
-# builds it.
+# want no Python; all others go to the package in python/. In a checkout the first call that wants the program builds it:
+# without proof where cargo is there, else it proves it first, as --prove does in any case.
 
 say() {
     echo "pyc.sh: $*" >&2
@@ -118,6 +118,15 @@ prove_in_turn() {
     run_rt pyc "$root/examples/call.json" run -- exec 0 m.py
 }
 
+# Runs the program as cargo builds it, without proof, where cargo and python3 are there; tools/quick_build.py says so.
+run_unproved() {
+    [ -e "$root/tools/quick_build.py" ] && has_python || return 0
+    unproved=$(python3 -I -S -B "$root/tools/quick_build.py")
+    status=$?
+    [ $status -ne 0 ] || exec "$unproved" "$@"
+    [ $status -lt 128 ] || exit $status
+}
+
 # Proves and builds the program; the call is then made anew.
 build() {
     if [ ! -e "$root/crates.txt" ]; then
@@ -137,8 +146,17 @@ build() {
 }
 
 if is_of_program "$@"; then
-    [ -x "$program" ] || build "$@"
+    if [ ! -x "$program" ]; then
+        run_unproved "$@"
+        build "$@"
+    fi
     exec "$program" "$@"
+fi
+if [ "$1" = --prove ] && ! has_python; then
+    [ -x "$program" ] || build
+    shift
+    [ $# -gt 0 ] || exit 0
+    exec sh "$root/pyc.sh" "$@"
 fi
 if ! command -v python3 >/dev/null; then
     case $1 in

@@ -98,7 +98,7 @@ def build_wheel(wheel_directory, config_settings=None, metadata_directory=None):
     """Writes the wheel into a folder. Its name."""
     program = first_of(PROGRAMS)
     if program is None:
-        print("backend.py: the program is not built, so the wheel has none: sh pyc.sh FILE.py builds it", file=sys.stderr)
+        print("backend.py: the program is not built, so the wheel has none: sh pyc.sh --prove builds it", file=sys.stderr)
     name = "pyc-%s-%s.whl" % (version(), tag(program))
     entries = [*files(program), *about(program)]
     with zipfile.ZipFile(os.path.join(wheel_directory, name), "w", zipfile.ZIP_DEFLATED) as wheel:

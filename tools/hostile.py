@@ -12,7 +12,7 @@ usage: hostile.py {allocations,calls,rows,files,devices,stack,words} [--program 
                less, and `rows` has them one deeper, where they are refused
   words        words that are not a mode, a level and a path
 
-The program is crates/pyc/out/pyc, which pyc.sh builds, or crates/single_calls/out/single_calls, which `rt ci` leaves. What differs is told with the input, what is wanted and what came;
+The program is crates/pyc/out/pyc, which `sh pyc.sh --prove` builds, or crates/single_calls/out/single_calls, which `rt ci` leaves. What differs is told with the input, what is wanted and what came;
 the last line has the counts. The status is 0 where nothing differs, 1 where something does, and 2 where the words are not as
 above. What is wanted comes from docs/ROWS.md and README.md, reports on names from tools/model, and none of it from the program.
 Python 3.8 or later, on Linux.
@@ -998,7 +998,7 @@ def main():
         if shutil.which("rt") is None:
             sys.exit("hostile.py: there is no rt on the path")
     elif not os.access(str(arguments.program), os.X_OK):
-        sys.exit("hostile.py: there is no program %s: sh pyc.sh builds pyc, and rt ci both" % arguments.program)
+        sys.exit("hostile.py: there is no program %s: sh pyc.sh --prove builds pyc, and rt ci both" % arguments.program)
     arguments.program = arguments.program.resolve()
     return arguments.function(arguments)
 

@@ -5,8 +5,9 @@ usage: speed.py [--program PATH] [--runs N] [--series plain|scopes] [--most N] [
        speed.py [--program PATH] [--runs N] --growth [NAME..] [--sizes N] [--limit SECONDS] [--memory MB]
        speed.py [--program PATH] [--runs N] --source FILE..
        speed.py [--program PATH] [--series plain|scopes] [--library FOLDER] --instructions [FILE..]
+       speed.py [--program PATH] [--runs N] [--series plain|scopes] [--most N] --beside PATH
 
-The program is crates/pyc/out/pyc, which pyc.sh builds. The trees are made ones of 10^3 to 10^5 statements, and
+The program is crates/pyc/out/pyc, which `sh pyc.sh --prove` builds. The trees are made ones of 10^3 to 10^5 statements, and
 one of --most at most, and those files of the library of this Python, or of FOLDER, that pyc compiles and that import
 nothing from the future, as one file. CPython gets the same rows, as text, to read, and the tree of the same source, which is
 parsed before, to compile and to show. "JSON" is the program on an object that holds the rows: it reads all of it, and
@@ -19,6 +20,9 @@ that takes more seconds than --limit or more memory than --memory is ended, and 
 from the source on: the rows and the program apart, and `python -m dis` beside them. --instructions counts what the
 program executes, by callgrind of valgrind: over 10^4 statements of a series, and over files, or each 34th of those of the
 library that pyc compiles. That is the same in each run, whatever else the machine does.
+
+--beside times another build of the program over the same rows, as that which cargo builds without proof
+(out/cargo/target/release/pyc): seconds, peaks and, where valgrind is there, instructions, of up to 10^4 statements.
 
 Times are seconds of processor time, the least of N runs (3). Peaks are of resident memory, and no less than what the
 Python has that starts the run, some 16 MB. Standard output is a table, as docs/PERFORMANCE.md and docs/GROWTH.md show them.
@@ -87,6 +91,8 @@ COUNTED, EACH = 10000, 34
 
 # What is started and ended takes about a thousandth of a second, whatever it does: times below this tell little.
 SHORTEST = 0.004
+
+BESIDE_HEADS = ("Statements", "Rows, MB", "pyc, s", "Beside, s", "As many times", "Peak of pyc, MB", "Beside, MB", "Instructions of pyc, M", "Beside, M", "CPython, s")
 
 # How a run ended, its seconds of processor time, its peak of memory and what it wrote, in bytes.
 Run = collections.namedtuple("Run", "status seconds peak written")
@@ -374,6 +380,34 @@ def show_instructions(bench, words):
         print(instruction_line("these %d files" % len(files), size, count))
 
 
+def show_beside(bench, words):
+    """Prints the table of two builds over the same rows, and what CPython does with the same trees."""
+    other = Bench(words.beside.resolve(), words.runs, bench.folder)
+    print(table_head(BESIDE_HEADS), flush=True)
+    source = bench.folder / "source.py"
+    for size in sorted({min(it, words.most) for it in SIZES[::2]}):
+        source.write_text(made_inputs.source_of(words.series, size))
+        rows = bench.rows(source)
+        found = [it.pyc(rows) for it in (bench, other)]
+        if None in found:
+            print("| %d statements do not compile |" % size, flush=True)
+            continue
+        counts = [None, None]
+        if size <= COUNTED and shutil.which("valgrind") is not None:
+            counts = [it.instructions(rows) for it in (bench, other)]
+        print(beside_line(size, rows.stat().st_size, found, counts, sum(bench.cpython(rows, source)[0])), flush=True)
+
+
+def beside_line(count, size, found, counts, theirs):
+    """A line of the table of two builds: the statements, the bytes of the rows, the seconds and peaks of both, their
+    instructions, which may be None, and the seconds of CPython."""
+    (ours, our_peak), (other, other_peak) = found
+    cells = [str(count), "%.2f" % (size / 1e6), "%.3f" % ours, "%.3f" % other, "%.2f" % (other / ours)]
+    cells += ["%.0f" % (our_peak / 1e6), "%.0f" % (other_peak / 1e6)]
+    cells += ["%.1f" % (it / 1e6) if it else "" for it in counts]
+    return table_line([*cells, "%.3f" % theirs])
+
+
 def instruction_line(name, size, count):
     """A line of the table of instructions: bytes of the rows, and instructions."""
     return table_line([name, "%.0f" % (size / 1000), "%.1f" % (count / 1e6), "%.0f" % (count / size)])
@@ -424,6 +458,7 @@ def words_of():
     parser.add_argument("--limit", metavar="SECONDS", type=int, default=20, help="with --growth: the most seconds of a run (%(default)s)")
     parser.add_argument("--memory", metavar="MB", type=int, default=4000, help="with --growth: the most memory of a run (%(default)s)")
     parser.add_argument("--source", metavar="FILE", nargs="+", type=pathlib.Path, help="time these files from the source on: rows.py and the program apart")
+    parser.add_argument("--beside", metavar="PATH", type=pathlib.Path, help="time another build of the program over the same rows")
     parser.add_argument("--instructions", metavar="FILE", nargs="*", type=pathlib.Path, help="count the instructions of the program, by valgrind: over statements, and over these files or some of the library")
     return parser.parse_args()
 
@@ -431,7 +466,9 @@ def words_of():
 def main():
     words = words_of()
     if not os.access(words.program, os.X_OK):
-        sys.exit("speed.py: there is no program %s: sh pyc.sh builds it" % words.program)
+        sys.exit("speed.py: there is no program %s: sh pyc.sh --prove builds it" % words.program)
+    if words.beside and not os.access(words.beside, os.X_OK):
+        sys.exit("speed.py: there is no program %s" % words.beside)
     missing = [str(it) for it in (words.source or []) + (words.instructions or []) if not it.is_file()]
     if missing:
         sys.exit("speed.py: there is no file %s" % ", ".join(missing))
@@ -442,6 +479,8 @@ def main():
             show_growth(bench, words.growth or made_inputs.GROWING, words.sizes, (words.limit, words.memory))
         elif words.source:
             show_sources(bench, words.source)
+        elif words.beside:
+            show_beside(bench, words)
         elif words.instructions is not None:
             if shutil.which("valgrind") is None:
                 sys.exit("speed.py: there is no valgrind")

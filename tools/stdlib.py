@@ -3,7 +3,7 @@
 
 usage: stdlib.py [--program FILE] [--files] [--kinds] [FOLDER]
 
-The program is crates/pyc/out/pyc, which pyc.sh builds. FOLDER takes the place of the library; installed packages
+The program is crates/pyc/out/pyc, which `sh pyc.sh --prove` builds. FOLDER takes the place of the library; installed packages
 (site-packages) are left out. With --files each file has a line of its own first: how it ended, and its path. The counts
 are by kind of fault: the line that is told, without its place; where a kind of node is not compiled, with the kind.
 With --kinds the rows of the files that were read are counted by their kind too. The status is 1 where the rows of a file
@@ -75,7 +75,7 @@ def main():
     parser.add_argument("folder", metavar="FOLDER", nargs="?", type=pathlib.Path, default=pathlib.Path(os.__file__).parent, help="the library (that of this Python)")
     words = parser.parse_args()
     if not os.access(words.program, os.X_OK):
-        sys.exit("stdlib.py: there is no program %s: sh pyc.sh builds it" % words.program)
+        sys.exit("stdlib.py: there is no program %s: sh pyc.sh --prove builds it" % words.program)
     counts, seconds = collections.Counter(), [0.0, 0.0]
     kinds = collections.Counter() if words.kinds else None
     for file in library_files(words.folder):

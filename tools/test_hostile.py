@@ -295,7 +295,7 @@ class Hostile(unittest.TestCase):
         tool = [sys.executable, "-B", str(TOOLS / "hostile.py")]
         it = subprocess.run([*tool, "rows", "--program", str(self.folder / "none")], stdout=subprocess.PIPE, stderr=subprocess.PIPE)
         self.assertEqual((it.returncode, it.stdout), (1, b""))
-        self.assertIn(b"sh pyc.sh builds pyc, and rt ci both", it.stderr)
+        self.assertIn(b"sh pyc.sh --prove builds pyc, and rt ci both", it.stderr)
         for words in [], ["row"], ["allocations", "--first", "0"], ["calls", "--unproved"], ["stack", "--limit", "x"]:
             it = subprocess.run([*tool, *words], stdout=subprocess.PIPE, stderr=subprocess.PIPE)
             self.assertEqual((it.returncode, it.stdout), (2, b""), words)

@@ -48,6 +48,13 @@ class Arithmetic(unittest.TestCase):
         self.assertIsNone(speed.summary_of("events: Ir\n"))
         self.assertEqual(speed.instruction_line("m.py", 250000, 152500000), "| m.py | 250 | 152.5 | 610 |")
 
+    def test_lines_of_two_builds(self):
+        line = speed.beside_line(1000, 230000, [(0.01, 18 * 10**6), (0.015, 20 * 10**6)], [71400000, 69300000], 0.0761)
+        self.assertEqual(line, "| 1000 | 0.23 | 0.010 | 0.015 | 1.50 | 18 | 20 | 71.4 | 69.3 | 0.076 |")
+        line = speed.beside_line(10, 2000, [(0.01, 10**6), (0.01, 10**6)], [None, None], 1)
+        self.assertEqual(line, "| 10 | 0.00 | 0.010 | 0.010 | 1.00 | 1 | 1 |  |  | 1.000 |")
+        self.assertEqual(len(speed.BESIDE_HEADS), line.count("|") - 1)
+
     def test_lines_of_growth(self):
         points = [(n, 100 * n, speed.Run(0, n * n / 1e8, 16 * 10**6, 1000 * n)) for n in (100, 1000, 2000)]
         # The shortest time is that of starting a process, and is left out.
@@ -137,6 +144,8 @@ class Runs(unittest.TestCase):
         table = [it.strip("| ").split(" | ") for it in lines if it.startswith("|")]
         self.assertEqual([it[0] for it in table[2:]], [str(source), "%s does not compile" % wrong, "together"])
         self.assertEqual({len(table[0]), len(table[2]), len(table[4])}, {8})
+        status, lines, told = self.call("--program", self.program, "--runs", 1, "--most", 20, "--beside", self.program)
+        self.assertEqual((status, told, len([it for it in lines if it.startswith("|")])), (0, "", 3))
         missing = self.folder / "none.py"
         self.assertEqual(self.call("--program", self.program, "--source", missing), (1, [], "speed.py: there is no file %s\n" % missing))
 

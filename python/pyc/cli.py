@@ -11,7 +11,7 @@ import sys
 from types import ModuleType
 from typing import Dict, List, Optional, Sequence
 
-from . import ends, options
+from . import ends, options, quick
 from .errors import DONE, WORDS, Error, Failed, NoProgram, WrongWords
 
 # The commands in the order in which they are told, and the module of each.
@@ -62,6 +62,7 @@ def row_of(name: str, module: ModuleType) -> options.Command:
 def main(words: Sequence[str]) -> int:
     """Does what the words of a call say, and gives its status."""
     ends.open_ends()
+    quick.teller = ends.say
     try:
         return called(list(words))
     except options.HelpWanted as wanted:
@@ -122,12 +123,15 @@ def help_of(wanted: options.Command) -> str:
 
 
 def without_program(missing: NoProgram, words: Sequence[str]) -> int:
-    """What is done where the program is not there: in a checkout it is built, and the call is made anew."""
+    """What is done where the program is not there: in a checkout it is built, and the call is made anew. Cargo builds it
+    without proof; where there is no cargo, it is proved."""
     from . import program
 
     if not program.is_checkout():
         ends.say("pyc: %s\n" % missing)
         return missing.status
+    if quick.is_possible() and quick.build() is not None:
+        return main(words)
     builder = os.path.join(program.ROOT, "tools", "build.py")
     starter = os.path.join(program.ROOT, "pyc.sh")
     os.execv(sys.executable, [sys.executable, builder, "--then", starter, "pyc", *words])

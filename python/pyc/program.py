@@ -30,9 +30,16 @@ OF_TRY = re.compile(r"^(?:allocations: |interpreter: |checked: |run=|rt: ).*\n?"
 
 
 def find() -> str:
-    """The path of the program. Raises NoProgram where it is not there."""
+    """The path of the program: the proved one, else that which cargo has built of the sources as they stand. Raises NoProgram
+    where neither is there."""
     if os.access(PROGRAM, os.X_OK):
         return PROGRAM
+    from . import quick
+
+    found = quick.found()
+    if found is not None:
+        quick.tell()
+        return found
     raise NoProgram("the program is not built: %s is not there" % PROGRAM)
 
 

@@ -5,7 +5,7 @@ import os
 import subprocess
 from typing import Optional
 
-from . import program, stamp
+from . import program, quick, stamp
 from .errors import NoProgram
 
 
@@ -38,6 +38,8 @@ def text() -> str:
         path = program.find()
     except NoProgram:
         return "pyc %s%s, the program is not built" % (number(), in_brackets(commit()))
+    if path == quick.found():
+        return "pyc %s%s, not proved: built by cargo of these sources" % (number(), in_brackets(commit()))
     found = stamp.read(path)
     known = commit() or (found.commit if found else None)
     return "pyc %s%s, %s" % (number(), in_brackets(known), proof(found, path))

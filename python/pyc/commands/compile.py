@@ -3,9 +3,10 @@ from __future__ import annotations
 
 import os
 import signal
+import sys
 from typing import IO, List, Optional
 
-from .. import ends, program, refusals, rows, sources
+from .. import ends, program, quick, refusals, rows, sources
 from ..errors import DONE, MEMORY, WORDS, WRITE, Error, Failed, Refused, WrongWords
 from ..options import Command, Option, parse
 
@@ -26,7 +27,8 @@ COMMAND = Command(
         Option(("--rows",), "the files hold trees as rows (docs/ROWS.md) and no Python"),
         Option(("--json",), "write each code as an object of JSON in one line, and tell each refusal so on standard error"),
         Option(("--run",), "compile the file behind it and run it, as `run` does; what follows the file is its own"),
-        Option(("--try",), "compile by the program as it is, without proof; it is built for each file, which takes about a minute"),
+        Option(("--try",), "compile by a program that is not proved: cargo builds it once, or rt for each file where there is no cargo"),
+        Option(("--prove",), "prove and build the program, where that was not done, before anything else"),
         Option(("--explain",), "explain a kind of refusal, as R301, and do nothing else", "CODE"),
         Option(("--version",), "tell the version, and whether the program is known to be proved, and do nothing else"),
     ),
@@ -37,6 +39,8 @@ COMMAND = Command(
 def main(words: List[str]) -> int:
     """Compiles the files that the words name. The highest status of the files."""
     given = parse(COMMAND, words)
+    if given.prove:
+        return prove([it for it in words if it != "--prove"])
     if given.version:
         from .. import version
 
@@ -49,13 +53,32 @@ def main(words: List[str]) -> int:
         return DONE
     if not given.files:
         raise WrongWords("no file is named")
-    given.program = None if getattr(given, "try") else find_or_look(given)
-    if given.program is None:
-        ends.say("pyc: --try: nothing is proved of this program, which is built anew for each file and checks itself while it runs\n")
+    given.program = tried() if getattr(given, "try") else find_or_look(given)
     if given.output in (None, "-"):
         return compile_all(given, None)
     check_output(given.output, given.files)
     return compile_into(given)
+
+
+def tried() -> Optional[str]:
+    """A program that is not proved: that which cargo builds. None, for `rt try`, where there is no cargo."""
+    found = quick.found() or (quick.build() if quick.is_possible() else None)
+    if found is not None:
+        quick.tell()
+    else:
+        ends.say("pyc: --try: nothing is proved of this program, which is built anew for each file and checks itself while it runs\n")
+    return found
+
+
+def prove(words: List[str]) -> int:
+    """Proves and builds the program where it is not there, and then does what the other words say, or tells the version."""
+    words = words or ["--version"]
+    if program.is_checkout() and not os.access(program.PROGRAM, os.X_OK):
+        builder, starter = (os.path.join(program.ROOT, *it) for it in (("tools", "build.py"), ("pyc.sh",)))
+        os.execv(sys.executable, [sys.executable, builder, "--then", starter, "pyc", *words])
+    from .. import cli
+
+    return cli.called(words)
 
 
 def words_of_run(words: List[str]) -> Optional[List[str]]:

@@ -1,0 +1,3 @@
+//! The buffer of the crate itoa.
+
+pub use real::{Buffer, Integer};

@@ -1,0 +1,22 @@
+//! Ledgers, by which proofs count steps. They hold nothing.
+
+/// See [`self`].
+pub mod ledger {
+    use std::marker::PhantomData;
+
+    /// Whose steps are counted.
+    pub trait Ledger {}
+
+    /// What was counted.
+    #[derive(Debug)]
+    pub struct Book<L>(PhantomData<L>);
+
+    /// The right to add to a book.
+    #[derive(Debug)]
+    pub struct Share<L>(PhantomData<L>);
+
+    impl<L> Book<L> {
+        /// Counts so many steps, which is nothing at run time.
+        pub fn add(&mut self, _: &mut Share<L>, _: u64) {}
+    }
+}

@@ -1,0 +1,1 @@
+"""Sources of Rattle: their tokens, and what they are in Rust."""
