@@ -140,6 +140,7 @@ class Rewriting(unittest.TestCase):
             ("fn f()\n    ensures one two { a }\n{}\n", "made.rt:2: a clause without braces"),
             ("fn f()\n    ghost top: { ℕ }\n    requires { a }\n{}\n", "made.rt:2: a ghost item of another form"),
             ("impl Model for A {\n    fn f() {}\n}\n", "made.rt:1: a model that is more than ghost members"),
+            ("impl Drop for A {\n    fn drop(self) {\n        match self {\n            A::B(x) => g(x),\n        }\n    }\n}\n", "made.rt:1: a drop that is more than a pattern"),
             ("impl Drop for A {\n    fn drop(self) {\n        g();\n        let A { a: _a } = self;\n    }\n}\n", "made.rt:1: a drop that is more than a pattern"),
             ("fn f(a: &dyn Drop) {}\n", "made.rt:1: Drop in another place than a bound"),
             ("fn f() {\n    Box::leak(a, b);\n}\n", "made.rt:2: Box::leak"),

@@ -58,6 +58,15 @@ METHOD_TRAITS = frozenset({"Flags", "Hash", "Hasher", "Write"})
 CLOSING = {"(": ")", "[": "]", "{": "}"}
 VISIBLE = ("pub",)
 
+# A drop that lets go what stands in each variant, as text whose tokens are parted by blanks.
+EMPTY_VARIANT = r"\w+ :: \w+(?: \( _ \))?"
+DROPS_EACH_VARIANT = re.compile(
+    r"fn drop \( self \) \{ match self \{ "
+    + r"(?:%s(?: \| %s)* => \{ \} )?" % (EMPTY_VARIANT, EMPTY_VARIANT)
+    + r"(?:\w+ :: \w+ \( (\w+) \) => mem :: drop \( \1 \) , )+"
+    + r"\} \}"
+)
+
 
 class Options(NamedTuple):
     """How a source is written. `macros` are those of the repository, `head` the lines that the root of a crate begins with."""
@@ -298,6 +307,8 @@ class Rewriter:
     def _check_drop(self, at: int, opening: int, end: int) -> None:
         """A drop that takes its value apart and does nothing else is what Rust does by itself."""
         texts = [token.text for token in self.tokens[opening + 1:end]]
+        if DROPS_EACH_VARIANT.fullmatch(" ".join(texts)):
+            return
         head = ["fn", "drop", "(", "self", ")", "{", "let"]
         tail = ["}", "=", "self", ";", "}"]
         body = texts[len(head):-len(tail)]

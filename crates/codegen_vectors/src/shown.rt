@@ -17,6 +17,9 @@ const REFUSED: &str = r#"[["Nonlocal",1,1,["x"]],["Module",[0]]]"#;
 
 /// The table of the file whose rows these are, or why it is refused.
 fn scanned(alloc: Global, rows: &str) -> Result<Result<SymbolTable, SymbolTableError>, Fail> {
+    if rows.len() >= 1 << 26 {
+        return Err("too long".into());
+    }
     let tree = read_rows(alloc, rows.as_bytes()).ok().ok_or("no rows")?;
     let Mod::Module(program) = &tree else {
         return Err("no module".into());

@@ -17,6 +17,9 @@ const CALL: &str =
 
 /// The code of the file whose rows these are.
 fn compiled(alloc: Global, rows: &str) -> Result<CodeObject, Fail> {
+    if rows.len() >= 1 << 26 {
+        return Err("too long".into());
+    }
     let tree = read_rows(alloc, rows.as_bytes()).ok().ok_or("no rows")?;
     let opts = CompileOpts { optimize: 0 };
     let code = compile_top(alloc, &tree, path(alloc)?, Mode::Exec, opts);

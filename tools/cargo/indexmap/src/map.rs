@@ -119,6 +119,11 @@ impl<K: Eq + Hash, V> IndexMap<K, V> {
         self.entries.get(place).map(|Bucket { key, value, .. }| (key, value))
     }
 
+    /// The keys in order.
+    pub fn keys(&self) -> impl ExactSizeIterator<Item = &K> {
+        self.entries.iter().map(|bucket| &bucket.key)
+    }
+
     /// The values in order.
     pub fn values(&self) -> impl ExactSizeIterator<Item = &V> {
         self.entries.iter().map(|bucket| &bucket.value)

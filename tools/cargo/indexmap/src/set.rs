@@ -48,6 +48,11 @@ impl<T: Eq + Hash> IndexSet<T> {
         self.map.get_index(place).map(|(value, ())| value)
     }
 
+    /// The values in order.
+    pub fn iter(&self) -> impl ExactSizeIterator<Item = &T> {
+        self.map.keys()
+    }
+
     /// Puts a value in, and answers its place and whether it is new. A new value goes last.
     ///
     /// # Errors
