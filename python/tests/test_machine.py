@@ -199,6 +199,34 @@ os.kill(os.getpid(), signal.SIGINT)
         self.assertTrue(told.endswith("KeyboardInterrupt\n"), told)
 
 
+    @unittest.skipUnless(hasattr(signal, "setitimer"), "there are no timers here")
+    def test_signals_at_any_time(self):
+        """What a signal raises comes to the handlers of the function that runs, also while these are entered and left."""
+        text = """\
+import signal
+class Ticked(Exception): pass
+def tick(number, frame): raise Ticked
+def caught(turns):
+    found = {}
+    for turn in range(turns):
+        try:
+            signal.setitimer(signal.ITIMER_REAL, (turn % 7 + 1) / 4000)
+            while True:
+                try:
+                    found[turn]
+                except KeyError:
+                    pass
+                finally:
+                    turns = turns
+        except Ticked as error:
+            last = type(error)
+    return turn, last
+signal.signal(signal.SIGALRM, tick)
+print(caught(40))
+"""
+        self.check_same(self.write("m.py", text))
+
+
 class Words(Case):
     def test_kinds(self):
         self.write("part/__init__.py", "")
