@@ -183,6 +183,8 @@ print(signal.signal(signal.SIGTERM, print))
         text = """\
 import os, signal, time
 seen = []
+# Where this runs in the background, ^C is ignored from the start.
+signal.signal(signal.SIGINT, signal.default_int_handler)
 signal.signal(signal.SIGALRM, lambda number, frame: seen.append(frame.f_code.co_name))
 signal.alarm(1)
 while not seen:
