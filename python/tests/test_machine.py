@@ -174,29 +174,62 @@ print(signal.signal(signal.SIGTERM, print))
         self.check_same(self.write("m.py", text + "sys.setrecursionlimit(50000)\nprint(f(40000))\n"))
 
     def test_ends(self):
-        for text in ("import sys\nsys.exit(3)", "import sys\nsys.exit('told')", "raise SystemExit", "import os\nos._exit(4)", ""):
+        for text in ("import sys\nprint(1)\nsys.stdout.close()","import sys\nsys.exit(3)", "import sys\nsys.exit('told')", "raise SystemExit", "import os\nos._exit(4)", ""):
             with self.subTest(text):
                 self.check_same(self.write("m.py", text))
 
     @unittest.skipUnless(hasattr(signal, "alarm"), "there are no signals here")
     def test_signals(self):
         text = """\
-import os, signal
-signal.signal(signal.SIGALRM, lambda number, frame: print("alarm", frame.f_code.co_name))
+import os, signal, time
+seen = []
+# Where this runs in the background, ^C is ignored from the start.
+signal.signal(signal.SIGINT, signal.default_int_handler)
+signal.signal(signal.SIGALRM, lambda number, frame: seen.append(frame.f_code.co_name))
 signal.alarm(1)
-signal.pause()
+while not seen:
+    time.sleep(1)
 try:
     os.kill(os.getpid(), signal.SIGINT)
-    signal.pause()
+    time.sleep(60)
 except KeyboardInterrupt:
-    print("interrupted")
+    print("interrupted", seen)
 finally:
     print("finally")
 os.kill(os.getpid(), signal.SIGINT)
+time.sleep(60)
 """
         status, out, told = self.run_pyc(self.write("m.py", text))
-        self.assertEqual((status, out), (130, "alarm <module>\ninterrupted\nfinally\n"))
+        self.assertEqual((status, out), (130, "interrupted ['<module>']\nfinally\n"))
         self.assertTrue(told.endswith("KeyboardInterrupt\n"), told)
+
+
+    @unittest.skipUnless(hasattr(signal, "setitimer"), "there are no timers here")
+    def test_signals_at_any_time(self):
+        """What a signal raises comes to the handlers of the function that runs, also while these are entered and left."""
+        text = """\
+import signal
+class Ticked(Exception): pass
+def tick(number, frame): raise Ticked
+def caught(turns):
+    found = {}
+    for turn in range(turns):
+        try:
+            signal.setitimer(signal.ITIMER_REAL, (turn % 7 + 1) / 4000)
+            while True:
+                try:
+                    found[turn]
+                except KeyError:
+                    pass
+                finally:
+                    turns = turns
+        except Ticked as error:
+            last = type(error)
+    return turn, last
+signal.signal(signal.SIGALRM, tick)
+print(caught(40))
+"""
+        self.check_same(self.write("m.py", text))
 
 
 class Words(Case):

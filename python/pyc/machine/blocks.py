@@ -24,57 +24,64 @@ NOWHERE = -1
 
 
 class Block:
-    """An open block: its kind, how many values lie below it, where its handler begins, and why a handler runs: by an
+    """An open block: its kind, how many values lie below it, where its handler begins, and why a handler runs: for an
     exception, before which another was handled, or since blocks are left on a way (with its value)."""
 
-    __slots__ = ("kind", "height", "handler", "error", "previous", "way", "value")
+    __slots__ = ("kind", "height", "handler", "error", "previous", "is_entered", "way", "value")
 
     def __init__(self, kind, height, handler=None, error=None, previous=UNSET, way=None, value=None):
         self.kind, self.height, self.handler = kind, height, handler
-        self.error, self.previous, self.way, self.value = error, previous, way, value
+        # Whether the exception of a handler is the one that is handled.
+        self.error, self.previous, self.is_entered = error, previous, False
+        self.way, self.value = way, value
 
 
 def take(stack: list, blocks: list[Block]) -> int:
     """The unit where the handler begins that takes the exception which is being handled. Its block is open then.
 
-    NOWHERE where no block takes it and no handler was left; where one was left, a block LEFT is open.
+    NOWHERE where no block takes it and no handler was left; where one was left, a block LEFT is open. Until the last step
+    all blocks are as they were, so that ^C may come at any time.
     """
     error = sys.exception()
     trim(error)
-    previous = UNSET
-    while blocks:
-        block = blocks.pop()
+    previous, left = UNSET, len(blocks)
+    while left:
+        left -= 1
+        block = blocks[left]
         if block.kind == EXCEPT or block.kind == FINALLY:
-            del stack[block.height :]
-            if block.kind == EXCEPT:
-                stack.append(error)
             kind = EXCEPT_HANDLER if block.kind == EXCEPT else FINALLY_HANDLER
-            blocks.append(Block(kind, block.height, error=error, previous=previous))
+            handler = Block(kind, block.height, error=error, previous=previous)
+            stack[block.height :] = [error] if block.kind == EXCEPT else []
+            blocks[left:] = [handler]
             return block.handler
-        if block.error is not None:
+        if block.is_entered:
             previous = block.previous
     if previous is UNSET:
         return NOWHERE
-    blocks.append(Block(LEFT, 0, error=error, previous=previous, value=(error.__context__, error.__traceback__)))
+    blocks[:] = [Block(LEFT, 0, error=error, previous=previous, value=(error.__context__, error.__traceback__))]
     return 0
 
 
 def enter(blocks: list[Block]) -> None:
-    """Sets the exception of the innermost block as the one that is handled; raises it where the block is LEFT."""
+    """Begins a handler: its exception, where it runs for one, is the one that is handled from now on."""
     block = blocks[-1]
-    if block.kind == LEFT:
-        set_handled(block.previous)
-        raise block.error
-    if block.previous is UNSET:
-        block.previous = own_handled()
-    set_handled(block.error)
+    if block.error is not None:
+        if block.previous is UNSET:
+            block.previous = own_handled()
+        block.is_entered = True
+        set_handled(block.error)
+
+
+def raise_left(blocks: list[Block]) -> None:
+    """Raises the exception of a block LEFT, with what was handled before the handlers that were left."""
+    set_handled(blocks[-1].previous)
+    raise blocks[-1].error
 
 
 def again(blocks: list[Block]) -> None:
     """Gives the exception of a block LEFT the context and the traceback that it had before it was raised again."""
     block = blocks.pop()
-    if block.kind == LEFT:
-        block.error.__context__, block.error.__traceback__ = block.value
+    block.error.__context__, block.error.__traceback__ = block.value
 
 
 def leave(stack: list, blocks: list[Block], way: str, value: object) -> int:
@@ -86,13 +93,15 @@ def leave(stack: list, blocks: list[Block], way: str, value: object) -> int:
         block = blocks[-1]
         if block.kind == LOOP and way == CONTINUE:
             return value
+        if block.kind == FINALLY:
+            handler = Block(FINALLY_HANDLER, block.height, way=way, value=value)
+            del stack[block.height :]
+            blocks[-1] = handler
+            return block.handler
         close(blocks)
         del stack[block.height :]
         if block.kind == LOOP and way == BREAK:
             return value
-        if block.kind == FINALLY:
-            blocks.append(Block(FINALLY_HANDLER, block.height, way=way, value=value))
-            return block.handler
     if way != RETURN:
         raise SystemError("%s without a loop" % way)
     stack.append(value)
@@ -101,10 +110,10 @@ def leave(stack: list, blocks: list[Block], way: str, value: object) -> int:
 
 def close(blocks: list[Block]) -> Block:
     """Takes the innermost block away. Behind a handler of an exception the one before it is handled again."""
-    block = blocks.pop()
-    if block.error is not None:
+    block = blocks[-1]
+    if block.is_entered:
         set_handled(block.previous)
-    return block
+    return blocks.pop()
 
 
 def go_on(stack: list, blocks: list[Block], following: int) -> int:

@@ -216,7 +216,7 @@ def check(stack: list, most: int) -> None:
 INFERRED: dict = {"infer_variance": True} if sys.version_info >= (3, 12) else {}
 
 BUILT_IN = (ascii, format, getattr, globals, iter, len, locals, next, repr, set, slice, str, tuple, type)
-OF_BLOCKS = (blocks.again, blocks.close, blocks.enter, blocks.go_on, blocks.leave, blocks.room, blocks.take)
+OF_BLOCKS = (blocks.again, blocks.close, blocks.enter, blocks.go_on, blocks.leave, blocks.raise_left, blocks.room, blocks.take)
 OWN = (
     builtin,
     check,
@@ -235,7 +235,7 @@ OWN = (
     set_up_annotations,
     unbound,
 )
-CONSTANTS = "LOOP EXCEPT FINALLY EXCEPT_HANDLER FINALLY_HANDLER BREAK CONTINUE RETURN UNSET"
+CONSTANTS = "LOOP EXCEPT FINALLY EXCEPT_HANDLER FINALLY_HANDLER LEFT BREAK CONTINUE RETURN UNSET"
 INPLACE = "IADD ISUB IMUL IMATMUL ITRUEDIV IFLOORDIV IMOD IPOW ILSHIFT IRSHIFT IOR IXOR IAND"
 
 # What each word in capitals stands for.

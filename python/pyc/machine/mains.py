@@ -77,7 +77,15 @@ def run(program: Main) -> int:
         raise
     except BaseException as error:
         return told(error)
+    finally:
+        settle()
     return 0
+
+
+def settle() -> None:
+    """Sees that the command finds no standard output which the program has closed, or has put something else in place of."""
+    if getattr(sys.stdout, "closed", False) or not callable(getattr(sys.stdout, "flush", None)):
+        sys.stdout = None
 
 
 def told(error: BaseException) -> int:

@@ -37,18 +37,24 @@ PLACED = re.compile(r"[vcfgna][0-9]+")
 
 WANTED = {name: it.__code__.co_varnames[: it.__code__.co_argcount] for name, it in instructions.TABLE.items()}
 JUMPS = frozenset(name for name, wanted in WANTED.items() if "target" in wanted)
-HANDLERS = frozenset(("SetupExcept", "SetupFinally", "SetupWith", "EnterFinally"))
+SETUPS = frozenset(("SetupExcept", "SetupFinally", "SetupWith"))
+HANDLERS = SETUPS | {"EnterFinally"}
 ENDS = frozenset(("Jump", "Break", "Continue", "ReturnValue", "ReturnConst", "Raise"))
 
 
-# The lines, each with its depth, that take what the instructions raise.
-HANDLING = (
-    (1, "except:"),
-    (2, "at = TAKE(stack, blocks)"),
-    (2, "if at < 0: raise"),
-    (1, "try: ENTER(blocks)"),
+# The lines, each with its depth, around those of the instructions, where the code has handlers. The inner `try` takes what
+# the instructions raise; the outer one takes ^C that comes while this is done, in its place. A jump back is followed by a
+# look at signals, for which CPython takes the place before the loop; so there is a step before it, within the `try`.
+TRYING = ((0, "while True:"), (1, "try:"), (2, "at = at"), (2, "while True:"), (3, "try:"), (4, "at = at"), (4, "while True:"))
+TAKING = (
+    (0, "except:"),
+    (1, "at = TAKE(stack, blocks)"),
+    (1, "if at < 0: raise"),
+    (0, "if blocks[-1].kind == LEFT:"),
+    (1, "try: RAISE_LEFT(blocks)"),
     (1, "except: AGAIN(blocks); raise"),
 )
+HANDLING = ((4, "break"), *((3 + it, line) for it, line in TAKING), (2, "break"), *((1 + it, line) for it, line in TAKING))
 
 # Whether each instruction is followed by a look at the height of the stack, which a code says the greatest of.
 CHECKS = bool(os.environ.get("PYC_CHECK_STACK"))
@@ -120,6 +126,7 @@ class Translation:
         self.instructions = list(decoded(code))
         seen = {it.name for it in self.instructions}
         self.has_handlers, self.has_jumps = not seen.isdisjoint(HANDLERS), not seen.isdisjoint(JUMPS | {"EndFinally"})
+        self.handlers = {it.operand for it in self.instructions if it.name in SETUPS}
         self.has_blocks = self.has_handlers or "SetupLoop" in seen
         self.hooked = "HOOKED(%s)" if not hooks.NAMES.isdisjoint(code.names) else "%s"
         self.leaves = "return stack.pop()" if self.is_function else "stack.result = stack.pop()" + "; break" * self.has_jumps
@@ -261,14 +268,15 @@ class Translation:
         """The lines of the instructions, each with its depth and its row."""
         if not self.has_jumps:
             return self.straight()
-        found = [(0, "while True:", self.first)]
-        if self.has_handlers:
-            found.append((1, "try:", self.first))
+        found: list[tuple[int, str, int]] = []
         parts = self.parts()
-        self.tree(parts, 0, len(parts), 1 + self.has_handlers, found)
-        if self.has_handlers:
-            found += [(depth, line, self.instructions[-1].row) for depth, line in HANDLING]
-        return found
+        if not self.has_handlers:
+            found.append((0, "while True:", self.first))
+            self.tree(parts, 0, len(parts), 1, found)
+            return found
+        found += [(depth, line, self.first) for depth, line in TRYING]
+        self.tree(parts, 0, len(parts), 5, found)
+        return found + [(depth, line, self.instructions[-1].row) for depth, line in HANDLING]
 
     def straight(self) -> list[tuple[int, str, int]]:
         """The lines of the instructions of a code without jumps, up to the first that ends it."""
@@ -293,6 +301,8 @@ class Translation:
     def tree(self, parts: Sequence[Sequence[Instruction]], start: int, end: int, depth: int, found: list[tuple[int, str, int]]) -> None:
         """The lines of some parts: tests lead to the one where `at` is, and each goes on with the next."""
         if end - start == 1:
+            if parts[start][0].start in self.handlers:
+                found.append((depth, "ENTER(blocks)", parts[start][0].row))
             for it in parts[start]:
                 found += [(depth, line, it.row) for line in self.told(it)]
             return
