@@ -13,11 +13,11 @@ pub struct Finding {
     /// What is told.
     pub kind: NameKind,
     /// The scope.
-    pub scope: Vec<usize>,
+    pub scope: Vec<u32>,
     /// The name.
     pub name: String,
     /// The scope that binds the name too, or from which it comes.
-    pub other: Option<Vec<usize>>,
+    pub other: Option<Vec<u32>>,
 }
 
 impl From<NameItem> for Finding {
