@@ -21,12 +21,12 @@ use Rattle.py_emission.specs.EmissionMods.{emitted}
 use Rattle.py_emit.specs.Emitted.{IsMade, IsEmitted}
 use Rattle.py_emit.specs.States.{module_head}
 use Rattle.py_emit.proofs.Sealed.{AllAimed, sealed_is}
-use Rattle.py_adds.proofs.Adding.{Begins, ground_of}
-use Rattle.py_adds.proofs.Codes.{LoadsFew, MadeFrom}
-use Rattle.py_adds.proofs.Readings.{Read, only_sizes}
-use Rattle.py_adds.proofs.Within.{Emitted, child_at, reading, sealed_made}
-use Rattle.py_agree.proofs.NeverRefused.{IsCelled, begins_all}
-use Rattle.py_agree.proofs.Programs.{first_place, tree_adds}
+use Rattle.py_emission_proof.proofs.Additions.Adding.{Begins, ground_of}
+use Rattle.py_emission_proof.proofs.Additions.Codes.{LoadsFew, MadeFrom}
+use Rattle.py_emission_proof.proofs.Additions.Readings.{Read, only_sizes}
+use Rattle.py_emission_proof.proofs.Additions.Within.{Emitted, child_at, reading, sealed_made}
+use Rattle.py_emission_proof.proofs.Trees.NeverRefused.{IsCelled, begins_all}
+use Rattle.py_emission_proof.proofs.Trees.Programs.{first_place, tree_adds}
 use Rattle.codegen.specs.Compiled.{IsSealed}
 
 module _ (code : CodeObject) (path : List ℕ) (m : Mode) (l : ℕ) (scopes : List ScopeEntry) (t : tree.Mod) (s : State) (small : size_of t < 2 ^ 22) (few : LoadsFew scopes (body scopes t m l)) (done : emitted t m (outermost l path scopes) ≡ Done s) (made : IsMade code (outermost l path scopes) s) where

@@ -20,10 +20,10 @@ use Rattle.py_meaning.specs.Meaning.{body}
 use Rattle.py_meaning.specs.Scanned.{scan_faults, scopes_of}
 use Rattle.py_emit.specs.Emitted.{IsEmitted}
 use Rattle.py_emit.specs.States.{IsTold}
-use Rattle.py_adds.proofs.Codes.{Ground, MadeFrom}
-use Rattle.py_adds.proofs.Naming.{IsMadeSo, Named}
-use Rattle.py_adds.proofs.WellMade.{WellMade, everywhere_so}
-use Rattle.py_adds.specs.Distinct.{HasDistinctNames}
+use Rattle.py_emission_proof.proofs.Additions.Codes.{Ground, MadeFrom}
+use Rattle.py_emission_proof.proofs.Additions.Naming.{IsMadeSo, Named}
+use Rattle.py_emission_proof.proofs.Additions.WellMade.{WellMade, everywhere_so}
+use Rattle.py_emission_proof.specs.Distinct.{HasDistinctNames}
 use Rattle.py_capture.specs.Captures.{CapturesCells}
 use Rattle.py_capture.proofs.Capturing.{captures_cells}
 use Rattle.py_loads.proofs.Loading.{tree_loads_few}

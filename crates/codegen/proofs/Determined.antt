@@ -7,7 +7,7 @@ use Rattle.py_steps.specs.Emitting.{Outcome, Done, TooWide, Refused}
 use Rattle.py_emission.specs.EmissionMods.{emitted}
 use Rattle.py_meaning.specs.Scanned.{scopes_of}
 use Rattle.py_loads.proofs.Loading.{tree_loads_few}
-use Rattle.py_fits.proofs.Premises.{small_tree}
+use Rattle.py_emission_outcomes.proofs.Capacity.Premises.{small_tree}
 use Rattle.codegen.specs.Calls.{CompiledIsSealed, EqualTreesHaveEqualCode}
 use Rattle.codegen.specs.Compiled.{IsSealed, around_tree}
 use Rattle.codegen.proofs.Agreeing.{code_is_sealed}

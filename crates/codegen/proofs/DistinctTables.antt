@@ -18,9 +18,9 @@ use Rattle.py_scope.specs.Laws.{CellsAreApart, SymbolsFollow}
 use Rattle.py_scope.specs.Symbols as symbols
 use Rattle.py_uses.specs.Steps.{State}
 use Rattle.py_steps.specs.Context.{cells_among, cells_here, frees_among, frees_here, is_cell, symbols_in}
-use Rattle.py_adds.specs.Distinct.{AreApart, AreDistinct, HasDistinctNames}
-use Rattle.py_adds.proofs.DistinctNames.{either_false, first_false, rest_false, turned}
-use Rattle.py_adds.proofs.WellMade.{IsCelled, WellMade}
+use Rattle.py_emission_proof.specs.Distinct.{AreApart, AreDistinct, HasDistinctNames}
+use Rattle.py_emission_proof.proofs.Additions.DistinctNames.{either_false, first_false, rest_false, turned}
+use Rattle.py_emission_proof.proofs.Additions.WellMade.{IsCelled, WellMade}
 use Rattle.py_meaning.specs.Faults.{faults}
 use Rattle.py_meaning.specs.Scanned.{scopes_of}
 use Rattle.py_owners.specs.Entered.{ScansTo, kind_in_table, kind_of_owner, told, told_row}

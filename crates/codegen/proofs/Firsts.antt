@@ -24,10 +24,10 @@ use Rattle.py_uses.specs.Goes.{IsTextOrMemory, TextOrMemory}
 use Rattle.symboltable.specs.Errors.{codegen_error}
 use Rattle.py_emit.specs.Emitted.{IsEmitted}
 use Rattle.py_emit.specs.States.{Goes, IsTold, Rest, Same}
-use Rattle.py_refusing.proofs.Ending.{refusal_heads, done_faultless}
+use Rattle.py_emission_outcomes.proofs.Faults.Ending.{refusal_heads, done_faultless}
 use Rattle.py_loads.proofs.Whole.{uses_are_few}
-use Rattle.py_fits.proofs.Whole.{trees_fit}
-use Rattle.py_fits.proofs.WithoutScopes.{refused_without_scopes}
+use Rattle.py_emission_outcomes.proofs.Capacity.Whole.{trees_fit}
+use Rattle.py_emission_outcomes.proofs.Capacity.WithoutScopes.{refused_without_scopes}
 use Rattle.codegen.proofs.Wholes.{none_whole}
 
 abbrev fault_of : LocatedError CodegenErrorType → Fault

@@ -16,10 +16,10 @@ use Rattle.py_emit.specs.States.{Goes, IsUnrefused, Rest, first_rest, info, rest
 use Rattle.py_emit.specs.declared.context.CompileOpts.{CompileOpts}
 use Rattle.py_emit.specs.declared.emitter.Emitter.{Emitter}
 use Rattle.py_emit.proofs.States.{info_holds}
-use Rattle.py_adds.proofs.Codes.{LoadsFew}
+use Rattle.py_emission_proof.proofs.Additions.Codes.{LoadsFew}
 use Rattle.py_meaning.specs.Meaning.{body}
-use Rattle.py_refusing.proofs.Ending.{level_is}
-use Rattle.py_agree.proofs.NeverRefused.{IsCelled, never_refused}
+use Rattle.py_emission_outcomes.proofs.Faults.Ending.{level_is}
+use Rattle.py_emission_proof.proofs.Trees.NeverRefused.{IsCelled, never_refused}
 
 -- an emitter before anything is emitted, and one that emitted a tree
 module _ (t : tree.Mod) (m : Mode) (opts : CompileOpts) (path : List ℕ) (scopes : List ScopeEntry) (first : Emitter) (s : state first ≡ nothing (outermost opts.optimize path scopes)) (r : rest first ≡ first_rest opts path scopes) where

@@ -12,7 +12,7 @@ use Rattle.py_steps.specs.Context.{Context}
 use Rattle.py_steps.specs.Emitting.{State, Outcome, Done, TooWide, Refused}
 use Rattle.py_emission.specs.EmissionMods.{emitted}
 use Rattle.py_emit.specs.Emitted.{IsMade, IsEmitted}
-use Rattle.py_nests.proofs.NestingMods.{emitted_nests}
+use Rattle.py_emission_outcomes.proofs.Nesting.NestingMods.{emitted_nests}
 
 -- the constants of a code object that is made of a state are those of the state
 made_nests : (code : CodeObject) (c : Context) (s : State) → IsMade code c s → consts_nesting (consts_of s.constants) + 1 < 2 ^ 11 → nesting (object code) < 2 ^ 11

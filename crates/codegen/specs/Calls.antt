@@ -16,7 +16,7 @@ use Rattle.py_base.specs.declared.errors.CodegenErrorType.{CodegenErrorType}
 use Rattle.py_base.specs.declared.errors.CodegenErrorType.TheVariants as error
 use Rattle.py_steps.specs.Everywhere.{Everywhere}
 use Rattle.py_emit.specs.Emitted.{IsEmitted}
-use Rattle.py_adds.specs.Distinct.{HasDistinctNames}
+use Rattle.py_emission_proof.specs.Distinct.{HasDistinctNames}
 use Rattle.py_emission.specs.EmissionMods.{emitted}
 use Rattle.py_meaning.specs.ExprFaults.{Fault}
 use Rattle.py_meaning.specs.Faults.{faults, malformed, too_deep, too_large, whole}

@@ -26,13 +26,13 @@ use Rattle.py_meaning.specs.ExprFaults.{Fault, all_faults, expr_faults, faults_i
 use Rattle.py_meaning.specs.ExprFaults as fault
 use Rattle.py_meaning.specs.Faults.{feature_faults}
 use Rattle.py_meaning.specs.StmtEnds.{default_ends}
-use Rattle.py_refusing.proofs.Refusing.{Ends, EndsAs, GoesOn, Misses, Passes, Stops, Wide, constant_added, constant_passes, count_passes, ends_so, function_or, if_ends, in_function, last_ends, nothing_passes, outside, then_ends, unkept_ends, unless_debug_last, varname_added}
-use Rattle.py_refusing.proofs.RefusingCalls.{KeywordsEnding}
-use Rattle.py_refusing.proofs.RefusingDefaults.{defaults_end}
-use Rattle.py_refusing.proofs.RefusingDisplays.{bare_ends, tuples_end}
-use Rattle.py_refusing.proofs.RefusingExprs.{defaults_ending, exprs_end, keywords_end}
-use Rattle.py_refusing.proofs.RefusingPacks.{group_step, last_grouped, maps}
-use Rattle.py_refusing.proofs.RefusingTests.{AllEnding}
+use Rattle.py_emission_outcomes.proofs.Faults.Refusing.{Ends, EndsAs, GoesOn, Misses, Passes, Stops, Wide, constant_added, constant_passes, count_passes, ends_so, function_or, if_ends, in_function, last_ends, nothing_passes, outside, then_ends, unkept_ends, unless_debug_last, varname_added}
+use Rattle.py_emission_outcomes.proofs.Faults.RefusingCalls.{KeywordsEnding}
+use Rattle.py_emission_outcomes.proofs.Faults.RefusingDefaults.{defaults_end}
+use Rattle.py_emission_outcomes.proofs.Faults.RefusingDisplays.{bare_ends, tuples_end}
+use Rattle.py_emission_outcomes.proofs.Faults.RefusingExprs.{defaults_ending, exprs_end, keywords_end}
+use Rattle.py_emission_outcomes.proofs.Faults.RefusingPacks.{group_step, last_grouped, maps}
+use Rattle.py_emission_outcomes.proofs.Faults.RefusingTests.{AllEnding}
 use Rattle.py_expr_scopes.specs.Comprehensions.{comprehension_of}
 use Rattle.py_expr_scopes.specs.declared.comprehensions.ComprehensionElement.{ComprehensionElement}
 use Rattle.py_expr_scopes.specs.declared.comprehensions.ComprehensionElement.TheVariants as element

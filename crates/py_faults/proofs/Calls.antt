@@ -11,8 +11,8 @@ use Rattle.py_steps.specs.Emitting.{Outcome, State}
 use Rattle.py_emission.specs.Emission.{emission_of_delete}
 use Rattle.py_meaning.specs.Ends.{delete_end}
 use Rattle.py_meaning.specs.ExprFaults.{Fault, delete_faults}
-use Rattle.py_refusing.proofs.Refusing.{ends_so, unkept_ends}
-use Rattle.py_refusing.proofs.RefusingChanges.{deletions_end}
+use Rattle.py_emission_outcomes.proofs.Faults.Refusing.{ends_so, unkept_ends}
+use Rattle.py_emission_outcomes.proofs.Faults.RefusingChanges.{deletions_end}
 use Rattle.py_faults.specs.Nodes.{EndsBy, in_function}
 use Rattle.py_faults.specs.Calls.{BodyCalls, DeleteCalls, DeletionCalls, ExpressionCalls, StatementCalls, StoreCalls, TellsFirst, TestCalls}
 use Rattle.py_faults.proofs.Nodes.{bodies_end, deletes_end, ends_by, exprs_end, statements_end, targets_end, tests_end}

@@ -21,13 +21,13 @@ use Rattle.py_meaning.specs.Table.{expr_form}
 use Rattle.py_meaning.specs.StmtCounts.{scopes_in_stmt}
 use Rattle.py_meaning.specs.TableStmts.{stmt_form}
 use Rattle.py_owners.specs.Cells.{StandUpTo}
-use Rattle.py_fits.specs.Fitting.{HasShortTables}
-use Rattle.py_fits.proofs.Fits.{FitsIn, IsOfTree, Stands, taken}
-use Rattle.py_fits.proofs.Accesses.{Ready}
-use Rattle.py_fits.proofs.Standing.{Here, deep_all}
-use Rattle.py_fits.proofs.ShortTables.{IsShort}
-use Rattle.py_fits.proofs.FitExprs.{expr_fits, stores_fit}
-use Rattle.py_fits.proofs.FitStmts.{stmt_fits, stmts_fit}
+use Rattle.py_emission_outcomes.specs.Fitting.{HasShortTables}
+use Rattle.py_emission_outcomes.proofs.Capacity.Fits.{FitsIn, IsOfTree, Stands, taken}
+use Rattle.py_emission_outcomes.proofs.Capacity.Accesses.{Ready}
+use Rattle.py_emission_outcomes.proofs.Capacity.Standing.{Here, deep_all}
+use Rattle.py_emission_outcomes.proofs.Capacity.ShortTables.{IsShort}
+use Rattle.py_emission_outcomes.proofs.Capacity.FitExprs.{expr_fits, stores_fit}
+use Rattle.py_emission_outcomes.proofs.Capacity.FitStmts.{stmt_fits, stmts_fit}
 use Rattle.py_expr_scopes.specs.declared.comprehensions.ComprehensionElement.TheVariants as element
 use Rattle.py_calls.specs.Placed.{deletion_at}
 use Rattle.py_faults.specs.Missing.{BodiesFindCells, ComprehensionsFindCells, DeletionsFindCells, ExpressionsFindCells, FindsCells, IsPlaced, StatementsFindCells, StoresFindCells, TestsFindCells, told}

@@ -1,12 +1,12 @@
--- Emissions of nodes end as their faults say, by the recursions of py_refusing.
+-- Emissions of nodes end as their faults say, by the recursions of py_emission_outcomes.
 use Rattle.std.proofs.Common.{refl, sym, subst, List}
 use Rattle.py_base.specs.declared.location.SourceLocation.{SourceLocation}
 use Rattle.py_steps.specs.Emitting.{Outcome, State}
 use Rattle.py_meaning.specs.ExprFaults.{Fault}
-use Rattle.py_refusing.proofs.Refusing.{Ends, GoesOn, Misses, Stops, Wide}
-use Rattle.py_refusing.proofs.RefusingChanges.{deletions_end}
-use Rattle.py_refusing.proofs.RefusingExprs.{expr_ends, store_ends}
-use Rattle.py_refusing.proofs.RefusingStmts.{stmt_ends, stmts_end_so}
+use Rattle.py_emission_outcomes.proofs.Faults.Refusing.{Ends, GoesOn, Misses, Stops, Wide}
+use Rattle.py_emission_outcomes.proofs.Faults.RefusingChanges.{deletions_end}
+use Rattle.py_emission_outcomes.proofs.Faults.RefusingExprs.{expr_ends, store_ends}
+use Rattle.py_emission_outcomes.proofs.Faults.RefusingStmts.{stmt_ends, stmts_end_so}
 use Rattle.py_faults.specs.Nodes.{BodiesEnd, DeletesEnd, EndsBy, ExprsEnd, StatementsEnd, TargetsEnd, TestsEnd}
 
 pub ends_by : (s : State) (fs : List Fault) (q : SourceLocation) (o : Outcome) → Ends s.around fs q o → EndsBy s fs q o

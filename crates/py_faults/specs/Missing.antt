@@ -18,7 +18,7 @@ use Rattle.py_emission.specs.EmissionStmts.{emission_of_stmt, emission_of_stmts}
 use Rattle.py_meaning.specs.Table.{expr_form, target_form}
 use Rattle.py_meaning.specs.TableStmts.{stmt_form, stmts_form}
 use Rattle.py_owners.specs.Cells.{StandUpTo}
-use Rattle.py_fits.specs.Fitting.{HasShortTables}
+use Rattle.py_emission_outcomes.specs.Fitting.{HasShortTables}
 use Rattle.py_expr_scopes.specs.Comprehensions.{comprehension_of}
 use Rattle.py_expr_scopes.specs.declared.comprehensions.ComprehensionElement.{ComprehensionElement}
 use Rattle.py_calls.specs.Placed.{comprehension_at, deletion_at}

@@ -5,8 +5,8 @@ use Rattle.py_bytecode.specs.Equality.{text_eq}
 use Rattle.py_scope.specs.declared.symbols.Symbol.{Symbol}
 use Rattle.py_scope.specs.Symbols.{AreApart}
 use Rattle.py_steps.specs.Context.{names_of_those}
-use Rattle.py_adds.specs.Distinct.{AreDistinct}
-use Rattle.py_adds.proofs.DistinctNames.{either_false, first_false, rest_false}
+use Rattle.py_emission_proof.specs.Distinct.{AreDistinct}
+use Rattle.py_emission_proof.proofs.Additions.DistinctNames.{either_false, first_false, rest_false}
 
 -- the names of some symbols are among those of all
 pub any_of_those : (p : Symbol → Bool) (n : List ℕ) (ts : List Symbol) → list_any (λ t. text_eq n t.name) ts ≡ false → list_any (text_eq n) (names_of_those p ts) ≡ false

@@ -20,9 +20,9 @@ use Rattle.py_owners.proofs.Facts.{Facts, facts}
 use Rattle.py_owners.proofs.OwnStanding.{Standing, own_standing}
 use Rattle.py_owners.proofs.OwnerTables.{scan_done}
 use Rattle.py_owners.proofs.Wanted.{wanted_needed}
-use Rattle.py_adds.specs.Loads.{AreNumbered, LoadsUpTo, loads}
-use Rattle.py_adds.proofs.Codes.{LoadsFew}
-use Rattle.py_adds.proofs.WellMade.{all_so}
+use Rattle.py_emission_proof.specs.Loads.{AreNumbered, LoadsUpTo, loads}
+use Rattle.py_emission_proof.proofs.Additions.Codes.{LoadsFew}
+use Rattle.py_emission_proof.proofs.Additions.WellMade.{all_so}
 use Rattle.py_loads.specs.Uses.{CodesLoadFew, used}
 use Rattle.py_loads.proofs.Distinct.{those_distinct}
 use Rattle.py_loads.proofs.Sharing.{names_for, needed_within, shared, top, total}

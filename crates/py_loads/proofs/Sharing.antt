@@ -17,8 +17,8 @@ use Rattle.py_scope.proofs.Outside.{chain_below}
 use Rattle.py_scope.proofs.Truth.{and_both, and_false, either, left_or, right_or}
 use Rattle.py_forms.specs.Agree.{AllOf, head_of}
 use Rattle.py_forms.specs.Form.{Scope}
-use Rattle.py_adds.specs.Distinct.{AreDistinct}
-use Rattle.py_adds.specs.Loads.{AreNumbered}
+use Rattle.py_emission_proof.specs.Distinct.{AreDistinct}
+use Rattle.py_emission_proof.specs.Loads.{AreNumbered}
 use Rattle.py_loads.specs.Uses.{used}
 use Rattle.py_loads.proofs.Needed.{UsedWithin, needed_there, parents_below}
 

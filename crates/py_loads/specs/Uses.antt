@@ -14,7 +14,7 @@ use Rattle.py_meaning.specs.Faults.{faults}
 use Rattle.py_meaning.specs.Meaning.{body}
 use Rattle.py_meaning.specs.Scanned.{scopes_of}
 use Rattle.py_owners.specs.Entered.{ScansTo}
-use Rattle.py_adds.specs.Loads.{LoadsUpTo}
+use Rattle.py_emission_proof.specs.Loads.{LoadsUpTo}
 
 -- how many names are used in these scopes together, each once in a scope
 abbrev pub used : List Row → ℕ

@@ -5,7 +5,7 @@ use Rattle.py_scope.specs.declared.flat.ScopeEntry.{ScopeEntry}
 use Rattle.py_scope.specs.declared.kinds.SymbolScope.TheVariants as scope
 use Rattle.py_scope.specs.declared.table_type.SymbolTableType.TheVariants as kind
 use Rattle.py_steps.specs.Context.{Context, head_of}
-use Rattle.py_adds.specs.Loads.{loads}
+use Rattle.py_emission_proof.specs.Loads.{loads}
 use Rattle.py_nodes.specs.Adding.{LoadsFew}
 
 -- scope 1 has the name from scope 0

@@ -1,4 +1,4 @@
--- What emissions of nodes add, by the recursions of py_agree.
+-- What emissions of nodes add, by the recursions of py_emission_proof.
 use Rattle.std.proofs.Common.{◌≡◌, ℕ, List, [], ◌∷◌, Option, Some, None, refl, sym, subst}
 use Rattle.py_bytecode.specs.Objects.{Const, Object, codes_in}
 use Rattle.py_bytecode.specs.Decode.{Tables}
@@ -10,13 +10,13 @@ use Rattle.py_simulation.specs.Made.{objects}
 use Rattle.py_steps.specs.Context.{inside}
 use Rattle.py_steps.specs.Emitting.{Begin, LoopBlocks, Put, State, Step}
 use Rattle.py_meaning.specs.TableStmts.{stmt_form, stmts_form}
-use Rattle.py_adds.proofs.Adding as adding
-use Rattle.py_adds.proofs.Adding.{AllInside, AllRead}
-use Rattle.py_adds.proofs.Codes.{AllKnown, Ground, MadeWhereFew, Numbered, all_stand, by_number, scopes, stand_at}
-use Rattle.py_adds.proofs.Emitting.{Stands}
-use Rattle.py_agree.proofs.Controls.{InLoop, held}
-use Rattle.py_agree.proofs.ExprAdds.{expr_adds, target_adds}
-use Rattle.py_agree.proofs.StmtAdds.{stmt_gives, stmts_add}
+use Rattle.py_emission_proof.proofs.Additions.Adding as adding
+use Rattle.py_emission_proof.proofs.Additions.Adding.{AllInside, AllRead}
+use Rattle.py_emission_proof.proofs.Additions.Codes.{AllKnown, Ground, MadeWhereFew, Numbered, all_stand, by_number, scopes, stand_at}
+use Rattle.py_emission_proof.proofs.Additions.Emitting.{Stands}
+use Rattle.py_emission_proof.proofs.Trees.Controls.{InLoop, held}
+use Rattle.py_emission_proof.proofs.Trees.ExprAdds.{expr_adds, target_adds}
+use Rattle.py_emission_proof.proofs.Trees.StmtAdds.{stmt_gives, stmts_add}
 use Rattle.py_nodes.specs.Adding.{Adds, AreItems, AreTables, BeginsReady, BodiesAdd, EntersReady, ExprsAdd, IsChild, IsReady, LoopIsMade, NameBlocks, StatementsAdd, TargetsAdd, TestsAdd, labels_of, told}
 
 -- steps read as items

@@ -1,4 +1,4 @@
--- What is emitted of each scope within is refused for want of memory alone, by the recursions of py_agree.
+-- What is emitted of each scope within is refused for want of memory alone, by the recursions of py_emission_proof.
 use Rattle.std.proofs.Common.{◌≡◌, ℕ, suc, ◌+◌, ◌<◌, ◌^◌, refl, sym, ap, arith}
 use Rattle.std.specs.Prelude.{List, codes}
 use Rattle.py_tree.specs.Tree as tree
@@ -29,25 +29,25 @@ use Rattle.py_meaning.specs.Table.{after_clauses, clause_forms, expr_forms}
 use Rattle.py_meaning.specs.TableScopes as forms
 use Rattle.py_meaning.specs.TableStmts.{function_body}
 use Rattle.py_simulation.proofs.LabelCount.{labels_counted}
-use Rattle.py_adds.proofs.Burden.{burden, labels_few}
-use Rattle.py_adds.proofs.Emitting.{outside}
-use Rattle.py_adds.proofs.FormAdds.{IsPushed, ValueAdds, one_part, two_parts}
-use Rattle.py_adds.proofs.Functions.{scope_gives}
-use Rattle.py_adds.proofs.Instructions.{Appends, MakesEmpty, empty_list, empty_map, empty_set, list_appends, map_appends, set_appends}
-use Rattle.py_adds.proofs.Naming.{Says}
-use Rattle.py_adds.proofs.Settled.{Settled, inside_settled}
-use Rattle.py_adds.proofs.Within.{Completing, Emitted, Whole, child_at, whole_completes}
-use Rattle.py_sizes.proofs.ProgramSizes.{class_body_small, dict_comp_small, element_comp_small, function_small, generator_small, hidden_alias_small, hidden_class_small, hidden_function_small, lambda_small}
-use Rattle.py_agree.proofs.ClassAdds.{BodyAdds, class_of, completing, unlooped_labels}
-use Rattle.py_agree.proofs.ComprehensionAdds.{but_iterable, element_adds, gathered_whole, generated_whole}
-use Rattle.py_agree.proofs.DefinitionAdds.{whole_gives}
-use Rattle.py_agree.proofs.ExprAdds.{clauses_add, expr_adds}
-use Rattle.py_agree.proofs.GenericAdds as generics
-use Rattle.py_agree.proofs.LambdaAdds.{lambda_whole}
-use Rattle.py_agree.proofs.NeverRefused.{emitted_unrefused}
-use Rattle.py_agree.proofs.StmtAdds.{class_rest_give, rest_give}
-use Rattle.py_agree.proofs.Told.{outer, pathless}
-use Rattle.py_agree.proofs.TypeParams.{HiddenSmall, hidden_of, hidden_whole}
+use Rattle.py_emission_proof.proofs.Additions.Burden.{burden, labels_few}
+use Rattle.py_emission_proof.proofs.Additions.Emitting.{outside}
+use Rattle.py_emission_proof.proofs.Additions.FormAdds.{IsPushed, ValueAdds, one_part, two_parts}
+use Rattle.py_emission_proof.proofs.Additions.Functions.{scope_gives}
+use Rattle.py_emission_proof.proofs.Additions.Instructions.{Appends, MakesEmpty, empty_list, empty_map, empty_set, list_appends, map_appends, set_appends}
+use Rattle.py_emission_proof.proofs.Additions.Naming.{Says}
+use Rattle.py_emission_proof.proofs.Additions.Settled.{Settled, inside_settled}
+use Rattle.py_emission_proof.proofs.Additions.Within.{Completing, Emitted, Whole, child_at, whole_completes}
+use Rattle.py_emission_proof.proofs.Sizes.ProgramSizes.{class_body_small, dict_comp_small, element_comp_small, function_small, generator_small, hidden_alias_small, hidden_class_small, hidden_function_small, lambda_small}
+use Rattle.py_emission_proof.proofs.Trees.ClassAdds.{BodyAdds, class_of, completing, unlooped_labels}
+use Rattle.py_emission_proof.proofs.Trees.ComprehensionAdds.{but_iterable, element_adds, gathered_whole, generated_whole}
+use Rattle.py_emission_proof.proofs.Trees.DefinitionAdds.{whole_gives}
+use Rattle.py_emission_proof.proofs.Trees.ExprAdds.{clauses_add, expr_adds}
+use Rattle.py_emission_proof.proofs.Trees.GenericAdds as generics
+use Rattle.py_emission_proof.proofs.Trees.LambdaAdds.{lambda_whole}
+use Rattle.py_emission_proof.proofs.Trees.NeverRefused.{emitted_unrefused}
+use Rattle.py_emission_proof.proofs.Trees.StmtAdds.{class_rest_give, rest_give}
+use Rattle.py_emission_proof.proofs.Trees.Told.{outer, pathless}
+use Rattle.py_emission_proof.proofs.Trees.TypeParams.{HiddenSmall, hidden_of, hidden_whole}
 use Rattle.py_nodes.specs.Scopes.{BodyEndsUnrefused, ClassesAreUnrefused, CollectionsAreUnrefused, DictsAreUnrefused, FunctionsAreUnrefused, GeneratorsAreUnrefused, GenericAliasesAreUnrefused, GenericClassesAreUnrefused, GenericFunctionsAreUnrefused, LambdasAreUnrefused, ListsAreUnrefused, SetsAreUnrefused}
 
 -- what is emitted of a whole scope within

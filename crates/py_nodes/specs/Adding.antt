@@ -18,7 +18,7 @@ use Rattle.py_forms.specs.Agree.{AllOf, OneOf, exactly}
 use Rattle.py_simulation.specs.Made.{IsMade}
 use Rattle.py_steps.specs.Context.{Context, cells_among, frees_among, head_of, inside, outermost, symbols_in}
 use Rattle.py_steps.specs.Emitting.{Begin, Done, LoopBlocks, Put, State, Step, begun, nothing}
-use Rattle.py_adds.specs.Loads.{LoadsUpTo}
+use Rattle.py_emission_proof.specs.Loads.{LoadsUpTo}
 use Rattle.py_emission.specs.Emission.{emission, emission_of_store, emission_of_test}
 use Rattle.py_emission.specs.EmissionStmts.{emission_of_stmt, emission_of_stmts}
 use Rattle.py_meaning.specs.StmtCounts.{scopes_in_stmt, scopes_in_stmts}

@@ -7,7 +7,7 @@ use Rattle.py_steps.specs.Context.{outermost}
 use Rattle.py_steps.specs.Emitting.{Done}
 use Rattle.py_emission.specs.EmissionMods.{emitted}
 use Rattle.py_meaning.specs.Meaning.{body}
-use Rattle.py_adds.proofs.Codes.{LoadsFew}
+use Rattle.py_emission_proof.proofs.Additions.Codes.{LoadsFew}
 use Rattle.py_loads.proofs.Loading.{tree_loads_few}
 use Rattle.py_base.specs.declared.errors.CodegenErrorType.{CodegenErrorType}
 use Rattle.py_emit.specs.Emitted.{IsEmitted}

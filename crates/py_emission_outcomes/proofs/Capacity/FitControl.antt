@@ -1,0 +1,79 @@
+-- Loops, handlers, what a `with` manages and assertions fit where their parts do.
+use Rattle.std.proofs.Common.{◌≡◌, ℕ, ◌+◌, ◌<◌, ◌^◌, Bool, true, false, arith}
+use Rattle.std.specs.Prelude.{codes}
+use Rattle.py_base.specs.declared.location.SourceLocation.{SourceLocation}
+use Rattle.py_bytecode.specs.declared.instruction.Instruction.TheVariants as op
+use Rattle.py_emission.specs.ControlEmissions.{asserted, before_last, finally_do, for_each, handler, managed, to_last, try_body, typed_match}
+use Rattle.py_steps.specs.Emitting.{Around, Emission, LoopBlocks, ◌▸◌, begin, emit, in_loop, jump, new_block}
+use Rattle.py_emission_outcomes.proofs.Capacity.Fits.{Fits, begin_fits, count_fits, emit_fits, fits_as, jump_fits, keep_fits, loop_fits, looping, move_fits, name_fits, new_fits, plain_fits, room, then_fits}
+
+module _ {c : Around} where
+  -- to this number, in other words
+  pub lands : {k l w : ℕ} {a : Emission} (m : ℕ) → l ≡ m → Fits c k l w a → Fits c k m w a
+  lands m e x = fits_as e (omega arith) x
+
+  -- a body for each value of an iterator, and another one at its end
+  pub for_fits : {k j i h l v x y z : ℕ} {iter store body orelse : Emission} → Fits c k j v iter → Fits c j i x store → ((own : LoopBlocks) → Fits (looping own c) i h y body) → Fits c h l z orelse → Fits c k l (v + x + y + z + 3) (for_each iter store body orelse)
+  for_fits a b d e =
+      room (omega arith)
+      (new_fits (λ start. new_fits (λ other. new_fits (λ end.
+      then_fits (plain_fits op.SetupLoop) (then_fits a (then_fits (plain_fits op.GetIter) (then_fits (begin_fits start) (then_fits (jump_fits op.ForIter other) (then_fits b
+      (then_fits (loop_fits (record { on_break = end; on_continue = start }) (d (record { on_break = end; on_continue = start }))) (then_fits (jump_fits op.Jump start)
+      (then_fits (begin_fits other) (then_fits (plain_fits op.PopBlock) (then_fits e (begin_fits end)))))))))))))))
+
+  -- what a `with` manages
+  pub managed_fits : {k j i l v x y : ℕ} {item store body : Emission} (at : SourceLocation) → Fits c k j v item → Fits c j i x store → Fits c i l y body → Fits c k l (v + x + y + 1) (managed at item store body)
+  managed_fits at a b d =
+      room (omega arith)
+      (new_fits (λ end.
+      then_fits a (then_fits (move_fits at) (then_fits (jump_fits op.SetupWith end) (then_fits b (then_fits d (then_fits (move_fits at) (then_fits (plain_fits op.PopBlock) (then_fits (plain_fits op.EnterFinally)
+      (then_fits (begin_fits end) (then_fits (plain_fits op.WithCleanupStart) (plain_fits op.WithCleanupFinish))))))))))))
+
+  -- what sets a last part up, and what enters it
+  before_fits : {k : ℕ} (last : Bool) (end : ℕ) → Fits c k k 0 (before_last last end)
+  before_fits false end = keep_fits
+  before_fits true end = jump_fits op.SetupFinally end
+
+  -- and what enters it
+  last_fits : {k : ℕ} (last : Bool) → Fits c k k 0 (to_last last)
+  last_fits false = keep_fits
+  last_fits true = room (omega arith) (then_fits (plain_fits op.PopBlock) (plain_fits op.EnterFinally))
+
+  -- what runs on every way out of a body
+  pub finally_fits : {k j l v x : ℕ} {body last : Emission} → Fits c k j v body → Fits c j l x last → Fits c k l (v + x + 1) (finally_do body last)
+  finally_fits a b =
+      room (omega arith) (new_fits (λ end. then_fits (jump_fits op.SetupFinally end) (then_fits a (then_fits (last_fits true) (then_fits (begin_fits end) (then_fits b (plain_fits op.EndFinally)))))))
+
+  -- a body, its handlers and its else part, and a last part
+  pub try_fits : {k j i h l v x y z : ℕ} {body : Emission} {handlers : ℕ → Emission} {orelse finalbody : Emission} (last : Bool) → Fits c k j v body → ((end : ℕ) → Fits c j i x (handlers end)) → Fits c i h y orelse → Fits c h l z finalbody → Fits c k l (v + x + y + z + 3) (try_body last body handlers orelse finalbody)
+  try_fits last a b d e =
+      room (omega arith)
+      (new_fits (λ start. new_fits (λ other. new_fits (λ end.
+      then_fits (before_fits last end) (then_fits (jump_fits op.SetupExcept start) (then_fits a (then_fits (plain_fits op.PopBlock) (then_fits (jump_fits op.Jump other) (then_fits (begin_fits start) (then_fits (b end)
+      (then_fits (begin_fits other) (then_fits d (then_fits (last_fits last) (then_fits (begin_fits end) e))))))))))))))
+
+  -- a handler that the exception matches, or else the others
+  pub handler_fits : {k j i l v x y : ℕ} {matches : ℕ → Emission} {body others : Emission} (last : Bool) (end : ℕ) → ((next : ℕ) → Fits c k j v (matches next)) → Fits c j i x body → Fits c i l y others → Fits c k l (v + x + y + 1) (handler last end matches body others)
+  handler_fits last end a b d =
+      room (omega arith)
+      (new_fits (λ next. then_fits (a next) (then_fits b (then_fits (plain_fits op.PopException) (then_fits (last_fits last) (then_fits (jump_fits op.Jump end) (then_fits (begin_fits next) d)))))))
+
+  -- an exception of that type matches, and is stored
+  pub typed_fits : {k j l v x : ℕ} {type store : Emission} (next : ℕ) → Fits c k j v type → Fits c j l x store → Fits c k l (v + x) (typed_match type store next)
+  typed_fits next a b =
+      room (omega arith) (then_fits (plain_fits op.Duplicate) (then_fits a (then_fits (emit_fits op.TestOperation 4 (omega arith)) (then_fits (jump_fits op.JumpIfFalse next) b))))
+
+  -- unless the test holds, an assertion is raised with so many messages
+  pub asserted_fits : {k j l v x : ℕ} {test : Bool → ℕ → Emission} {message : Emission} (count : ℕ) → count < 2 ^ 30 → ((truth : Bool) (block : ℕ) → Fits c k j v (test truth block)) → Fits c j l x message → Fits c k l (v + x + 2) (asserted test message count)
+  asserted_fits count few t a =
+      room (omega arith)
+      (new_fits (λ end. then_fits (t true end) (then_fits (name_fits op.LoadGlobal (codes "AssertionError")) (then_fits a (then_fits (count_fits op.CallFunctionPositional count few) (then_fits (plain_fits op.Raise) (begin_fits end)))))))
+
+  -- a body while a test holds, and another one at its end
+  pub while_fits : {k j i l v x y : ℕ} {test : Bool → ℕ → Emission} {body orelse : Emission} → ((truth : Bool) (block : ℕ) → Fits c k j v (test truth block)) → ((own : LoopBlocks) → Fits (looping own c) j i x body) → Fits c i l y orelse → Fits c k l (v + x + y + 3) (new_block (λ start. new_block (λ other. new_block (λ end. emit op.SetupLoop 0 ▸ begin start ▸ test false other ▸ in_loop (record { on_break = end; on_continue = start }) body ▸ jump op.Jump start ▸ begin other ▸ emit op.PopBlock 0 ▸ orelse ▸ begin end))))
+  while_fits t a b =
+      room (omega arith)
+      (new_fits (λ start. new_fits (λ other. new_fits (λ end.
+      then_fits (plain_fits op.SetupLoop) (then_fits (begin_fits start) (then_fits (t false other)
+      (then_fits (loop_fits (record { on_break = end; on_continue = start }) (a (record { on_break = end; on_continue = start }))) (then_fits (jump_fits op.Jump start)
+      (then_fits (begin_fits other) (then_fits (plain_fits op.PopBlock) (then_fits b (begin_fits end))))))))))))

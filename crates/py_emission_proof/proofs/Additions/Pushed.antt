@@ -1,0 +1,46 @@
+-- Forms that are no constant, so that their value is pushed before it is returned.
+use Rattle.std.proofs.Common.{List, [], ◌∷◌, Bool, true, false, Option, Some, None, refl}
+use Rattle.std.specs.Prelude.{◌||◌, if◌then◌else◌}
+use Rattle.py_bytecode.specs.declared.instruction.Instruction.{Instruction}
+use Rattle.py_bytecode.specs.declared.instruction.Instruction.TheVariants as op
+use Rattle.py_bytecode.specs.Values.{Operation, operation, Bare}
+use Rattle.py_forms.specs.Form.{Interp, Scope, VForm, VForms, VOp, VMore, VNone}
+use Rattle.py_steps.specs.Elements.{Callee, Element, Function, Method, bare, starred, behind, front, groups}
+use Rattle.py_steps.specs.TableParts as table
+use Rattle.py_steps.specs.TableParts.{any, built, call_by, call_form, counted, dict_form, display, packed, placed, slice_form, unpacked, updated}
+use Rattle.py_steps.specs.Emitting.{Around}
+use Rattle.py_emission_proof.proofs.Additions.FormAdds.{IsPushed}
+
+module _ (i : Interp Scope) (c : Around) where
+  either_pushed : (b : Bool) (g h : VForm) → IsPushed i c g → IsPushed i c h → IsPushed i c (if b then g else h)
+  either_pushed true g h p q = p
+  either_pushed false g h p q = q
+
+  pub display_pushed : (build unpack : Instruction) (es : List (Element VForm VForm)) → IsPushed i c (display build unpack es)
+  display_pushed build unpack es = either_pushed (starred es) (unpacked unpack es) (built build (bare es)) (λ n. refl) (λ n. refl)
+
+  called_pushed : (g : Callee VForm) (o p : Operation) (fs : VForms) → IsPushed i c (call_by g o p fs)
+  called_pushed (Function g) o p fs n = refl
+  called_pushed (Method name g) o p fs n = refl
+
+  placed_pushed : (g : Callee VForm) (fs : List VForm) (ks : table.Keywords) → IsPushed i c (placed g fs ks)
+  placed_pushed (Function g) fs [] n = refl
+  placed_pushed (Method name g) fs [] n = refl
+  placed_pushed (Function g) fs (k ∷ ks) n = refl
+  placed_pushed (Method name g) fs (k ∷ ks) n = refl
+
+  pub call_pushed : (g : Callee VForm) (es : List (Element VForm VForm)) (ks : table.Keywords) → IsPushed i c (call_form g es ks)
+  call_pushed g es ks =
+      either_pushed (starred es || starred ks) (call_by g (counted op.CallFunctionEx (any ks)) (counted op.CallMethodEx (any ks)) (packed es ks)) (placed g (bare es) ks)
+      (called_pushed g (counted op.CallFunctionEx (any ks)) (counted op.CallMethodEx (any ks)) (packed es ks)) (placed_pushed g (bare es) ks)
+
+  updated_pushed : (g : VForm) (fs : List VForm) → IsPushed i c g → IsPushed i c (updated g fs)
+  updated_pushed g [] p = p
+  updated_pushed g (h ∷ hs) p = updated_pushed (VOp (operation op.DictUpdate Bare) (VMore g (VMore h VNone))) hs (λ n. refl)
+
+  pub dict_pushed : (es : List (Element (VForm × VForm) VForm)) → IsPushed i c (dict_form es)
+  dict_pushed es = updated_pushed (table.map_of_pairs (front es)) (groups table.map_of_pairs [] (behind es)) (λ n. refl)
+
+  pub slice_pushed : (lower upper step : Option VForm) → IsPushed i c (slice_form lower upper step)
+  slice_pushed lower upper None n = refl
+  slice_pushed lower upper (Some g) n = refl

@@ -1,0 +1,88 @@
+-- Blocks whose steps read as the code of a small scope are refused for reasons of size alone.
+use Rattle.std.proofs.Common.{◌≡◌, ◌≢◌, ℕ, ◌+◌, ◌*◌, ◌<◌, ◌≤◌, ◌^◌, List, length, false, arith}
+use Rattle.std.proofs.lemmas.List.{length-map}
+use Rattle.py_bytecode.specs.Objects.{Object}
+use Rattle.py_bytecode.specs.Decode.{Tables}
+use Rattle.py_bytecode.specs.Blocks.{Of, fetch_block, settled}
+use Rattle.py_walks.specs.Walks.{seen, Sound}
+use Rattle.py_ir.specs.declared.error.FinalizeError.{FinalizeError}
+use Rattle.py_ir.specs.Chain.{Blk, coded_block, coded_blocks, IsChain}
+use Rattle.py_ir.specs.Refusals as refusals
+use Rattle.py_ir.specs.Sizes.{IsOfSize}
+use Rattle.py_ir.proofs.Unique.{not_broken, no_blocks}
+use Rattle.py_forms.specs.Form.{Scope}
+use Rattle.py_forms.specs.Agree.{exactly, form_of}
+use Rattle.py_forms.specs.Code.{Item, labels, body_code}
+use Rattle.py_forms.specs.Looped.{Looped}
+use Rattle.py_simulation.proofs.Assembly.{occurs}
+use Rattle.py_simulation.proofs.Labels.{placed_once}
+use Rattle.py_sound.proofs.Blocks.{laid_is_sound}
+use Rattle.py_emit.specs.Steps.{steps_in}
+use Rattle.py_emission_proof.proofs.Additions.Adding.{AllRead, AllInside}
+use Rattle.py_emission_proof.proofs.Additions.Burden.{burden, burden_is, cells_in}
+use Rattle.py_emission_proof.proofs.Additions.Refuted.{target_inside, jump_has_target, other_has_none, no_prefix_given, operand_inside, few_enough, laid_along}
+
+-- blocks whose steps read as the code of a scope, over these objects of the scopes within it
+pub record Read (d : Scope → Object) (t : Tables) (bs : List Blk) (s : Scope) : Type 0 where
+  pub reads : AllRead t (steps_in bs) (body_code (exactly d s) (form_of s))
+  pub inside : AllInside (length bs) (steps_in bs)
+  pub blocks : length bs ≡ 1 + labels (form_of s)
+  pub looped : Looped false (form_of s)
+  pub small : burden (body_code (exactly d s) (form_of s)) < 2 ^ 27
+  pub cells : cells_in (body_code (exactly d s) (form_of s)) ≤ 2 ^ 24
+
+module _ (d : Scope → Object) (t : Tables) (level : ℕ) (bs : List Blk) (s : Scope) (r : Read d t bs s) (cs : List ℕ) (chain : IsChain bs cs) where
+  abbrev items : List (Item Object)
+  items = body_code (exactly d s) (form_of s)
+
+  placed : (b : ℕ) → 1 ≤ b → b < length bs → 1 ≤ occurs b items
+  placed b lo hi = let e = placed_once (exactly d s) (form_of s) b lo (let q = r.blocks in omega (arith, q, hi)) in omega (arith, e)
+
+  sound : Sound (λ p. seen (fetch_block t (coded_blocks bs) p)) (settled (coded_blocks bs) (Of 0 0)) (2 ^ 32)
+  sound =
+      let l = laid_along t level bs items r.reads r.inside cs chain in
+      let long = length-map bs coded_block in
+      let q = r.blocks in
+      let small = r.small in
+      let cells = r.cells in
+      let both = burden_is items in
+      laid_is_sound d s t (coded_blocks bs) l.place l.laid l.ends (omega (arith, long, q)) r.looped (2 ^ 32) (omega (arith, small, cells, both))
+
+  abbrev few : 4 * Rattle.py_forms.specs.Code.size items < 2 ^ 32
+  few = let small = r.small in let cells = r.cells in let both = burden_is items in omega (arith, small, cells, both)
+
+  pub only_sizes : (e : FinalizeError) → refusals.Holds t level bs e → IsOfSize e
+  only_sizes FinalizeError.NoBlocks h = absurd (no_blocks bs cs chain h)
+  only_sizes (FinalizeError.BrokenChain b) h = absurd (not_broken bs cs chain b h)
+  only_sizes (FinalizeError.TargetOutside b p) h = absurd (target_inside t level bs items r.reads r.inside placed b p h)
+  only_sizes (FinalizeError.JumpWithoutTarget b p) h = absurd (jump_has_target t level bs items r.reads r.inside b p h)
+  only_sizes (FinalizeError.TargetOnOther b p) h = absurd (other_has_none t level bs items r.reads r.inside b p h)
+  only_sizes (FinalizeError.PrefixGiven b p) h = absurd (no_prefix_given t level bs items r.reads r.inside b p h)
+  only_sizes (FinalizeError.OperandOutside b p) h = absurd (operand_inside t level bs items r.reads r.inside b p h)
+  only_sizes FinalizeError.TooManyNames h = tt
+  only_sizes (FinalizeError.NoEnd b) h = absurd (sound.ends _ h.leaves)
+  only_sizes (FinalizeError.UnevenHeights b p) h = absurd (sound.even (Of b h.index) h.holds)
+  only_sizes (FinalizeError.HeightOutOfRange b p) h = absurd (sound.within (Of b h.index) h.holds)
+  only_sizes (FinalizeError.BlockMismatch b p) h = absurd (sound.matched (Of b h.index) h.holds)
+  only_sizes FinalizeError.TooManyUnits h = tt
+  only_sizes FinalizeError.OutOfMemory h = tt
+
+  -- nor are there too many units; short tables are not too long
+  pub only_memory : (e : FinalizeError) → ¬ refusals.TooLong (Rattle.py_ir.specs.Checks.lens_of t) → refusals.Holds t level bs e → e ≡ FinalizeError.OutOfMemory
+  only_memory e short h = go e short h (only_sizes e h)
+    where
+      go : (e : FinalizeError) → ¬ refusals.TooLong (Rattle.py_ir.specs.Checks.lens_of t) → refusals.Holds t level bs e → IsOfSize e → e ≡ FinalizeError.OutOfMemory
+      go FinalizeError.TooManyNames short h z = absurd (short h)
+      go FinalizeError.TooManyUnits short h z = absurd (few_enough t level bs items r.reads r.inside few h)
+      go FinalizeError.OutOfMemory short h z = Rattle.std.proofs.Common.refl
+      go FinalizeError.NoBlocks short h z = absurd z
+      go (FinalizeError.BrokenChain b) short h z = absurd z
+      go (FinalizeError.TargetOutside b p) short h z = absurd z
+      go (FinalizeError.JumpWithoutTarget b p) short h z = absurd z
+      go (FinalizeError.TargetOnOther b p) short h z = absurd z
+      go (FinalizeError.PrefixGiven b p) short h z = absurd z
+      go (FinalizeError.OperandOutside b p) short h z = absurd z
+      go (FinalizeError.NoEnd b) short h z = absurd z
+      go (FinalizeError.UnevenHeights b p) short h z = absurd z
+      go (FinalizeError.HeightOutOfRange b p) short h z = absurd z
+      go (FinalizeError.BlockMismatch b p) short h z = absurd z
