@@ -4,7 +4,7 @@
 usage: hostile.py {allocations,calls,rows,files,devices,stack,words} [--program FILE] ..
 
   allocations  refuses each allocation of a run in turn: the run ends as with memory, or with 6 and nothing written
-  calls        the same of each call of the library alone, by the program of crates/single_calls
+  calls        the same of each call of the library alone, by the program of crates/alloc_calls
   rows         inputs that are no rows, and trees that are refused: the status, and each byte that is written
   files        code files with bytes cut off, changed, doubled, taken out, and counts made large, through `unpack`
   devices      ends that are closed, full, left early, slow or late: the statuses 4 and 5, and what was written
@@ -12,7 +12,7 @@ usage: hostile.py {allocations,calls,rows,files,devices,stack,words} [--program 
                less, and `rows` has them one deeper, where they are refused
   words        words that are not a mode, a level and a path
 
-The program is crates/pyc/out/pyc, which `sh pyc.sh --prove` builds, or crates/single_calls/out/single_calls, which `rt ci` leaves. What differs is told with the input, what is wanted and what came;
+The program is crates/pyc/out/pyc, which `sh pyc.sh --prove` builds, or crates/alloc_calls/out/alloc_calls, which `rt ci` leaves. What differs is told with the input, what is wanted and what came;
 the last line has the counts. The status is 0 where nothing differs, 1 where something does, and 2 where the words are not as
 above. What is wanted comes from docs/ROWS.md and README.md, reports on names from tools/model, and none of it from the program.
 Python 3.8 or later, on Linux.
@@ -49,7 +49,7 @@ from pyc import codefile
 from pyc import rows as rows_of_python
 
 CRATE = TOOLS.parent / "crates" / "pyc"
-SINGLE_CALLS = TOOLS.parent / "crates" / "single_calls"
+SINGLE_CALLS = TOOLS.parent / "crates" / "alloc_calls"
 
 # How long a run may take.
 SECONDS = 120
@@ -974,7 +974,7 @@ def parser_of_words():
 
     memory = add_refusing("allocations", check_allocations, "refuse each allocation of a run in turn")
     memory.add_argument("--unproved", action="store_true", help="run the stored input by `rt try`, which builds with checks for each, from --first to --last")
-    add_refusing("calls", check_calls, "refuse each allocation of each call of the library alone, in turn", SINGLE_CALLS / "out" / "single_calls")
+    add_refusing("calls", check_calls, "refuse each allocation of each call of the library alone, in turn", SINGLE_CALLS / "out" / "alloc_calls")
     add("rows", check_rows, "inputs that are no rows, and trees that are refused")
     files = add("files", check_files, "code files that are made of others by chance, through `unpack`")
     files.add_argument("--count", type=positive, default=2000, metavar="N", help="how many (%(default)s)")

@@ -30,7 +30,7 @@ LIBRARY = {"append", "collect", "extend_from_slice", "format", "from_str", "inse
 OWNERS = {"Box", "List", "String", "Text", "Vec"}
 
 # How the names of crates of tests end.
-TESTS = ("_vectors", "single_calls")
+TESTS = ("_vectors", "alloc_calls")
 
 # Errors that say nothing but want of memory. A push gives back what was handed in, where there is no memory for it.
 ALONE = {"AllocError"}

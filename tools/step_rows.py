@@ -5,8 +5,8 @@ each over its script of answers.
 usage: step_rows.py
 
 A line of stdin is a code as py_codefile spells it, in hexadecimal digits, and, after a space, a script, as
-`Script::parse` of py_script reads it; without a script there is no space. Each run gives its lines, as `push_trace` of
-py_script writes them, and an empty line. Standard output gets the text.
+`Script::parse` of py_answers reads it; without a script there is no space. Each run gives its lines, as `push_trace` of
+py_answers writes them, and an empty line. Standard output gets the text.
 """
 import argparse
 import pathlib

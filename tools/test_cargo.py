@@ -481,7 +481,7 @@ class Built(unittest.TestCase):
 
     @classmethod
     def setUpClass(cls) -> None:
-        made = cargo.workspace(["pyc", *VECTORS, "single_calls"], cls.wanted)
+        made = cargo.workspace(["pyc", *VECTORS, "alloc_calls"], cls.wanted)
         cargo.check_folder(cls.folder)
         cargo.put(cls.folder, made.files)
         cls.said = call(["cargo", "build", "--release", "--offline", "--workspace"], cls.folder, cls.env())

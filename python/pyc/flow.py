@@ -1,4 +1,4 @@
-"""What each instruction does to the height of the stack and to the blocks, as crates/py_walks has it.
+"""What each instruction does to the height of the stack and to the blocks, as crates/py_dataflow has it.
 
 It is written once more here, and its tests hold it against tools/model. Nothing is proved of it.
 """

@@ -7,13 +7,13 @@ use Rattle.py_bytecode.specs.Nesting.{nesting}
 use Rattle.py_bytecode.specs.Objects.{Object}
 use Rattle.py_bytecode.specs.View.{object}
 use Rattle.py_bytecode.specs.declared.code.CodeObject.{CodeObject}
-use Rattle.py_forms.specs.Form.{Scope}
-use Rattle.py_forms.specs.Agreement.{Agree, AgreeFull}
+use Rattle.py_control.specs.Form.{Scope}
+use Rattle.py_control.specs.Agreement.{Agree, AgreeFull}
 use Rattle.py_base.specs.declared.errors.CodegenErrorType.{CodegenErrorType}
 use Rattle.py_base.specs.declared.errors.CodegenErrorType.TheVariants as error
-use Rattle.py_simulation.proofs.CodeObjects.{objects_agree}
-use Rattle.py_steps.specs.Context.{Context}
-use Rattle.py_steps.specs.Everywhere.{Everywhere}
+use Rattle.py_control_proof.proofs.CodeObjects.{objects_agree}
+use Rattle.py_emission_parts.specs.Context.{Context}
+use Rattle.py_emission_parts.specs.Everywhere.{Everywhere}
 use Rattle.py_emission.specs.EmissionMods.{emitted}
 use Rattle.py_meaning.specs.Faults.{faults}
 use Rattle.py_meaning.specs.Meaning.{body}
@@ -21,15 +21,15 @@ use Rattle.py_meaning.specs.Scanned.{scan_faults, scopes_of}
 use Rattle.py_emit.specs.Emitted.{IsEmitted}
 use Rattle.py_emit.specs.States.{IsTold}
 use Rattle.py_emission_proof.proofs.Additions.Codes.{Ground, MadeFrom}
-use Rattle.py_emission_proof.proofs.Additions.Naming.{IsMadeSo, Named}
+use Rattle.py_emission_proof.proofs.Additions.CodeNameLemmas.{IsMadeSo, Named}
 use Rattle.py_emission_proof.proofs.Additions.WellMade.{WellMade, everywhere_so}
 use Rattle.py_emission_proof.specs.Distinct.{HasDistinctNames}
-use Rattle.py_capture.specs.Captures.{CapturesCells}
-use Rattle.py_capture.proofs.Capturing.{captures_cells}
-use Rattle.py_loads.proofs.Loading.{tree_loads_few}
+use Rattle.py_cell_binding.specs.Captures.{CapturesCells}
+use Rattle.py_cell_binding.proofs.CaptureLemmas.{captures_cells}
+use Rattle.py_cell_loads.proofs.CellLoadLemmas.{tree_loads_few}
 use Rattle.codegen.specs.Calls.{IsChecked, IsCompiled, IsWhole}
 use Rattle.codegen.specs.Compiled.{IsFirst, IsScanned, ScopesFollow, around_tree}
-use Rattle.codegen.proofs.Agreeing.{made_from_scope}
+use Rattle.codegen.proofs.AssembledCodeLemmas.{made_from_scope}
 use Rattle.codegen.proofs.DistinctTables.{distinct_names}
 use Rattle.codegen.proofs.Heights.{no_higher}
 use Rattle.codegen.proofs.Nested.{nested_below}

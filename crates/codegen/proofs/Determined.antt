@@ -2,15 +2,15 @@
 use Rattle.std.proofs.Common.{◌≡◌, ℕ, List, Ok, sym, ◌∙◌}
 use Rattle.py_tree.specs.Tree as tree
 use Rattle.py_bytecode.specs.Objects.{Object}
-use Rattle.py_steps.specs.Context.{Context}
-use Rattle.py_steps.specs.Emitting.{Outcome, Done, TooWide, Refused}
+use Rattle.py_emission_parts.specs.Context.{Context}
+use Rattle.py_emission_parts.specs.Emitting.{Outcome, Done, TooWide, Refused}
 use Rattle.py_emission.specs.EmissionMods.{emitted}
 use Rattle.py_meaning.specs.Scanned.{scopes_of}
-use Rattle.py_loads.proofs.Loading.{tree_loads_few}
+use Rattle.py_cell_loads.proofs.CellLoadLemmas.{tree_loads_few}
 use Rattle.py_emission_outcomes.proofs.Capacity.Premises.{small_tree}
 use Rattle.codegen.specs.Calls.{CompiledIsSealed, EqualTreesHaveEqualCode}
 use Rattle.codegen.specs.Compiled.{IsSealed, around_tree}
-use Rattle.codegen.proofs.Agreeing.{code_is_sealed}
+use Rattle.codegen.proofs.AssembledCodeLemmas.{code_is_sealed}
 
 both_sealed : (c : Context) (r : Outcome) (o p : Object) → IsSealed o c r → IsSealed p c r → o ≡ p
 both_sealed c (Done s) o p h k = h ∙ sym k

@@ -16,19 +16,19 @@ use Rattle.py_scope.specs.declared.symbols.Symbol.{Symbol}
 use Rattle.py_scope.specs.Flat.{symbols_at}
 use Rattle.py_scope.specs.Laws.{CellsAreApart, SymbolsFollow}
 use Rattle.py_scope.specs.Symbols as symbols
-use Rattle.py_uses.specs.Steps.{State}
-use Rattle.py_steps.specs.Context.{cells_among, cells_here, frees_among, frees_here, is_cell, symbols_in}
+use Rattle.py_name_uses.specs.Steps.{State}
+use Rattle.py_emission_parts.specs.Context.{cells_among, cells_here, frees_among, frees_here, is_cell, symbols_in}
 use Rattle.py_emission_proof.specs.Distinct.{AreApart, AreDistinct, HasDistinctNames}
 use Rattle.py_emission_proof.proofs.Additions.DistinctNames.{either_false, first_false, rest_false, turned}
 use Rattle.py_emission_proof.proofs.Additions.WellMade.{IsCelled, WellMade}
 use Rattle.py_meaning.specs.Faults.{faults}
 use Rattle.py_meaning.specs.Scanned.{scopes_of}
-use Rattle.py_owners.specs.Entered.{ScansTo, kind_in_table, kind_of_owner, told, told_row}
-use Rattle.py_owners.specs.StmtOwners.{owners_of}
-use Rattle.py_loads.proofs.Distinct.{any_of_those, those_distinct}
-use Rattle.py_owners.proofs.Facts.{Facts, facts}
-use Rattle.py_owners.proofs.EnteringPrograms.{scan_enters_owners}
-use Rattle.py_owners.proofs.OwnerTables.{scan_done, table_has_owners}
+use Rattle.py_scope_tree.specs.Entered.{ScansTo, kind_in_table, kind_of_owner, told, told_row}
+use Rattle.py_scope_tree.specs.StmtOwners.{owners_of}
+use Rattle.py_cell_loads.proofs.Distinct.{any_of_those, those_distinct}
+use Rattle.py_scope_tree.proofs.Facts.{Facts, facts}
+use Rattle.py_scope_tree.proofs.EnteringPrograms.{scan_enters_owners}
+use Rattle.py_scope_tree.proofs.OwnerTables.{scan_done, table_has_owners}
 
 -- a name that is not in the first may head the second
 with_head : (xs : List (List ℕ)) (y : List ℕ) (ys : List (List ℕ)) → list_any (text_eq y) xs ≡ false → AreApart xs ys → AreApart xs (y ∷ ys)

@@ -5,7 +5,7 @@ use Rattle.py_tree.specs.Tree as tree
 use Rattle.py_bytecode.specs.declared.instruction.Instruction.TheVariants as op
 use Rattle.py_emission.specs.Predicates.{annotated}
 use Rattle.py_emission.specs.Texts.{after_doc, doc_of}
-use Rattle.py_steps.specs.Emitting.{Done, Emission, State, ◌▸◌, by_level, emit_constant}
+use Rattle.py_emission_parts.specs.Emitting.{Done, Emission, State, ◌▸◌, by_level, emit_constant}
 use Rattle.py_emission.specs.EmissionStmts.{emission_of_stmts}
 use Rattle.py_emission.specs.EmissionDefs.{emission_of_setup}
 use Rattle.py_emission.specs.EmissionFutures.{emission_behind}

@@ -5,7 +5,7 @@ use Rattle.py_shapes.specs.Valid.{shapes}
 use Rattle.py_base.specs.declared.location.LocatedError.{LocatedError}
 use Rattle.py_tree.specs.declared.modules.Mode.{Mode}
 use Rattle.py_bytecode.specs.declared.code.CodeObject.{CodeObject}
-use Rattle.py_steps.specs.Emitting.{Outcome, State, Done, TooWide, Refused}
+use Rattle.py_emission_parts.specs.Emitting.{Outcome, State, Done, TooWide, Refused}
 use Rattle.py_emission.specs.EmissionMods.{emitted}
 use Rattle.py_meaning.specs.ExprFaults.{Fault}
 use Rattle.py_meaning.specs.Faults.{faults, compile_faults}
@@ -16,16 +16,16 @@ use Rattle.py_meaning.specs.Scanned.{scan_faults, scopes_of}
 use Rattle.codegen.specs.Calls.{IsChecked, IsWhole}
 use Rattle.codegen.specs.Compiled.{IsFirst, IsRefused, IsScan, IsScanned, around_tree}
 use Rattle.py_scope.specs.declared.flat.ScopeEntry.{ScopeEntry}
-use Rattle.py_steps.specs.Context.{outermost}
+use Rattle.py_emission_parts.specs.Context.{outermost}
 use Rattle.py_scope.specs.declared.error.ScanFault.{ScanFault}
 use Rattle.py_scope.specs.declared.error.ScanFault.TheVariants as fault
 use Rattle.py_scope.specs.declared.error.SymbolTableError.{SymbolTableError}
-use Rattle.py_uses.specs.Goes.{IsTextOrMemory, TextOrMemory}
+use Rattle.py_name_uses.specs.Goes.{IsTextOrMemory, TextOrMemory}
 use Rattle.symboltable.specs.Errors.{codegen_error}
 use Rattle.py_emit.specs.Emitted.{IsEmitted}
 use Rattle.py_emit.specs.States.{Goes, IsTold, Rest, Same}
-use Rattle.py_emission_outcomes.proofs.Faults.Ending.{refusal_heads, done_faultless}
-use Rattle.py_loads.proofs.Whole.{uses_are_few}
+use Rattle.py_emission_outcomes.proofs.Faults.FaultOutcomeLemmas.{refusal_heads, done_faultless}
+use Rattle.py_cell_loads.proofs.Whole.{uses_are_few}
 use Rattle.py_emission_outcomes.proofs.Capacity.Whole.{trees_fit}
 use Rattle.py_emission_outcomes.proofs.Capacity.WithoutScopes.{refused_without_scopes}
 use Rattle.codegen.proofs.Wholes.{none_whole}

@@ -4,11 +4,11 @@ use Rattle.py_bytecode.specs.Objects.{Object, head}
 use Rattle.py_bytecode.specs.Machine.{Fetched, Config, At, Over, step, steps, start}
 use Rattle.py_bytecode.specs.Decode.{tables}
 use Rattle.py_bytecode.specs.Units.{fetch_unit}
-use Rattle.py_walks.specs.Walks.{state}
-use Rattle.py_walks.specs.Sound.{sound, code_look}
-use Rattle.py_walks.proofs.Unwinding.{InStep}
-use Rattle.py_walks.proofs.NeverWrong.{low_by, step_in}
-use Rattle.py_walks.proofs.Codes.{unit_proper}
+use Rattle.py_dataflow.specs.Walks.{state}
+use Rattle.py_dataflow.specs.Sound.{sound, code_look}
+use Rattle.py_dataflow.proofs.UnwindLemmas.{InStep}
+use Rattle.py_dataflow.proofs.NeverWrong.{low_by, step_in}
+use Rattle.py_dataflow.proofs.Codes.{unit_proper}
 use Rattle.codegen.specs.Compiled.{stack_height, NoHigher}
 
 module _ (o : Object) (ok : sound o) where

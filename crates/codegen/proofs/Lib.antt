@@ -1,5 +1,5 @@
 pub mod Heights
-pub mod Agreeing
+pub mod AssembledCodeLemmas
 pub mod Wholes
 pub mod Firsts
 pub mod Made

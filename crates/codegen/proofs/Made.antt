@@ -7,8 +7,8 @@ use Rattle.py_base.specs.declared.location.LocatedError.{LocatedError}
 use Rattle.py_bytecode.specs.declared.code.CodeObject.{CodeObject}
 use Rattle.py_ir.specs.Final.{IsFinal}
 use Rattle.py_scope.specs.declared.flat.ScopeEntry.{ScopeEntry}
-use Rattle.py_steps.specs.Context.{Context, outermost}
-use Rattle.py_steps.specs.Emitting.{Done, State, nothing}
+use Rattle.py_emission_parts.specs.Context.{Context, outermost}
+use Rattle.py_emission_parts.specs.Emitting.{Done, State, nothing}
 use Rattle.py_emission.specs.EmissionMods.{emission_of_mod, emitted}
 use Rattle.py_base.specs.declared.errors.CodegenErrorType.{CodegenErrorType}
 use Rattle.py_emit.specs.Emitted.{IsEmitted, Holds}
@@ -18,7 +18,7 @@ use Rattle.py_emit.specs.declared.emitter.Emitter.{Emitter}
 use Rattle.py_emit.proofs.States.{info_holds}
 use Rattle.py_emission_proof.proofs.Additions.Codes.{LoadsFew}
 use Rattle.py_meaning.specs.Meaning.{body}
-use Rattle.py_emission_outcomes.proofs.Faults.Ending.{level_is}
+use Rattle.py_emission_outcomes.proofs.Faults.FaultOutcomeLemmas.{level_is}
 use Rattle.py_emission_proof.proofs.Trees.NeverRefused.{IsCelled, never_refused}
 
 -- an emitter before anything is emitted, and one that emitted a tree

@@ -8,8 +8,8 @@ use Rattle.py_bytecode.specs.Nesting.{consts_nesting, nesting}
 use Rattle.py_bytecode.specs.Objects.{consts_of}
 use Rattle.py_bytecode.specs.View.{constant, object}
 use Rattle.py_bytecode.proofs.View.{object_is}
-use Rattle.py_steps.specs.Context.{Context}
-use Rattle.py_steps.specs.Emitting.{State, Outcome, Done, TooWide, Refused}
+use Rattle.py_emission_parts.specs.Context.{Context}
+use Rattle.py_emission_parts.specs.Emitting.{State, Outcome, Done, TooWide, Refused}
 use Rattle.py_emission.specs.EmissionMods.{emitted}
 use Rattle.py_emit.specs.Emitted.{IsMade, IsEmitted}
 use Rattle.py_emission_outcomes.proofs.Nesting.NestingMods.{emitted_nests}

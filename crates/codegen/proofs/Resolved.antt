@@ -4,12 +4,12 @@ use Rattle.py_tree.specs.Tree as tree
 use Rattle.py_tree.specs.declared.modules.Mode.{Mode}
 use Rattle.py_scope.specs.Flat.{flat_table}
 use Rattle.py_scope.specs.declared.table.SymbolTable.{SymbolTable}
-use Rattle.py_tables.specs.Tables.{table_of}
-use Rattle.py_uses.specs.Steps.{State, Done}
+use Rattle.py_symbol_tables.specs.Tables.{table_of}
+use Rattle.py_name_uses.specs.Steps.{State, Done}
 use Rattle.py_meaning.specs.Faults.{faults}
 use Rattle.py_meaning.specs.Scanned.{entries_of, scopes_of}
-use Rattle.py_owners.specs.Entered.{ScansTo}
-use Rattle.py_owners.proofs.Facts.{scopes_stand, tables_follow}
+use Rattle.py_scope_tree.specs.Entered.{ScansTo}
+use Rattle.py_scope_tree.proofs.Facts.{scopes_stand, tables_follow}
 use Rattle.codegen.specs.Compiled.{ScopesFollow}
 
 -- the scopes are those of the table to which the scan resolves

@@ -10,11 +10,11 @@ use Rattle.py_base.specs.declared.location.LocatedError.{LocatedError}
 use Rattle.py_bytecode.specs.Nesting.{nesting as code_nesting}
 use Rattle.py_bytecode.specs.View.{object}
 use Rattle.py_bytecode.specs.declared.code.CodeObject.{CodeObject}
-use Rattle.py_walks.specs.Sound.{sound}
-use Rattle.py_forms.specs.Agreement.{Agree, AgreeFull}
+use Rattle.py_dataflow.specs.Sound.{sound}
+use Rattle.py_control.specs.Agreement.{Agree, AgreeFull}
 use Rattle.py_base.specs.declared.errors.CodegenErrorType.{CodegenErrorType}
 use Rattle.py_base.specs.declared.errors.CodegenErrorType.TheVariants as error
-use Rattle.py_steps.specs.Everywhere.{Everywhere}
+use Rattle.py_emission_parts.specs.Everywhere.{Everywhere}
 use Rattle.py_emit.specs.Emitted.{IsEmitted}
 use Rattle.py_emission_proof.specs.Distinct.{HasDistinctNames}
 use Rattle.py_emission.specs.EmissionMods.{emitted}
@@ -22,7 +22,7 @@ use Rattle.py_meaning.specs.ExprFaults.{Fault}
 use Rattle.py_meaning.specs.Faults.{faults, malformed, too_deep, too_large, whole}
 use Rattle.py_meaning.specs.Meaning.{body}
 use Rattle.py_meaning.specs.Scanned.{scopes_of}
-use Rattle.py_capture.specs.Captures.{CapturesCells}
+use Rattle.py_cell_binding.specs.Captures.{CapturesCells}
 use Rattle.codegen.specs.Compiled.{AlwaysEnds, HasExactDepth, HasFewUnits, InLeastWidths, IsFirst, IsLocated, IsSealed, NamesPath, NoHigher, ScopesFollow, around_tree}
 use Rattle.codegen.specs.declared.program.Program.{Program}
 use Rattle.codegen.specs.declared.program.Program.TheVariants as lent

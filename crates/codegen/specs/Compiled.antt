@@ -4,14 +4,14 @@ use Rattle.py_tree.specs.Tree as tree
 use Rattle.py_tree.specs.declared.modules.Mode.{Mode}
 use Rattle.py_scope.specs.Flat.{flat_table}
 use Rattle.py_scope.specs.Laws.{TableFollows}
-use Rattle.py_tables.specs.Laws.{Stands}
-use Rattle.py_uses.specs.Steps.{State}
-use Rattle.py_owners.specs.Entered.{ScansTo}
+use Rattle.py_symbol_tables.specs.Laws.{Stands}
+use Rattle.py_name_uses.specs.Steps.{State}
+use Rattle.py_scope_tree.specs.Entered.{ScansTo}
 use Rattle.py_scope.specs.declared.error.ScanFault.TheVariants as fault
 use Rattle.py_scope.specs.declared.error.SymbolTableError.{SymbolTableError}
 use Rattle.py_scope.specs.declared.table.SymbolTable.{SymbolTable}
 use Rattle.symboltable.specs.Errors.{codegen_error}
-use Rattle.py_steps.specs.Context.{Context, outermost}
+use Rattle.py_emission_parts.specs.Context.{Context, outermost}
 use Rattle.py_meaning.specs.Faults.{compile_faults}
 use Rattle.py_meaning.specs.Scanned.{scan_faults, scopes_of}
 use Rattle.py_bytecode.specs.Objects.{Object, head}
@@ -19,14 +19,14 @@ use Rattle.py_bytecode.specs.Values.{Answer}
 use Rattle.py_bytecode.specs.Machine.{Config, At, Over, steps, start}
 use Rattle.py_bytecode.specs.Decode.{tables}
 use Rattle.py_bytecode.specs.Units.{fetch_unit, machine}
-use Rattle.py_walks.specs.Sound.{code_look}
-use Rattle.py_walks.specs.Walks.{IsDepth}
-use Rattle.py_walks.specs.declared.info.InstructionInfo.{InstructionInfo}
+use Rattle.py_dataflow.specs.Sound.{code_look}
+use Rattle.py_dataflow.specs.Walks.{IsDepth}
+use Rattle.py_dataflow.specs.declared.info.InstructionInfo.{InstructionInfo}
 use Rattle.py_layout.specs.Written.{IsAssembled}
-use Rattle.py_simulation.specs.Laws.{IsEnd}
+use Rattle.py_control_proof.specs.Laws.{IsEnd}
 use Rattle.py_meaning.specs.ExprFaults.{Fault}
-use Rattle.py_steps.specs.Emitting.{Outcome, Done, TooWide, Refused}
-use Rattle.py_steps.specs.Sealed.{sealed}
+use Rattle.py_emission_parts.specs.Emitting.{Outcome, Done, TooWide, Refused}
+use Rattle.py_emission_parts.specs.Sealed.{sealed}
 use Rattle.py_emit.specs.States.{module_head}
 use Rattle.py_base.specs.declared.errors.CodegenErrorType.{CodegenErrorType}
 use Rattle.py_base.specs.declared.errors.CodegenErrorType.TheVariants as error

@@ -2,7 +2,7 @@
 ghost use Rattle.std.specs.Prelude.{◌≡◌, ◌≤◌, drop, length, IfOk};
 ghost use Rattle.py_bytecode.specs.Objects.{none};
 ghost use Rattle.py_tree.specs.View.{stmt_tree, stmts};
-ghost use Rattle.py_steps.specs.Emitting.{◌▸◌, by_level, emit_constant};
+ghost use Rattle.py_emission_parts.specs.Emitting.{◌▸◌, by_level, emit_constant};
 ghost use Rattle.py_emission.specs.EmissionStmts.{emission_of_stmts};
 ghost use Rattle.py_emission.specs.EmissionFutures.{emission_behind};
 ghost use Rattle.py_emission.specs.EmissionMods.{emission_of_doc, emission_of_interactive, emission_of_program};
@@ -49,7 +49,7 @@ fn emit_rest(em: &mut Emitter, body: &[Stmt]) -> Result<(), CodegenError>
 }
 
 /// Emits what stores the docstring, where one is kept. Answers the place at which the other statements begin.
-#[tactic(auto, unfolding(py_steps::specs::Emitting::by_level, py_emit::specs::States::rest))]
+#[tactic(auto, unfolding(py_emission_parts::specs::Emitting::by_level, py_emit::specs::States::rest))]
 fn emit_doc(em: &mut Emitter, body: &Stmts) -> Result<usize, CodegenError>
     ensures emits { Emits result (by_level (λ l. emission_of_doc (doc_of l (stmts stmt_tree body.now)))) em.old em.new }
     ensures from { IfOk result (λ from. stmts stmt_tree (drop from body.now) ≡ after_doc (stmts stmt_tree body.now)) }

@@ -3,8 +3,8 @@ use Rattle.std.proofs.Common.{◌≡◌, refl, sym, ap, ◌∙◌, subst, ℕ, s
 use Rattle.py_scope.specs.declared.table.SymbolTable.{SymbolTable, out-SymbolTable, fold_out-SymbolTable}
 use Rattle.py_scope.specs.declared.flat.ScopeEntry.{ScopeEntry}
 use Rattle.py_scope.specs.Flat.{all_flat, flat_step, flat_table}
-use Rattle.py_steps.specs.Context.{inside, outermost}
-use Rattle.py_steps.specs.Emitting.{State, nothing}
+use Rattle.py_emission_parts.specs.Context.{inside, outermost}
+use Rattle.py_emission_parts.specs.Emitting.{State, nothing}
 use Rattle.py_emit.specs.Tables.{AreLeft, Stand, beyond}
 
 abbrev Flat : Type 0

@@ -3,7 +3,7 @@ ghost use Rattle.std.specs.Prelude.{◌≡◌, IfOk, List, length};
 ghost use Rattle.py_bytecode.specs.Units.{machine};
 ghost use Rattle.py_bytecode.specs.Values.{Answer};
 ghost use Rattle.py_bytecode.specs.View.{object};
-ghost use Rattle.py_walks.specs.Sound.{sound};
+ghost use Rattle.py_dataflow.specs.Sound.{sound};
 ghost use Rattle.py_ir.specs.Final.{runs_of};
 
 use py_bytecode::CodeObject;

@@ -2,7 +2,7 @@
 ghost use Rattle.std.specs.Prelude.{◌≡◌, [], IfErr, IfOk, OnOk};
 ghost use Rattle.py_tree.specs.View.{mod_tree};
 ghost use Rattle.py_bytecode.specs.View.{object};
-ghost use Rattle.py_forms.specs.Agreement.{Agree};
+ghost use Rattle.py_control.specs.Agreement.{Agree};
 ghost use Rattle.py_meaning.specs.Faults.{faults};
 ghost use Rattle.py_meaning.specs.Meaning.{body};
 ghost use Rattle.py_meaning.specs.Scanned.{scopes_of};

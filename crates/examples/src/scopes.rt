@@ -1,7 +1,7 @@
 //! A tree becomes a table of its scopes.
 ghost use Rattle.std.specs.Prelude.{◌≡◌, ◌↔◌, [], IfOk, IsTrue};
 ghost use Rattle.py_tree.specs.View.{stmt_tree, stmts};
-ghost use Rattle.py_tables.specs.Tables.{program_faults};
+ghost use Rattle.py_symbol_tables.specs.Tables.{program_faults};
 
 use py_tree::Stmts;
 use std::alloc::{AllocError, Global};

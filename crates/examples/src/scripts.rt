@@ -4,8 +4,8 @@ ghost use Rattle.py_bytecode.specs.Units.{machine};
 ghost use Rattle.py_bytecode.specs.View.{object};
 ghost use Rattle.py_meaning.specs.Meaning.{body, meaning};
 ghost use Rattle.py_scope.specs.declared.flat.ScopeEntry.{ScopeEntry};
-ghost use Rattle.py_script.specs.Scripts.{answers_of};
-ghost use Rattle.py_script.specs.Told.{short};
+ghost use Rattle.py_answers.specs.Scripts.{answers_of};
+ghost use Rattle.py_answers.specs.Told.{short};
 ghost use Rattle.py_step.specs.Reports.{report_text};
 ghost use Rattle.py_tree.specs.View.{mod_tree};
 

@@ -2,9 +2,9 @@
 use Rattle.std.specs.Prelude.{◌≡◌, ℕ, suc, List}
 use Rattle.py_tree.specs.Tree as tree
 use Rattle.py_bytecode.specs.Objects as const
-use Rattle.py_steps.specs.Children.{code_head, emission_of_defaults, enter_parameters}
-use Rattle.py_steps.specs.Emitting.{Done, Emission, ◌▸◌, add_constant, begun}
-use Rattle.py_steps.specs.Within.{lambda_inside}
+use Rattle.py_emission_parts.specs.Children.{code_head, emission_of_defaults, enter_parameters}
+use Rattle.py_emission_parts.specs.Emitting.{Done, Emission, ◌▸◌, add_constant, begun}
+use Rattle.py_emission_parts.specs.Within.{lambda_inside}
 use Rattle.py_emission.specs.Emission.{default_emissions}
 use Rattle.py_emission.specs.Parameters.{function_shape, parameters}
 use Rattle.py_emit.specs.States.{entered_rest, rest, state}

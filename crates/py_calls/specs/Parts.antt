@@ -1,6 +1,6 @@
 -- What is emitted of a comprehension that is given by its parts.
 use Rattle.py_tree.specs.View.{expr_tree, generators as clause_trees}
-use Rattle.py_steps.specs.Emitting.{Emission}
+use Rattle.py_emission_parts.specs.Emitting.{Emission}
 use Rattle.py_expr_scopes.specs.Comprehensions.{comprehension_of}
 use Rattle.py_expr_scopes.specs.declared.comprehensions.ComprehensionElement.TheVariants as element
 use Rattle.py_calls.specs.declared.comprehensions.ComprehensionParts.{ComprehensionParts}

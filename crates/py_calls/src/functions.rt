@@ -1,8 +1,8 @@
 //! The scope of a function, behind its defaults.
 ghost use Rattle.std.specs.Prelude.{◌≡◌, ◌≢◌, IfErr, IfOk, OnOk};
 ghost use Rattle.py_tree.specs.View.{arguments, expr_tree};
-ghost use Rattle.py_steps.specs.Children.{flags_of_defaults};
-ghost use Rattle.py_steps.specs.Emitting.{Refused};
+ghost use Rattle.py_emission_parts.specs.Children.{flags_of_defaults};
+ghost use Rattle.py_emission_parts.specs.Emitting.{Refused};
 ghost use Rattle.py_emission.specs.Emission.{default_emissions};
 ghost use Rattle.py_emit.specs.States.{IsTold, rest, state};
 ghost use Rattle.py_calls.specs.Entering.{IsEntered, entry};

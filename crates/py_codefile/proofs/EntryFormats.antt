@@ -14,7 +14,7 @@ use Rattle.py_codefile.specs.Places.{Place}
 use Rattle.py_codefile.specs.Reading.{after_cells_byte, byte_at, cells_at, line_at, line_of, list_at, location_at, number_at, opcode_at, positive_at, signed_at, tag_at, unit_at}
 use Rattle.py_codefile.proofs.Formats.{IsBytes, IsFormat, Took, bind_ok, both_format, ok_is, place, seen_format}
 use Rattle.py_codefile.proofs.Tables.{entry_format}
-use Rattle.py_codefile.proofs.Numbering.{instruction_stands, instructions_numbered, tag_stands, tags_numbered}
+use Rattle.py_codefile.proofs.TableNumberLemmas.{instruction_stands, instructions_numbered, tag_stands, tags_numbered}
 use Rattle.py_codefile.proofs.FieldFormats.{byte_format, guard_ok, list_format, number32, signed32}
 
 opcode_format : IsFormat (λ i. Unit {0}) (λ i. byte_spelling (opcode i)) opcode_at

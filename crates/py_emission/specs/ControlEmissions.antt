@@ -3,9 +3,9 @@ use Rattle.std.specs.Prelude.{ℕ, List, Bool, true, false, Option, Some, None, 
 use Rattle.py_base.specs.declared.location.SourceLocation.{SourceLocation}
 use Rattle.py_bytecode.specs.declared.instruction.Instruction.TheVariants as op
 use Rattle.py_bytecode.specs.Objects as const
-use Rattle.py_steps.specs.Emitting.{Emission, ◌▸◌, begin, emit, emit_constant, emit_count, emit_name, in_loop, jump, keep, move, new_block}
+use Rattle.py_emission_parts.specs.Emitting.{Emission, ◌▸◌, begin, emit, emit_constant, emit_count, emit_name, in_loop, jump, keep, move, new_block}
 use Rattle.py_bytecode.specs.Values.{Store, Delete}
-use Rattle.py_steps.specs.Accesses.{accessed, emission_of_stored}
+use Rattle.py_emission_parts.specs.Accesses.{accessed, emission_of_stored}
 
 -- a body for each value of an iterator, and another one at its end
 abbrev pub for_each : (iter store body orelse : Emission) → Emission

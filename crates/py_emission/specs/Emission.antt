@@ -6,20 +6,20 @@ use Rattle.py_base.specs.declared.location.SourceLocation.{SourceLocation}
 use Rattle.py_bytecode.specs.declared.instruction.Instruction.TheVariants as op
 use Rattle.py_bytecode.specs.Objects as const
 use Rattle.py_base.specs.declared.errors.CodegenErrorType.TheVariants as error
-use Rattle.py_steps.specs.Elements.{Element, Single, Spread, Method}
-use Rattle.py_counts.specs.Counts.{scopes_in_annotations}
+use Rattle.py_emission_parts.specs.Elements.{Element, Single, Spread, Method}
+use Rattle.py_scope_counts.specs.Counts.{scopes_in_annotations}
 use Rattle.py_emission.specs.Awaits.{awaits, some_async}
 use Rattle.py_emission.specs.Parameters.{function_shape, parameters}
 use Rattle.py_emission.specs.Texts.{texts_of}
-use Rattle.py_steps.specs.TableParts.{binary_case, conversion_case, constant_of, is_debug, debug_constant}
+use Rattle.py_emission_parts.specs.TableParts.{binary_case, conversion_case, constant_of, is_debug, debug_constant}
 use Rattle.py_bytecode.specs.Values.{Load}
-use Rattle.py_steps.specs.Accesses.{accessed, emission_of_deleted, emission_of_name, emission_of_stored}
-use Rattle.py_steps.specs.Children.{DefaultEmissions, child, emission_of_defaults, flags_of_defaults, function_scope, made}
-use Rattle.py_steps.specs.Within.{lambda_inside}
-use Rattle.py_steps.specs.Comprehensions.{ClauseEmissions, as_element, comprehension, gathered, generated}
-use Rattle.py_steps.specs.Emitting.{Emission, ◌▸◌, by_level, emit, emit_constant, emit_mangled, generating, keep, move, refuse}
-use Rattle.py_steps.specs.EmissionParts.{Emissions, Keywords, Stores, bool_emissions, built, choice, constant_emissions, display, elements, emission_of_call, emission_of_compare, emission_of_dict, in_turn, joined_value, only_in_function, pass_scopes, plain_store, slice_value, tested, unary_emissions, unless_debug, unpack, value_or, values}
-use Rattle.py_steps.specs.Refused.{lone_star, no_assignment, no_deletion}
+use Rattle.py_emission_parts.specs.Accesses.{accessed, emission_of_deleted, emission_of_name, emission_of_stored}
+use Rattle.py_emission_parts.specs.Children.{DefaultEmissions, child, emission_of_defaults, flags_of_defaults, function_scope, made}
+use Rattle.py_emission_parts.specs.Within.{lambda_inside}
+use Rattle.py_emission_parts.specs.Comprehensions.{ClauseEmissions, as_element, comprehension, gathered, generated}
+use Rattle.py_emission_parts.specs.Emitting.{Emission, ◌▸◌, by_level, emit, emit_constant, emit_mangled, generating, keep, move, refuse}
+use Rattle.py_emission_parts.specs.EmissionParts.{Emissions, Keywords, Stores, bool_emissions, built, choice, constant_emissions, display, elements, emission_of_call, emission_of_compare, emission_of_dict, in_turn, joined_value, only_in_function, pass_scopes, plain_store, slice_value, tested, unary_emissions, unless_debug, unpack, value_or, values}
+use Rattle.py_emission_parts.specs.Refused.{lone_star, no_assignment, no_deletion}
 use Rattle.py_emission.specs.Predicates.{deletion_name}
 
 -- a node that is not compiled yet

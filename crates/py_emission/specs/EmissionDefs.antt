@@ -4,16 +4,16 @@ use Rattle.py_tree.specs.PythonName.{python_name}
 use Rattle.py_tree.specs.Tree as tree
 use Rattle.py_bytecode.specs.declared.instruction.Instruction.TheVariants as op
 use Rattle.py_bytecode.specs.Objects as const
-use Rattle.py_texts.specs.Annotation.{annotation}
+use Rattle.py_annotation_text.specs.Annotation.{annotation}
 use Rattle.py_base.specs.declared.errors.CodegenErrorType.TheVariants as error
-use Rattle.py_steps.specs.Children.{child, documented, emission_of_defaults, flags_of_defaults, function_made, function_scope, made, noted}
-use Rattle.py_steps.specs.Within.{behind_name, class_path, class_within, function_inside, handed}
-use Rattle.py_steps.specs.Accesses.{emission_of_stored}
-use Rattle.py_steps.specs.Classes.{class_end, class_names, class_shape}
-use Rattle.py_steps.specs.Elements.{Function}
-use Rattle.py_steps.specs.Emitting.{Emission, ◌▸◌, by_context, by_level, emit, emit_constant, keep, refuse}
-use Rattle.py_steps.specs.EmissionParts.{built, elements, emission_of_call}
-use Rattle.py_steps.specs.TypeParameters.{bounded, generic_alias, hidden, load_handed, no_defaults, plain, plain_alias}
+use Rattle.py_emission_parts.specs.Children.{child, documented, emission_of_defaults, flags_of_defaults, function_made, function_scope, made, noted}
+use Rattle.py_emission_parts.specs.Within.{behind_name, class_path, class_within, function_inside, handed}
+use Rattle.py_emission_parts.specs.Accesses.{emission_of_stored}
+use Rattle.py_emission_parts.specs.Classes.{class_end, class_names, class_shape}
+use Rattle.py_emission_parts.specs.Elements.{Function}
+use Rattle.py_emission_parts.specs.Emitting.{Emission, ◌▸◌, by_context, by_level, emit, emit_constant, keep, refuse}
+use Rattle.py_emission_parts.specs.EmissionParts.{built, elements, emission_of_call}
+use Rattle.py_emission_parts.specs.TypeParameters.{bounded, generic_alias, hidden, load_handed, no_defaults, plain, plain_alias}
 use Rattle.py_emission.specs.Emission.{all_emissions, default_emissions, emission, keyword_emissions, unsupported}
 use Rattle.py_emission.specs.Parameters.{function_shape, parameters}
 use Rattle.py_emission.specs.Texts.{after_doc, doc_of}

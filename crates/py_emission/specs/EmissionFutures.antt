@@ -3,7 +3,7 @@ use Rattle.std.specs.Prelude.{List, [], ◌∷◌, Some, None, if◌then◌else�
 use Rattle.py_tree.specs.Tree as tree
 use Rattle.py_tree.specs.declared.statements.Alias.{Alias}
 use Rattle.py_base.specs.declared.errors.CodegenErrorType.TheVariants as error
-use Rattle.py_steps.specs.Emitting.{Emission, ◌▸◌, keep, move, postponing, refuse}
+use Rattle.py_emission_parts.specs.Emitting.{Emission, ◌▸◌, keep, move, postponing, refuse}
 use Rattle.py_emission.specs.EmissionImports.{emission_of_from}
 use Rattle.py_emission.specs.Futures.{Future, future_of, is_feature, postpones}
 

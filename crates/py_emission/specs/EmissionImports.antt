@@ -5,9 +5,9 @@ use Rattle.py_bytecode.specs.declared.instruction.Instruction.TheVariants as op
 use Rattle.py_bytecode.specs.Objects as const
 use Rattle.py_bytecode.specs.Objects.{Const}
 use Rattle.py_base.specs.declared.errors.CodegenErrorType.TheVariants as error
-use Rattle.py_steps.specs.Accesses.{emission_of_stored}
-use Rattle.py_steps.specs.Context.{is_function}
-use Rattle.py_steps.specs.Emitting.{Emission, ◌▸◌, by_context, emit, emit_constant, emit_mangled, keep, refuse}
+use Rattle.py_emission_parts.specs.Accesses.{emission_of_stored}
+use Rattle.py_emission_parts.specs.Context.{is_function}
+use Rattle.py_emission_parts.specs.Emitting.{Emission, ◌▸◌, by_context, emit, emit_constant, emit_mangled, keep, refuse}
 use Rattle.py_emission.specs.Imports.{asked, asked_all, further_segments, import_name, taken_name, takes_all}
 
 -- a module is imported by its path, or has none

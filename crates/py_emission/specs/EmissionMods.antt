@@ -7,11 +7,11 @@ use Rattle.py_bytecode.specs.declared.instruction.Instruction.TheVariants as op
 use Rattle.py_bytecode.specs.Objects as const
 use Rattle.py_base.specs.declared.errors.CodegenErrorType.TheVariants as error
 use Rattle.py_emission.specs.Texts.{after_doc, doc_of}
-use Rattle.py_steps.specs.Accesses.{emission_of_stored}
-use Rattle.py_steps.specs.Children.{decorated}
-use Rattle.py_steps.specs.Context.{Context}
-use Rattle.py_steps.specs.Emitting.{Emission, Outcome, Refused, ◌▸◌, by_level, emit, emit_constant, emit_name, keep, move, nothing}
-use Rattle.py_steps.specs.EmissionParts.{values}
+use Rattle.py_emission_parts.specs.Accesses.{emission_of_stored}
+use Rattle.py_emission_parts.specs.Children.{decorated}
+use Rattle.py_emission_parts.specs.Context.{Context}
+use Rattle.py_emission_parts.specs.Emitting.{Emission, Outcome, Refused, ◌▸◌, by_level, emit, emit_constant, emit_name, keep, move, nothing}
+use Rattle.py_emission_parts.specs.EmissionParts.{values}
 use Rattle.py_emission.specs.Emission.{all_emissions, emission, emission_of_return}
 use Rattle.py_emission.specs.EmissionDefs.{emission_of_built, emission_of_end, emission_of_function, emission_of_setup}
 use Rattle.py_emission.specs.EmissionFutures.{emission_behind, emission_of_future, following}

@@ -11,20 +11,20 @@ use Rattle.py_bytecode.specs.declared.instruction.Instruction.TheVariants as op
 use Rattle.py_bytecode.specs.Objects as const
 use Rattle.py_base.specs.declared.errors.CodegenErrorType.{CodegenErrorType}
 use Rattle.py_base.specs.declared.errors.CodegenErrorType.TheVariants as error
-use Rattle.py_counts.specs.Counts.{scopes_in, scopes_in_annotation, scopes_in_opt}
+use Rattle.py_scope_counts.specs.Counts.{scopes_in, scopes_in_annotation, scopes_in_opt}
 use Rattle.py_emission.specs.Texts.{after_doc, stmt_text}
-use Rattle.py_steps.specs.TableParts.{binary_case}
+use Rattle.py_emission_parts.specs.TableParts.{binary_case}
 use Rattle.py_emission.specs.Imports.{from_future}
 use Rattle.py_emission.specs.ControlEmissions.{any_match, asserted, caught, for_each, handler, managed, named_body, raise_again, try_body, typed_match}
 use Rattle.py_emission.specs.EmissionDefs.{emission_of_alias, emission_of_built, emission_of_end, emission_of_function, emission_of_note}
 use Rattle.py_emission.specs.EmissionImports.{emission_of_from, emission_of_import}
 use Rattle.py_emission.specs.Predicates.{but_doc, itemless, message_count, none}
-use Rattle.py_steps.specs.Children.{decorated}
-use Rattle.py_steps.specs.Emitting.{Emission, LoopBlocks, ◌▸◌, begin, by_context, by_level, by_loops, emit, emit_constant, emit_mangled, emit_name, in_loop, jump, keep, move, new_block, refuse}
-use Rattle.py_steps.specs.Accesses.{emission_of_name, emission_of_stored}
-use Rattle.py_steps.specs.Context.{is_function, mangled}
-use Rattle.py_steps.specs.EmissionParts.{choice, only, only_in_function, pass_scopes, unless_debug, values}
-use Rattle.py_steps.specs.Refused.{no_assignment}
+use Rattle.py_emission_parts.specs.Children.{decorated}
+use Rattle.py_emission_parts.specs.Emitting.{Emission, LoopBlocks, ◌▸◌, begin, by_context, by_level, by_loops, emit, emit_constant, emit_mangled, emit_name, in_loop, jump, keep, move, new_block, refuse}
+use Rattle.py_emission_parts.specs.Accesses.{emission_of_name, emission_of_stored}
+use Rattle.py_emission_parts.specs.Context.{is_function, mangled}
+use Rattle.py_emission_parts.specs.EmissionParts.{choice, only, only_in_function, pass_scopes, unless_debug, values}
+use Rattle.py_emission_parts.specs.Refused.{no_assignment}
 use Rattle.py_emission.specs.Emission.{all_emissions, emission, emission_of_deletes, emission_of_return, emission_of_store, emission_of_test, unsupported}
 
 -- a value is stored to each target, and kept for those that follow

@@ -5,8 +5,8 @@ use Rattle.py_tree.specs.Tree as tree
 use Rattle.py_tree.specs.declared.statements.Alias.{Alias}
 use Rattle.py_base.specs.declared.location.SourceLocation.{SourceLocation}
 use Rattle.py_bytecode.specs.Equality.{text_eq}
-use Rattle.py_uses.specs.Parts.{names_annotations}
-use Rattle.py_steps.specs.Context.{Context}
+use Rattle.py_name_uses.specs.Parts.{names_annotations}
+use Rattle.py_emission_parts.specs.Context.{Context}
 use Rattle.py_emission.specs.Imports.{from_future}
 
 -- a future import: where it stands, its path, what it takes, and so many packages further out

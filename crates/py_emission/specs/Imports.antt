@@ -5,7 +5,7 @@ use Rattle.py_tree.specs.declared.statements.Alias.{Alias}
 use Rattle.py_bytecode.specs.Equality.{text_eq}
 use Rattle.py_bytecode.specs.Objects as const
 use Rattle.py_bytecode.specs.Objects.{Const, consts_of}
-use Rattle.py_uses.specs.Parts.{bound_name, first_segment, is_future}
+use Rattle.py_name_uses.specs.Parts.{bound_name, first_segment, is_future}
 
 -- a future import
 abbrev pub from_future : (path : Option (List ℕ)) → Bool

@@ -9,7 +9,7 @@ pub mod FitParts
 mod FitTests
 mod FitScopes
 mod FitLambdas
-pub mod Standing
+pub mod AvailableCellLemmas
 mod StandingForms
 mod StandingExprs
 mod Scopeless

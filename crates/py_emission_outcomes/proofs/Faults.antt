@@ -1,4 +1,4 @@
-pub mod Refusing
+pub mod RefusalLemmas
 pub mod RefusingTests
 pub mod RefusingPacks
 pub mod RefusingDisplays
@@ -17,4 +17,4 @@ pub mod RefusingImports
 pub mod RefusingStmts
 pub mod FutureEnds
 pub mod InteractiveEnds
-pub mod Ending
+pub mod FaultOutcomeLemmas

@@ -3,10 +3,10 @@ use Rattle.std.specs.Prelude.{◌≡◌, ℕ, ◌<◌, ◌^◌, List, [], length
 use Rattle.py_tree.specs.Tree as tree
 use Rattle.py_tree.specs.declared.modules.Mode.{Mode}
 use Rattle.py_bytecode.specs.Objects.{Object, constants, head}
-use Rattle.py_steps.specs.Context.{outermost}
-use Rattle.py_steps.specs.Emitting.{Done, State}
-use Rattle.py_steps.specs.Everywhere.{Everywhere}
-use Rattle.py_steps.specs.Sealed.{sealed}
+use Rattle.py_emission_parts.specs.Context.{outermost}
+use Rattle.py_emission_parts.specs.Emitting.{Done, State}
+use Rattle.py_emission_parts.specs.Everywhere.{Everywhere}
+use Rattle.py_emission_parts.specs.Sealed.{sealed}
 use Rattle.py_emit.specs.States.{module_head}
 use Rattle.py_emission.specs.EmissionMods.{emitted}
 use Rattle.py_meaning.specs.Faults.{faults}

@@ -4,4 +4,5 @@
 #![tactic(auto)]
 
 mod laws;
+
 pub use laws::trees_fit;

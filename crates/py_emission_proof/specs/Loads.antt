@@ -1,9 +1,9 @@
 -- How many cells a code loads for the functions that it makes: as many as the scopes of these have names from outside.
 use Rattle.std.specs.Prelude.{ℕ, zero, suc, ◌+◌, ◌≤◌, ◌≢◌, List, [], ◌∷◌, length}
 use Rattle.py_scope.specs.declared.flat.ScopeEntry.{ScopeEntry}
-use Rattle.py_forms.specs.Agree.{AllOf, form_of, head_of, kids}
-use Rattle.py_forms.specs.Form.{Scope}
-use Rattle.py_steps.specs.Context.{frees_among, symbols_in}
+use Rattle.py_control.specs.Agree.{AllOf, form_of, head_of, kids}
+use Rattle.py_control.specs.Form.{Scope}
+use Rattle.py_emission_parts.specs.Context.{frees_among, symbols_in}
 
 -- how many names these scopes have from outside together, by the symbols of their numbers
 abbrev pub loads : List ScopeEntry → List Scope → ℕ

@@ -7,7 +7,7 @@ use Rattle.py_scope.specs.Names.{same_name}
 use Rattle.py_scope.specs.Symbols.{AreApart}
 use Rattle.py_scope.specs.declared.symbols.Symbol.{Symbol}
 use Rattle.py_scope.proofs.SymbolLists.{not_before, take_next}
-use Rattle.py_steps.specs.Context.{names_of_those}
+use Rattle.py_emission_parts.specs.Context.{names_of_those}
 
 left_false : (a b : Bool) → a || b ≡ false → a ≡ false
 left_false true b h = cc

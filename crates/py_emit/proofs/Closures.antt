@@ -1,9 +1,9 @@
 -- A closure that is not empty.
 use Rattle.std.proofs.Common.{◌≡◌, ◌≢◌, ℕ, suc, List, [], ◌∷◌, length, refl, ap}
 use Rattle.py_bytecode.specs.declared.instruction.Instruction.TheVariants as op
-use Rattle.py_steps.specs.Children.{cell_loads, closure}
-use Rattle.py_steps.specs.EmissionParts.{in_turn}
-use Rattle.py_steps.specs.Emitting.{◌▸◌, emit_count}
+use Rattle.py_emission_parts.specs.Children.{cell_loads, closure}
+use Rattle.py_emission_parts.specs.EmissionParts.{in_turn}
+use Rattle.py_emission_parts.specs.Emitting.{◌▸◌, emit_count}
 
 as_many : (xs : List (List ℕ)) → length (cell_loads xs) ≡ length xs
 as_many [] = refl

@@ -1,7 +1,7 @@
 -- A name behind a path.
 use Rattle.std.proofs.Common.{◌≡◌, ◌≢◌, ℕ, zero, suc, ◌<◌, List, [], ◌∷◌, ◌++◌, true, false, get_or, length, take, Bool, ◌||◌, nat_eq, refl, sym, ap, subst, ◌∙◌, arith}
 use Rattle.std.specs.Prelude.{codes}
-use Rattle.py_steps.specs.Context.{behind_dot}
+use Rattle.py_emission_parts.specs.Context.{behind_dot}
 use Rattle.py_emit.specs.Around.{has_dot}
 
 pub dotted : (path name : List ℕ) → path ≢ [] → behind_dot path name ≡ path ++ (codes "." ++ name)

@@ -5,8 +5,8 @@ use Rattle.py_base.specs.declared.location.SourceLocation.{SourceLocation}
 use Rattle.py_base.specs.declared.location.LocatedError.{LocatedError}
 use Rattle.py_base.specs.declared.errors.CodegenErrorType.{CodegenErrorType}
 use Rattle.py_base.specs.declared.errors.CodegenErrorType.TheVariants as error
-use Rattle.py_steps.specs.Emitting.{State, Outcome, Done, TooWide, Refused, Emission, ◌▸◌, go_on, keep}
-use Rattle.py_steps.specs.EmissionParts.{in_turn}
+use Rattle.py_emission_parts.specs.Emitting.{State, Outcome, Done, TooWide, Refused, Emission, ◌▸◌, go_on, keep}
+use Rattle.py_emission_parts.specs.EmissionParts.{in_turn}
 use Rattle.py_emit.specs.States.{Goes, IsTold, Rest, Same}
 
 go_join : (o : Outcome) (b c : Emission) → go_on (go_on o b) c ≡ go_on o (b ▸ c)

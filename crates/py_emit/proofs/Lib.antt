@@ -1,8 +1,8 @@
 pub mod Chains
-pub mod Holding
+pub mod BlockStepLemmas
 pub mod States
 pub mod Joined
-pub mod Taking
+pub mod LastStepLemmas
 pub mod Listed
 pub mod Sealed
 mod Samples
@@ -13,4 +13,4 @@ pub mod Within
 pub mod CellPlaces
 pub mod Closures
 pub mod Dotted
-pub mod Dropping
+pub mod TableDropLemmas

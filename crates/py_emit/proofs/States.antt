@@ -4,9 +4,9 @@ use Rattle.py_base.specs.declared.location.SourceLocation.{SourceLocation}
 use Rattle.py_bytecode.specs.View.{constant}
 use Rattle.py_ir.specs.Chain.{plain}
 use Rattle.py_ir.specs.FlatCode.{info_of}
-use Rattle.py_steps.specs.Context.{Context}
-use Rattle.py_steps.specs.Emitting.{Done, Step, State, begun, refuse, with_block, with_step}
-use Rattle.py_steps.specs.Sealed.{Head}
+use Rattle.py_emission_parts.specs.Context.{Context}
+use Rattle.py_emission_parts.specs.Emitting.{Done, Step, State, begun, refuse, with_block, with_step}
+use Rattle.py_emission_parts.specs.Sealed.{Head}
 use Rattle.py_base.specs.declared.errors.CodegenErrorType.{CodegenErrorType}
 use Rattle.py_emit.specs.States.{IsFirst, IsUnrefused, Source, context_of, flagged, head_of, info, loop_blocks, rest, source_of, state, state_of}
 use Rattle.py_emit.specs.declared.scopes.OpenScope.{OpenScope}

@@ -6,11 +6,11 @@ use Rattle.py_bytecode.specs.View.{object}
 use Rattle.py_bytecode.specs.declared.code.CodeObject.{CodeObject}
 use Rattle.py_scope.specs.declared.table_type.SymbolTableType.{SymbolTableType}
 use Rattle.py_scope.specs.declared.table_type.SymbolTableType.TheVariants as kind
-use Rattle.py_steps.specs.Children.{behind_child, child, code_head, on_sealed}
-use Rattle.py_steps.specs.Within.{Shape}
-use Rattle.py_steps.specs.Context.{cells_among, frees_among, inside, outermost, symbols_in, with_path, within_class}
-use Rattle.py_steps.specs.Emitting.{Done, Emission, State, begun}
-use Rattle.py_steps.specs.Sealed.{Head, sealed}
+use Rattle.py_emission_parts.specs.Children.{behind_child, child, code_head, on_sealed}
+use Rattle.py_emission_parts.specs.Within.{Shape}
+use Rattle.py_emission_parts.specs.Context.{cells_among, frees_among, inside, outermost, symbols_in, with_path, within_class}
+use Rattle.py_emission_parts.specs.Emitting.{Done, Emission, State, begun}
+use Rattle.py_emission_parts.specs.Sealed.{Head, sealed}
 use Rattle.py_emit.specs.States.{Rest, Source, context_of, entered, entered_rest, head_in, left, left_rest, module_head, module_shape, named_in, no_context, rest, state, unlooped}
 use Rattle.py_emit.specs.declared.context.Naming.{Naming}
 use Rattle.py_emit.specs.declared.context.Naming.TheVariants as naming

@@ -2,8 +2,8 @@
 use Rattle.std.specs.Prelude.{ℕ, List}
 use Rattle.py_bytecode.specs.Values as used
 use Rattle.py_bytecode.specs.Values.{Kind, Usage}
-use Rattle.py_steps.specs.Emitting.{Emission}
-use Rattle.py_steps.specs.Accesses.{emission_of_deleted, emission_of_name, emission_of_stored}
+use Rattle.py_emission_parts.specs.Emitting.{Emission}
+use Rattle.py_emission_parts.specs.Accesses.{emission_of_deleted, emission_of_name, emission_of_stored}
 use Rattle.py_emit.specs.declared.context.NameUsage.{NameUsage}
 use Rattle.py_emit.specs.declared.context.NameUsage.TheVariants as usage
 use Rattle.py_emit.specs.declared.names.Access.{Access}

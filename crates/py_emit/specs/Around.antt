@@ -1,7 +1,7 @@
 -- What stands around a scope, told piece by piece.
 use Rattle.std.specs.Prelude.{ℕ, Bool, List, Option, nat_eq}
 use Rattle.std.specs.List.{list_any}
-use Rattle.py_steps.specs.Emitting.{State}
+use Rattle.py_emission_parts.specs.Emitting.{State}
 
 -- names are written as this class writes them
 abbrev pub in_class : Option (List ℕ) → State → State

@@ -5,9 +5,9 @@ use Rattle.py_bytecode.specs.View.{constant}
 use Rattle.py_ir.specs.declared.info.CodeInfo.{CodeInfo}
 use Rattle.py_ir.specs.Chain.{plain}
 use Rattle.py_ir.specs.Final.{IsFinal}
-use Rattle.py_steps.specs.Context.{Context}
-use Rattle.py_steps.specs.Emitting.{State, Outcome, Done, TooWide, Refused}
-use Rattle.py_steps.specs.Sealed.{Head, flags_of}
+use Rattle.py_emission_parts.specs.Context.{Context}
+use Rattle.py_emission_parts.specs.Emitting.{State, Outcome, Done, TooWide, Refused}
+use Rattle.py_emission_parts.specs.Sealed.{Head, flags_of}
 use Rattle.py_emit.specs.States.{module_head}
 use Rattle.py_emit.specs.Steps.{steps_in}
 

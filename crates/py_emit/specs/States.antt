@@ -3,7 +3,7 @@ use Rattle.std.specs.Prelude.{◌≡◌, ◌≢◌, ◌<◌, ℕ, List, [], ◌�
 use Rattle.py_base.specs.declared.location.SourceLocation.{SourceLocation}
 use Rattle.py_base.specs.declared.location.LocatedError.{LocatedError}
 use Rattle.py_bytecode.specs.View.{constant}
-use Rattle.py_walks.specs.declared.info.BlockIdx.{BlockIdx}
+use Rattle.py_dataflow.specs.declared.info.BlockIdx.{BlockIdx}
 use Rattle.py_ir.specs.declared.error.FinalizeError.{FinalizeError}
 use Rattle.py_ir.specs.declared.info.CodeInfo.{CodeInfo}
 use Rattle.py_ir.specs.Chain.{IsChain, plain}
@@ -16,11 +16,11 @@ use Rattle.py_ir.specs.Refusals.{TooLong, Refused as IsRefused}
 use Rattle.py_scope.specs.declared.flat.ScopeEntry.{ScopeEntry}
 use Rattle.py_scope.specs.declared.table_type.SymbolTableType.{SymbolTableType}
 use Rattle.py_scope.specs.declared.symbols.Symbol.{Symbol}
-use Rattle.py_steps.specs.Context.{Context, cells_among, frees_among, inside, outermost, with_path, within_class}
-use Rattle.py_steps.specs.Emitting.{Around, Emission, State, LoopBlocks, Outcome, Done, Refused}
-use Rattle.py_steps.specs.Sealed.{Head, flags_of}
-use Rattle.py_steps.specs.Children.{code_head}
-use Rattle.py_steps.specs.Within.{Shape}
+use Rattle.py_emission_parts.specs.Context.{Context, cells_among, frees_among, inside, outermost, with_path, within_class}
+use Rattle.py_emission_parts.specs.Emitting.{Around, Emission, State, LoopBlocks, Outcome, Done, Refused}
+use Rattle.py_emission_parts.specs.Sealed.{Head, flags_of}
+use Rattle.py_emission_parts.specs.Children.{code_head}
+use Rattle.py_emission_parts.specs.Within.{Shape}
 use Rattle.py_base.specs.declared.errors.CodegenErrorType.{CodegenErrorType}
 use Rattle.py_base.specs.declared.errors.CodegenErrorType.TheVariants as error
 use Rattle.py_emit.specs.declared.context.CompileOpts.{CompileOpts}

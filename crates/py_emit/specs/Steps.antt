@@ -2,9 +2,9 @@
 use Rattle.std.specs.Prelude.{◌≡◌, ◌≢◌, ◌⊎◌, ◌<◌, ℕ, zero, suc, List, [], ◌∷◌, ◌++◌, length, map, Option, Some, None}
 use Rattle.py_base.specs.declared.location.SourceLocation.{SourceLocation}
 use Rattle.py_bytecode.specs.declared.instruction.Instruction.TheVariants as op
-use Rattle.py_walks.specs.declared.info.InstructionInfo.{InstructionInfo}
+use Rattle.py_dataflow.specs.declared.info.InstructionInfo.{InstructionInfo}
 use Rattle.py_ir.specs.Chain.{Blk, blk, block_number}
-use Rattle.py_steps.specs.Emitting.{Step, Put, Begin, State}
+use Rattle.py_emission_parts.specs.Emitting.{Step, Put, Begin, State}
 
 abbrev pub step_of : InstructionInfo → Step
 step_of x = Put x.instr x.arg.0 (block_number x.target.0) x.location

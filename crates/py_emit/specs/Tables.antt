@@ -4,8 +4,8 @@ use Rattle.py_scope.specs.Flat.{next_at, typ_at}
 use Rattle.py_scope.specs.declared.flat.ScopeEntry.{ScopeEntry}
 use Rattle.py_scope.specs.declared.table_type.SymbolTableType.{SymbolTableType}
 use Rattle.py_scope.specs.declared.table_type.SymbolTableType.TheVariants as kind
-use Rattle.py_steps.specs.Context.{Context, inside}
-use Rattle.py_steps.specs.Emitting.{State}
+use Rattle.py_emission_parts.specs.Context.{Context, inside}
+use Rattle.py_emission_parts.specs.Emitting.{State}
 
 -- the number behind the scope with this number and those inside it
 abbrev pub beyond : List ScopeEntry → ℕ → ℕ

@@ -1,7 +1,7 @@
 //! What stands around a scope, told piece by piece: the class, the qualified name, and the context.
 ghost use Rattle.std.specs.Prelude.{◌≡◌, ◌<◌, ℕ, List, false, length, slice_index, IfErr, IfOk, OnOk};
-ghost use Rattle.py_steps.specs.Context.{behind_dot, qualified as qualified_name};
-ghost use Rattle.py_steps.specs.Emitting.{with_loops, with_postponed};
+ghost use Rattle.py_emission_parts.specs.Context.{behind_dot, qualified as qualified_name};
+ghost use Rattle.py_emission_parts.specs.Emitting.{with_loops, with_postponed};
 ghost use Rattle.py_emit.specs.Around.{has_dot, in_class, on_path};
 ghost use Rattle.py_emit.specs.States.{IsStarved, loop_blocks, looped, postponed_rest, rest, state};
 

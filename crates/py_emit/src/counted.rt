@@ -1,7 +1,7 @@
 //! Scopes that are entered and dropped in the order of the tables, each by one counted step.
 ghost use Rattle.std.specs.Prelude.{◌≡◌, ◌+◌, ℕ, suc, IfErr, OnOk};
-ghost use Rattle.py_steps.specs.Children.{code_head};
-ghost use Rattle.py_steps.specs.Emitting.{begun};
+ghost use Rattle.py_emission_parts.specs.Children.{code_head};
+ghost use Rattle.py_emission_parts.specs.Emitting.{begun};
 ghost use Rattle.py_emit.specs.States.{IsStarved, entered_rest, rest, shape_of, state};
 ghost use Rattle.py_emit.specs.Tables.{AreLeft, Stand, behind, next_within};
 

@@ -5,10 +5,10 @@ ghost use Rattle.py_ir.specs.Chain.{block_number};
 ghost use Rattle.py_ir.specs.Final.{IsFinal};
 ghost use Rattle.py_base.specs.declared.location.SourceLocation.{SourceLocation as Location};
 ghost use Rattle.py_scope.specs.Flat.{flat_table};
-ghost use Rattle.py_steps.specs.Children.{code_head};
-ghost use Rattle.py_steps.specs.Context.{inside, outermost, symbols_in};
-ghost use Rattle.py_steps.specs.Emitting.{Begin, Done, Put, begun, emit as emission_of, emit_count, generating, jump as jumping, located, nothing, with_block, with_loops, with_postponed, with_step};
-ghost use Rattle.py_steps.specs.Sealed.{sealed};
+ghost use Rattle.py_emission_parts.specs.Children.{code_head};
+ghost use Rattle.py_emission_parts.specs.Context.{inside, outermost, symbols_in};
+ghost use Rattle.py_emission_parts.specs.Emitting.{Begin, Done, Put, begun, emit as emission_of, emit_count, generating, jump as jumping, located, nothing, with_block, with_loops, with_postponed, with_step};
+ghost use Rattle.py_emission_parts.specs.Sealed.{sealed};
 ghost use Rattle.py_emit.specs.States.{Emits, Goes, IsFirst, IsStarved, IsUnrefused, entered, entered_rest, first_rest, head_in, head_of, info, left, left_rest, loop_blocks, looped, module_shape, named_in, placed_error, postponed_rest, rest, shape_of, source_of, state, state_of, unlooped, without_path, without_source};
 ghost use Rattle.py_emit.specs.Steps.{IsOpen, step_of};
 
@@ -126,7 +126,7 @@ impl Emitter {
     }
 
     /// The blocks to which `continue` and `break` of the innermost loop go, where there is one. Answers the old ones.
-    #[tactic(auto, unfolding(py_steps::specs::Emitting::with_loops, crate::specs::States::rest))]
+    #[tactic(auto, unfolding(py_emission_parts::specs::Emitting::with_loops, crate::specs::States::rest))]
     pub fn set_loops(&mut self, loops: Option<(BlockIdx, BlockIdx)>) -> Option<(BlockIdx, BlockIdx)>
         ensures old { result ≡ (rest self.old).context.loop_blocks }
         ensures state { state self.new ≡ with_loops (loop_blocks loops) (state self.old) }
@@ -136,7 +136,7 @@ impl Emitter {
     }
 
     /// Whether the annotations of what follows are postponed. Answers what was said before.
-    #[tactic(auto, unfolding(py_steps::specs::Emitting::with_postponed, crate::specs::States::rest))]
+    #[tactic(auto, unfolding(py_emission_parts::specs::Emitting::with_postponed, crate::specs::States::rest))]
     pub fn set_postponed(&mut self, postponed: bool) -> bool
         ensures old { result ≡ (rest self.old).context.future_annotations }
         ensures state { state self.new ≡ with_postponed postponed (state self.old) }
@@ -146,7 +146,7 @@ impl Emitter {
     }
 
     /// What follows stands there in the source.
-    #[tactic(auto, unfolding(py_steps::specs::Emitting::located, crate::specs::States::rest))]
+    #[tactic(auto, unfolding(py_emission_parts::specs::Emitting::located, crate::specs::States::rest))]
     pub fn set_location(&mut self, location: SourceLocation)
         ensures state { state self.new ≡ located location (state self.old) }
         ensures rest { rest self.new ≡ rest self.old }
@@ -216,7 +216,7 @@ impl Emitter {
     ///
     /// # Errors
     /// OutOfMemory alone.
-    #[tactic(auto, unfolding(py_steps::specs::Emitting::emit))]
+    #[tactic(auto, unfolding(py_emission_parts::specs::Emitting::emit))]
     pub fn emit_arg(&mut self, instr: Instruction, arg: u32) -> Result<(), CodegenError>
         ensures { Emits result (emission_of instr arg) self.old self.new }
     {
@@ -228,7 +228,7 @@ impl Emitter {
     ///
     /// # Errors
     /// OutOfMemory alone.
-    #[tactic(auto, unfolding(py_steps::specs::Emitting::emit_count))]
+    #[tactic(auto, unfolding(py_emission_parts::specs::Emitting::emit_count))]
     pub fn emit_count(&mut self, instr: Instruction, count: usize) -> Result<(), CodegenError>
         ensures { Emits result (emit_count instr count) self.old self.new }
     {
@@ -242,7 +242,7 @@ impl Emitter {
     ///
     /// # Errors
     /// OutOfMemory alone.
-    #[tactic(auto, unfolding(py_steps::specs::Emitting::jump))]
+    #[tactic(auto, unfolding(py_emission_parts::specs::Emitting::jump))]
     pub fn emit_jump(&mut self, instr: Instruction, target: BlockIdx) -> Result<(), CodegenError>
         requires { target.0 < 0xffff_ffff }
         ensures { Emits result (jumping instr target.0) self.old self.new }
@@ -355,7 +355,7 @@ impl Emitter {
     }
 
     /// The scope's code is a generator.
-    #[tactic(auto, unfolding(py_steps::specs::Emitting::generating, crate::specs::States::rest))]
+    #[tactic(auto, unfolding(py_emission_parts::specs::Emitting::generating, crate::specs::States::rest))]
     pub fn mark_generator(&mut self)
         ensures goes { generating (state self.old) ≡ Done (state self.new) }
         ensures rest { rest self.new ≡ rest self.old }
@@ -437,7 +437,7 @@ impl Emitter {
     }
 
     /// What class mangles the names of a scope within, and the qualified name of what stands around them.
-    #[tactic(auto, unfolding(py_steps::specs::Context::with_path, py_steps::specs::Context::within_class))]
+    #[tactic(auto, unfolding(py_emission_parts::specs::Context::with_path, py_emission_parts::specs::Context::within_class))]
     fn names_within(&self, naming: Naming) -> Result<(Option<Text>, Text), AllocError>
         ensures class { IfOk result (λ names. names.0 ≡ (named_in naming (state self.now).around.context).class) }
         ensures path { IfOk result (λ names. names.1 ≡ (named_in naming (state self.now).around.context).path) }

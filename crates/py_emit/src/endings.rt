@@ -1,6 +1,6 @@
 //! The last instruction of a block, and the return of a value.
 ghost use Rattle.std.specs.Prelude.{◌≡◌, IfNone, IfSome, IfErr, OnOk};
-ghost use Rattle.py_steps.specs.Emitting.{with_step};
+ghost use Rattle.py_emission_parts.specs.Emitting.{with_step};
 ghost use Rattle.py_emit.specs.States.{IsStarved, rest, state};
 ghost use Rattle.py_emit.specs.Steps.{EndsAtBegin, step_of, with_closed, with_return};
 
@@ -26,7 +26,7 @@ impl Emitter {
     ///
     /// # Errors
     /// OutOfMemory alone.
-    #[tactic(auto, using(crate::proofs::Taking::closed_last, crate::proofs::Taking::return_first))]
+    #[tactic(auto, using(crate::proofs::LastStepLemmas::closed_last, crate::proofs::LastStepLemmas::return_first))]
     pub fn return_value(&mut self) -> Result<(), CodegenError>
         ensures ok { OnOk result (state self.new ≡ with_return (state self.old)) }
         ensures rest { OnOk result (rest self.new ≡ rest self.old) }
@@ -39,7 +39,7 @@ impl Emitter {
     }
 
     /// Appends an instruction that was taken out, or what returns its value.
-    #[tactic(auto, using(crate::proofs::Taking::closed_load, crate::proofs::Taking::closed_value))]
+    #[tactic(auto, using(crate::proofs::LastStepLemmas::closed_load, crate::proofs::LastStepLemmas::closed_value))]
     fn return_after(&mut self, last: InstructionInfo) -> Result<(), CodegenError>
         ensures ok { OnOk result (state self.new ≡ with_closed (step_of last) (state self.old)) }
         ensures rest { OnOk result (rest self.new ≡ rest self.old) }

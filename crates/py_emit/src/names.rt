@@ -6,12 +6,12 @@ ghost use Rattle.py_base.specs.Mangle.{mangled as mangled_name};
 ghost use Rattle.py_bytecode.specs.View.{constant};
 ghost use Rattle.py_bytecode.specs.Equality.{text_eq};
 ghost use Rattle.py_scope.specs.Names.{same_name};
-ghost use Rattle.py_forms.specs.Form.{Resolved};
-ghost use Rattle.py_steps.specs.Accesses.{accessed, accessed_in, delete_by, emission_of_name, load_by, store_by};
-ghost use Rattle.py_steps.specs.Context.{access_kind, cell_place, deref_kind, is_function, kind_by, mangled as mangled_here, scope_of, symbols_in};
-ghost use Rattle.py_steps.specs.EmissionParts.{unless_debug};
-ghost use Rattle.py_steps.specs.Emitting.{Refused, emit as emission_of_arg, emit_mangled as emission_mangled, refuse};
-ghost use Rattle.py_steps.specs.TableParts.{debug_constant as constant_debug, is_debug as named_debug};
+ghost use Rattle.py_control.specs.Form.{Resolved};
+ghost use Rattle.py_emission_parts.specs.Accesses.{accessed, accessed_in, delete_by, emission_of_name, load_by, store_by};
+ghost use Rattle.py_emission_parts.specs.Context.{access_kind, cell_place, deref_kind, is_function, kind_by, mangled as mangled_here, scope_of, symbols_in};
+ghost use Rattle.py_emission_parts.specs.EmissionParts.{unless_debug};
+ghost use Rattle.py_emission_parts.specs.Emitting.{Refused, emit as emission_of_arg, emit_mangled as emission_mangled, refuse};
+ghost use Rattle.py_emission_parts.specs.TableParts.{debug_constant as constant_debug, is_debug as named_debug};
 ghost use Rattle.py_emit.specs.Access.{emission_of_access, kind_of, usage_of};
 ghost use Rattle.py_emit.specs.States.{Emits, IsStarved, IsTold, rest, state};
 
@@ -115,7 +115,7 @@ impl Emitter {
         }
     }
 
-    #[tactic(auto, unfolding(py_steps::specs::Emitting::by_level, crate::specs::States::rest))]
+    #[tactic(auto, unfolding(py_emission_parts::specs::Emitting::by_level, crate::specs::States::rest))]
     fn load_name(&mut self, name: &str) -> Result<(), CodegenError>
         ensures { Emits result (emission_of_name name.now) self.old self.new }
     {
@@ -140,7 +140,7 @@ impl Emitter {
     ///
     /// # Errors
     /// OutOfMemory alone.
-    #[tactic(auto, unfolding(py_steps::specs::Accesses::accessed))]
+    #[tactic(auto, unfolding(py_emission_parts::specs::Accesses::accessed))]
     pub fn access(&mut self, usage: NameUsage, name: &str) -> Result<(), CodegenError>
         ensures { Emits result (accessed (usage_of usage) name.now) self.old self.new }
     {
@@ -296,7 +296,7 @@ impl Emitter {
     ///
     /// # Errors
     /// OutOfMemory alone.
-    #[tactic(auto, unfolding(py_steps::specs::Emitting::emit_mangled))]
+    #[tactic(auto, unfolding(py_emission_parts::specs::Emitting::emit_mangled))]
     pub fn emit_mangled(&mut self, instr: Instruction, name: &str) -> Result<(), CodegenError>
         ensures { Emits result (emission_mangled instr name.now) self.old self.new }
     {
@@ -307,7 +307,7 @@ impl Emitter {
     }
 
     /// The SyntaxError with a text, or want of memory for it.
-    #[tactic(auto, unfolding(py_steps::specs::Emitting::refuse))]
+    #[tactic(auto, unfolding(py_emission_parts::specs::Emitting::refuse))]
     pub fn syntax_error(&mut self, text: &str) -> CodegenError
         ensures goes { result.error ≢ CodegenErrorType.OutOfMemory → refuse (CodegenErrorType.SyntaxError text.now) (state self.old) ≡ Refused result.error result.location }
         ensures told { IsTold result (rest self.old).path }

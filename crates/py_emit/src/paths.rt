@@ -1,7 +1,7 @@
 //! Qualified names.
 ghost use Rattle.std.specs.Prelude.{◌≡◌, ◌++◌, IfErr, IfOk, OnOk};
-ghost use Rattle.py_steps.specs.Within.{class_path as path_of_class, is_global as is_declared_global};
-ghost use Rattle.py_steps.specs.Context.{behind_dot, function_path as path_of_function, mangled, qualified as qualified_name, scope_of};
+ghost use Rattle.py_emission_parts.specs.Within.{class_path as path_of_class, is_global as is_declared_global};
+ghost use Rattle.py_emission_parts.specs.Context.{behind_dot, function_path as path_of_function, mangled, qualified as qualified_name, scope_of};
 ghost use Rattle.py_emit.specs.States.{IsStarved, rest, state};
 
 use crate::emitter::Emitter;

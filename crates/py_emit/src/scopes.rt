@@ -7,7 +7,7 @@ ghost use Rattle.py_ir.specs.Chain.{plain};
 ghost use Rattle.py_ir.specs.Final.{IsFinal, tables_of};
 ghost use Rattle.py_ir.specs.FlatCode.{info_of};
 ghost use Rattle.py_ir.specs.Refusals.{NoneBefore, Refused};
-ghost use Rattle.py_steps.specs.Context.{cells_among, frees_among, cells_here, frees_here, symbols_in};
+ghost use Rattle.py_emission_parts.specs.Context.{cells_among, frees_among, cells_here, frees_here, symbols_in};
 ghost use Rattle.py_emit.specs.States.{IsFirst, flagged, head_in, shape_of};
 
 use crate::context::{EmitContext, ScopeHead};

@@ -2,10 +2,10 @@
 ghost use Rattle.std.specs.Prelude.{◌≡◌, IfOk, IfErr, OnOk};
 ghost use Rattle.py_bytecode.specs.Equality.{const_eq, text_eq};
 ghost use Rattle.py_bytecode.specs.View.{constant as constant_of};
-ghost use Rattle.py_steps.specs.Emitting.{add_constant, add_varname, emit_constant, emit_name as emission_of_name, emit_varname as emission_of_varname, place_in, with_constant, with_name, with_varname};
-ghost use Rattle.py_steps.specs.Context.{mangled};
-ghost use Rattle.py_steps.specs.EmissionParts.{unless_debug};
-ghost use Rattle.py_steps.specs.Refused.{no_assignment};
+ghost use Rattle.py_emission_parts.specs.Emitting.{add_constant, add_varname, emit_constant, emit_name as emission_of_name, emit_varname as emission_of_varname, place_in, with_constant, with_name, with_varname};
+ghost use Rattle.py_emission_parts.specs.Context.{mangled};
+ghost use Rattle.py_emission_parts.specs.EmissionParts.{unless_debug};
+ghost use Rattle.py_emission_parts.specs.Refused.{no_assignment};
 ghost use Rattle.py_emit.specs.States.{Emits, IsStarved, rest, state};
 
 use crate::emitter::Emitter;
@@ -34,7 +34,7 @@ impl Emitter {
     ///
     /// # Errors
     /// OutOfMemory alone.
-    #[tactic(auto, unfolding(py_steps::specs::Emitting::with_name, crate::specs::States::rest))]
+    #[tactic(auto, unfolding(py_emission_parts::specs::Emitting::with_name, crate::specs::States::rest))]
     fn own_name(&mut self, name: &str) -> Result<u32, CodegenError>
         ensures place { IfOk result (λ place. place ≡ place_in text_eq (state self.old).names name.now) }
         ensures next { OnOk result (state self.new ≡ with_name name.now (state self.old)) }
@@ -64,7 +64,7 @@ impl Emitter {
     }
 
     /// The place of a name, as the innermost class writes it, among those that the code object has of its own.
-    #[tactic(auto, unfolding(py_steps::specs::Emitting::add_varname))]
+    #[tactic(auto, unfolding(py_emission_parts::specs::Emitting::add_varname))]
     fn mangled_varname(&mut self, name: &str) -> Result<u32, CodegenError>
         ensures place { IfOk result (λ place. place ≡ place_in text_eq (state self.old).varnames (mangled (state self.old).around.context name.now)) }
         ensures emits { Emits result (add_varname name.now) self.old self.new }
@@ -79,7 +79,7 @@ impl Emitter {
     ///
     /// # Errors
     /// OutOfMemory alone.
-    #[tactic(auto, unfolding(py_steps::specs::Emitting::with_varname, crate::specs::States::rest))]
+    #[tactic(auto, unfolding(py_emission_parts::specs::Emitting::with_varname, crate::specs::States::rest))]
     fn own_varname(&mut self, name: &str) -> Result<u32, CodegenError>
         ensures place { IfOk result (λ place. place ≡ place_in text_eq (state self.old).varnames name.now) }
         ensures next { OnOk result (state self.new ≡ with_varname name.now (state self.old)) }
@@ -120,7 +120,7 @@ impl Emitter {
     ///
     /// # Errors
     /// OutOfMemory alone.
-    #[tactic(auto, unfolding(py_steps::specs::Emitting::emit_varname))]
+    #[tactic(auto, unfolding(py_emission_parts::specs::Emitting::emit_varname))]
     pub fn emit_varname(&mut self, instr: Instruction, name: &str) -> Result<(), CodegenError>
         ensures { Emits result (emission_of_varname instr name.now) self.old self.new }
     {
@@ -132,7 +132,7 @@ impl Emitter {
     ///
     /// # Errors
     /// OutOfMemory alone.
-    #[tactic(auto, unfolding(py_steps::specs::Emitting::with_constant, crate::specs::States::rest), using(py_bytecode::proofs::Entered::constants_entered, py_bytecode::proofs::Entered::constant_place))]
+    #[tactic(auto, unfolding(py_emission_parts::specs::Emitting::with_constant, crate::specs::States::rest), using(py_bytecode::proofs::Entered::constants_entered, py_bytecode::proofs::Entered::constant_place))]
     pub fn add_constant(&mut self, constant: ConstantData) -> Result<u32, CodegenError>
         ensures place { IfOk result (λ place. place ≡ place_in const_eq (state self.old).constants (constant_of constant)) }
         ensures next { OnOk result (state self.new ≡ with_constant (constant_of constant) (state self.old)) }
@@ -149,7 +149,7 @@ impl Emitter {
     ///
     /// # Errors
     /// OutOfMemory alone.
-    #[tactic(auto, unfolding(py_steps::specs::Emitting::add_constant))]
+    #[tactic(auto, unfolding(py_emission_parts::specs::Emitting::add_constant))]
     pub fn enter_constant(&mut self, constant: ConstantData) -> Result<(), CodegenError>
         ensures { Emits result (add_constant (constant_of constant)) self.old self.new }
     {
@@ -176,7 +176,7 @@ impl Emitter {
     ///
     /// # Errors
     /// OutOfMemory alone.
-    #[tactic(auto, unfolding(py_steps::specs::Emitting::emit_constant))]
+    #[tactic(auto, unfolding(py_emission_parts::specs::Emitting::emit_constant))]
     pub fn load_const(&mut self, constant: ConstantData) -> Result<(), CodegenError>
         ensures { Emits result (emit_constant Instruction.LoadConst (constant_of constant)) self.old self.new }
     {
@@ -188,7 +188,7 @@ impl Emitter {
     ///
     /// # Errors
     /// OutOfMemory alone.
-    #[tactic(auto, unfolding(py_steps::specs::Emitting::emit_constant))]
+    #[tactic(auto, unfolding(py_emission_parts::specs::Emitting::emit_constant))]
     pub fn return_const(&mut self, constant: ConstantData) -> Result<(), CodegenError>
         ensures { Emits result (emit_constant Instruction.ReturnConst (constant_of constant)) self.old self.new }
     {
@@ -200,7 +200,7 @@ impl Emitter {
     ///
     /// # Errors
     /// OutOfMemory alone.
-    #[tactic(auto, unfolding(py_steps::specs::Emitting::emit_name))]
+    #[tactic(auto, unfolding(py_emission_parts::specs::Emitting::emit_name))]
     pub fn emit_name(&mut self, instr: Instruction, name: &str) -> Result<(), CodegenError>
         ensures { Emits result (emission_of_name instr name.now) self.old self.new }
     {

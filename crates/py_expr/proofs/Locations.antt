@@ -1,7 +1,7 @@
 -- An expression and its return begin with the move to its location: it does not matter who moves there first.
 use Rattle.std.proofs.Common.{◌≡◌, refl}
 use Rattle.py_tree.specs.Tree as tree
-use Rattle.py_steps.specs.Emitting.{State, located, move}
+use Rattle.py_emission_parts.specs.Emitting.{State, located, move}
 use Rattle.py_emission.specs.Emission.{emission, emission_of_return}
 
 pub entering : (e : tree.Expr) (s : State) → emission e s ≡ emission e (located (tree.expr_location e) s)

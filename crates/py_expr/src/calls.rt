@@ -1,9 +1,9 @@
 //! Calls.
 ghost use Rattle.std.specs.Prelude.{◌≡◌, false, IfOk};
 ghost use Rattle.py_tree.specs.View.{expr_tree, exprs, keywords as keyword_trees};
-ghost use Rattle.py_steps.specs.EmissionParts.{elements, in_turn};
+ghost use Rattle.py_emission_parts.specs.EmissionParts.{elements, in_turn};
 ghost use Rattle.py_emission.specs.Emission.{all_emissions, emissions, keyword_emissions};
-ghost use Rattle.py_steps.specs.Elements.{bare, starred};
+ghost use Rattle.py_emission_parts.specs.Elements.{bare, starred};
 ghost use Rattle.py_emit.specs.States.{Emits};
 ghost use Rattle.py_expr_parts.specs.Calls.{argument_tuple, arguments, called, callee_value, is_method, keyworded, positional, taken};
 

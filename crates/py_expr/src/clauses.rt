@@ -1,7 +1,7 @@
 //! The clauses of comprehensions, each of which stands around those after it.
 ghost use Rattle.std.specs.Prelude.{◌≡◌, ◌<◌, suc, IfErr, IfOk};
 ghost use Rattle.py_tree.specs.View.{expr_tree, exprs, generators as clause_trees};
-ghost use Rattle.py_steps.specs.Comprehensions.{conditions};
+ghost use Rattle.py_emission_parts.specs.Comprehensions.{conditions};
 ghost use Rattle.py_emission.specs.Emission.{all_emissions, clause_emissions, emission};
 ghost use Rattle.py_emit.specs.States.{Emits, Same, rest, state};
 ghost use Rattle.py_emit.specs.Steps.{IsOpen};

@@ -1,8 +1,8 @@
 //! Comparisons, one or a chain of them.
 ghost use Rattle.std.specs.Prelude.{◌≡◌, ◌<◌, length};
 ghost use Rattle.py_tree.specs.View.{expr_tree, exprs};
-ghost use Rattle.py_steps.specs.Emitting.{◌▸◌};
-ghost use Rattle.py_steps.specs.EmissionParts.{chain, emission_of_compare, in_turn, links, first_comparison, values};
+ghost use Rattle.py_emission_parts.specs.Emitting.{◌▸◌};
+ghost use Rattle.py_emission_parts.specs.EmissionParts.{chain, emission_of_compare, in_turn, links, first_comparison, values};
 ghost use Rattle.py_emission.specs.Emission.{all_emissions, emissions};
 ghost use Rattle.py_emit.specs.States.{Emits};
 ghost use Rattle.py_expr_parts.specs.Turns.{linked};

@@ -1,10 +1,10 @@
 //! Comprehensions: a scope within that is called at once with the first iterator.
 ghost use Rattle.std.specs.Prelude.{◌≡◌, ◌<◌, length};
 ghost use Rattle.py_tree.specs.View.{dict_comp_tree, expr_tree, generator_exp_tree, generators as clause_trees, list_comp_tree, set_comp_tree};
-ghost use Rattle.py_steps.specs.Children.{child, made};
-ghost use Rattle.py_steps.specs.Comprehensions.{as_element, called_at_once, clauses, comprehension_shape};
-ghost use Rattle.py_steps.specs.Within.{comprehension_inside};
-ghost use Rattle.py_steps.specs.Emitting.{◌▸◌};
+ghost use Rattle.py_emission_parts.specs.Children.{child, made};
+ghost use Rattle.py_emission_parts.specs.Comprehensions.{as_element, called_at_once, clauses, comprehension_shape};
+ghost use Rattle.py_emission_parts.specs.Within.{comprehension_inside};
+ghost use Rattle.py_emission_parts.specs.Emitting.{◌▸◌};
 ghost use Rattle.py_emission.specs.Emission.{clause_emissions, emission};
 ghost use Rattle.py_emit.specs.States.{Emits, Same, rest, state};
 ghost use Rattle.py_expr_scopes.specs.Comprehensions.{added, comprehension_of, element_of, first_iterable, name_of, scope_of, turn};
@@ -95,7 +95,7 @@ pub fn compile_comprehension(
 
 /// Emits a function of the scope, and its call with the iterator of what the first clause goes over.
 #[cycle(code)]
-#[tactic(auto, unfolding(py_steps::specs::Comprehensions::called_at_once))]
+#[tactic(auto, unfolding(py_emission_parts::specs::Comprehensions::called_at_once))]
 fn call_comprehension(
     em: &mut Emitter,
     generators: &[Comprehension],

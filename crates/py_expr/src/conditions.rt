@@ -2,8 +2,8 @@
 ghost use Rattle.std.specs.Prelude.{◌≡◌, ◌<◌};
 ghost use Rattle.py_bytecode.specs.Values.{flip};
 ghost use Rattle.py_tree.specs.View.{bool_op_tree, expr_tree, exprs};
-ghost use Rattle.py_steps.specs.TableParts.{deciding};
-ghost use Rattle.py_steps.specs.EmissionParts.{bool_test, bool_value, past_tests, shorts, some_test, some_values, tests, values, truth_of};
+ghost use Rattle.py_emission_parts.specs.TableParts.{deciding};
+ghost use Rattle.py_emission_parts.specs.EmissionParts.{bool_test, bool_value, past_tests, shorts, some_test, some_values, tests, values, truth_of};
 ghost use Rattle.py_emission.specs.Emission.{all_emissions, emission, emission_of_test};
 ghost use Rattle.py_emit.specs.States.{Emits, state};
 ghost use Rattle.py_expr_parts.specs.Turns.{short};

@@ -2,8 +2,8 @@
 ghost use Rattle.std.specs.Prelude.{◌≡◌};
 ghost use Rattle.py_tree.specs.View.{expr_tree, exprs, list_tree, opt_box, opt_expr, opt_exprs, set_tree, slice_tree, tuple_tree};
 ghost use Rattle.py_bytecode.specs.Objects as object;
-ghost use Rattle.py_steps.specs.Elements.{pairs};
-ghost use Rattle.py_steps.specs.EmissionParts.{dict_value, display, elements, emission_of_dict, slice_step, value_or, values};
+ghost use Rattle.py_emission_parts.specs.Elements.{pairs};
+ghost use Rattle.py_emission_parts.specs.EmissionParts.{dict_value, display, elements, emission_of_dict, slice_step, value_or, values};
 ghost use Rattle.py_emission.specs.Emission.{all_emissions, emission, opt_emission, opt_emissions};
 ghost use Rattle.py_emit.specs.States.{Emits, state};
 ghost use Rattle.py_expr_parts.specs.Dicts.{entry_begun};

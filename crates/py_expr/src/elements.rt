@@ -1,8 +1,8 @@
 //! Elements, some of which may be starred.
 ghost use Rattle.std.specs.Prelude.{◌≡◌, ◌≤◌, [], length, IfOk};
 ghost use Rattle.py_tree.specs.View.{expr_tree, exprs};
-ghost use Rattle.py_steps.specs.Elements.{groups};
-ghost use Rattle.py_steps.specs.EmissionParts.{built, elements, in_turn, unpacked};
+ghost use Rattle.py_emission_parts.specs.Elements.{groups};
+ghost use Rattle.py_emission_parts.specs.EmissionParts.{built, elements, in_turn, unpacked};
 ghost use Rattle.py_emission.specs.Emission.{all_emissions, emissions};
 ghost use Rattle.py_emit.specs.States.{Emits};
 ghost use Rattle.py_expr_parts.specs.Turns.{groups_by, element_behind};

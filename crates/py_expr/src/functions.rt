@@ -1,9 +1,9 @@
 //! Lambdas, and the defaults of parameters.
 ghost use Rattle.std.specs.Prelude.{◌≡◌, ◌+◌, ◌≤◌, length, IfOk};
 ghost use Rattle.py_tree.specs.View.{args, arguments, expr_tree, opt_box};
-ghost use Rattle.py_steps.specs.Children.{child, emission_of_defaults, flags_of_defaults, function_scope, some_emitted};
-ghost use Rattle.py_steps.specs.Within.{lambda_inside, some_flag};
-ghost use Rattle.py_steps.specs.EmissionParts.{built, in_turn, map_of};
+ghost use Rattle.py_emission_parts.specs.Children.{child, emission_of_defaults, flags_of_defaults, function_scope, some_emitted};
+ghost use Rattle.py_emission_parts.specs.Within.{lambda_inside, some_flag};
+ghost use Rattle.py_emission_parts.specs.EmissionParts.{built, in_turn, map_of};
 ghost use Rattle.py_emission.specs.Emission.{default_emissions, emission_of_return, lambda_value};
 ghost use Rattle.py_emission.specs.Parameters.{function_shape, parameters};
 ghost use Rattle.py_emit.specs.States.{Emits, Same, rest, state};

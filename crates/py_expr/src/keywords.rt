@@ -1,8 +1,8 @@
 //! The keywords of calls.
 ghost use Rattle.std.specs.Prelude.{◌≡◌, [], length, IfOk};
 ghost use Rattle.py_tree.specs.View.{expr_tree, keywords as keyword_trees};
-ghost use Rattle.py_steps.specs.Elements.{groups};
-ghost use Rattle.py_steps.specs.EmissionParts.{in_turn, joined_map, map_of, values_in};
+ghost use Rattle.py_emission_parts.specs.Elements.{groups};
+ghost use Rattle.py_emission_parts.specs.EmissionParts.{in_turn, joined_map, map_of, values_in};
 ghost use Rattle.py_emission.specs.Emission.{keyword_emissions};
 ghost use Rattle.py_emit.specs.States.{Emits};
 ghost use Rattle.py_expr_parts.specs.Calls.{keyword_behind, keyword_emission, named_if_any, named_values};

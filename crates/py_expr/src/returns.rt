@@ -3,8 +3,8 @@ ghost use Rattle.std.specs.Prelude.{◌≡◌};
 ghost use Rattle.py_tree.specs.Tree.{expr_location};
 ghost use Rattle.py_tree.specs.View.{expr_tree, exprs, joined_str_tree};
 ghost use Rattle.py_emission.specs.Texts.{texts_of};
-ghost use Rattle.py_steps.specs.Emitting.{◌▸◌, emit as emitting};
-ghost use Rattle.py_steps.specs.EmissionParts.{values};
+ghost use Rattle.py_emission_parts.specs.Emitting.{◌▸◌, emit as emitting};
+ghost use Rattle.py_emission_parts.specs.EmissionParts.{values};
 ghost use Rattle.py_emission.specs.Emission.{all_emissions, emission, emission_of_return, joined_return};
 ghost use Rattle.py_emit.specs.States.{Emits, state};
 

@@ -2,9 +2,9 @@
 //! before it leaves off.
 ghost use Rattle.std.specs.Prelude.{◌≡◌};
 ghost use Rattle.py_tree.specs.View.{expr_tree, exprs, named_expr_tree};
-ghost use Rattle.py_steps.specs.Elements.{bare};
-ghost use Rattle.py_steps.specs.Emitting.{◌▸◌, emit_mangled, emit as emitting};
-ghost use Rattle.py_steps.specs.EmissionParts.{in_turn, unless_debug, unpack};
+ghost use Rattle.py_emission_parts.specs.Elements.{bare};
+ghost use Rattle.py_emission_parts.specs.Emitting.{◌▸◌, emit_mangled, emit as emitting};
+ghost use Rattle.py_emission_parts.specs.EmissionParts.{in_turn, unless_debug, unpack};
 ghost use Rattle.py_emission.specs.Emission.{all_stores, emission, emission_of_delete, emission_of_deletes, emission_of_store, stores};
 ghost use Rattle.py_emit.specs.States.{Emits, state};
 ghost use Rattle.py_expr_parts.specs.Targets.{bare_of};

@@ -3,7 +3,7 @@ ghost use Rattle.std.specs.Prelude.{◌≡◌, []};
 ghost use Rattle.py_tree.specs.View.{expr_tree, exprs, formatted_value_tree, joined_str_tree, opt_box};
 ghost use Rattle.py_bytecode.specs.Objects as object;
 ghost use Rattle.py_emission.specs.Texts.{texts_of};
-ghost use Rattle.py_steps.specs.EmissionParts.{built, joined_value, value_or, values};
+ghost use Rattle.py_emission_parts.specs.EmissionParts.{built, joined_value, value_or, values};
 ghost use Rattle.py_emission.specs.Emission.{all_emissions, emission, opt_emission};
 ghost use Rattle.py_emit.specs.States.{Emits, state};
 

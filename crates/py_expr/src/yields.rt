@@ -2,8 +2,8 @@
 ghost use Rattle.std.specs.Prelude.{◌≡◌};
 ghost use Rattle.py_tree.specs.View.{expr_tree, opt_box, yield_from_tree, yield_tree};
 ghost use Rattle.py_bytecode.specs.Objects as object;
-ghost use Rattle.py_steps.specs.Emitting.{◌▸◌, emit as emitting, emit_constant, generating};
-ghost use Rattle.py_steps.specs.EmissionParts.{only_in_function, value_or};
+ghost use Rattle.py_emission_parts.specs.Emitting.{◌▸◌, emit as emitting, emit_constant, generating};
+ghost use Rattle.py_emission_parts.specs.EmissionParts.{only_in_function, value_or};
 ghost use Rattle.py_emission.specs.Emission.{emission, opt_emission};
 ghost use Rattle.py_emit.specs.States.{Emits, state};
 

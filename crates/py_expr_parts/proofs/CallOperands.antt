@@ -6,10 +6,10 @@ use Rattle.py_tree.specs.declared.expressions.Expr.{Expr}
 use Rattle.py_tree.specs.declared.expressions.KeywordOf.{KeywordOf}
 use Rattle.py_bytecode.specs.declared.instruction.Instruction.{Instruction}
 use Rattle.py_bytecode.specs.declared.instruction.Instruction.TheVariants as op
-use Rattle.py_steps.specs.Elements.{Element, Single, Spread, Callee, Function, Method, bare, groups, starred}
-use Rattle.py_steps.specs.TableParts.{any}
-use Rattle.py_steps.specs.Emitting.{Emission, ◌▸◌, emit_count, emit_mangled}
-use Rattle.py_steps.specs.EmissionParts.{Keywords, built, call_by, checked, elements, emission_of_call, in_turn, joined_map, map_of, packed, packed_tuple, placed}
+use Rattle.py_emission_parts.specs.Elements.{Element, Single, Spread, Callee, Function, Method, bare, groups, starred}
+use Rattle.py_emission_parts.specs.TableParts.{any}
+use Rattle.py_emission_parts.specs.Emitting.{Emission, ◌▸◌, emit_count, emit_mangled}
+use Rattle.py_emission_parts.specs.EmissionParts.{Keywords, built, call_by, checked, elements, emission_of_call, in_turn, joined_map, map_of, packed, packed_tuple, placed}
 use Rattle.py_emission.specs.Emission.{all_emissions, keyword_emissions}
 use Rattle.py_expr_parts.specs.declared.calls.CallType.{CallType}
 use Rattle.py_expr_parts.specs.declared.calls.CallType.TheVariants as call

@@ -2,9 +2,9 @@
 use Rattle.std.proofs.Common.{◌≡◌, ℕ, suc, ◌+◌, List, [], ◌∷◌, ◌++◌, length, Bool, true, false, refl, sym, ap, ◌∙◌, arith}
 use Rattle.std.proofs.lemmas.List.{length-append}
 use Rattle.py_bytecode.specs.declared.instruction.Instruction.TheVariants as op
-use Rattle.py_steps.specs.Elements.{Element, Single, Spread, front, behind, grouped, groups, sides}
-use Rattle.py_steps.specs.Emitting.{Emission, ◌▸◌, emit, emit_count}
-use Rattle.py_steps.specs.EmissionParts.{dict_value, in_turn, map_of_pairs, updates}
+use Rattle.py_emission_parts.specs.Elements.{Element, Single, Spread, front, behind, grouped, groups, sides}
+use Rattle.py_emission_parts.specs.Emitting.{Emission, ◌▸◌, emit, emit_count}
+use Rattle.py_emission_parts.specs.EmissionParts.{dict_value, in_turn, map_of_pairs, updates}
 use Rattle.py_emit.proofs.Joined.{joined, keep_last}
 use Rattle.py_tree.specs.Tree as tree
 use Rattle.py_emission.specs.Emission.{emission}

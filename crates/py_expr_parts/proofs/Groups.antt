@@ -8,9 +8,9 @@ use Rattle.py_tree.specs.Tree as tree
 use Rattle.py_tree.specs.View.{expr_tree, exprs}
 use Rattle.py_bytecode.specs.declared.instruction.Instruction.{Instruction}
 use Rattle.py_bytecode.specs.declared.instruction.Instruction.TheVariants as op
-use Rattle.py_steps.specs.Elements.{Element, Single, Spread, bare, grouped, groups, starred}
-use Rattle.py_steps.specs.Emitting.{Emission, ◌▸◌, emit_count}
-use Rattle.py_steps.specs.EmissionParts.{built, display, elements, in_turn, values}
+use Rattle.py_emission_parts.specs.Elements.{Element, Single, Spread, bare, grouped, groups, starred}
+use Rattle.py_emission_parts.specs.Emitting.{Emission, ◌▸◌, emit_count}
+use Rattle.py_emission_parts.specs.EmissionParts.{built, display, elements, in_turn, values}
 use Rattle.py_emission.specs.Emission.{all_emissions, emissions}
 use Rattle.py_emit.proofs.Joined.{joined, keep_last, turn_append}
 use Rattle.py_expr_parts.proofs.Turns.{if_not}

@@ -2,9 +2,9 @@
 use Rattle.std.proofs.Common.{◌≡◌, Bool, true, false, refl, ap}
 use Rattle.std.specs.Prelude.{if◌then◌else◌}
 use Rattle.py_base.specs.declared.errors.CodegenErrorType.{CodegenErrorType}
-use Rattle.py_steps.specs.Context.{is_function}
-use Rattle.py_steps.specs.Emitting.{Emission, State, ◌▸◌, by_context, keep, refuse}
-use Rattle.py_steps.specs.EmissionParts.{only_in_function}
+use Rattle.py_emission_parts.specs.Context.{is_function}
+use Rattle.py_emission_parts.specs.Emitting.{Emission, State, ◌▸◌, by_context, keep, refuse}
+use Rattle.py_emission_parts.specs.EmissionParts.{only_in_function}
 
 -- where the present scope is a function, what follows goes on
 pub inside_function : (e : CodegenErrorType) (v : Emission) (s : State) → only_in_function e v s ≡ (only_in_function e keep ▸ v) s

@@ -9,9 +9,9 @@ use Rattle.py_tree.specs.View.{expr_tree, keywords}
 use Rattle.py_bytecode.specs.declared.instruction.Instruction.TheVariants as op
 use Rattle.py_bytecode.specs.Objects as const
 use Rattle.py_bytecode.specs.Objects.{Const, Consts, consts_of, listed, no_consts, more_consts}
-use Rattle.py_steps.specs.Elements.{Single, Spread, grouped, groups}
-use Rattle.py_steps.specs.Emitting.{Emission, ◌▸◌, emit_constant, emit_count, keep}
-use Rattle.py_steps.specs.EmissionParts.{Keywords, checked, in_turn, joined_map, map_of, name_values, names_in, values_in}
+use Rattle.py_emission_parts.specs.Elements.{Single, Spread, grouped, groups}
+use Rattle.py_emission_parts.specs.Emitting.{Emission, ◌▸◌, emit_constant, emit_count, keep}
+use Rattle.py_emission_parts.specs.EmissionParts.{Keywords, checked, in_turn, joined_map, map_of, name_values, names_in, values_in}
 use Rattle.py_emission.specs.Emission.{emission, emissions, keyword_emissions}
 use Rattle.py_emit.proofs.Joined.{joined, keep_last}
 use Rattle.py_expr_parts.specs.Calls.{checked_name, closed_map, keyword_emission, map_rest}

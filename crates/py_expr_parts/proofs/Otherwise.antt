@@ -16,9 +16,9 @@ use Rattle.py_tree.specs.declared.expressions.ExprName.{ExprName}
 use Rattle.py_tree.specs.declared.expressions.ExprStarredOf.{ExprStarredOf}
 use Rattle.py_tree.specs.declared.expressions.ExprUnaryOpOf.{ExprUnaryOpOf}
 use Rattle.py_bytecode.specs.declared.instruction.Instruction.TheVariants as op
-use Rattle.py_steps.specs.Elements.{Single, Function}
-use Rattle.py_steps.specs.Emitting.{◌▸◌, emit}
-use Rattle.py_steps.specs.EmissionParts.{truth_of}
+use Rattle.py_emission_parts.specs.Elements.{Single, Function}
+use Rattle.py_emission_parts.specs.Emitting.{◌▸◌, emit}
+use Rattle.py_emission_parts.specs.EmissionParts.{truth_of}
 use Rattle.py_emission.specs.Emission.{emission, emission_of_return, emission_of_test, emissions}
 
 pub as_layer : (x : Expr) → expr_tree x ≡ expr_layer expr_tree (out-Expr x)

@@ -4,7 +4,7 @@ use Rattle.py_tree.specs.declared.expressions.Expr.{Expr}
 use Rattle.py_tree.specs.View.{expr_tree, exprs}
 use Rattle.py_base.specs.declared.location.SourceLocation.{SourceLocation}
 use Rattle.py_base.specs.declared.errors.CodegenErrorType.{CodegenErrorType}
-use Rattle.py_steps.specs.Emitting.{Begin, Done, Emission, Refused, State, begin, by_level, located, move, new_block, refuse, with_block, with_step}
+use Rattle.py_emission_parts.specs.Emitting.{Begin, Done, Emission, Refused, State, begin, by_level, located, move, new_block, refuse, with_block, with_step}
 use Rattle.py_emission.specs.Emission.{all_emissions}
 
 pub move_goes : (at : SourceLocation) (s : State) → move at s ≡ Done (located at s)

@@ -12,11 +12,11 @@ use Rattle.py_tree.specs.declared.expressions.Expr.TheOpen.{Expr-F}
 use Rattle.py_tree.specs.declared.expressions.Expr.TheViews.{roll-Expr, out-Expr, rolls-Starred}
 use Rattle.py_tree.specs.declared.expressions.ExprStarredOf.{ExprStarredOf}
 use Rattle.py_bytecode.specs.declared.instruction.Instruction.TheVariants as op
-use Rattle.py_steps.specs.Elements.{Element, Single, Spread, after_star, bare, before_star, stars}
+use Rattle.py_emission_parts.specs.Elements.{Element, Single, Spread, after_star, bare, before_star, stars}
 use Rattle.py_base.specs.declared.errors.CodegenErrorType.TheVariants as error
-use Rattle.py_steps.specs.Emitting.{Emission, ◌▸◌, emit, emit_count, move, refuse}
-use Rattle.py_steps.specs.EmissionParts.{in_turn, unpack_starred, unpacking}
-use Rattle.py_steps.specs.Refused.{few_aside}
+use Rattle.py_emission_parts.specs.Emitting.{Emission, ◌▸◌, emit, emit_count, move, refuse}
+use Rattle.py_emission_parts.specs.EmissionParts.{in_turn, unpack_starred, unpacking}
+use Rattle.py_emission_parts.specs.Refused.{few_aside}
 use Rattle.py_emission.specs.Emission.{all_stores, stores}
 use Rattle.py_expr_parts.specs.Targets.{bare_of}
 use Rattle.py_expr_parts.specs.Turns.{is_spread}

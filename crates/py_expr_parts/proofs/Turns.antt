@@ -14,10 +14,10 @@ use Rattle.py_base.specs.declared.shapes.Malformed.{Malformed}
 use Rattle.py_base.specs.declared.shapes.Malformed.TheVariants as shape
 use Rattle.py_base.specs.declared.errors.CodegenErrorType.{CodegenErrorType}
 use Rattle.py_base.specs.declared.errors.CodegenErrorType.TheVariants as error
-use Rattle.py_steps.specs.Elements.{pairs}
-use Rattle.py_steps.specs.TableParts.{deciding}
-use Rattle.py_steps.specs.Emitting.{Emission, State, Refused, ◌▸◌, jump, refuse}
-use Rattle.py_steps.specs.EmissionParts.{Emissions, chain, comparisons, dict_value, emission_of_compare, emission_of_dict, emission_of_link, first_comparison, in_turn, keeping_jump, links, shorts, some_test, past_tests, tests, values}
+use Rattle.py_emission_parts.specs.Elements.{pairs}
+use Rattle.py_emission_parts.specs.TableParts.{deciding}
+use Rattle.py_emission_parts.specs.Emitting.{Emission, State, Refused, ◌▸◌, jump, refuse}
+use Rattle.py_emission_parts.specs.EmissionParts.{Emissions, chain, comparisons, dict_value, emission_of_compare, emission_of_dict, emission_of_link, first_comparison, in_turn, keeping_jump, links, shorts, some_test, past_tests, tests, values}
 use Rattle.py_emission.specs.Emission.{all_emissions, emission, emission_of_test, opt_emissions}
 use Rattle.py_emit.specs.States.{IsTold, placed_error}
 use Rattle.py_emit.proofs.Joined.{joined, keep_last}

@@ -4,10 +4,10 @@ use Rattle.py_tree.specs.Tree as tree
 use Rattle.py_bytecode.specs.declared.instruction.Instruction.{Instruction}
 use Rattle.py_bytecode.specs.declared.instruction.Instruction.TheVariants as op
 use Rattle.py_bytecode.specs.Objects as const
-use Rattle.py_steps.specs.Elements.{Element, Single, Spread, Callee, Function, Method, bare, groups, starred}
-use Rattle.py_steps.specs.Emitting.{Emission, ◌▸◌, emit_constant, emit_count, emit_mangled, keep}
-use Rattle.py_steps.specs.EmissionParts.{Keywords, built, checked, in_turn, joined_map, map_of, names_in, unless_debug, values_in}
-use Rattle.py_steps.specs.Refused.{no_assignment}
+use Rattle.py_emission_parts.specs.Elements.{Element, Single, Spread, Callee, Function, Method, bare, groups, starred}
+use Rattle.py_emission_parts.specs.Emitting.{Emission, ◌▸◌, emit_constant, emit_count, emit_mangled, keep}
+use Rattle.py_emission_parts.specs.EmissionParts.{Keywords, built, checked, in_turn, joined_map, map_of, names_in, unless_debug, values_in}
+use Rattle.py_emission_parts.specs.Refused.{no_assignment}
 use Rattle.py_emission.specs.Emission.{emissions}
 use Rattle.py_expr_parts.specs.declared.calls.CallType.{CallType}
 use Rattle.py_expr_parts.specs.declared.calls.CallType.TheVariants as call

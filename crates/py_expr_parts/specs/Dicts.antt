@@ -2,8 +2,8 @@
 use Rattle.std.specs.Prelude.{ℕ, zero, suc, ◌+◌, List, [], ◌∷◌, Bool, true, false, Option, Some, None}
 use Rattle.py_tree.specs.Tree as tree
 use Rattle.py_bytecode.specs.declared.instruction.Instruction.TheVariants as op
-use Rattle.py_steps.specs.Elements.{Element, Single, Spread}
-use Rattle.py_steps.specs.Emitting.{Emission, ◌▸◌, emit, emit_count, keep}
+use Rattle.py_emission_parts.specs.Elements.{Element, Single, Spread}
+use Rattle.py_emission_parts.specs.Emitting.{Emission, ◌▸◌, emit, emit_count, keep}
 use Rattle.py_emission.specs.Emission.{emission}
 use Rattle.py_expr_parts.specs.Turns.{run_behind}
 

@@ -1,5 +1,5 @@
 -- What stores to one of several targets.
-use Rattle.py_steps.specs.Elements.{Element, Single, Spread}
+use Rattle.py_emission_parts.specs.Elements.{Element, Single, Spread}
 
 -- the value of an element, starred or not
 abbrev pub bare_of : {A : Type 0} → Element A A → A

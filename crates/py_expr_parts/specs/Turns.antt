@@ -6,10 +6,10 @@ use Rattle.py_tree.specs.declared.expressions.Expr.{Expr}
 use Rattle.py_base.specs.declared.operators.BoolOp.{BoolOp}
 use Rattle.py_base.specs.declared.operators.CmpOp.{CmpOp}
 use Rattle.py_bytecode.specs.declared.instruction.Instruction.TheVariants as op
-use Rattle.py_steps.specs.Elements.{Element, Single, Spread, pairs}
-use Rattle.py_steps.specs.TableParts.{deciding}
-use Rattle.py_steps.specs.Emitting.{Emission, ◌▸◌, emit_count, jump, keep}
-use Rattle.py_steps.specs.EmissionParts.{emission_of_comparison, emission_of_link, keeping_jump, values}
+use Rattle.py_emission_parts.specs.Elements.{Element, Single, Spread, pairs}
+use Rattle.py_emission_parts.specs.TableParts.{deciding}
+use Rattle.py_emission_parts.specs.Emitting.{Emission, ◌▸◌, emit_count, jump, keep}
+use Rattle.py_emission_parts.specs.EmissionParts.{emission_of_comparison, emission_of_link, keeping_jump, values}
 use Rattle.py_emission.specs.Emission.{all_emissions, emission, opt_emissions}
 
 -- a value of `and` or `or`, with a jump to the end where more follow

@@ -1,9 +1,9 @@
 //! What a call takes, and its instruction.
 ghost use Rattle.std.specs.Prelude.{◌≡◌, ◌+◌, ◌||◌, length, IfErr, IfOk, OnOk, if◌then◌else◌};
 ghost use Rattle.py_tree.specs.View.{expr_tree, exprs, keywords as keyword_trees};
-ghost use Rattle.py_steps.specs.EmissionParts.{elements};
+ghost use Rattle.py_emission_parts.specs.EmissionParts.{elements};
 ghost use Rattle.py_emission.specs.Emission.{all_emissions, keyword_emissions};
-ghost use Rattle.py_steps.specs.Elements.{starred};
+ghost use Rattle.py_emission_parts.specs.Elements.{starred};
 ghost use Rattle.py_emit.specs.States.{Emits, IsStarved, rest};
 ghost use Rattle.py_expr_parts.specs.Calls.{call_operand, calling, function_call, method_call, type_of};
 

@@ -1,6 +1,6 @@
 //! The instructions of comparisons.
 ghost use Rattle.std.specs.Prelude.{◌<◌, length};
-ghost use Rattle.py_steps.specs.EmissionParts.{emission_of_comparison, emission_of_link, first_comparison};
+ghost use Rattle.py_emission_parts.specs.EmissionParts.{emission_of_comparison, emission_of_link, first_comparison};
 ghost use Rattle.py_emit.specs.States.{Emits};
 
 use py_base::CodegenError;

@@ -1,7 +1,7 @@
 //! Where a test jumps, and the jumps of `and` and `or`.
 ghost use Rattle.std.specs.Prelude.{◌≡◌, if◌then◌else◌};
-ghost use Rattle.py_steps.specs.TableParts.{deciding};
-ghost use Rattle.py_steps.specs.EmissionParts.{keeping_jump, testing_jump};
+ghost use Rattle.py_emission_parts.specs.TableParts.{deciding};
+ghost use Rattle.py_emission_parts.specs.EmissionParts.{keeping_jump, testing_jump};
 
 use py_bytecode::Instruction;
 use py_ir::BlockIdx;

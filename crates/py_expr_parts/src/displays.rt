@@ -1,7 +1,7 @@
 //! The entries of dict displays, and the maps of runs of pairs.
 ghost use Rattle.std.specs.Prelude.{◌≡◌, ◌≤◌, ◌<◌, ◌⊎◌, length};
 ghost use Rattle.py_tree.specs.View.{expr_tree, opt_expr};
-ghost use Rattle.py_steps.specs.EmissionParts.{values};
+ghost use Rattle.py_emission_parts.specs.EmissionParts.{values};
 ghost use Rattle.py_emit.specs.States.{Emits};
 ghost use Rattle.py_expr_parts.specs.Dicts.{begun_by, closed_pairs, entry_ended, pairs_by};
 

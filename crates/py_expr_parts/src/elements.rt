@@ -1,8 +1,8 @@
 //! Elements, some of which may be starred, and the tuples of runs of plain ones.
 ghost use Rattle.std.specs.Prelude.{◌≡◌, ◌<◌, IfOk};
 ghost use Rattle.py_tree.specs.View.{expr_tree, exprs};
-ghost use Rattle.py_steps.specs.Elements.{starred};
-ghost use Rattle.py_steps.specs.EmissionParts.{elements};
+ghost use Rattle.py_emission_parts.specs.Elements.{starred};
+ghost use Rattle.py_emission_parts.specs.EmissionParts.{elements};
 ghost use Rattle.py_emission.specs.Emission.{all_emissions, emissions, stores};
 ghost use Rattle.py_emit.specs.States.{Emits};
 ghost use Rattle.py_expr_parts.specs.Turns.{is_spread, run_behind, runs, closed};

@@ -1,7 +1,7 @@
 //! Names, and expressions that are refused.
 ghost use Rattle.std.specs.Prelude.{◌≡◌};
 ghost use Rattle.py_tree.specs.View.{name_tree, starred_tree, await_tree};
-ghost use Rattle.py_steps.specs.Emitting.{refuse};
+ghost use Rattle.py_emission_parts.specs.Emitting.{refuse};
 ghost use Rattle.py_emission.specs.Emission.{emission};
 ghost use Rattle.py_emit.specs.States.{Emits, state};
 

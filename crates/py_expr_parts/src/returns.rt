@@ -36,7 +36,7 @@ pub fn return_name(em: &mut Emitter, e: &ExprName) -> Result<(), CodegenError>
 }
 
 /// Emits the return of what a name stands for, which is a constant where it is `__debug__`.
-#[tactic(auto, unfolding(py_steps::specs::Emitting::by_level, py_emit::specs::States::rest))]
+#[tactic(auto, unfolding(py_emission_parts::specs::Emitting::by_level, py_emit::specs::States::rest))]
 fn return_access(em: &mut Emitter, name: &str) -> Result<(), CodegenError>
     ensures { Emits result (name_return name.now) em.old em.new }
 {

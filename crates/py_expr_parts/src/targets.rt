@@ -2,10 +2,10 @@
 ghost use Rattle.std.specs.Prelude.{◌≡◌, ◌≢◌};
 ghost use Rattle.py_tree.specs.View.{expr_tree, exprs};
 ghost use Rattle.py_tree.specs.PythonName.{python_name};
-ghost use Rattle.py_steps.specs.Elements.{before_star, stars};
-ghost use Rattle.py_steps.specs.Emitting.{refuse};
-ghost use Rattle.py_steps.specs.EmissionParts.{unpack_starred, unpacking};
-ghost use Rattle.py_steps.specs.Refused.{lone_star};
+ghost use Rattle.py_emission_parts.specs.Elements.{before_star, stars};
+ghost use Rattle.py_emission_parts.specs.Emitting.{refuse};
+ghost use Rattle.py_emission_parts.specs.EmissionParts.{unpack_starred, unpacking};
+ghost use Rattle.py_emission_parts.specs.Refused.{lone_star};
 ghost use Rattle.py_emission.specs.Emission.{all_stores};
 ghost use Rattle.py_emission.specs.Predicates.{deletion_name};
 ghost use Rattle.py_emit.specs.States.{Emits};

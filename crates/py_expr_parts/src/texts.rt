@@ -3,7 +3,7 @@ ghost use Rattle.std.specs.Prelude.{◌≡◌, IfOk, IfErr, OnOk};
 ghost use Rattle.py_tree.specs.View.{constant_tree, expr_tree, exprs, literal_of};
 ghost use Rattle.py_bytecode.specs.View.{constant};
 ghost use Rattle.py_emission.specs.Texts.{texts_of};
-ghost use Rattle.py_steps.specs.TableParts.{constant_of};
+ghost use Rattle.py_emission_parts.specs.TableParts.{constant_of};
 ghost use Rattle.py_emission.specs.Emission.{emission};
 ghost use Rattle.py_emit.specs.States.{Emits, IsStarved, rest, state};
 

@@ -1,8 +1,8 @@
 //! Whether the present scope is a function, which alone hands values on.
 ghost use Rattle.std.specs.Prelude.{◌≡◌};
-ghost use Rattle.py_steps.specs.Context.{is_function};
-ghost use Rattle.py_steps.specs.Emitting.{keep};
-ghost use Rattle.py_steps.specs.EmissionParts.{only_in_function};
+ghost use Rattle.py_emission_parts.specs.Context.{is_function};
+ghost use Rattle.py_emission_parts.specs.Emitting.{keep};
+ghost use Rattle.py_emission_parts.specs.EmissionParts.{only_in_function};
 ghost use Rattle.py_emit.specs.States.{Emits};
 
 use py_base::{CodegenError, CodegenErrorType};

@@ -10,11 +10,11 @@ use Rattle.py_bytecode.specs.Objects.{Object}
 use Rattle.py_bytecode.specs.declared.instruction.Instruction.TheVariants as op
 use Rattle.py_base.specs.declared.errors.CodegenErrorType.{CodegenErrorType}
 use Rattle.py_base.specs.declared.errors.CodegenErrorType.TheVariants as error
-use Rattle.py_steps.specs.Children.{child, made}
-use Rattle.py_steps.specs.Comprehensions.{as_element, called_at_once, comprehension_shape, retold_in}
-use Rattle.py_steps.specs.Refused.{retold}
-use Rattle.py_steps.specs.Within.{comprehension_inside}
-use Rattle.py_steps.specs.Emitting.{Done, Emission, Refused, State, ◌▸◌, emit, emit_count, generating, refuse}
+use Rattle.py_emission_parts.specs.Children.{child, made}
+use Rattle.py_emission_parts.specs.Comprehensions.{as_element, called_at_once, comprehension_shape, retold_in}
+use Rattle.py_emission_parts.specs.Refused.{retold}
+use Rattle.py_emission_parts.specs.Within.{comprehension_inside}
+use Rattle.py_emission_parts.specs.Emitting.{Done, Emission, Refused, State, ◌▸◌, emit, emit_count, generating, refuse}
 use Rattle.py_emission.specs.Emission.{clause_emissions, emission}
 use Rattle.py_emit.specs.States.{state}
 use Rattle.py_emit.specs.Steps.{IsOpen}

@@ -4,11 +4,11 @@ use Rattle.std.specs.Prelude.{◌||◌}
 use Rattle.py_bytecode.specs.declared.instruction.Instruction.{Instruction}
 use Rattle.py_bytecode.specs.declared.instruction.Instruction.TheVariants as op
 use Rattle.py_bytecode.specs.Objects as const
-use Rattle.py_steps.specs.Elements.{Element, Single, Spread, Callee, Function, Method, bare, grouped, groups, starred}
-use Rattle.py_steps.specs.TableParts.{any}
-use Rattle.py_steps.specs.Emitting.{Emission, ◌▸◌, emit_constant, emit_count, emit_mangled, keep}
-use Rattle.py_steps.specs.EmissionParts.{Keywords, built, call_by, checked, emission_of_call, in_turn, joined_map, map_of, name_values, names_in, packed, packed_tuple, placed, values_in}
-use Rattle.py_steps.specs.Refused.{no_assignment}
+use Rattle.py_emission_parts.specs.Elements.{Element, Single, Spread, Callee, Function, Method, bare, grouped, groups, starred}
+use Rattle.py_emission_parts.specs.TableParts.{any}
+use Rattle.py_emission_parts.specs.Emitting.{Emission, ◌▸◌, emit_constant, emit_count, emit_mangled, keep}
+use Rattle.py_emission_parts.specs.EmissionParts.{Keywords, built, call_by, checked, emission_of_call, in_turn, joined_map, map_of, name_values, names_in, packed, packed_tuple, placed, values_in}
+use Rattle.py_emission_parts.specs.Refused.{no_assignment}
 use Rattle.py_expr_scopes.proofs.OpenBlocks.{Keeps, constant_keeps, count_keeps, either_keeps, idle_keeps, mangled_keeps, then_keeps}
 use Rattle.py_expr_scopes.proofs.KeptParts.{CalleeKeeps, TurnsKeep, turn_keeps}
 use Rattle.py_expr_scopes.proofs.KeptDisplays.{ElementsKeep, append_keep, bare_keep, built_keeps, groups_keep}

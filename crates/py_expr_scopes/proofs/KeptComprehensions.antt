@@ -3,10 +3,10 @@ use Rattle.std.proofs.Common.{◌≡◌, ℕ, List, [], ◌∷◌, Bool}
 use Rattle.py_base.specs.declared.shapes.Malformed.TheVariants as shape
 use Rattle.py_bytecode.specs.declared.instruction.Instruction.TheVariants as op
 use Rattle.py_base.specs.declared.errors.CodegenErrorType.TheVariants as error
-use Rattle.py_steps.specs.Children.{child, made}
-use Rattle.py_steps.specs.Comprehensions.{ClauseEmissions, as_element, called_at_once, comprehension, comprehension_shape, retold_in}
-use Rattle.py_steps.specs.Within.{comprehension_inside}
-use Rattle.py_steps.specs.Emitting.{Done, Emission, Outcome, Refused, State, TooWide, emit, refuse}
+use Rattle.py_emission_parts.specs.Children.{child, made}
+use Rattle.py_emission_parts.specs.Comprehensions.{ClauseEmissions, as_element, called_at_once, comprehension, comprehension_shape, retold_in}
+use Rattle.py_emission_parts.specs.Within.{comprehension_inside}
+use Rattle.py_emission_parts.specs.Emitting.{Done, Emission, Outcome, Refused, State, TooWide, emit, refuse}
 use Rattle.py_expr_scopes.proofs.OpenBlocks.{Keeps, count_keeps, either_keeps, emit_keeps, refuse_keeps, then_keeps}
 use Rattle.py_expr_scopes.proofs.KeptScopes.{child_keeps, made_keeps}
 

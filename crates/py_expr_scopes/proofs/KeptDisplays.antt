@@ -7,9 +7,9 @@ use Rattle.py_bytecode.specs.declared.instruction.Instruction.TheVariants as op
 use Rattle.py_bytecode.specs.Objects as const
 use Rattle.py_bytecode.specs.Objects.{Const}
 use Rattle.py_base.specs.declared.errors.CodegenErrorType.TheVariants as error
-use Rattle.py_steps.specs.Elements.{Element, Single, Spread, starred, bare, grouped, groups, front, behind, pairs, sides}
-use Rattle.py_steps.specs.Emitting.{Emission, emit, emit_count, refuse}
-use Rattle.py_steps.specs.EmissionParts.{Emissions, built, dict_value, display, elements, emission_of_dict, in_turn, joined_value, map_of_pairs, slice_step, slice_value, unpacked, updates, value_or}
+use Rattle.py_emission_parts.specs.Elements.{Element, Single, Spread, starred, bare, grouped, groups, front, behind, pairs, sides}
+use Rattle.py_emission_parts.specs.Emitting.{Emission, emit, emit_count, refuse}
+use Rattle.py_emission_parts.specs.EmissionParts.{Emissions, built, dict_value, display, elements, emission_of_dict, in_turn, joined_value, map_of_pairs, slice_step, slice_value, unpacked, updates, value_or}
 use Rattle.py_emission.specs.Emission.{joined_return}
 use Rattle.py_expr_scopes.proofs.OpenBlocks.{Keeps, constant_keeps, count_keeps, either_keeps, emit_keeps, idle_keeps, refuse_keeps, then_keeps}
 use Rattle.py_expr_scopes.proofs.KeptParts.{ElementKeeps, AllKeep, TurnsKeep, turn_keeps}

@@ -10,16 +10,16 @@ use Rattle.py_bytecode.specs.declared.instruction.Instruction.{Instruction}
 use Rattle.py_bytecode.specs.declared.instruction.Instruction.TheVariants as op
 use Rattle.py_bytecode.specs.Objects as const
 use Rattle.py_emission.specs.Texts.{texts_of}
-use Rattle.py_steps.specs.TableParts.{binary_case, constant_of, conversion_case, debug_constant, is_debug}
+use Rattle.py_emission_parts.specs.TableParts.{binary_case, constant_of, conversion_case, debug_constant, is_debug}
 use Rattle.py_base.specs.declared.errors.CodegenErrorType.TheVariants as error
-use Rattle.py_counts.specs.Counts.{scopes_in_annotations}
-use Rattle.py_steps.specs.Children.{DefaultEmissions, emission_of_defaults, flags_of_defaults}
-use Rattle.py_steps.specs.Within.{lambda_inside}
-use Rattle.py_steps.specs.Emitting.{State, Begin, Done, Emission, ◌▸◌, generating, with_step, with_block, located, refuse, by_level, emit, emit_mangled, emit_constant, jump}
-use Rattle.py_steps.specs.EmissionParts.{Emissions, pass_scopes, values, elements, value_or, shorts, tests, bool_value, links}
-use Rattle.py_steps.specs.Refused.{lone_star, no_assignment, no_deletion}
+use Rattle.py_scope_counts.specs.Counts.{scopes_in_annotations}
+use Rattle.py_emission_parts.specs.Children.{DefaultEmissions, emission_of_defaults, flags_of_defaults}
+use Rattle.py_emission_parts.specs.Within.{lambda_inside}
+use Rattle.py_emission_parts.specs.Emitting.{State, Begin, Done, Emission, ◌▸◌, generating, with_step, with_block, located, refuse, by_level, emit, emit_mangled, emit_constant, jump}
+use Rattle.py_emission_parts.specs.EmissionParts.{Emissions, pass_scopes, values, elements, value_or, shorts, tests, bool_value, links}
+use Rattle.py_emission_parts.specs.Refused.{lone_star, no_assignment, no_deletion}
 use Rattle.py_bytecode.specs.Values.{Load, Store, Delete}
-use Rattle.py_steps.specs.Accesses.{accessed, emission_of_name}
+use Rattle.py_emission_parts.specs.Accesses.{accessed, emission_of_name}
 use Rattle.py_emission.specs.Emission.{clause_emissions, default_emissions, lambda_value, keyword_only_emissions, name_return, positional_emissions, opt_emission, opt_emissions, emission, emission_of_test, emissions, all_emissions, all_stores, stores, keyword_emissions, emission_of_delete, emission_of_deletes, unsupported}
 use Rattle.py_emission.specs.Predicates.{deletion_name}
 use Rattle.py_emit.specs.Steps.{IsOpen}

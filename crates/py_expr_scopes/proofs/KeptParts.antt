@@ -9,12 +9,12 @@ use Rattle.py_base.specs.declared.operators.UnaryOp.{UnaryOp}
 use Rattle.py_base.specs.declared.operators.UnaryOp.TheVariants as unary
 use Rattle.py_base.specs.declared.shapes.Malformed.TheVariants as shape
 use Rattle.py_bytecode.specs.declared.instruction.Instruction.TheVariants as op
-use Rattle.py_steps.specs.TableParts.{deciding}
+use Rattle.py_emission_parts.specs.TableParts.{deciding}
 use Rattle.py_base.specs.declared.errors.CodegenErrorType.TheVariants as error
-use Rattle.py_steps.specs.Elements.{Element, Single, Spread, Callee, Function, Method}
-use Rattle.py_steps.specs.EmissionParts as emitting
-use Rattle.py_steps.specs.Emitting.{Emission, ◌▸◌, begin, emit, jump, refuse}
-use Rattle.py_steps.specs.EmissionParts.{Emissions, keeping_jump, testing_jump, in_turn, shorts, some_values, bool_value, tests, past_tests, some_test, bool_test, bool_emissions, unary_value, unary_emissions, emission_of_comparison, emission_of_link, links, chain, choice, first_comparison, comparisons, emission_of_compare, only, values}
+use Rattle.py_emission_parts.specs.Elements.{Element, Single, Spread, Callee, Function, Method}
+use Rattle.py_emission_parts.specs.EmissionParts as emitting
+use Rattle.py_emission_parts.specs.Emitting.{Emission, ◌▸◌, begin, emit, jump, refuse}
+use Rattle.py_emission_parts.specs.EmissionParts.{Emissions, keeping_jump, testing_jump, in_turn, shorts, some_values, bool_value, tests, past_tests, some_test, bool_test, bool_emissions, unary_value, unary_emissions, emission_of_comparison, emission_of_link, links, chain, choice, first_comparison, comparisons, emission_of_compare, only, values}
 use Rattle.py_expr_scopes.proofs.OpenBlocks.{Keeps, begin_keeps, block_from, either_keeps, emit_keeps, idle_keeps, jump_keeps, moved_keeps, refuse_keeps, then_from, then_keeps}
 
 abbrev pub ElementKeeps : Element Emission Emission → Type 0

@@ -8,12 +8,12 @@ use Rattle.py_bytecode.specs.Objects as const
 use Rattle.py_bytecode.specs.Objects.{Object}
 use Rattle.py_base.specs.declared.errors.CodegenErrorType.{CodegenErrorType}
 use Rattle.py_base.specs.declared.errors.CodegenErrorType.TheVariants as error
-use Rattle.py_steps.specs.Children.{DefaultEmissions, behind_child, cell_loads, child, closure, code_head, emission_of_defaults, free_names, load_cell, made, on_sealed, some_emitted}
-use Rattle.py_steps.specs.Within.{Shape, some_flag}
-use Rattle.py_steps.specs.Context.{Context, cell_place, is_function}
-use Rattle.py_steps.specs.Emitting.{Done, Emission, Outcome, Refused, State, TooWide, begun, emit, emit_constant, generating, pass_over, refuse}
-use Rattle.py_steps.specs.EmissionParts.{built, map_of, only_in_function, pass_scopes}
-use Rattle.py_steps.specs.Sealed.{Head, sealed}
+use Rattle.py_emission_parts.specs.Children.{DefaultEmissions, behind_child, cell_loads, child, closure, code_head, emission_of_defaults, free_names, load_cell, made, on_sealed, some_emitted}
+use Rattle.py_emission_parts.specs.Within.{Shape, some_flag}
+use Rattle.py_emission_parts.specs.Context.{Context, cell_place, is_function}
+use Rattle.py_emission_parts.specs.Emitting.{Done, Emission, Outcome, Refused, State, TooWide, begun, emit, emit_constant, generating, pass_over, refuse}
+use Rattle.py_emission_parts.specs.EmissionParts.{built, map_of, only_in_function, pass_scopes}
+use Rattle.py_emission_parts.specs.Sealed.{Head, sealed}
 use Rattle.py_emit.proofs.Joined.{done_same, granted}
 use Rattle.py_expr_scopes.proofs.OpenBlocks.{From, Grows, Keeps, constant_keeps, context_keeps, either_keeps, emit_keeps, idle_keeps, refuse_keeps, then_keeps}
 use Rattle.py_expr_scopes.proofs.KeptParts.{TurnsKeep}

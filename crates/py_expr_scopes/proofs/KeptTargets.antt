@@ -3,12 +3,12 @@ use Rattle.std.proofs.Common.{ℕ, ◌+◌, ◌*◌, List, length}
 use Rattle.std.specs.Prelude.{nat_eq, if◌then◌else◌}
 use Rattle.py_base.specs.declared.location.SourceLocation.{SourceLocation}
 use Rattle.py_bytecode.specs.declared.instruction.Instruction.TheVariants as op
-use Rattle.py_steps.specs.Elements.{Element, after_star, bare, before_star, stars}
-use Rattle.py_steps.specs.TableParts.{is_debug}
+use Rattle.py_emission_parts.specs.Elements.{Element, after_star, bare, before_star, stars}
+use Rattle.py_emission_parts.specs.TableParts.{is_debug}
 use Rattle.py_base.specs.declared.errors.CodegenErrorType.TheVariants as error
-use Rattle.py_steps.specs.Emitting.{Emission, ◌▸◌, emit, emit_count, move, refuse}
-use Rattle.py_steps.specs.EmissionParts.{Stores, in_turn, plain_store, unless_debug, unpack, unpack_starred, unpacking}
-use Rattle.py_steps.specs.Refused.{few_aside}
+use Rattle.py_emission_parts.specs.Emitting.{Emission, ◌▸◌, emit, emit_count, move, refuse}
+use Rattle.py_emission_parts.specs.EmissionParts.{Stores, in_turn, plain_store, unless_debug, unpack, unpack_starred, unpacking}
+use Rattle.py_emission_parts.specs.Refused.{few_aside}
 use Rattle.py_expr_scopes.proofs.OpenBlocks.{Keeps, count_keeps, either_keeps, emit_keeps, moved_keeps, refuse_keeps, then_keeps}
 use Rattle.py_expr_scopes.proofs.KeptParts.{ElementKeeps, turn_keeps}
 use Rattle.py_expr_scopes.proofs.KeptDisplays.{ElementsKeep, bare_keep}

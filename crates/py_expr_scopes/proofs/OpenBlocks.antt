@@ -6,11 +6,11 @@ use Rattle.py_bytecode.specs.declared.instruction.Instruction.{Instruction}
 use Rattle.py_bytecode.specs.declared.instruction.Instruction.TheVariants as op
 use Rattle.py_bytecode.specs.Objects.{Const}
 use Rattle.py_bytecode.specs.Values.{Usage, Load, Store, Delete, Kind, Unsaid, Fast, ByName, Global, Deref, ClassDeref}
-use Rattle.py_forms.specs.Form.{Resolved}
+use Rattle.py_control.specs.Form.{Resolved}
 use Rattle.py_base.specs.declared.errors.CodegenErrorType.{CodegenErrorType}
-use Rattle.py_steps.specs.Accesses.{access_by, accessed, delete_by, load_by, store_by}
-use Rattle.py_steps.specs.Context.{Context, access_kind, cell_place, mangled}
-use Rattle.py_steps.specs.Emitting.{Step, Put, Begin, State, Done, Emission, LoopBlocks, ◌▸◌, keep, with_step, with_block, with_name, with_varname, with_constant, with_loops, located, refuse, emit, emit_count, emit_mangled, emit_name, emit_varname, emit_constant, jump, begin, new_block, move, by_context, by_level, by_loops, in_loop}
+use Rattle.py_emission_parts.specs.Accesses.{access_by, accessed, delete_by, load_by, store_by}
+use Rattle.py_emission_parts.specs.Context.{Context, access_kind, cell_place, mangled}
+use Rattle.py_emission_parts.specs.Emitting.{Step, Put, Begin, State, Done, Emission, LoopBlocks, ◌▸◌, keep, with_step, with_block, with_name, with_varname, with_constant, with_loops, located, refuse, emit, emit_count, emit_mangled, emit_name, emit_varname, emit_constant, jump, begin, new_block, move, by_context, by_level, by_loops, in_loop}
 use Rattle.py_emit.specs.Steps.{Begun, IsOpen}
 use Rattle.py_emit.proofs.States.{never_refused}
 use Rattle.py_emit.proofs.Joined.{between, chosen_done, counted_done, done_same}

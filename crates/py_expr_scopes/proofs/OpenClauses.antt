@@ -6,9 +6,9 @@ use Rattle.py_tree.specs.View.{generators, expr_tree, exprs}
 use Rattle.py_tree.specs.declared.expressions.ComprehensionOf.{ComprehensionOf}
 use Rattle.py_tree.specs.declared.expressions.Expr.{Expr}
 use Rattle.py_bytecode.specs.declared.instruction.Instruction.TheVariants as op
-use Rattle.py_steps.specs.Comprehensions.{ClauseEmissions, clause, conditions, further_clauses}
-use Rattle.py_steps.specs.Emitting.{Begin, Done, Emission, Outcome, State, ◌▸◌, begin, emit, go_on, jump, new_block, with_block, with_step}
-use Rattle.py_steps.specs.EmissionParts.{Emissions}
+use Rattle.py_emission_parts.specs.Comprehensions.{ClauseEmissions, clause, conditions, further_clauses}
+use Rattle.py_emission_parts.specs.Emitting.{Begin, Done, Emission, Outcome, State, ◌▸◌, begin, emit, go_on, jump, new_block, with_block, with_step}
+use Rattle.py_emission_parts.specs.EmissionParts.{Emissions}
 use Rattle.py_emission.specs.Emission.{all_emissions, clause_emissions, emission_of_test}
 use Rattle.py_emit.specs.Steps.{IsOpen}
 use Rattle.py_emit.proofs.Joined.{between, done_same, joined, keep_last}

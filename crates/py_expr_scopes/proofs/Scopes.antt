@@ -1,7 +1,7 @@
 -- A scope within that is entered, emitted and left, or refused.
 use Rattle.std.proofs.Common.{◌≡◌, ◌≢◌, ℕ, suc, List, [], ◌∷◌, ◌++◌, Option, Ok, Err, Result, sym, ap, ◌∙◌, subst}
 use Rattle.std.specs.Prelude.{IfErr, IfOk, OnOk, codes}
-use Rattle.py_counts.specs.Counts.{scopes_in_annotations}
+use Rattle.py_scope_counts.specs.Counts.{scopes_in_annotations}
 use Rattle.py_tree.specs.Tree as tree
 use Rattle.py_base.specs.declared.location.SourceLocation.{SourceLocation}
 use Rattle.py_base.specs.declared.location.LocatedError.{LocatedError}
@@ -12,12 +12,12 @@ use Rattle.py_base.specs.declared.errors.CodegenErrorType.{CodegenErrorType}
 use Rattle.py_base.specs.declared.errors.CodegenErrorType.TheVariants as error
 use Rattle.py_scope.specs.declared.table_type.SymbolTableType.{SymbolTableType}
 use Rattle.py_bytecode.specs.Objects as const
-use Rattle.py_steps.specs.Children.{DefaultEmissions, child, code_head, emission_of_defaults, enter_parameters, flags_of_defaults, function_scope, made, on_sealed}
-use Rattle.py_steps.specs.Within.{Shape, lambda_inside}
-use Rattle.py_steps.specs.Context.{Context, inside}
-use Rattle.py_steps.specs.Emitting.{Done, Emission, Refused, State, ◌▸◌, add_constant, begun}
-use Rattle.py_steps.specs.EmissionParts.{pass_scopes}
-use Rattle.py_steps.specs.Sealed.{sealed}
+use Rattle.py_emission_parts.specs.Children.{DefaultEmissions, child, code_head, emission_of_defaults, enter_parameters, flags_of_defaults, function_scope, made, on_sealed}
+use Rattle.py_emission_parts.specs.Within.{Shape, lambda_inside}
+use Rattle.py_emission_parts.specs.Context.{Context, inside}
+use Rattle.py_emission_parts.specs.Emitting.{Done, Emission, Refused, State, ◌▸◌, add_constant, begun}
+use Rattle.py_emission_parts.specs.EmissionParts.{pass_scopes}
+use Rattle.py_emission_parts.specs.Sealed.{sealed}
 use Rattle.py_emission.specs.Emission.{lambda_value}
 use Rattle.py_emission.specs.Parameters.{function_shape, parameters}
 use Rattle.py_emit.specs.States.{IsStarved, IsTold, Rest, Same, entered, entered_rest, left, left_rest, named_in, rest, state}

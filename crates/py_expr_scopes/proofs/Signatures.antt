@@ -13,10 +13,10 @@ use Rattle.py_tree.specs.declared.expressions.ArgWithDefaultOf.{ArgWithDefaultOf
 use Rattle.py_tree.specs.declared.expressions.ArgumentsOf.{ArgumentsOf}
 use Rattle.py_bytecode.specs.declared.instruction.Instruction.TheVariants as op
 use Rattle.py_bytecode.specs.Objects as const
-use Rattle.py_steps.specs.Children.{enter_parameters, some_emitted}
-use Rattle.py_steps.specs.Within.{Shape, some_flag}
-use Rattle.py_steps.specs.Emitting.{Emission, ◌▸◌, emit_constant, emit_count}
-use Rattle.py_steps.specs.EmissionParts.{built, in_turn, map_of, name_values}
+use Rattle.py_emission_parts.specs.Children.{enter_parameters, some_emitted}
+use Rattle.py_emission_parts.specs.Within.{Shape, some_flag}
+use Rattle.py_emission_parts.specs.Emitting.{Emission, ◌▸◌, emit_constant, emit_count}
+use Rattle.py_emission_parts.specs.EmissionParts.{built, in_turn, map_of, name_values}
 use Rattle.py_emission.specs.Emission.{default_emissions, emission, keyword_only_emissions, positional_emissions}
 use Rattle.py_emission.specs.Parameters.{arg_names, names_with_default, names_without_default, opt_arg_names, parameters, function_shape}
 use Rattle.py_emit.proofs.Joined.{joined, turn_append}

@@ -7,8 +7,8 @@ use Rattle.py_tree.specs.declared.expressions.Expr.{Expr}
 use Rattle.py_bytecode.specs.declared.instruction.Instruction.TheVariants as op
 use Rattle.py_base.specs.declared.errors.CodegenErrorType.{CodegenErrorType}
 use Rattle.py_base.specs.declared.errors.CodegenErrorType.TheVariants as error
-use Rattle.py_steps.specs.Comprehensions.{ClauseEmissions, clauses, conditions, further_clauses, handed_iterator}
-use Rattle.py_steps.specs.Emitting.{Emission, Refused, State, ◌▸◌, begin, emit, jump, keep, new_block}
+use Rattle.py_emission_parts.specs.Comprehensions.{ClauseEmissions, clauses, conditions, further_clauses, handed_iterator}
+use Rattle.py_emission_parts.specs.Emitting.{Emission, Refused, State, ◌▸◌, begin, emit, jump, keep, new_block}
 use Rattle.py_emission.specs.Emission.{all_emissions, emission, emission_of_store}
 use Rattle.py_emit.specs.Steps.{IsOpen}
 use Rattle.py_expr_scopes.specs.declared.clauses.ClauseBlocks.{ClauseBlocks}

@@ -4,8 +4,8 @@ use Rattle.py_tree.specs.Tree as tree
 use Rattle.py_tree.specs.View.{expr_tree}
 use Rattle.py_bytecode.specs.declared.instruction.Instruction.TheVariants as op
 use Rattle.py_bytecode.specs.Objects as const
-use Rattle.py_steps.specs.Comprehensions.{ClauseEmissions, as_element, clauses, comprehension}
-use Rattle.py_steps.specs.Emitting.{Emission, ◌▸◌, emit, emit_constant, generating, keep}
+use Rattle.py_emission_parts.specs.Comprehensions.{ClauseEmissions, as_element, clauses, comprehension}
+use Rattle.py_emission_parts.specs.Emitting.{Emission, ◌▸◌, emit, emit_constant, generating, keep}
 use Rattle.py_emission.specs.Awaits.{awaits, some_async}
 use Rattle.py_emission.specs.Emission.{clause_emissions, emission}
 use Rattle.py_expr_scopes.specs.declared.comprehensions.ComprehensionElement.{ComprehensionElement}

@@ -10,9 +10,9 @@ use Rattle.py_bytecode.specs.Objects.{Object}
 use Rattle.py_bytecode.specs.View.{object}
 use Rattle.py_base.specs.declared.errors.CodegenErrorType.{CodegenErrorType}
 use Rattle.py_base.specs.declared.errors.CodegenErrorType.TheVariants as error
-use Rattle.py_steps.specs.Emitting.{Emission, Outcome, State, ◌▸◌, Refused, add_varname, emit_constant, emit_count, keep}
-use Rattle.py_steps.specs.EmissionParts.{unless_debug}
-use Rattle.py_steps.specs.Refused.{no_assignment}
+use Rattle.py_emission_parts.specs.Emitting.{Emission, Outcome, State, ◌▸◌, Refused, add_varname, emit_constant, emit_count, keep}
+use Rattle.py_emission_parts.specs.EmissionParts.{unless_debug}
+use Rattle.py_emission_parts.specs.Refused.{no_assignment}
 use Rattle.py_emission.specs.Emission.{emission}
 use Rattle.py_emission.specs.Parameters.{names_with_default, names_without_default}
 

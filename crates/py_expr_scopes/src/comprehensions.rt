@@ -2,10 +2,10 @@
 ghost use Rattle.std.specs.Prelude.{◌≡◌, ◌≢◌, suc, None, IfErr, OnOk};
 ghost use Rattle.py_tree.specs.View.{expr_tree, generators as clause_trees};
 ghost use Rattle.py_bytecode.specs.View.{object};
-ghost use Rattle.py_steps.specs.Children.{code_head, made};
-ghost use Rattle.py_steps.specs.Comprehensions.{comprehension_shape};
-ghost use Rattle.py_steps.specs.Refused.{retold};
-ghost use Rattle.py_steps.specs.Emitting.{◌▸◌, begun, emit as emitting, generating};
+ghost use Rattle.py_emission_parts.specs.Children.{code_head, made};
+ghost use Rattle.py_emission_parts.specs.Comprehensions.{comprehension_shape};
+ghost use Rattle.py_emission_parts.specs.Refused.{retold};
+ghost use Rattle.py_emission_parts.specs.Emitting.{◌▸◌, begun, emit as emitting, generating};
 ghost use Rattle.py_emission.specs.Awaits.{some_async};
 ghost use Rattle.py_emit.specs.States.{Emits, IsStarved, entered, entered_rest, rest, state};
 ghost use Rattle.py_expr_scopes.specs.Comprehensions.{added, collection, finished, is_awaited, name_of};

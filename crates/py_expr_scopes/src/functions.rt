@@ -1,13 +1,13 @@
 //! What lambdas share with the definitions of functions: the scope within, its flags, names of defaults, and the scopes that are
 //! passed over.
 ghost use Rattle.std.specs.Prelude.{◌≡◌, ◌+◌, ℕ, Bool, suc, codes, IfErr, IfOk, OnOk};
-ghost use Rattle.py_counts.specs.Counts.{IsSum, scopes_in_annotations as annotation_scopes};
+ghost use Rattle.py_scope_counts.specs.Counts.{IsSum, scopes_in_annotations as annotation_scopes};
 ghost use Rattle.py_tree.specs.View.{arguments, expr_tree};
 ghost use Rattle.py_bytecode.specs.Objects as object;
 ghost use Rattle.py_bytecode.specs.View.{object as code_object};
-ghost use Rattle.py_steps.specs.Children.{code_head, enter_parameters, made};
-ghost use Rattle.py_steps.specs.Emitting.{◌▸◌, add_constant, begun, emit_constant};
-ghost use Rattle.py_steps.specs.EmissionParts.{pass_scopes};
+ghost use Rattle.py_emission_parts.specs.Children.{code_head, enter_parameters, made};
+ghost use Rattle.py_emission_parts.specs.Emitting.{◌▸◌, add_constant, begun, emit_constant};
+ghost use Rattle.py_emission_parts.specs.EmissionParts.{pass_scopes};
 ghost use Rattle.py_emission.specs.Parameters.{function_shape, parameters};
 ghost use Rattle.py_emit.specs.States.{Emits, Goes, IsStarved, Same, entered, entered_rest, rest, state};
 ghost use Rattle.py_expr_scopes.specs.Functions.{closed_by, default_name, flag_if, is_some};
@@ -17,9 +17,9 @@ use crate::parameters::{enter_names, function_head};
 use bitflags::Flags;
 use py_base::{CodegenError, CodegenErrorType};
 use py_bytecode::{CodeObject, ConstantData, Instruction, MakeFunctionFlags};
-use py_counts::scopes_in_annotations;
 use py_emit::{Emitter, Naming, refuse};
 use py_scope::SymbolTableType;
+use py_scope_counts::scopes_in_annotations;
 use py_tree::{Arguments, Text};
 
 /// Which defaults lie there: a tuple of those of positional parameters, and a map of those of keyword-only ones.
@@ -96,7 +96,7 @@ pub fn pass_annotations(em: &mut Emitter, params: &Arguments) -> Result<(), Code
 ///
 /// # Errors
 /// OutOfMemory alone.
-#[tactic(auto, unfolding(py_steps::specs::Emitting::by_context, py_steps::specs::Emitting::pass_over))]
+#[tactic(auto, unfolding(py_emission_parts::specs::Emitting::by_context, py_emission_parts::specs::Emitting::pass_over))]
 pub fn pass_counted(em: &mut Emitter, next: Option<usize>) -> Result<(), CodegenError>
     ensures goes { (count : (postponed : Bool) → ℕ) → IsSum next ((state em.old).next + count (state em.old).around.context.postponed) → Goes result (state em.new) (pass_scopes count (state em.old)) }
     ensures same { Same result (rest em.new) (rest em.old) }

@@ -1,7 +1,7 @@
 //! The parameters of functions, and what a code object says of them.
 ghost use Rattle.std.specs.Prelude.{◌≡◌, ◌+◌, IfErr, IfOk, OnOk};
 ghost use Rattle.py_tree.specs.View.{args, arguments, expr_tree, opt_arg, opt_box};
-ghost use Rattle.py_steps.specs.Children.{enter_parameters};
+ghost use Rattle.py_emission_parts.specs.Children.{enter_parameters};
 ghost use Rattle.py_emission.specs.Parameters.{arg_names, function_shape, opt_arg_names, parameters};
 ghost use Rattle.py_emit.specs.States.{Emits, IsStarved, rest, shape_of};
 ghost use Rattle.py_expr_scopes.specs.Functions.{flag_if, names_given, parameter, parameter_given};

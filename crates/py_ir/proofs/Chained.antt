@@ -5,11 +5,11 @@ use Rattle.std.proofs.lemmas.Bool.{cases_lt}
 use Rattle.std.proofs.lemmas.Bool.Decides.{nat_tests}
 use Rattle.std.proofs.lemmas.List.{length-map, length-replicate, get_or-replicate, get_or_default}
 use Rattle.std.proofs.lemmas.Option.{same_Some, get_or_from_slice_get}
-use Rattle.py_walks.specs.declared.info.InstructionInfo.{InstructionInfo}
+use Rattle.py_dataflow.specs.declared.info.InstructionInfo.{InstructionInfo}
 use Rattle.py_ir.specs.declared.blocks.Block.{Block}
 use Rattle.py_ir.specs.Chain.{Blk, blk, block_number, plain, IsChain}
 use Rattle.py_ir.specs.BlockList.{BlockList, IsChainOf, IsOutside, block_at, block_idx, empty_block, empty_blocks, extended, led, leading_to, with_items}
-use Rattle.py_ir.proofs.Following.{blk_plain}
+use Rattle.py_ir.proofs.ChainOrderLemmas.{blk_plain}
 
 -- the blocks up to a place of the chain are placed
 pub record Placed (given : List Block) (cs : List ℕ) (k : ℕ) (v : BlockList) : Type 0 where

@@ -4,12 +4,12 @@ use Rattle.std.specs.Prelude.{nat_eq, if◌then◌else◌}
 use Rattle.std.proofs.lemmas.List.{get_or_at, get_or_push, length_push}
 use Rattle.std.proofs.lemmas.List.Elements.{All-map}
 use Rattle.std.proofs.lemmas.Option.{same_Some}
-use Rattle.py_walks.specs.declared.info.InstructionInfo.{InstructionInfo}
+use Rattle.py_dataflow.specs.declared.info.InstructionInfo.{InstructionInfo}
 use Rattle.py_ir.specs.declared.flat.Span.{Span}
 use Rattle.py_ir.specs.Chain.{Blk, blk, block_number, flat, IsChain, StartsAt}
 use Rattle.py_ir.specs.Spans.{blks_of, Follows}
 use Rattle.py_ir.proofs.Short.{chain_short}
-use Rattle.py_ir.proofs.Spanning.{blk_is, length-blks, within}
+use Rattle.py_ir.proofs.SpanLemmas.{blk_is, length-blks, within}
 use Rattle.py_ir.proofs.Unique.{one_chain}
 
 module _ (xs : List InstructionInfo) (ss : List Span) (c : ℕ) (h : Follows xs ss c) (cs : List ℕ) (chain : IsChain (blks_of xs ss) cs) where

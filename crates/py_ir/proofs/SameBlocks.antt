@@ -13,16 +13,16 @@ use Rattle.py_bytecode.specs.Decode.{Tables, instr_of}
 use Rattle.py_bytecode.specs.Units.{found}
 use Rattle.py_bytecode.specs.Blocks as coded
 use Rattle.py_bytecode.specs.Blocks.{Place, Of, block_of, block_at, hop, settle, settled, arrives, at_index, fetch_block}
-use Rattle.py_walks.specs.declared.info.InstructionInfo.{InstructionInfo}
-use Rattle.py_walks.specs.declared.flow.Flow.{Flow}
-use Rattle.py_walks.specs.Flow.{flow_of, target_of}
-use Rattle.py_walks.specs.Walks.{Seen, seen}
-use Rattle.py_walks.specs.Flat.{is_jump, named_place, decoded, fetch_at}
-use Rattle.py_walks.proofs.Rows.{RowIs, row_is, falls_leaves}
-use Rattle.py_walks.proofs.SameRuns.{fetched_at}
-use Rattle.py_walks.proofs.Elsewhere.{instr_at, found_at}
-use Rattle.py_walks.proofs.Images.{Imaged}
-use Rattle.py_walks.proofs.Looking.{seen_same}
+use Rattle.py_dataflow.specs.declared.info.InstructionInfo.{InstructionInfo}
+use Rattle.py_dataflow.specs.declared.flow.Flow.{Flow}
+use Rattle.py_dataflow.specs.Flow.{flow_of, target_of}
+use Rattle.py_dataflow.specs.Walks.{Seen, seen}
+use Rattle.py_dataflow.specs.Flat.{is_jump, named_place, decoded, fetch_at}
+use Rattle.py_dataflow.proofs.Rows.{RowIs, row_is, falls_leaves}
+use Rattle.py_dataflow.proofs.SameRuns.{fetched_at}
+use Rattle.py_dataflow.proofs.Elsewhere.{instr_at, found_at}
+use Rattle.py_dataflow.proofs.Images.{Imaged}
+use Rattle.py_dataflow.proofs.InstructionViewLemmas.{seen_same}
 use Rattle.py_ir.specs.Chain.{Blk, blk, blk_of, block_number, coded_item, coded_block, coded_blocks, body, IsChain, flat, StartsAt}
 use Rattle.py_ir.proofs.Pieces.{get_right, get_left, body_get, length-body, body_empty, body_goes_on, flat_more, flat_parts}
 

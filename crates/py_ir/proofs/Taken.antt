@@ -5,9 +5,9 @@ use Rattle.std.proofs.lemmas.List.{length-map}
 use Rattle.std.proofs.lemmas.Option.{slice_get_within}
 use Rattle.py_ir.specs.declared.blocks.Block.{Block}
 use Rattle.py_ir.specs.BlockList.{BlockList, IsChainOf, empty_block}
-use Rattle.py_ir.proofs.Following.{blk_plain}
+use Rattle.py_ir.proofs.ChainOrderLemmas.{blk_plain}
 use Rattle.py_ir.proofs.Unique.{one_chain}
-use Rattle.py_walks.specs.declared.info.InstructionInfo.{InstructionInfo}
+use Rattle.py_dataflow.specs.declared.info.InstructionInfo.{InstructionInfo}
 use Rattle.py_ir.specs.Chain.{Blk, blk, body, flat, plain, IsChain, StartsAt}
 use Rattle.py_ir.specs.Flattened.{IsFlattened, SameChain}
 use Rattle.py_ir.proofs.Kept.{flat_agree}

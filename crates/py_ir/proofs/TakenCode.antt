@@ -18,7 +18,7 @@ use Rattle.py_ir.specs.Refusals.{NoneBefore, Refused}
 use Rattle.py_ir.specs.Flattened.{SameChain}
 use Rattle.py_ir.specs.BlockList.{BlockList}
 use Rattle.py_ir.specs.FlatCode.{IsTaken, info_of, with_blocks}
-use Rattle.py_ir.proofs.Ending.{finals}
+use Rattle.py_ir.proofs.CodeTableLemmas.{finals}
 use Rattle.py_ir.proofs.Taken.{same_of}
 
 made_lens : ℕ → ℕ → ℕ → ℕ → TableLens

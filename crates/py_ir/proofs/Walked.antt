@@ -10,16 +10,16 @@ use Rattle.py_bytecode.specs.Machine.{Instr, Found, machine}
 use Rattle.py_bytecode.specs.Decode.{Tables}
 use Rattle.py_bytecode.specs.Blocks.{Place, Of, block_at, at_index, fetch_block, arrives, settled}
 use Rattle.py_bytecode.specs.Blocks as coded
-use Rattle.py_walks.specs.declared.info.InstructionInfo.{InstructionInfo}
-use Rattle.py_walks.specs.declared.known.Refused.{Refused as Walked}
-use Rattle.py_walks.specs.Walks.{State, Seen, seen, Reached, LeavesEnd, UnevenHeights, OutOfRange, HeightOutOfRange, BlockMismatch, Sound, IsDepth}
-use Rattle.py_walks.specs.Shown.{RefusalAt}
-use Rattle.py_walks.specs.Flat.{is_jump, sees, look_at, fetch_at}
-use Rattle.py_walks.proofs.Rows.{Proper}
-use Rattle.py_walks.proofs.Codes.{decoded_proper}
-use Rattle.py_walks.proofs.NeverWrong.{machine_same}
-use Rattle.py_walks.proofs.Looking.{Decodes, looks_same}
-use Rattle.py_walks.proofs.Images.{Imaged, reached_back, ends_back, uneven_back, range_back, mismatch_back, sound_here, depth_here, reached_there}
+use Rattle.py_dataflow.specs.declared.info.InstructionInfo.{InstructionInfo}
+use Rattle.py_dataflow.specs.declared.known.Refused.{Refused as Walked}
+use Rattle.py_dataflow.specs.Walks.{State, Seen, seen, Reached, LeavesEnd, UnevenHeights, OutOfRange, HeightOutOfRange, BlockMismatch, Sound, IsDepth}
+use Rattle.py_dataflow.specs.Shown.{RefusalAt}
+use Rattle.py_dataflow.specs.Flat.{is_jump, sees, look_at, fetch_at}
+use Rattle.py_dataflow.proofs.Rows.{Proper}
+use Rattle.py_dataflow.proofs.Codes.{decoded_proper}
+use Rattle.py_dataflow.proofs.NeverWrong.{machine_same}
+use Rattle.py_dataflow.proofs.InstructionViewLemmas.{Decodes, looks_same}
+use Rattle.py_dataflow.proofs.Images.{Imaged, reached_back, ends_back, uneven_back, range_back, mismatch_back, sound_here, depth_here, reached_there}
 use Rattle.py_ir.specs.Chain.{Blk, blk, coded_blocks, IsChain, StartsAt, flat}
 use Rattle.py_ir.specs.Refusals.{block_look, block_start, capped, WalkAt, LeavesLast, Holds}
 use Rattle.py_ir.specs.Located.{IsLocated, walk_error}

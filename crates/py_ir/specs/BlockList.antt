@@ -1,8 +1,8 @@
 -- Blocks with one that grows, and what is done to them.
 use Rattle.std.specs.Prelude.{◌≡◌, ◌≢◌, ℕ, zero, suc, ◌-◌, ◌<◌, List, [], ◌∷◌, ◌++◌, length, replicate, take, map, Option, slice_get, slice_set, slice_index, slice_index_or}
 use Rattle.std.specs.List.{Contains}
-use Rattle.py_walks.specs.declared.info.BlockIdx.{BlockIdx}
-use Rattle.py_walks.specs.declared.info.InstructionInfo.{InstructionInfo}
+use Rattle.py_dataflow.specs.declared.info.BlockIdx.{BlockIdx}
+use Rattle.py_dataflow.specs.declared.info.InstructionInfo.{InstructionInfo}
 use Rattle.py_ir.specs.declared.blocks.Block.{Block}
 use Rattle.py_ir.specs.Chain.{IsChain, plain}
 

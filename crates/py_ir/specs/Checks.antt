@@ -5,8 +5,8 @@ use Rattle.py_bytecode.specs.declared.instruction.OperandKind.TheVariants as kin
 use Rattle.py_bytecode.specs.Table.{row_of, range_of}
 use Rattle.py_bytecode.specs.Decode.{Tables}
 use Rattle.py_bytecode.specs.Units.{is_prefix}
-use Rattle.py_walks.specs.declared.info.InstructionInfo.{InstructionInfo}
-use Rattle.py_walks.specs.Flat.{is_jump}
+use Rattle.py_dataflow.specs.declared.info.InstructionInfo.{InstructionInfo}
+use Rattle.py_dataflow.specs.Flat.{is_jump}
 use Rattle.py_ir.specs.declared.checks.TableLens.{TableLens}
 use Rattle.py_ir.specs.declared.checks.Check.{Check}
 

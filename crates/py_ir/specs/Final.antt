@@ -11,7 +11,7 @@ use Rattle.py_bytecode.specs.Units.{machine}
 use Rattle.py_bytecode.specs.Cells.{parameter_count}
 use Rattle.py_bytecode.specs.Blocks.{block_machine}
 use Rattle.py_bytecode.specs.View.{constant, object}
-use Rattle.py_walks.specs.Sound.{sound}
+use Rattle.py_dataflow.specs.Sound.{sound}
 use Rattle.py_ir.specs.declared.info.CodeInfo.{CodeInfo}
 use Rattle.py_ir.specs.Chain.{plain, coded_blocks}
 use Rattle.py_ir.specs.Finished.{IsLaid, IsCell2Arg}

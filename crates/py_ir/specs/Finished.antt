@@ -10,7 +10,7 @@ use Rattle.py_bytecode.specs.Machine.{machine, limited_machine}
 use Rattle.py_bytecode.specs.Decode.{Tables}
 use Rattle.py_bytecode.specs.Units.{fetch_unit}
 use Rattle.py_bytecode.specs.Blocks.{fetch_block}
-use Rattle.py_walks.specs.Walks.{seen, Sound, IsDepth}
+use Rattle.py_dataflow.specs.Walks.{seen, Sound, IsDepth}
 use Rattle.py_layout.specs.Written.{IsAssembled}
 use Rattle.py_ir.specs.Chain.{Blk, IsChain, StartsAt, flat, coded_blocks}
 use Rattle.py_ir.specs.Refusals.{block_look, block_start}

@@ -1,6 +1,6 @@
 -- The list of a chain, as it is checked, walked and laid out.
 use Rattle.std.specs.Prelude.{◌≡◌, ℕ, ◌≤◌, List, length, All}
-use Rattle.py_walks.specs.declared.info.InstructionInfo.{InstructionInfo}
+use Rattle.py_dataflow.specs.declared.info.InstructionInfo.{InstructionInfo}
 use Rattle.py_ir.specs.Chain.{Blk, blk, IsChain, StartsAt, flat}
 
 -- the list is that of the chain, and each block starts at its place

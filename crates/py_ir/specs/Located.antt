@@ -1,10 +1,10 @@
 -- Places of the list of instructions, and the blocks and indices that errors carry.
 use Rattle.std.specs.Prelude.{◌≡◌, ℕ, ◌+◌, ◌-◌, ◌^◌, ◌<◌, ◌≤◌, ◌⊎◌, List, length, slice_index}
-use Rattle.py_walks.specs.declared.known.Refused.{Refused as Walked}
-use Rattle.py_walks.specs.declared.info.InstructionInfo.{InstructionInfo}
-use Rattle.py_walks.specs.Flat.{look_at}
-use Rattle.py_walks.specs.Walks.{Sound}
-use Rattle.py_walks.specs.Shown.{RefusalAt}
+use Rattle.py_dataflow.specs.declared.known.Refused.{Refused as Walked}
+use Rattle.py_dataflow.specs.declared.info.InstructionInfo.{InstructionInfo}
+use Rattle.py_dataflow.specs.Flat.{look_at}
+use Rattle.py_dataflow.specs.Walks.{Sound}
+use Rattle.py_dataflow.specs.Shown.{RefusalAt}
 use Rattle.py_layout.specs.Widths as widths
 use Rattle.py_layout.specs.Written.{needs_of}
 use Rattle.py_ir.specs.declared.checks.Check.{Check}

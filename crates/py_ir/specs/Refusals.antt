@@ -4,9 +4,9 @@ use Rattle.std.specs.List.{Contains}
 use Rattle.py_bytecode.specs.Decode.{Tables}
 use Rattle.py_bytecode.specs.Units.{is_prefix}
 use Rattle.py_bytecode.specs.Blocks.{Place, Of, settled, fetch_block}
-use Rattle.py_walks.specs.declared.info.InstructionInfo.{InstructionInfo}
-use Rattle.py_walks.specs.Flat.{is_jump}
-use Rattle.py_walks.specs.Walks.{Seen, seen, LeavesEnd, UnevenHeights, HeightOutOfRange, BlockMismatch}
+use Rattle.py_dataflow.specs.declared.info.InstructionInfo.{InstructionInfo}
+use Rattle.py_dataflow.specs.Flat.{is_jump}
+use Rattle.py_dataflow.specs.Walks.{Seen, seen, LeavesEnd, UnevenHeights, HeightOutOfRange, BlockMismatch}
 use Rattle.py_layout.specs.Widths as widths
 use Rattle.py_layout.specs.Written.{needs_of}
 use Rattle.py_ir.specs.declared.checks.TableLens.{TableLens}

@@ -1,8 +1,8 @@
 -- Blocks that are kept in one list of instructions.
 use Rattle.std.specs.Prelude.{◌≡◌, ◌≢◌, ℕ, ◌-◌, ◌<◌, ◌≤◌, List, [], ◌∷◌, ◌++◌, length, take, drop, map, All, slice_index_or}
 use Rattle.std.specs.List.{Contains}
-use Rattle.py_walks.specs.declared.info.BlockIdx.{BlockIdx}
-use Rattle.py_walks.specs.declared.info.InstructionInfo.{InstructionInfo}
+use Rattle.py_dataflow.specs.declared.info.BlockIdx.{BlockIdx}
+use Rattle.py_dataflow.specs.declared.info.InstructionInfo.{InstructionInfo}
 use Rattle.py_ir.specs.declared.blocks.Block.{Block}
 use Rattle.py_ir.specs.declared.flat.Span.{Span}
 use Rattle.py_ir.specs.declared.flat.FlatBlocks.TheInside.{Inside}

@@ -2,9 +2,9 @@
 ghost use Rattle.std.specs.Prelude.{ℕ, ◌≡◌, ◌+◌, ◌<◌, ◌≤◌, ◌^◌, All, IfErr, IfOk, List, length, map, slice_index, slice_index_or, false, true};
 ghost use Rattle.std.specs.List.{Contains};
 ghost use Rattle.py_bytecode.specs.Decode.{Tables};
-ghost use Rattle.py_walks.specs.Flat.{IsCode, look_at};
-ghost use Rattle.py_walks.specs.Walks.{IsDepth, Sound};
-ghost use Rattle.py_walks.specs.Shown.{RefusalAt};
+ghost use Rattle.py_dataflow.specs.Flat.{IsCode, look_at};
+ghost use Rattle.py_dataflow.specs.Walks.{IsDepth, Sound};
+ghost use Rattle.py_dataflow.specs.Shown.{RefusalAt};
 ghost use Rattle.py_layout.specs.Widths as widths;
 ghost use Rattle.py_layout.specs.Written.{InRange, IsAssembled, needs_of};
 ghost use Rattle.py_ir.specs.BlockList.{IsWhole};
@@ -20,8 +20,8 @@ use crate::checks::{Check, ItemFault, TableLens, check_items};
 use crate::{FinalizeError, FlatBlocks, InstructionInfo};
 use py_base::SourceLocation;
 use py_bytecode::CodeUnit;
+use py_dataflow::{Fault, Refused as Walked, depth};
 use py_layout::{LayoutError, assemble};
-use py_walks::{Fault, Refused as Walked, depth};
 use std::alloc::{AllocError, Global};
 
 /// A place of a list of instructions, as a block and an index in it.

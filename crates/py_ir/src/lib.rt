@@ -19,5 +19,5 @@ pub use error::FinalizeError;
 pub use flat::FlatBlocks;
 pub use flat_code::FlatCode;
 pub use info::CodeInfo;
-pub use py_walks::{BlockIdx, InstructionInfo};
+pub use py_dataflow::{BlockIdx, InstructionInfo};
 pub use sets::NameSet;

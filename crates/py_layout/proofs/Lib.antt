@@ -1,8 +1,8 @@
 pub mod Offsets
-pub mod Growing
-pub mod Ending
-pub mod Reading
-pub mod Writing
+pub mod WidthGrowthLemmas
+pub mod WidthRoundLemmas
+pub mod ReadBackLemmas
+pub mod UnitWriteLemmas
 pub mod SameUnits
-pub mod Widening
-pub mod Assembling
+pub mod LeastWidthLemmas
+pub mod AssemblyLemmas

@@ -15,23 +15,23 @@ use Rattle.py_bytecode.specs.Machine.{Instr, Found, machine}
 use Rattle.py_bytecode.specs.Decode.{Tables, instr_of}
 use Rattle.py_bytecode.specs.Operands.{units_for}
 use Rattle.py_bytecode.specs.Units.{is_prefix, Read, place_in, read_from, fetched, fetch_unit}
-use Rattle.py_walks.specs.declared.info.InstructionInfo.{InstructionInfo}
-use Rattle.py_walks.specs.Walks.{State, state, falls_to, jumps_to, Seen, seen, Falls, Jumps, Reached, Sound, IsDepth}
-use Rattle.py_walks.specs.Flat.{is_jump, named_place, jump_place, sees, look_at, decoded, fetch_at, IsCode}
-use Rattle.py_walks.proofs.Rows.{Proper}
-use Rattle.py_walks.proofs.SameRuns.{fetched_at}
-use Rattle.py_walks.proofs.Elsewhere.{instr_at, found_at}
-use Rattle.py_walks.proofs.Images.{Imaged, sound_there, depth_there}
-use Rattle.py_walks.proofs.NeverWrong.{machine_same}
-use Rattle.py_walks.proofs.Codes.{decoded_proper}
-use Rattle.py_walks.proofs.Looking.{Decodes, found_look, looks_same, look_same, seen_same}
+use Rattle.py_dataflow.specs.declared.info.InstructionInfo.{InstructionInfo}
+use Rattle.py_dataflow.specs.Walks.{State, state, falls_to, jumps_to, Seen, seen, Falls, Jumps, Reached, Sound, IsDepth}
+use Rattle.py_dataflow.specs.Flat.{is_jump, named_place, jump_place, sees, look_at, decoded, fetch_at, IsCode}
+use Rattle.py_dataflow.proofs.Rows.{Proper}
+use Rattle.py_dataflow.proofs.SameRuns.{fetched_at}
+use Rattle.py_dataflow.proofs.Elsewhere.{instr_at, found_at}
+use Rattle.py_dataflow.proofs.Images.{Imaged, sound_there, depth_there}
+use Rattle.py_dataflow.proofs.NeverWrong.{machine_same}
+use Rattle.py_dataflow.proofs.Codes.{decoded_proper}
+use Rattle.py_dataflow.proofs.InstructionViewLemmas.{Decodes, found_look, looks_same, look_same, seen_same}
 use Rattle.py_layout.specs.declared.widths.Need.{Need}
 use Rattle.py_layout.specs.declared.widths.Need.TheVariants.{Fixed, Jump}
 use Rattle.py_layout.specs.Widths.{Fits, Least, IsLayout, TooManyUnits, IsWidth, Reaches, offset, width_for}
 use Rattle.py_layout.specs.Written.{InRange, need_of, needs_of, operand_in, units_of, written, located, IsAssembled, reads, Decoded, decode}
 use Rattle.py_layout.proofs.Offsets.{offset-suc, holds, size-same}
-use Rattle.py_layout.proofs.Reading.{read_units, decode_units}
-use Rattle.py_layout.proofs.Writing.{long, written_drop, length-written, chosen_within}
+use Rattle.py_layout.proofs.ReadBackLemmas.{read_units, decode_units}
+use Rattle.py_layout.proofs.UnitWriteLemmas.{long, written_drop, length-written, chosen_within}
 
 held_if : (b : Bool) (p a o w : ℕ) (ws : List ℕ) → o ≡ offset ws p → a < 2 ^ 32 → w ≤ 4 → IsWidth (if b then Jump p else Fixed (units_for a)) w → Reaches ws (if b then Jump p else Fixed (units_for a)) w → (if b then o else a) < 256 ^ w
 held_if true p a o w ws e h l4 i r = holds o w (let q = ap width_for e in omega (arith, q, r)) l4

@@ -6,8 +6,8 @@ use Rattle.py_bytecode.specs.declared.instruction.Instruction.TheVariants.{Exten
 use Rattle.py_bytecode.specs.declared.operand.CodeUnit.{CodeUnit}
 use Rattle.py_bytecode.specs.Operands.{units_for}
 use Rattle.py_bytecode.specs.Units.{is_prefix}
-use Rattle.py_walks.specs.declared.info.InstructionInfo.{InstructionInfo}
-use Rattle.py_walks.specs.Flat.{is_jump, named_place}
+use Rattle.py_dataflow.specs.declared.info.InstructionInfo.{InstructionInfo}
+use Rattle.py_dataflow.specs.Flat.{is_jump, named_place}
 use Rattle.py_layout.specs.declared.widths.Need.{Need}
 use Rattle.py_layout.specs.declared.widths.Need.TheVariants.{Fixed, Jump}
 use Rattle.py_layout.specs.Widths.{Least, offset}

@@ -1,14 +1,14 @@
 //! The units of instructions, once the width of each is known.
 ghost use Rattle.std.specs.Prelude.{◌≡◌, ◌+◌, ◌<◌, ◌≤◌, ◌∷◌, ◌++◌, [], All, IfErr, IfOk, length, replicate, sum, vec_len, vec_capacity};
 ghost use Rattle.py_bytecode.specs.Operands.{byte_of};
-ghost use Rattle.py_walks.specs.Flat.{IsCode, IsLinked};
+ghost use Rattle.py_dataflow.specs.Flat.{IsCode, IsLinked};
 ghost use Rattle.py_layout.specs.Widths.{Chosen, IsNeed, Offsets, TooManyUnits};
 ghost use Rattle.py_layout.specs.Written.{InRange, IsAssembled, located, need_of, needs_of, operand_at, operand_in, units_of, written};
 
 use crate::widths::{LayoutError, Need, lay_out, width_of};
 use py_base::SourceLocation;
 use py_bytecode::{CodeUnit, Instruction, OpArg};
-use py_walks::InstructionInfo;
+use py_dataflow::InstructionInfo;
 use std::alloc::{AllocError, Global};
 
 /// The units of a code, with the location of each.

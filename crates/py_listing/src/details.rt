@@ -16,7 +16,7 @@ use std::alloc::AllocError;
 ///
 /// # Errors
 /// There is no memory for it.
-#[tactic(auto, using(py_bytecode::proofs::View::views, crate::proofs::Joining::constant_entry))]
+#[tactic(auto, using(py_bytecode::proofs::View::views, crate::proofs::ConstantListLemmas::constant_entry))]
 pub fn push_detail(
     out: &mut String,
     code: &CodeObject,

@@ -65,7 +65,7 @@ fn push_numbers(out: &mut String, code: &CodeObject) -> Result<(), AllocError>
 ///
 /// # Errors
 /// There is no memory for it.
-#[tactic(auto, using(crate::proofs::Joining::constants_line_some))]
+#[tactic(auto, using(crate::proofs::ConstantListLemmas::constants_line_some))]
 pub fn push_constants(out: &mut String, constants: &[ConstantData]) -> Result<(), AllocError>
     ensures { OnOk result (string_bytes out.new ≡ string_bytes out.old ++ constants_line (constants_of constants.now)) }
 {

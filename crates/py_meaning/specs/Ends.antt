@@ -2,7 +2,7 @@
 use Rattle.std.specs.Prelude.{ℕ, List, [], ◌∷◌, ◌++◌, Option, Some, None}
 use Rattle.py_tree.specs.Tree as tree
 use Rattle.py_base.specs.declared.location.SourceLocation.{SourceLocation}
-use Rattle.py_steps.specs.Elements.{pairs, flat}
+use Rattle.py_emission_parts.specs.Elements.{pairs, flat}
 use Rattle.py_emission.specs.Texts.{texts_of}
 
 -- the last of them, or where it was before

@@ -2,14 +2,14 @@
 use Rattle.std.specs.Prelude.{ℕ, List, [], ◌∷◌, ◌++◌, ◌||◌, Bool, true, not, Option, Some, None, nat_eq, if◌then◌else◌}
 use Rattle.py_tree.specs.Tree as tree
 use Rattle.py_tree.specs.PythonName.{python_name}
-use Rattle.py_steps.specs.Elements.{Element, Single, Spread, stars, pairs, flat}
-use Rattle.py_steps.specs.Refused.{few_aside, lone_star, no_assignment, no_deletion, retold}
+use Rattle.py_emission_parts.specs.Elements.{Element, Single, Spread, stars, pairs, flat}
+use Rattle.py_emission_parts.specs.Refused.{few_aside, lone_star, no_assignment, no_deletion, retold}
 use Rattle.py_emission.specs.Awaits.{awaits, some_async}
 use Rattle.py_emission.specs.Predicates.{deletion_name}
 use Rattle.py_emission.specs.Parameters.{parameters}
 use Rattle.py_meaning.specs.Ends.{args_end, delete_end, expr_end, last_of, store_end}
 use Rattle.py_meaning.specs.StmtEnds.{default_ends}
-use Rattle.py_steps.specs.TableParts.{is_debug}
+use Rattle.py_emission_parts.specs.TableParts.{is_debug}
 use Rattle.py_emission.specs.Texts.{texts_of}
 use Rattle.py_base.specs.declared.errors.CodegenErrorType.TheVariants as error
 use Rattle.py_base.specs.declared.errors.CodegenErrorType.{CodegenErrorType}

@@ -6,10 +6,10 @@ use Rattle.py_limits.specs.Size.{size_of}
 use Rattle.py_shapes.specs.Valid.{shapes}
 use Rattle.py_tree.specs.declared.modules.Mode.{Mode}
 use Rattle.py_tree.specs.declared.modules.Mode.TheVariants as mode
-use Rattle.py_texts.specs.Annotation.{annotation}
+use Rattle.py_annotation_text.specs.Annotation.{annotation}
 use Rattle.py_base.specs.declared.shapes.Malformed.{Malformed}
 use Rattle.py_base.specs.declared.limits.TreeLimit.TheVariants as limit
-use Rattle.py_steps.specs.Refused.{no_assignment}
+use Rattle.py_emission_parts.specs.Refused.{no_assignment}
 use Rattle.py_tree.specs.PythonName.{python_name}
 use Rattle.py_meaning.specs.Ends.{ends_of, expr_end, items_end, last_of, opt_end, some_of}
 use Rattle.py_meaning.specs.StmtEnds.{Setting, declared_end, function_start, param_end, param_ends, rest_end, scope_setting, stmt_end}

@@ -6,8 +6,8 @@ use Rattle.py_tree.specs.declared.modules.Mode.TheVariants as mode
 use Rattle.py_bytecode.specs.declared.instruction.Instruction.TheVariants as op
 use Rattle.py_bytecode.specs.Objects as const
 use Rattle.py_bytecode.specs.Values.{operation, Bare}
-use Rattle.py_steps.specs.Context.{Context}
-use Rattle.py_forms.specs.Form.{VForm, VConst, VKeep, VNone, Target, GPut, SForm, SThen, SInto, SReturn, SAt}
+use Rattle.py_emission_parts.specs.Context.{Context}
+use Rattle.py_control.specs.Form.{VForm, VConst, VKeep, VNone, Target, GPut, SForm, SThen, SInto, SReturn, SAt}
 use Rattle.py_emission.specs.Futures.{after_future, future_of}
 use Rattle.py_meaning.specs.TableImports.{behind_futures, future_form}
 use Rattle.py_meaning.specs.StmtParts.{after_stmt}

@@ -5,9 +5,9 @@ use Rattle.py_tree.specs.declared.modules.Mode.{Mode}
 use Rattle.py_bytecode.specs.Values.{Answer, Ran}
 use Rattle.py_bytecode.specs.Objects as const
 use Rattle.py_scope.specs.declared.flat.ScopeEntry.{ScopeEntry}
-use Rattle.py_forms.specs.Form.{VConst, SForm, SReturn, Scope, MkScope}
-use Rattle.py_forms.specs.Agree.{plainly, meaning_by}
-use Rattle.py_steps.specs.Context.{Context, head_of, outermost}
+use Rattle.py_control.specs.Form.{VConst, SForm, SReturn, Scope, MkScope}
+use Rattle.py_control.specs.Agree.{plainly, meaning_by}
+use Rattle.py_emission_parts.specs.Context.{Context, head_of, outermost}
 use Rattle.py_meaning.specs.Interactive.{interactive_form}
 use Rattle.py_meaning.specs.Table.{expr_form}
 use Rattle.py_meaning.specs.TableStmts.{program_form}

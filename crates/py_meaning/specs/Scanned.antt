@@ -5,8 +5,8 @@ use Rattle.py_scope.specs.Flat.{flat_table}
 use Rattle.py_scope.specs.declared.flat.ScopeEntry.{ScopeEntry}
 use Rattle.py_scope.specs.declared.table.SymbolTable.{SymbolTable}
 use Rattle.py_scan.specs.Scan.{scan_program, scan_value}
-use Rattle.py_tables.specs.Tables as tables
-use Rattle.py_tables.specs.Tables.{body_faults, table_of, value_faults}
+use Rattle.py_symbol_tables.specs.Tables as tables
+use Rattle.py_symbol_tables.specs.Tables.{body_faults, table_of, value_faults}
 use Rattle.symboltable.specs.Errors.{codegen_error}
 use Rattle.py_meaning.specs.ExprFaults.{Fault}
 

@@ -1,7 +1,7 @@
 -- How many scopes stand in each statement, as they are scanned; none in annotations that are postponed.
 use Rattle.std.specs.Prelude.{ℕ, suc, ◌+◌, Bool}
 use Rattle.py_tree.specs.Tree as tree
-use Rattle.py_counts.specs.Counts.{scopes_in, scopes_in_all, scopes_in_annotation, scopes_in_defaults, scopes_in_keywords, scopes_in_notes, scopes_in_opt, scopes_in_opt_arg, scopes_in_returns}
+use Rattle.py_scope_counts.specs.Counts.{scopes_in, scopes_in_all, scopes_in_annotation, scopes_in_defaults, scopes_in_keywords, scopes_in_notes, scopes_in_opt, scopes_in_opt_arg, scopes_in_returns}
 
 -- the annotations of all parameters
 abbrev pub scopes_in_all_notes : (postponed : Bool) → tree.Arguments → ℕ

@@ -2,7 +2,7 @@
 use Rattle.std.specs.Prelude.{ℕ, List, [], ◌++◌, Bool, true, false, nat_eq, if◌then◌else◌}
 use Rattle.py_tree.specs.Tree as tree
 use Rattle.py_base.specs.declared.location.SourceLocation.{SourceLocation}
-use Rattle.py_steps.specs.Context.{Context, is_function}
+use Rattle.py_emission_parts.specs.Context.{Context, is_function}
 use Rattle.py_emission.specs.Texts.{stmt_text}
 use Rattle.py_meaning.specs.Ends.{deletes_end, ends_of, expr_end, keyword_ends, last_of, opt_end, some_of, store_end, stores_end}
 use Rattle.py_emission.specs.Predicates.{but_doc}

@@ -5,12 +5,12 @@ use Rattle.py_base.specs.declared.operators.Operator.{Operator}
 use Rattle.py_bytecode.specs.declared.instruction.Instruction.TheVariants as op
 use Rattle.py_bytecode.specs.Objects as const
 use Rattle.py_bytecode.specs.Values.{operation, Bare, Number}
-use Rattle.py_steps.specs.Within.{behind_name, class_within, function_inside}
-use Rattle.py_steps.specs.Context.{Context, head_of, is_function, mangled, qualified}
-use Rattle.py_steps.specs.Elements.{Function}
+use Rattle.py_emission_parts.specs.Within.{behind_name, class_within, function_inside}
+use Rattle.py_emission_parts.specs.Context.{Context, head_of, is_function, mangled, qualified}
+use Rattle.py_emission_parts.specs.Elements.{Function}
 use Rattle.py_emission.specs.Texts.{after_doc, doc_of}
-use Rattle.py_forms.specs.Form.{VForm, VConst, VLoad, VOp, VMake, VKeep, VForms, VNone, VMore, TNot, Resolved, FixedByName, FixedGlobal, Target, GDrop, GStore, GPut, SForm, SSkip, SThen, SDo, SInto, SRemove, SIf, SReturn, SReraise, SAugment, SAugmentTwo, SFinally, SWith, MkScope}
-use Rattle.py_steps.specs.TableParts.{built, call_form, counted, elements, inplace, name_form, named}
+use Rattle.py_control.specs.Form.{VForm, VConst, VLoad, VOp, VMake, VKeep, VForms, VNone, VMore, TNot, Resolved, FixedByName, FixedGlobal, Target, GDrop, GStore, GPut, SForm, SSkip, SThen, SDo, SInto, SRemove, SIf, SReturn, SReraise, SAugment, SAugmentTwo, SFinally, SWith, MkScope}
+use Rattle.py_emission_parts.specs.TableParts.{built, call_form, counted, elements, inplace, name_form, named}
 use Rattle.py_meaning.specs.StmtCounts.{scopes_in_stmt, scopes_in_stmts}
 use Rattle.py_meaning.specs.Table.{after, after_all, after_opt, all_forms, expr_form, keyword_forms, target_form, test_form}
 use Rattle.py_meaning.specs.TableNotes.{note_form, note_forms}

@@ -5,13 +5,13 @@ use Rattle.py_base.specs.declared.location.SourceLocation.{SourceLocation}
 use Rattle.py_bytecode.specs.declared.instruction.Instruction.TheVariants as op
 use Rattle.py_bytecode.specs.Objects as const
 use Rattle.py_bytecode.specs.Values.{operation, Bare}
-use Rattle.py_counts.specs.Counts.{scopes_in, scopes_in_all, scopes_in_opt, scopes_in_args, scopes_in_clauses, scopes_in_defaults}
-use Rattle.py_steps.specs.Within.{comprehension_inside, lambda_inside}
-use Rattle.py_steps.specs.Context.{Context, head_of, mangled}
-use Rattle.py_steps.specs.Elements.{Element, Single, Spread, Function, Method, pairs}
+use Rattle.py_scope_counts.specs.Counts.{scopes_in, scopes_in_all, scopes_in_opt, scopes_in_args, scopes_in_clauses, scopes_in_defaults}
+use Rattle.py_emission_parts.specs.Within.{comprehension_inside, lambda_inside}
+use Rattle.py_emission_parts.specs.Context.{Context, head_of, mangled}
+use Rattle.py_emission_parts.specs.Elements.{Element, Single, Spread, Function, Method, pairs}
 use Rattle.py_emission.specs.Texts.{texts_of}
-use Rattle.py_forms.specs.Form.{VForm, VConst, VOp, VMake, VChoice, VKeep, VAt, VLoad, VNone, VMore, TForm, TTruth, FixedFast, Resolved, Target, GDrop, GStore, GPut, SReturn, Clauses, CLast, CEach, Filters, NoFilter, MoreFilter, MkScope}
-use Rattle.py_steps.specs.TableParts.{ExprForms, Keywords, TargetForms, binary, bool_forms, call_form, compare_form, constant_of, conversion_case, counted, dict_form, display, elements, joined_form, name_form, named, no_operand, plain_target, slice_form, tested, unary_forms, unpacked_to, value_or, values}
+use Rattle.py_control.specs.Form.{VForm, VConst, VOp, VMake, VChoice, VKeep, VAt, VLoad, VNone, VMore, TForm, TTruth, FixedFast, Resolved, Target, GDrop, GStore, GPut, SReturn, Clauses, CLast, CEach, Filters, NoFilter, MoreFilter, MkScope}
+use Rattle.py_emission_parts.specs.TableParts.{ExprForms, Keywords, TargetForms, binary, bool_forms, call_form, compare_form, constant_of, conversion_case, counted, dict_form, display, elements, joined_form, name_form, named, no_operand, plain_target, slice_form, tested, unary_forms, unpacked_to, value_or, values}
 use Rattle.py_meaning.specs.TableScopes.{Defaults, called_at_once, default_flags, default_parts, gathered, generated, iterator}
 
 -- the number after the scopes of these

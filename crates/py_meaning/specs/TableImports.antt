@@ -5,9 +5,9 @@ use Rattle.py_bytecode.specs.declared.instruction.Instruction.TheVariants as op
 use Rattle.py_bytecode.specs.Objects as const
 use Rattle.py_bytecode.specs.Objects.{Const}
 use Rattle.py_bytecode.specs.Values.{Operation, operation, Bare}
-use Rattle.py_forms.specs.Form.{VForm, VConst, VOp, VKeep, VNone, VMore, Resolved, GDrop, GStore, GPut, SForm, SSkip, SThen, SInto, SAt}
-use Rattle.py_steps.specs.Context.{Context, mangled}
-use Rattle.py_steps.specs.TableParts.{named}
+use Rattle.py_control.specs.Form.{VForm, VConst, VOp, VKeep, VNone, VMore, Resolved, GDrop, GStore, GPut, SForm, SSkip, SThen, SInto, SAt}
+use Rattle.py_emission_parts.specs.Context.{Context, mangled}
+use Rattle.py_emission_parts.specs.TableParts.{named}
 use Rattle.py_emission.specs.Imports.{further_segments, import_name, taken_name, takes_all, asked, asked_all}
 use Rattle.py_tree.specs.Tree as tree
 use Rattle.py_emission.specs.Futures.{Future, future_of, after_future}

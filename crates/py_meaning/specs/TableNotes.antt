@@ -1,11 +1,11 @@
 -- The forms of annotations, and of those of functions.
 use Rattle.std.specs.Prelude.{ℕ, ◌+◌, ◌++◌, List, [], ◌∷◌, Option, Some, None, codes, if◌then◌else◌}
 use Rattle.py_tree.specs.Tree as tree
-use Rattle.py_counts.specs.Counts.{scopes_in_arg, scopes_in_notes, scopes_in_opt_arg, scopes_in_returns}
+use Rattle.py_scope_counts.specs.Counts.{scopes_in_arg, scopes_in_notes, scopes_in_opt_arg, scopes_in_returns}
 use Rattle.py_bytecode.specs.Objects as const
-use Rattle.py_steps.specs.Context.{Context, mangled}
-use Rattle.py_texts.specs.Annotation.{annotation}
-use Rattle.py_forms.specs.Form.{VForm, VConst}
+use Rattle.py_emission_parts.specs.Context.{Context, mangled}
+use Rattle.py_annotation_text.specs.Annotation.{annotation}
+use Rattle.py_control.specs.Form.{VForm, VConst}
 use Rattle.py_meaning.specs.Table.{expr_form}
 
 -- the text of an annotation that is postponed; nothing stands for one that has none, which is not compiled

@@ -4,11 +4,11 @@ use Rattle.py_tree.specs.Tree as tree
 use Rattle.py_bytecode.specs.declared.instruction.Instruction.TheVariants as op
 use Rattle.py_bytecode.specs.Objects as const
 use Rattle.py_bytecode.specs.Values.{operation, Bare}
-use Rattle.py_counts.specs.Counts.{scopes_in_returns}
-use Rattle.py_forms.specs.Form.{VForm, VConst, VOp, VMake, VKeep, VSwap, VForms, VNone, VMore, Resolved, GStore, SForm, SSkip, SInto, SReturn, Scope, MkScope}
-use Rattle.py_steps.specs.Within.{class_path, handed, handed_parts, hidden_inside, hidden_name}
-use Rattle.py_steps.specs.Context.{Context, head_of, mangled}
-use Rattle.py_steps.specs.TableParts.{built, counted, no_operand}
+use Rattle.py_scope_counts.specs.Counts.{scopes_in_returns}
+use Rattle.py_control.specs.Form.{VForm, VConst, VOp, VMake, VKeep, VSwap, VForms, VNone, VMore, Resolved, GStore, SForm, SSkip, SInto, SReturn, Scope, MkScope}
+use Rattle.py_emission_parts.specs.Within.{class_path, handed, handed_parts, hidden_inside, hidden_name}
+use Rattle.py_emission_parts.specs.Context.{Context, head_of, mangled}
+use Rattle.py_emission_parts.specs.TableParts.{built, counted, no_operand}
 use Rattle.py_meaning.specs.StmtCounts.{scopes_in_all_notes, scopes_in_param, scopes_in_params, scopes_in_stmts}
 use Rattle.py_meaning.specs.StmtParts.{class_value, function_value}
 use Rattle.py_meaning.specs.Table.{after_defaults, default_forms, expr_form}

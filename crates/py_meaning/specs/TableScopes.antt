@@ -4,9 +4,9 @@ use Rattle.py_bytecode.specs.declared.instruction.Instruction.{Instruction}
 use Rattle.py_bytecode.specs.declared.instruction.Instruction.TheVariants as op
 use Rattle.py_bytecode.specs.Objects as const
 use Rattle.py_bytecode.specs.Values.{operation, Bare}
-use Rattle.py_forms.specs.Form.{VForm, VConst, VLoad, VOp, VMake, VKeep, VForms, VNone, VMore, FixedByName, FixedGlobal, GStore, GUnder, SForm, SSkip, SThen, SDo, SInto, SReturn, SClassEnd, SGather, SGenerate, Clauses, Scope}
-use Rattle.py_steps.specs.Within.{doc_const, some_flag}
-use Rattle.py_steps.specs.TableParts.{built, counted, map_of, named, some_built}
+use Rattle.py_control.specs.Form.{VForm, VConst, VLoad, VOp, VMake, VKeep, VForms, VNone, VMore, FixedByName, FixedGlobal, GStore, GUnder, SForm, SSkip, SThen, SDo, SInto, SReturn, SClassEnd, SGather, SGenerate, Clauses, Scope}
+use Rattle.py_emission_parts.specs.Within.{doc_const, some_flag}
+use Rattle.py_emission_parts.specs.TableParts.{built, counted, map_of, named, some_built}
 
 -- the defaults of a function: of the positional parameters, and of those that are keywords only, by their names
 pub record Defaults : Type 0 where

@@ -2,11 +2,11 @@
 use Rattle.std.specs.Prelude.{ℕ, suc, ◌+◌, List, Option, Some, None, codes}
 use Rattle.py_tree.specs.Tree as tree
 use Rattle.py_bytecode.specs.Objects as const
-use Rattle.py_steps.specs.Within.{class_path, class_within, function_inside}
-use Rattle.py_steps.specs.Context.{Context, mangled}
+use Rattle.py_emission_parts.specs.Within.{class_path, class_within, function_inside}
+use Rattle.py_emission_parts.specs.Context.{Context, mangled}
 use Rattle.py_emission.specs.Texts.{after_doc, doc_of, stmt_text}
-use Rattle.py_forms.specs.Form.{VConst, Resolved, FixedGlobal, GDrop, GStore, SForm, SSkip, SThen, SInto, SIf, SIfElse, SWhile, SFor, SBreak, SContinue, SReturn, STry, STryFinal, SAt, Handlers, HNone, HAny, HTyped}
-use Rattle.py_steps.specs.TableParts.{values}
+use Rattle.py_control.specs.Form.{VConst, Resolved, FixedGlobal, GDrop, GStore, SForm, SSkip, SThen, SInto, SIf, SIfElse, SWhile, SFor, SBreak, SContinue, SReturn, STry, STryFinal, SAt, Handlers, HNone, HAny, HTyped}
+use Rattle.py_emission_parts.specs.TableParts.{values}
 use Rattle.py_meaning.specs.TableImports.{behind_futures, from_form, import_form}
 use Rattle.py_meaning.specs.StmtCounts.{scopes_in_handlers, scopes_in_items}
 use Rattle.py_meaning.specs.StmtParts.{after_stmt, after_stmts, annotated_form, assert_form, assign_form, augment_form, declared_form, handler_target, named_form, raise_form, removals, return_form, unless_last, with_form}

@@ -11,11 +11,11 @@ use Rattle.py_scope.specs.declared.kinds.SymbolScope.{SymbolScope}
 use Rattle.py_scope.specs.declared.kinds.SymbolScope.TheVariants as scope
 use Rattle.py_scope.specs.declared.symbols.Symbol.{Symbol}
 use Rattle.py_scope.specs.declared.table_type.SymbolTableType.TheVariants as kind
-use Rattle.py_forms.specs.Form.{Scope, SReturn, MkScope}
-use Rattle.py_forms.specs.Agree.{exactly, meaning_by}
-use Rattle.py_steps.specs.Emitting.{Emission, Outcome, ◌▸◌, add_varname, begin, begun, by_context, by_level, by_loops, emit, emit_constant, emit_count, emit_mangled, emit_name, emit_varname, in_loop, jump, located, move, new_block, refuse, with_block, with_constant, with_loops, with_name, with_step, with_varname}
-use Rattle.py_steps.specs.Accesses.{accessed}
-use Rattle.py_steps.specs.Context.{Context, head_of, inside, outermost, within_class}
+use Rattle.py_control.specs.Form.{Scope, SReturn, MkScope}
+use Rattle.py_control.specs.Agree.{exactly, meaning_by}
+use Rattle.py_emission_parts.specs.Emitting.{Emission, Outcome, ◌▸◌, add_varname, begin, begun, by_context, by_level, by_loops, emit, emit_constant, emit_count, emit_mangled, emit_name, emit_varname, in_loop, jump, located, move, new_block, refuse, with_block, with_constant, with_loops, with_name, with_step, with_varname}
+use Rattle.py_emission_parts.specs.Accesses.{accessed}
+use Rattle.py_emission_parts.specs.Context.{Context, head_of, inside, outermost, within_class}
 use Rattle.py_emission.specs.Emission.{emission}
 use Rattle.py_emission.specs.EmissionStmts.{emission_of_stmts}
 use Rattle.py_emission.specs.EmissionMods.{emitted}

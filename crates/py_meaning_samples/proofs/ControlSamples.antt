@@ -5,8 +5,8 @@ use Rattle.py_tree.specs.declared.modules.Mode.TheVariants.{Exec}
 use Rattle.py_bytecode.specs.declared.instruction.Instruction.TheVariants as op
 use Rattle.py_bytecode.specs.Objects as const
 use Rattle.py_bytecode.specs.Values.{Value, Constant, Given, Gives, Truth, End, Raised, Event, Operates, Accesses, AsksTruth, AsksNext, Unsaid, Load, Store, Delete, Bare, Number, operation, ran, It, Returned, RaisedOut}
-use Rattle.py_forms.specs.Form.{Scope}
-use Rattle.py_steps.specs.Context.{inside}
+use Rattle.py_control.specs.Form.{Scope}
+use Rattle.py_emission_parts.specs.Context.{inside}
 use Rattle.py_meaning.specs.Meaning.{body, meaning}
 use Rattle.py_meaning_samples.proofs.SampleTools.{at}
 

@@ -14,16 +14,16 @@ use Rattle.py_bytecode.specs.declared.operand.CodeUnit.{CodeUnit}
 use Rattle.py_bytecode.specs.Decode.{Tables, tables, instr_of}
 use Rattle.py_bytecode.specs.Machine.{Instr, at_places}
 use Rattle.py_bytecode.specs.Objects.{Const, Object, codes_in, constants, head, object_of, consts_of}
-use Rattle.py_forms.specs.Agree.{exactly, form_of, kids}
-use Rattle.py_forms.specs.CodeRuns.{instrs, place_of}
-use Rattle.py_forms.specs.Code.{Item, body_code}
-use Rattle.py_forms.specs.Form.{Scope}
-use Rattle.py_forms.specs.Places.{instr_over}
-use Rattle.py_steps.specs.Children.{code_head}
-use Rattle.py_steps.specs.Within.{Shape}
-use Rattle.py_steps.specs.Context.{Context, outermost}
-use Rattle.py_steps.specs.Emitting.{Outcome, Done, TooWide, Refused}
-use Rattle.py_steps.specs.Sealed.{sealed}
+use Rattle.py_control.specs.Agree.{exactly, form_of, kids}
+use Rattle.py_control.specs.CodeRuns.{instrs, place_of}
+use Rattle.py_control.specs.Code.{Item, body_code}
+use Rattle.py_control.specs.Form.{Scope}
+use Rattle.py_control.specs.Places.{instr_over}
+use Rattle.py_emission_parts.specs.Children.{code_head}
+use Rattle.py_emission_parts.specs.Within.{Shape}
+use Rattle.py_emission_parts.specs.Context.{Context, outermost}
+use Rattle.py_emission_parts.specs.Emitting.{Outcome, Done, TooWide, Refused}
+use Rattle.py_emission_parts.specs.Sealed.{sealed}
 use Rattle.py_emission.specs.EmissionMods.{emitted}
 use Rattle.py_meaning_samples.proofs.SampleTools.{at}
 

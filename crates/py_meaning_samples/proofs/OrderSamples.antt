@@ -8,10 +8,10 @@ use Rattle.py_bytecode.specs.declared.instruction.Instruction.TheVariants as op
 use Rattle.py_bytecode.specs.Objects as const
 use Rattle.py_bytecode.specs.Values.{Constant, Given, Gives, Raised, Event, Operates, Accesses, Unsaid, Load, Bare, Number, operation, ran, It, Returned, RaisedOut}
 use Rattle.py_base.specs.declared.errors.CodegenErrorType.TheVariants as error
-use Rattle.py_steps.specs.Emitting.{Refused, with_step, with_block, with_name, with_constant, with_loops, located, refuse, emit, jump, begin, new_block, emit_count, emit_name, emit_mangled, emit_constant, move, by_context, by_level, by_loops, in_loop}
-use Rattle.py_steps.specs.Accesses.{accessed}
-use Rattle.py_steps.specs.Context.{inside}
-use Rattle.py_forms.specs.Form.{Scope}
+use Rattle.py_emission_parts.specs.Emitting.{Refused, with_step, with_block, with_name, with_constant, with_loops, located, refuse, emit, jump, begin, new_block, emit_count, emit_name, emit_mangled, emit_constant, move, by_context, by_level, by_loops, in_loop}
+use Rattle.py_emission_parts.specs.Accesses.{accessed}
+use Rattle.py_emission_parts.specs.Context.{inside}
+use Rattle.py_control.specs.Form.{Scope}
 use Rattle.py_emission.specs.EmissionMods.{emitted}
 use Rattle.py_meaning.specs.Faults.{compile_faults}
 use Rattle.py_meaning.specs.Meaning.{body, meaning}

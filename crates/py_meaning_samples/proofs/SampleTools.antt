@@ -3,8 +3,8 @@ use Rattle.std.specs.Prelude.{ℕ, suc, List, [], ◌∷◌, Option, Some, None,
 use Rattle.py_base.specs.declared.location.SourceLocation.{SourceLocation}
 use Rattle.py_bytecode.specs.declared.instruction.Instruction.{Instruction}
 use Rattle.py_bytecode.specs.Objects.{Const}
-use Rattle.py_steps.specs.Emitting.{Outcome, Done, TooWide, Refused, Step, Put, Begin}
-use Rattle.py_steps.specs.Context.{Context, outermost}
+use Rattle.py_emission_parts.specs.Emitting.{Outcome, Done, TooWide, Refused, Step, Put, Begin}
+use Rattle.py_emission_parts.specs.Context.{Context, outermost}
 use Rattle.py_base.specs.Messages.{message}
 use Rattle.py_meaning.specs.ExprFaults.{Fault}
 

@@ -11,12 +11,12 @@ use Rattle.py_bytecode.specs.declared.instruction.Instruction.TheVariants as op
 use Rattle.py_bytecode.specs.Objects as const
 use Rattle.py_bytecode.specs.Objects.{Object}
 use Rattle.py_base.specs.declared.errors.CodegenErrorType.TheVariants as error
-use Rattle.py_steps.specs.Accesses.{accessed}
-use Rattle.py_steps.specs.Children.{child, load_cell}
-use Rattle.py_steps.specs.Comprehensions.{as_element, called_at_once}
-use Rattle.py_steps.specs.Context.{inside, outermost, with_path, within_class}
-use Rattle.py_steps.specs.Emitting.{Refused, with_step, with_block, with_name, with_varname, with_constant, with_loops, with_postponed, located, refuse, emit, jump, begin, new_block, emit_count, emit_name, emit_varname, emit_mangled, add_varname, add_constant, emit_constant, move, generating, pass_over, by_context, by_level, by_loops, in_loop, postponing}
-use Rattle.py_steps.specs.Sealed.{sealed}
+use Rattle.py_emission_parts.specs.Accesses.{accessed}
+use Rattle.py_emission_parts.specs.Children.{child, load_cell}
+use Rattle.py_emission_parts.specs.Comprehensions.{as_element, called_at_once}
+use Rattle.py_emission_parts.specs.Context.{inside, outermost, with_path, within_class}
+use Rattle.py_emission_parts.specs.Emitting.{Refused, with_step, with_block, with_name, with_varname, with_constant, with_loops, with_postponed, located, refuse, emit, jump, begin, new_block, emit_count, emit_name, emit_varname, emit_mangled, add_varname, add_constant, emit_constant, move, generating, pass_over, by_context, by_level, by_loops, in_loop, postponing}
+use Rattle.py_emission_parts.specs.Sealed.{sealed}
 use Rattle.py_emission.specs.Emission.{lambda_value}
 use Rattle.py_emission.specs.EmissionDefs.{emission_of_class, emission_of_def, emission_of_generic_class, emission_of_generic_def}
 use Rattle.py_emission.specs.EmissionMods.{emitted}

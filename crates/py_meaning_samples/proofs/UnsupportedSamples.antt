@@ -6,8 +6,8 @@ use Rattle.py_base.specs.declared.location.SourceLocation.{SourceLocation}
 use Rattle.py_base.specs.declared.shapes.Malformed.TheVariants.{WrongMode}
 use Rattle.py_tree.specs.declared.modules.Mode.TheVariants.{Exec, Eval, Single, BlockExpr}
 use Rattle.py_base.specs.declared.errors.CodegenErrorType.TheVariants as error
-use Rattle.py_steps.specs.Emitting.{Refused, by_level, by_loops, located, move, refuse}
-use Rattle.py_steps.specs.Context.{inside}
+use Rattle.py_emission_parts.specs.Emitting.{Refused, by_level, by_loops, located, move, refuse}
+use Rattle.py_emission_parts.specs.Context.{inside}
 use Rattle.py_emission.specs.EmissionMods.{emitted}
 use Rattle.py_meaning.specs.ExprFaults.{Fault, fault_at}
 use Rattle.py_meaning.specs.Faults.{faults, unsupported_tree}

@@ -1,6 +1,6 @@
 //! The report on a tree as lines of text.
 ghost use Rattle.std.specs.Prelude.{◌≡◌, ◌++◌, [], IfErr, IfOk, OnOk, map, slice_get, string_bytes};
-ghost use Rattle.py_tables.specs.Tables.{IsFirst};
+ghost use Rattle.py_symbol_tables.specs.Tables.{IsFirst};
 ghost use Rattle.py_tree.specs.View.{mod_tree};
 ghost use Rattle.py_names.specs.Lines.{line_in, lines_by_places, link_of, other_in, report_lines, text_in, word_of};
 ghost use Rattle.py_names.specs.Places.{name_of_place, places_of};

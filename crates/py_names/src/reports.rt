@@ -3,7 +3,7 @@ ghost use Rattle.std.specs.Prelude.{◌≡◌, [], IfErr, IfOk, OnOk, Some, None
 ghost use Rattle.py_base.specs.declared.shapes.Malformed.TheVariants as shape;
 ghost use Rattle.py_scope.specs.declared.error.ScanFault.TheVariants as fault;
 ghost use Rattle.py_tree.specs.View.{mod_tree};
-ghost use Rattle.py_tables.specs.Tables.{IsFirst, table_of};
+ghost use Rattle.py_symbol_tables.specs.Tables.{IsFirst, table_of};
 ghost use Rattle.py_names.specs.Places.{items_by_places, places_of};
 ghost use Rattle.py_names.specs.Trees.{report_faults, scan_of, tree_report};
 
@@ -13,7 +13,7 @@ use crate::paths::list_items;
 use crate::places::list_places;
 use py_base::Malformed;
 use py_scope::{ScanFault, SymbolTable, SymbolTableError};
-use py_tables::{scan_expr, scan_program};
+use py_symbol_tables::{scan_expr, scan_program};
 use py_tree::Mod;
 use std::alloc::{AllocError, Global};
 

@@ -6,7 +6,7 @@ use Rattle.py_tree.specs.View.{literal_list, literal_of}
 use Rattle.py_bytecode.specs.Objects.{Const, consts_of}
 use Rattle.py_bytecode.specs.View.{constant}
 use Rattle.py_bytecode.specs.declared.code.ConstantData.{ConstantData}
-use Rattle.py_steps.specs.TableParts.{constant_of, constants_of}
+use Rattle.py_emission_parts.specs.TableParts.{constant_of, constants_of}
 
 abbrev pub const_of : Constant → Const
 const_of x = constant_of (literal_of x)

@@ -3,7 +3,7 @@ ghost use Rattle.std.specs.Prelude.{◌≡◌, IfOk};
 ghost use Rattle.py_tree.specs.View.{literal_list, literal_of};
 ghost use Rattle.py_bytecode.specs.Objects as object;
 ghost use Rattle.py_bytecode.specs.View.{constant};
-ghost use Rattle.py_steps.specs.TableParts.{constant_of, constants_of};
+ghost use Rattle.py_emission_parts.specs.TableParts.{constant_of, constants_of};
 
 use py_base::{List, Text};
 use py_bytecode::ConstantData;

@@ -1,8 +1,8 @@
 //! The numbers of operators, comparisons and conversions among the cases of their instructions.
 ghost use Rattle.std.specs.Prelude.{◌≡◌};
-ghost use Rattle.py_steps.specs.Emitting.{emit};
-ghost use Rattle.py_steps.specs.EmissionParts.{emission_of_comparison};
-ghost use Rattle.py_steps.specs.TableParts.{binary_case, comparison_operation, conversion_case, counted, unary_case};
+ghost use Rattle.py_emission_parts.specs.Emitting.{emit};
+ghost use Rattle.py_emission_parts.specs.EmissionParts.{emission_of_comparison};
+ghost use Rattle.py_emission_parts.specs.TableParts.{binary_case, comparison_operation, conversion_case, counted, unary_case};
 
 use py_bytecode::Instruction;
 use py_tree::{CmpOp, ConversionFlag, Operator, UnaryOp};

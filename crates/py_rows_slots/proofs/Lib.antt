@@ -1,4 +1,4 @@
-pub mod Carrying
+pub mod ReadingLemmas
 pub mod Leftovers
 pub mod ListsOf
 pub mod Sofar

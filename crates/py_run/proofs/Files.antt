@@ -6,7 +6,7 @@ use Rattle.py_bytecode.specs.declared.code.CodeObject.{CodeObject}
 use Rattle.py_codefile.specs.Grammar.{Spells}
 use Rattle.py_codefile.specs.Spelling.{spelling}
 use Rattle.py_codefile.proofs.FileFormat.{file_again}
-use Rattle.py_flawless.specs.Flawless.{CompiledIsFlawless}
+use Rattle.py_verifier_law.specs.Flawless.{CompiledIsFlawless}
 use Rattle.py_listing.specs.Listing.{listing}
 use Rattle.py_verify.specs.Nested.{Flawless}
 use Rattle.codegen.specs.Calls.{EqualTreesHaveEqualCode}

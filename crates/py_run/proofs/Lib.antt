@@ -1,4 +1,4 @@
-pub mod Counting
+pub mod WordNumberLemmas
 pub mod Dues
 pub mod Formed
 pub mod Made

@@ -24,7 +24,7 @@ use Rattle.py_rows_fields.specs.declared.error.RowsError.TheVariants as row
 use Rattle.py_scope.specs.declared.error.ScanFault.{ScanFault}
 use Rattle.py_scope.specs.declared.error.ScanFault.TheVariants as fault
 use Rattle.py_scope.specs.declared.error.SymbolTableError.{SymbolTableError}
-use Rattle.py_tables.specs.Tables as tables
+use Rattle.py_symbol_tables.specs.Tables as tables
 use Rattle.py_tree.specs.Tree as tree
 use Rattle.py_verify.specs.Nested.{Flawless}
 use Rattle.symboltable.specs.Errors.{codegen_error}

@@ -6,12 +6,12 @@ use Rattle.py_bytecode.specs.declared.code.CodeObject.{CodeObject}
 use Rattle.py_meaning.specs.ExprFaults.{Fault}
 use Rattle.py_meaning.specs.Faults.{faults}
 use Rattle.py_meaning.specs.Scanned.{scopes_of}
-use Rattle.py_script.specs.declared.answers.Answer.{Answer}
-use Rattle.py_script.specs.Scripts.{answers_of}
+use Rattle.py_answers.specs.declared.answers.Answer.{Answer}
+use Rattle.py_answers.specs.Scripts.{answers_of}
 use Rattle.py_step.proofs.Told.{agreement_told_alike}
 use Rattle.py_step.specs.Reports.{report_text}
-use Rattle.py_walk.proofs.Walked.{meanings_walk}
-use Rattle.py_walk.specs.Statements.{tree_run}
+use Rattle.py_interp.proofs.Walked.{meanings_walk}
+use Rattle.py_interp.specs.Statements.{tree_run}
 use Rattle.codegen.specs.Calls.{IsCompiled}
 use Rattle.py_run.specs.Prepared.{IsTextOf}
 use Rattle.py_run.specs.Statuses.{Due, Misuse, Misread, Refused, Compiled, Spelled, Told, IsCodeOf, MeansAlike, code_run, compiled, unless_refused}

@@ -21,8 +21,8 @@ use Rattle.py_codefile.specs.Spelling.{spelling}
 use Rattle.py_verify.specs.Nested.{Flawless}
 use Rattle.py_names.specs.Lines.{report_lines}
 use Rattle.py_names.specs.Trees.{report_faults}
-use Rattle.py_script.specs.Scripts.{answers_of}
-use Rattle.py_script.specs.Told.{Known, short}
+use Rattle.py_answers.specs.Scripts.{answers_of}
+use Rattle.py_answers.specs.Told.{Known, short}
 use Rattle.py_step.specs.Reports.{report_text}
 use Rattle.py_scope.specs.declared.flat.ScopeEntry.{ScopeEntry}
 use Rattle.py_meaning.specs.ExprFaults.{Fault}

@@ -4,8 +4,8 @@ use Rattle.std.specs.Char.{is_ascii_digit}
 use Rattle.std.specs.List.{list_all}
 use Rattle.std.specs.Option.{is_some}
 use Rattle.std.specs.Str.{bytes_eq}
-use Rattle.py_script.specs.declared.answers.Answer.{Answer}
-use Rattle.py_script.specs.Scripts.{script_in}
+use Rattle.py_answers.specs.declared.answers.Answer.{Answer}
+use Rattle.py_answers.specs.Scripts.{script_in}
 use Rattle.py_tree.specs.declared.modules.Mode.{Mode}
 use Rattle.py_run.specs.declared.words.Compilation as kept
 use Rattle.py_run.specs.declared.words.Command as asked

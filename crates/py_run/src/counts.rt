@@ -17,7 +17,7 @@ pub(crate) fn count_of(word: &str) -> Option<u32>
 }
 
 /// The number that the digits say.
-#[tactic(auto, using(crate::proofs::Counting::counting))]
+#[tactic(auto, using(crate::proofs::WordNumberLemmas::counting))]
 fn count_in(digits: &[u8]) -> Option<u32>
     ensures value { result ≡ count_behind 0 digits.now }
     ensures few { IfSome result (λ n. n < 2 ^ 17) }

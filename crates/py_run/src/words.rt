@@ -3,7 +3,7 @@ ghost use Rattle.std.specs.Prelude.{◌≡◌, IfSome, option_map};
 ghost use Rattle.py_run.specs.Words.{IsFit, command_view, compilation_of, compilation_view, compile_of, level_of, mode_of, names_of, pack_of, sample_of, step_of, takes_input, three_of, unpack_of, words_form};
 
 use crate::counts::count_of;
-use py_script::is_script;
+use py_answers::is_script;
 use py_tree::{List, Mode, Text};
 
 /// A file holds no path of so many bytes.

@@ -1,7 +1,7 @@
 -- Scopes in which names are only used, assigned and taken as parameters: nothing is refused in them.
 use Rattle.std.proofs.Common.{◌≡◌, refl, sym, ap, ◌∙◌, subst, ℕ, zero, suc, Bool, true, false, not, ◌&&◌, ◌||◌, List, [], ◌∷◌, ◌++◌, Option, Some, None, IfSome, if◌then◌else◌, slice_get}
 use Rattle.std.specs.Int.RustNames.{bit_or}
-use Rattle.py_forms.specs.Agree.{AllOf}
+use Rattle.py_control.specs.Agree.{AllOf}
 use Rattle.py_scope.specs.declared.outward.Found.{Found}
 use Rattle.py_scope.specs.declared.refusal.Refusal.{Refusal}
 use Rattle.py_scope.specs.declared.refusal.Refusal.TheVariants as refusal

@@ -1,7 +1,7 @@
 -- The scan of a made program meets quiet scopes alone.
 use Rattle.std.proofs.Common.{◌≡◌, refl, sym, ap, subst, ℕ, zero, suc, Bool, true, false, ◌&&◌, List, [], ◌∷◌, Option, Some, None, if◌then◌else◌, codes, slice_get}
 use Rattle.py_base.specs.declared.location.SourceLocation.{SourceLocation}
-use Rattle.py_forms.specs.Agree.{AllOf}
+use Rattle.py_control.specs.Agree.{AllOf}
 use Rattle.py_scope.specs.declared.refusal.Refusal.{Refusal}
 use Rattle.py_scope.specs.declared.roles.Role.{Role}
 use Rattle.py_scope.specs.declared.roles.Role.TheVariants as role
@@ -10,11 +10,11 @@ use Rattle.py_scope.specs.Names.{Name, class_cell, same_name}
 use Rattle.py_scope.specs.Resolved.{first_fault}
 use Rattle.py_scope.specs.Scanned.{Scanned, entered_row, is_function, kind_here, order_of, refused_here, used_in, with_use}
 use Rattle.py_scan.specs.Scan.{scan_annotations, scan_defaults, scan_expr, scan_exprs, scan_function_scope, scan_handed_function, scan_opt, scan_program, scan_stmt, scan_stmts}
-use Rattle.py_tables.specs.Tables.{body_faults, fault_of, faults_of}
+use Rattle.py_symbol_tables.specs.Tables.{body_faults, fault_of, faults_of}
 use Rattle.py_tree.specs.Tree as tree
-use Rattle.py_uses.specs.declared.usage.Usage.TheVariants.{Load, Store}
-use Rattle.py_uses.specs.Parts.{in_type_params, use_parameters}
-use Rattle.py_uses.specs.Steps.{State, Outcome, Done, Refused, Step, ◌▸◌, begun_state, enter, go_on, inside, leave, noted, nothing, super_cell, unless_postponed, unless_refused, use_as, use_name, when, with_scopes, written}
+use Rattle.py_name_uses.specs.declared.usage.Usage.TheVariants.{Load, Store}
+use Rattle.py_name_uses.specs.Parts.{in_type_params, use_parameters}
+use Rattle.py_name_uses.specs.Steps.{State, Outcome, Done, Refused, Step, ◌▸◌, begun_state, enter, go_on, inside, leave, noted, nothing, super_cell, unless_postponed, unless_refused, use_as, use_name, when, with_scopes, written}
 use Rattle.py_sample.specs.Sample.{a_call, a_choice, a_function, a_lambda, a_loop, a_return, a_sum, an_assignment, no_parameters, one_expr, one_parameter, one_stmt, statement, statements}
 use Rattle.py_sample.proofs.Quiet.{IsQuietRow, IsUse, added_quiet, allowed, assigned, changed_quiet, get_quiet, nothing_wrong, parameter, used, used_quiet}
 use Rattle.py_sample.proofs.Turns.{every}

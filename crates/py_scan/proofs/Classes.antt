@@ -7,8 +7,8 @@ use Rattle.py_scope.specs.declared.roles.Role.{Role}
 use Rattle.py_scope.specs.declared.table_type.SymbolTableType.{SymbolTableType}
 use Rattle.py_scope.specs.Names.{Name}
 use Rattle.py_scope.specs.Scanned.{refused_here, with_use}
-use Rattle.py_uses.specs.declared.usage.Usage.{Usage}
-use Rattle.py_uses.specs.Steps.{State, Outcome, Done, Refused, Step, ◌▸◌, go_on, enter, in_class, inside, leave, noted, set_class, unless_refused, use_name, written}
+use Rattle.py_name_uses.specs.declared.usage.Usage.{Usage}
+use Rattle.py_name_uses.specs.Steps.{State, Outcome, Done, Refused, Step, ◌▸◌, go_on, enter, in_class, inside, leave, noted, set_class, unless_refused, use_name, written}
 use Rattle.py_scan.specs.Scan.{scan_opt, scan_type_param}
 use Rattle.py_scan.proofs.Induction.{Closed, opt_closed}
 use Rattle.py_scan.proofs.InductionStatements.{param_closed}

@@ -5,9 +5,9 @@ use Rattle.py_scope.specs.declared.error.ScanFault.TheVariants.{OutOfMemory}
 use Rattle.py_scope.specs.declared.error.SymbolTableError.{SymbolTableError}
 use Rattle.py_scope.specs.declared.table_type.SymbolTableType.TheVariants as scope
 use Rattle.py_scope.specs.Names.{Name}
-use Rattle.py_uses.specs.Goes.{Goes}
-use Rattle.py_uses.specs.Parts.{generic_name, in_type_params}
-use Rattle.py_uses.specs.Steps.{State, Outcome, Done, Refused, Step, ◌▸◌, go_on, enter, leave, when}
+use Rattle.py_name_uses.specs.Goes.{Goes}
+use Rattle.py_name_uses.specs.Parts.{generic_name, in_type_params}
+use Rattle.py_name_uses.specs.Steps.{State, Outcome, Done, Refused, Step, ◌▸◌, go_on, enter, leave, when}
 
 -- the name of a node is that of the text
 pub entered_as : (generic : Bool) (m n : Name) (at : SourceLocation) (s t : State) → m ≡ n → when generic (enter scope.TypeParams (generic_name m) at) s ≡ Done t → when generic (enter scope.TypeParams (generic_name n) at) s ≡ Done t

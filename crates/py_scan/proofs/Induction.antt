@@ -11,13 +11,13 @@ use Rattle.py_scope.specs.declared.roles.Role.TheVariants as role
 use Rattle.py_scope.specs.declared.table_type.SymbolTableType.{SymbolTableType}
 use Rattle.py_scope.specs.declared.table_type.SymbolTableType.TheVariants as scope
 use Rattle.py_scope.specs.Names.{Name, class_cell}
-use Rattle.py_uses.specs.declared.usage.Usage.{Usage}
-use Rattle.py_uses.specs.declared.usage.Usage.TheVariants.{Load, Iterable, Store, Delete, Target, Walrus}
-use Rattle.py_uses.specs.Parts.{passed_on, plain_name, use_opt_parameter, use_parameter, use_parameters, use_parameters_in, walrus_target, role_of_parameter}
+use Rattle.py_name_uses.specs.declared.usage.Usage.{Usage}
+use Rattle.py_name_uses.specs.declared.usage.Usage.TheVariants.{Load, Iterable, Store, Delete, Target, Walrus}
+use Rattle.py_name_uses.specs.Parts.{passed_on, plain_name, use_opt_parameter, use_parameter, use_parameters, use_parameters_in, walrus_target, role_of_parameter}
 use Rattle.py_scan.specs.Scan.{all_steps, comprehension, key_steps, pairwise, scan_annotation, scan_annotations, scan_annotations_in, scan_clauses, scan_defaults, scan_defaults_in, scan_expr, scan_exprs, scan_inner_clauses, scan_keywords, scan_opt, scan_opt_annotation, scan_outermost}
 use Rattle.py_scope.specs.Names.{same_name}
 use Rattle.py_scope.specs.Scanned.{holder_here, is_function, kind_here}
-use Rattle.py_uses.specs.Steps.{State, Outcome, Done, Refused, Step, ◌▸◌, go_on, check_holder, check_iterable, check_yield, in_class, inside, is_type_params, nothing, postpone, refuse, refuse_if, super_cell, unless_postponed, use_as, use_name}
+use Rattle.py_name_uses.specs.Steps.{State, Outcome, Done, Refused, Step, ◌▸◌, go_on, check_holder, check_iterable, check_yield, in_class, inside, is_type_params, nothing, postpone, refuse, refuse_if, super_cell, unless_postponed, use_as, use_name}
 
 -- a property of steps that those have which a scan is made of
 pub record Closed (P : Step → Type 0) : Type 0 where

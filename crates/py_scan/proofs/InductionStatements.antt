@@ -11,10 +11,10 @@ use Rattle.py_scope.specs.declared.roles.Role.{Role}
 use Rattle.py_scope.specs.declared.roles.Role.TheVariants as role
 use Rattle.py_scope.specs.declared.table_type.SymbolTableType.TheVariants as scope
 use Rattle.py_scope.specs.Names.{Name, class_cell}
-use Rattle.py_uses.specs.declared.usage.Usage.TheVariants.{Load, Store, Delete}
-use Rattle.py_uses.specs.Parts.{alias_name, annotated_target, bound_name, check_future, check_new, check_type_params, generic_name, has_default, in_type_params, is_among, is_generic, plain_name, type_name, use_aliases, use_each, use_first_names, use_handed_defaults, use_opt_name, use_parameters}
+use Rattle.py_name_uses.specs.declared.usage.Usage.TheVariants.{Load, Store, Delete}
+use Rattle.py_name_uses.specs.Parts.{alias_name, annotated_target, bound_name, check_future, check_new, check_type_params, generic_name, has_default, in_type_params, is_among, is_generic, plain_name, type_name, use_aliases, use_each, use_first_names, use_handed_defaults, use_opt_name, use_parameters}
 use Rattle.py_scan.specs.Scan.{scan_annotations, scan_class, scan_class_scope, scan_defaults, scan_expr, scan_exprs, scan_class_parts, scan_function, scan_function_scope, scan_handed_function, scan_handlers, scan_items, scan_keywords, scan_opt, scan_stmt, scan_stmts, scan_type_param, scan_type_params}
-use Rattle.py_uses.specs.Steps.{Step, ◌▸◌, in_class, inside, leave, nothing, postpone, refuse, set_class, unless_postponed, use_name, when, written}
+use Rattle.py_name_uses.specs.Steps.{Step, ◌▸◌, in_class, inside, leave, nothing, postpone, refuse, set_class, unless_postponed, use_name, when, written}
 use Rattle.py_scan.proofs.Induction.{Closed, annotations_closed, defaults_closed, expr_closed, exprs_closed, keywords_closed, opt_closed, parameters_closed, refuse_if_closed, unless_postponed_closed}
 
 module _ {P : Step → Type 0} (c : Closed P) where

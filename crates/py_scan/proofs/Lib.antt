@@ -6,4 +6,4 @@ pub mod Names
 pub mod Pairs
 mod Samples
 pub mod Shown
-pub mod Staying
+pub mod OpenScopeLemmas

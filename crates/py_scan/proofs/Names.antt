@@ -5,8 +5,8 @@ use Rattle.py_base.specs.declared.location.SourceLocation.{SourceLocation}
 use Rattle.py_tree.specs.declared.statements.TypeParam.{TypeParam}
 use Rattle.py_tree.specs.View.{type_param_tree, type_params}
 use Rattle.py_scope.specs.declared.error.ScanFault.{ScanFault}
-use Rattle.py_uses.specs.Parts.{type_name, type_names}
-use Rattle.py_uses.specs.Steps.{State, Outcome, Done, Refused, go_on}
+use Rattle.py_name_uses.specs.Parts.{type_name, type_names}
+use Rattle.py_name_uses.specs.Steps.{State, Outcome, Done, Refused, go_on}
 use Rattle.py_scan.specs.Scan.{scan_type_param, scan_type_params}
 
 abbrev pub names_of : List TypeParam → List (List ℕ)

@@ -4,8 +4,8 @@ use Rattle.std.proofs.Math.Nat.{min-eq_left, min-eq_right}
 use Rattle.std.proofs.lemmas.List.{length-drop}
 use Rattle.py_tree.specs.declared.expressions.Expr.{Expr}
 use Rattle.py_tree.specs.View.{expr_tree, exprs, opt_exprs}
-use Rattle.py_uses.specs.declared.usage.Usage.{Usage}
-use Rattle.py_uses.specs.Steps.{Step, nothing}
+use Rattle.py_name_uses.specs.declared.usage.Usage.{Usage}
+use Rattle.py_name_uses.specs.Steps.{Step, nothing}
 use Rattle.py_scan.specs.Scan.{all_steps, key_steps, pairwise}
 
 abbrev pub pairs_of : Usage → List (Option Expr) → List Expr → Step

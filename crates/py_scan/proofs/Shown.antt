@@ -15,7 +15,7 @@ use Rattle.py_scope.specs.Resolved.{first_fault, after_looks}
 use Rattle.py_scope.specs.Scanned.{Scanned}
 use Rattle.py_scope.specs.Tables.{all_symbols}
 use Rattle.py_scope.specs.Worked.{shown_symbols}
-use Rattle.py_uses.specs.Steps.{Outcome, Done, Refused}
+use Rattle.py_name_uses.specs.Steps.{Outcome, Done, Refused}
 
 -- a scope: its kind, its name, its line, whether it is nested, and its names with their kinds and flags
 abbrev pub ShownTable : Type 0

@@ -7,10 +7,10 @@ use Rattle.py_scope.specs.declared.refusal.Refusal.TheVariants as refusal
 use Rattle.py_scope.specs.declared.roles.Role.TheVariants as role
 use Rattle.py_scope.specs.declared.table_type.SymbolTableType.TheVariants as scope
 use Rattle.py_scope.specs.Names.{Name}
-use Rattle.py_uses.specs.declared.usage.Usage.{Usage}
-use Rattle.py_uses.specs.declared.usage.Usage.TheVariants.{Load, Iterable, Store, Delete, Target, Walrus}
-use Rattle.py_uses.specs.Steps.{State, Outcome, Done, Step, ◌▸◌, begun_state, check_holder, check_iterable, check_yield, enter, in_class, inside, nothing, refuse, unless_postponed, use_as, use_name, when}
-use Rattle.py_uses.specs.Parts.{alias_name, annotated_target, check_future, check_new, check_type_params, in_type_params, is_generic, passed_on, plain_name, type_name, use_aliases, use_each, use_first_names, use_handed_defaults, use_opt_name, use_parameters, walrus_target}
+use Rattle.py_name_uses.specs.declared.usage.Usage.{Usage}
+use Rattle.py_name_uses.specs.declared.usage.Usage.TheVariants.{Load, Iterable, Store, Delete, Target, Walrus}
+use Rattle.py_name_uses.specs.Steps.{State, Outcome, Done, Step, ◌▸◌, begun_state, check_holder, check_iterable, check_yield, enter, in_class, inside, nothing, refuse, unless_postponed, use_as, use_name, when}
+use Rattle.py_name_uses.specs.Parts.{alias_name, annotated_target, check_future, check_new, check_type_params, in_type_params, is_generic, passed_on, plain_name, type_name, use_aliases, use_each, use_first_names, use_handed_defaults, use_opt_name, use_parameters, walrus_target}
 
 -- a comprehension is a scope, whose parameter is its first iterable, which stands outside
 abbrev pub comprehension : SourceLocation → (clauses element outermost : Step) → Step

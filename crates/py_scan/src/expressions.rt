@@ -1,22 +1,22 @@
 //! The scan of expressions.
 ghost use Rattle.std.specs.Prelude.{◌≡◌, IfErr, OnOk};
 ghost use Rattle.py_tree.specs.View.{arg, args, arguments, attribute_tree, await_tree, bin_op_tree, bool_op_tree, call_tree, compare_tree, dict_comp_tree, dict_tree, expr_tree, exprs, formatted_value_tree, generators as clause_trees, if_exp_tree, joined_str_tree, keywords, lambda_tree, list_tree, name_tree, named_expr_tree, opt_arg, opt_box, opt_expr, opt_exprs, set_tree, slice_tree, starred_tree, subscript_tree, tuple_tree, unary_op_tree, yield_from_tree, yield_tree};
-ghost use Rattle.py_uses.specs.declared.usage.Usage.TheVariants.{Load, Iterable, Target, Walrus};
+ghost use Rattle.py_name_uses.specs.declared.usage.Usage.TheVariants.{Load, Iterable, Target, Walrus};
 ghost use Rattle.py_scope.specs.Scanned.{IsWithin};
-ghost use Rattle.py_uses.specs.Goes.{Goes, IsTextOrMemory, state};
-ghost use Rattle.py_uses.specs.Steps.{◌▸◌, unless_postponed};
-ghost use Rattle.py_uses.specs.Parts.{passed_on, plain_name, use_parameter, use_opt_parameter, use_parameters, use_parameters_in, walrus_target};
+ghost use Rattle.py_name_uses.specs.Goes.{Goes, IsTextOrMemory, state};
+ghost use Rattle.py_name_uses.specs.Steps.{◌▸◌, unless_postponed};
+ghost use Rattle.py_name_uses.specs.Parts.{passed_on, plain_name, use_parameter, use_opt_parameter, use_parameters, use_parameters_in, walrus_target};
 ghost use Rattle.py_scan.specs.Scan.{all_steps, begin_comprehension, comprehension, key_steps, pairwise, scan_annotation, scan_annotations, scan_annotations_in, scan_clauses, scan_defaults, scan_defaults_in, scan_expr, scan_exprs, scan_inner_clauses, scan_keywords, scan_opt, scan_opt_annotation, scan_outermost};
 
 use py_base::SourceLocation;
+use py_name_uses::parameters::use_parameters;
+use py_name_uses::{Scan, Usage};
 use py_scope::{Role, SymbolTableError, SymbolTableType};
 use py_tree::{
     Arg, ArgWithDefault, Arguments, Comprehension, Expr, ExprBinOp, ExprCall, ExprCompare,
     ExprDict, ExprDictComp, ExprFormattedValue, ExprIfExp, ExprLambda, ExprNamedExpr, ExprSlice,
     ExprSubscript, ExprYield, ExprYieldFrom, Keyword, List,
 };
-use py_uses::parameters::use_parameters;
-use py_uses::{Scan, Usage};
 
 /// Scans an expression.
 ///

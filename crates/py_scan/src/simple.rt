@@ -1,23 +1,25 @@
 //! The scan of statements that hold no statements, and of the parts of others that hold none.
 ghost use Rattle.std.specs.Prelude.{◌≡◌, IfErr, []};
 ghost use Rattle.py_tree.specs.View.{ann_assign_tree, arguments, assert_tree, assign_tree, aug_assign_tree, expr_tree, import_from_tree, match_tree, opt_box, raise_tree, type_alias_tree, type_params, with_items};
-ghost use Rattle.py_uses.specs.declared.usage.Usage.TheVariants.{Load, Store};
-ghost use Rattle.py_uses.specs.Goes.{Goes, IsTextOrMemory, state};
-ghost use Rattle.py_uses.specs.Steps.{◌▸◌, unless_postponed, when};
-ghost use Rattle.py_uses.specs.Parts.{alias_name, annotated_target, in_type_params, plain_name};
+ghost use Rattle.py_name_uses.specs.declared.usage.Usage.TheVariants.{Load, Store};
+ghost use Rattle.py_name_uses.specs.Goes.{Goes, IsTextOrMemory, state};
+ghost use Rattle.py_name_uses.specs.Steps.{◌▸◌, unless_postponed, when};
+ghost use Rattle.py_name_uses.specs.Parts.{alias_name, annotated_target, in_type_params, plain_name};
 ghost use Rattle.py_scan.specs.Scan.{scan_defaults, scan_expr, scan_items, scan_opt, scan_stmt, scan_type_params};
 
 use crate::expressions::{scan_defaults, scan_expr, scan_exprs, scan_opt};
 use crate::type_params::scan_type_params;
+use py_name_uses::names::{check_future, use_aliases};
+use py_name_uses::type_params::{
+    check_type_params, enter_type_params, is_generic, leave_type_params,
+};
+use py_name_uses::{Scan, Usage};
 use py_scope::refusal::Refusal;
 use py_scope::{Role, SymbolTableError};
 use py_tree::{
     Arguments, Expr, StmtAnnAssign, StmtAssert, StmtAssign, StmtAugAssign, StmtImportFrom,
     StmtMatch, StmtRaise, StmtTypeAlias, WithItem,
 };
-use py_uses::names::{check_future, use_aliases};
-use py_uses::type_params::{check_type_params, enter_type_params, is_generic, leave_type_params};
-use py_uses::{Scan, Usage};
 
 pub(crate) fn scan_defaults_if(
     scan: &mut Scan,

@@ -2,10 +2,10 @@
 ghost use Rattle.std.specs.Prelude.{◌≡◌, IfErr};
 ghost use Rattle.py_tree.specs.View.{arguments, async_function_def_tree, class_def_tree, expr_tree, exprs, function_def_tree, handlers as handler_trees, keywords, opt_box, stmt_tree, stmts, type_params, with_items};
 ghost use Rattle.py_scope.specs.declared.table_type.SymbolTableType.TheVariants as scope;
-ghost use Rattle.py_uses.specs.declared.usage.Usage.TheVariants.{Load, Store};
-ghost use Rattle.py_uses.specs.Goes.{Goes, IsTextOrMemory, state};
-ghost use Rattle.py_uses.specs.Steps.{◌▸◌, inside};
-ghost use Rattle.py_uses.specs.Parts.{in_type_params, use_first_names, use_opt_name, use_parameters};
+ghost use Rattle.py_name_uses.specs.declared.usage.Usage.TheVariants.{Load, Store};
+ghost use Rattle.py_name_uses.specs.Goes.{Goes, IsTextOrMemory, state};
+ghost use Rattle.py_name_uses.specs.Steps.{◌▸◌, inside};
+ghost use Rattle.py_name_uses.specs.Parts.{in_type_params, use_first_names, use_opt_name, use_parameters};
 ghost use Rattle.py_scan.specs.Scan.{scan_class_scope, scan_class_parts, scan_expr, scan_function, scan_function_scope, scan_handed_function, scan_handlers, scan_items, scan_opt, scan_stmt, scan_stmts};
 
 use crate::expressions::{scan_annotations, scan_expr, scan_exprs, scan_keywords, scan_opt};
@@ -15,17 +15,17 @@ use crate::simple::{
 };
 use crate::type_params::scan_type_params;
 use py_base::SourceLocation;
+use py_name_uses::names::{use_aliases, use_each, use_first_names, use_opt_name};
+use py_name_uses::parameters::use_parameters;
+use py_name_uses::type_params::{
+    check_type_params, enter_type_params, is_generic, leave_type_params, use_handed_defaults,
+};
+use py_name_uses::{Scan, Usage};
 use py_scope::{Role, SymbolTableError, SymbolTableType};
 use py_tree::{
     Arguments, ExceptHandler, Expr, List, Stmt, StmtAsyncFunctionDef, StmtClassDef,
     StmtFunctionDef, Stmts, Text, TypeParam, WithItem,
 };
-use py_uses::names::{use_aliases, use_each, use_first_names, use_opt_name};
-use py_uses::parameters::use_parameters;
-use py_uses::type_params::{
-    check_type_params, enter_type_params, is_generic, leave_type_params, use_handed_defaults,
-};
-use py_uses::{Scan, Usage};
 
 /// The parts of a function's statement, which are lent: those of a `def` and of an `async def` are scanned alike.
 #[derive(Clone, Copy)]

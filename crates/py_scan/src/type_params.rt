@@ -2,15 +2,15 @@
 ghost use Rattle.std.specs.Prelude.{◌≡◌, IfErr, List, []};
 ghost use Rattle.py_tree.specs.View.{type_param_tree, type_params, type_var_tree};
 ghost use Rattle.py_scope.specs.Names.{Name};
-ghost use Rattle.py_uses.specs.Goes.{Goes, IsTextOrMemory, state};
-ghost use Rattle.py_uses.specs.Written.{AreWritten};
+ghost use Rattle.py_name_uses.specs.Goes.{Goes, IsTextOrMemory, state};
+ghost use Rattle.py_name_uses.specs.Written.{AreWritten};
 ghost use Rattle.py_scan.specs.Scan.{scan_type_param, scan_type_params};
 
 use crate::expressions::scan_opt;
+use py_name_uses::type_params::{check_new, note_name};
+use py_name_uses::{Scan, TypeNames, Usage};
 use py_scope::{Role, SymbolTableError};
 use py_tree::{TypeParam, TypeParamTypeVar};
-use py_uses::type_params::{check_new, note_name};
-use py_uses::{Scan, TypeNames, Usage};
 
 /// Registers the type parameters, each behind its bound.
 pub(crate) fn scan_type_params(

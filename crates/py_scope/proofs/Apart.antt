@@ -18,7 +18,7 @@ use Rattle.py_scope.specs.Resolved.{first_fault}
 use Rattle.py_scope.specs.Resolved.{after_lifts, after_looks}
 use Rattle.py_scope.proofs.Chains.{equal_numbers}
 use Rattle.py_scope.proofs.NameLemmas.{equal_names}
-use Rattle.py_scope.proofs.Settling.{lookup_put}
+use Rattle.py_scope.proofs.MarkSumLemmas.{lookup_put}
 use Rattle.py_scope.proofs.Lawful.{is_lifted, is_settled}
 
 -- the look passes scope t for n

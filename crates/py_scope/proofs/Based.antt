@@ -17,7 +17,7 @@ use Rattle.py_scope.specs.Resolved.{first_fault, after_lifts}
 use Rattle.py_scope.specs.Resolve.{kind_at, around, declared, holder, goes_through, is_held, lifted_to, holds_in, binds_in, stops_in, look_in}
 use Rattle.py_scope.proofs.ByLifts.{is_through, is_holder}
 use Rattle.py_scope.proofs.LiftKeeps as lifting
-use Rattle.py_scope.proofs.Settling.{lookup_put}
+use Rattle.py_scope.proofs.MarkSumLemmas.{lookup_put}
 use Rattle.py_scope.proofs.LiftsCapture.{hits_through, hits_holder}
 use Rattle.py_scope.proofs.Lawful.{is_lifted}
 use Rattle.py_scope.proofs.KindLaws.{holds_are, binds_are, kinds_are, stops_are}

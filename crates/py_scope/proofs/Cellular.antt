@@ -25,11 +25,11 @@ use Rattle.py_scope.specs.Resolved.{first_fault}
 use Rattle.py_scope.specs.Resolved.{after_lifts, after_looks}
 use Rattle.py_scope.proofs.NameLemmas.{equal_names}
 use Rattle.py_scope.proofs.LiftKeeps as lifting
-use Rattle.py_scope.proofs.Settling as settling
-use Rattle.py_scope.proofs.Settling.{lookup_put}
+use Rattle.py_scope.proofs.MarkSumLemmas as settling
+use Rattle.py_scope.proofs.MarkSumLemmas.{lookup_put}
 use Rattle.py_scope.proofs.LiftsCapture.{hits_holder, captured_lifted, both}
 use Rattle.py_scope.proofs.LiftsSound.{holder_kind, witness, is_held}
-use Rattle.py_scope.proofs.Celling.{cells_where_needed}
+use Rattle.py_scope.proofs.CellLemmas.{cells_where_needed}
 use Rattle.py_scope.proofs.Lawful.{is_lifted, is_settled, numbered, once, captures, lifts_captured}
 
 -- what a scope holds of a name, and whether it binds it, is what it was before the looks

@@ -23,7 +23,7 @@ use Rattle.py_scope.specs.InOrder.{IsScanned}
 use Rattle.py_scope.specs.Resolved.{each_row, first_fault, resolved, after_lifts, after_looks}
 use Rattle.py_scope.specs.Resolve.{is_free_kind, needs, resolve}
 use Rattle.py_scope.proofs.NameLemmas.{equal_names, names_same}
-use Rattle.py_scope.proofs.Tabling.{length-all_symbols}
+use Rattle.py_scope.proofs.TableRowLemmas.{length-all_symbols}
 use Rattle.py_scope.proofs.Shared.{once_new, count_new}
 use Rattle.py_scope.proofs.Kinded.{kind_is_resolved}
 use Rattle.py_scope.proofs.NeedLaws.{shown_is_needed}

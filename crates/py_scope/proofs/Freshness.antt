@@ -23,9 +23,9 @@ use Rattle.py_scope.specs.Distinct.{AreDistinct}
 use Rattle.py_scope.specs.Scanned.{role_in, walrus_in, used_in}
 use Rattle.py_scope.specs.InOrder.{IsFresh, assigned_opt, free_class_opt}
 use Rattle.py_scope.proofs.NameLemmas.{intersects-or}
-use Rattle.py_scope.proofs.Settling.{lookup_put}
+use Rattle.py_scope.proofs.MarkSumLemmas.{lookup_put}
 use Rattle.py_scope.proofs.LiftKeeps.{walrus_opt, walruses_put}
-use Rattle.py_scope.proofs.Ordering.{keys_put}
+use Rattle.py_scope.proofs.NameOrderLemmas.{keys_put}
 
 pub fresh_none : IsFresh None
 fresh_none = record { fresh = λ n. refl; uncaptured = λ n. refl; unassigned = λ n. refl; unpassed = λ n. refl; unmarked = λ n. refl; walruses = λ h. refl; once = tt }

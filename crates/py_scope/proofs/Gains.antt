@@ -14,7 +14,7 @@ use Rattle.py_scope.specs.Tables.{is_plain}
 use Rattle.py_scope.proofs.ByLifts.{is_through, is_holder}
 use Rattle.py_scope.proofs.NameLemmas.{equal_names}
 use Rattle.py_scope.proofs.LiftKeeps.{through}
-use Rattle.py_scope.proofs.Settling.{lookup_put}
+use Rattle.py_scope.proofs.MarkSumLemmas.{lookup_put}
 use Rattle.py_scope.proofs.LiftsCapture.{hits_through, hits_holder, holds_after, both, is_it}
 use Rattle.py_scope.proofs.LiftsSound as sound
 use Rattle.py_scope.proofs.LiftsSound.{holder_kind, witness, begins_well}

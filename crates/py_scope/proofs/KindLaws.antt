@@ -20,7 +20,7 @@ use Rattle.py_scope.specs.Resolved.{first_fault}
 use Rattle.py_scope.specs.Resolved.{after_lifts, after_looks}
 use Rattle.py_scope.proofs.ByLifts.{goes_through, is_held, holds_in, binds_in, stops_in}
 use Rattle.py_scope.proofs.LiftKeeps as lifting
-use Rattle.py_scope.proofs.Settling as settling
+use Rattle.py_scope.proofs.MarkSumLemmas as settling
 use Rattle.py_scope.proofs.LiftsCapture.{hits_holder, holds_lifted, both}
 use Rattle.py_scope.proofs.LiftsSound as sound
 use Rattle.py_scope.proofs.LiftsSound.{holder_kind, witness, begins_well}

@@ -26,8 +26,8 @@ use Rattle.py_scope.specs.InOrder.{IsScanned}
 use Rattle.py_scope.specs.Resolved.{first_fault, after_lifts, after_looks}
 use Rattle.py_scope.specs.Resolve.{kind_at, holds_in, binds_in, look_in, open_kind, is_needed_inside, is_declared_inside, own_kind, is_own, kind_by_uses}
 use Rattle.py_scope.proofs.Chains.{equal_numbers}
-use Rattle.py_scope.proofs.Needing.{passes_look}
-use Rattle.py_scope.proofs.Settling as settling
+use Rattle.py_scope.proofs.NeededNameLemmas.{passes_look}
+use Rattle.py_scope.proofs.MarkSumLemmas as settling
 use Rattle.py_scope.proofs.Lawful.{is_settled}
 use Rattle.py_scope.proofs.Cellular.{held_opt, bound_of, same_held, same_held_end, same_bound, same_bound_end, kept, there, same_kind, captured_counts, captured_where_needed}
 use Rattle.py_scope.proofs.KindLaws.{settled_kind}

@@ -24,9 +24,9 @@ use Rattle.py_scope.proofs.NameLemmas.{equal_names}
 use Rattle.py_scope.proofs.LiftKeeps as lifting
 use Rattle.py_scope.proofs.LiftsSound.{lifted_tables}
 use Rattle.py_scope.proofs.LiftsHand.{hands_on_found}
-use Rattle.py_scope.proofs.Leading.{closures_lead}
-use Rattle.py_scope.proofs.Ending.{captures_all}
-use Rattle.py_scope.proofs.Resolving.{get_each, once_lifted}
+use Rattle.py_scope.proofs.ClosurePathLemmas.{closures_lead}
+use Rattle.py_scope.proofs.CapturedNameLemmas.{captures_all}
+use Rattle.py_scope.proofs.PassLemmas.{get_each, once_lifted}
 
 pub none_first : (a b : Option Refusal) → first_of_two a b ≡ None → a ≡ None
 none_first None b h = refl

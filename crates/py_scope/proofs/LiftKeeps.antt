@@ -17,7 +17,7 @@ use Rattle.py_scope.specs.Outward.{enclosing, parent_of, parents, IsNumbered}
 use Rattle.py_scope.specs.Marks.{from_scope}
 use Rattle.py_scope.specs.Lifts.{Stage, stages, stage_of, if_function, holds_opt, iterated_opt, absent, or_absent, held_as, holding, lifted, refusal, Lift, Stays, Through, Holder, lift_of, lift_here, after_lift, IsLiftedAlong, IsRefusal, walruses, walruses_in, walruses_of, outward_from, lift_effect, lifted_all, IsLifted, lifts, lifts_of, first_refusal, first_of_two, kind_of, is_comprehension, WalrusesInComprehensions}
 use Rattle.py_scope.proofs.Chains.{equal_numbers}
-use Rattle.py_scope.proofs.Settling.{lookup_put}
+use Rattle.py_scope.proofs.MarkSumLemmas.{lookup_put}
 use Rattle.py_scope.specs.Bits.{is_stored_by_walrus}
 use Rattle.py_scope.proofs.NameLemmas.{equal_names}
 

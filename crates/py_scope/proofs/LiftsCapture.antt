@@ -12,7 +12,7 @@ use Rattle.py_scope.specs.Flags.{captured_opt}
 use Rattle.py_scope.specs.Lifts.{Stage, stages, holds_opt, or_absent, held_as, holding, lifted, lifted_by, Lift, Stays, Through, Holder, lift_of, lift_here, after_lift, outward_from, lift_effect, lifted_all}
 use Rattle.py_scope.proofs.ByLifts.{is_holder, is_through}
 use Rattle.py_scope.proofs.Chains.{equal_numbers, tells_same, outward}
-use Rattle.py_scope.proofs.Settling.{lookup_put}
+use Rattle.py_scope.proofs.MarkSumLemmas.{lookup_put}
 use Rattle.py_scope.proofs.NameLemmas.{equal_names}
 
 or_assoc : (a b c : Bool) → (a || b) || c ≡ a || (b || c)

@@ -20,7 +20,7 @@ use Rattle.py_scope.specs.Lifts.{assigned_as, after_lift, held_as, holding, or_a
 use Rattle.py_scope.proofs.Chains.{outward}
 use Rattle.py_scope.proofs.LiftKeeps.{same_parents, same_kind_of, same_stages}
 use Rattle.py_scope.proofs.LiftsCapture.{hits_through, held_in}
-use Rattle.py_scope.proofs.Settling.{lookup_put}
+use Rattle.py_scope.proofs.MarkSumLemmas.{lookup_put}
 use Rattle.py_scope.proofs.LiftsLead.{in_comprehension, present, captured_here, held_here, reaches_through, reaches_holder, stage_function, kind_read}
 use Rattle.py_scope.proofs.LiftsSound.{lifted_is, through_kind, went_through, is_there, not_first, begins_well}
 use Rattle.py_scope.specs.Bits.{is_bound, intersects}

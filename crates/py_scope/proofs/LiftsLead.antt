@@ -19,7 +19,7 @@ use Rattle.py_scope.specs.Resolve.{hands_on_as}
 use Rattle.py_scope.specs.Registered.{is_fresh}
 use Rattle.py_scope.specs.Lifts.{stages, stage_of, if_function, holds_opt, as_in, lifted, lifted_by, Stays, Through, lift_of, lift_here, outward_from, lifted_all, IsLifted, kind_of}
 use Rattle.py_scope.proofs.Chains.{outward}
-use Rattle.py_scope.proofs.Celling.{asks_opt, asks_listed}
+use Rattle.py_scope.proofs.CellLemmas.{asks_opt, asks_listed}
 use Rattle.py_scope.proofs.LiftKeeps.{same_parents, same_kind_of, same_length, same_stages}
 use Rattle.py_scope.proofs.ByLifts.{is_holder, is_through}
 use Rattle.py_scope.proofs.LiftsCapture.{hits_holder, hits_through, held_in, captured_lifted, holds_lifted, any_more, both, is_it, next_on_way, from_chain, right_or}

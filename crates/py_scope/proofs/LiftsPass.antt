@@ -15,7 +15,7 @@ use Rattle.py_scope.proofs.Captured.{asks_for, wants_for, hands_on}
 use Rattle.py_scope.specs.Registered.{is_fresh}
 use Rattle.py_scope.specs.Lifts.{stages, holds_opt, as_in, lifted, lifted_by, outward_from, IsLifted, kind_of}
 use Rattle.py_scope.proofs.Chains.{equal_numbers, outward}
-use Rattle.py_scope.proofs.Celling.{asks_opt, asks_listed, asks_wants, lifted_wants}
+use Rattle.py_scope.proofs.CellLemmas.{asks_opt, asks_listed, asks_wants, lifted_wants}
 use Rattle.py_scope.proofs.LiftKeeps.{same_parents, same_kind_of, same_stages}
 use Rattle.py_scope.proofs.LiftsCapture.{hits_through, held_in}
 use Rattle.py_scope.proofs.LiftsLead.{in_comprehension, in_function, captured_here, held_here, reaches_through, reaches_holder, stage_function, kind_read}

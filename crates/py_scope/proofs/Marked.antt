@@ -19,7 +19,7 @@ use Rattle.py_scope.specs.Scanned.{Scanned, order_of}
 use Rattle.py_scope.specs.InOrder.{IsScanned, assigned_opt}
 use Rattle.py_scope.specs.Resolved.{first_fault, after_looks, after_lifts}
 use Rattle.py_scope.proofs.NameLemmas.{equal_names, intersects-or}
-use Rattle.py_scope.proofs.Settling.{lookup_put}
+use Rattle.py_scope.proofs.MarkSumLemmas.{lookup_put}
 use Rattle.py_scope.proofs.Lawful.{is_lifted}
 use Rattle.py_scope.proofs.Cellular.{kept}
 use Rattle.py_scope.proofs.Apart.{passes, class_passes}

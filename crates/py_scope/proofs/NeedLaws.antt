@@ -25,9 +25,9 @@ use Rattle.py_scope.specs.InOrder.{IsScanned}
 use Rattle.py_scope.specs.Resolved.{first_fault, after_lifts, after_looks}
 use Rattle.py_scope.specs.Resolve.{kind_at, holds_in, binds_in, look_in, is_free_kind, open_kind, is_used, is_free_in, needs, is_needed_inside, is_declared_inside, own_kind, is_own, kind_by_uses}
 use Rattle.py_scope.proofs.NameLemmas.{equal_names, names_same}
-use Rattle.py_scope.proofs.Needing.{passes_look, is_there, passed_below}
-use Rattle.py_scope.proofs.Flagging.{from_looks}
-use Rattle.py_scope.proofs.Celling.{asks_opt, wants_splits, asks_to_wants, opt_to_asks}
+use Rattle.py_scope.proofs.NeededNameLemmas.{passes_look, is_there, passed_below}
+use Rattle.py_scope.proofs.SymbolFlagLemmas.{from_looks}
+use Rattle.py_scope.proofs.CellLemmas.{asks_opt, wants_splits, asks_to_wants, opt_to_asks}
 use Rattle.py_scope.proofs.Lawful as lawful
 use Rattle.py_scope.proofs.Apart.{passes, passed_past, is_passed, class_passes}
 use Rattle.py_scope.proofs.LiftsLead.{held_here}

@@ -25,7 +25,7 @@ use Rattle.py_scope.specs.Scanned.{Scanned, order_of}
 use Rattle.py_scope.specs.InOrder.{IsScanned}
 use Rattle.py_scope.specs.Resolved.{first_fault, after_lifts}
 use Rattle.py_scope.proofs.Chains.{equal_numbers, tells_same}
-use Rattle.py_scope.proofs.Needing.{passes_look, is_there}
+use Rattle.py_scope.proofs.NeededNameLemmas.{passes_look, is_there}
 use Rattle.py_scope.proofs.Lawful.{is_lifted, numbered, handed}
 use Rattle.py_scope.proofs.Truth.{either, left_or, right_or, both, and_both, any_scope, some_scope}
 use Rattle.py_scope.proofs.Outside.{chain_below, look_among, passed_among, passes_within}

@@ -21,8 +21,8 @@ use Rattle.py_scope.specs.InOrder.{IsScanned}
 use Rattle.py_scope.specs.Resolved.{first_fault, after_lifts, after_looks}
 use Rattle.py_scope.specs.Resolve.{stands_in, holds_in, is_declared_inside}
 use Rattle.py_scope.proofs.NameLemmas.{equal_names}
-use Rattle.py_scope.proofs.Settling as settling
-use Rattle.py_scope.proofs.Resolving.{once_settled}
+use Rattle.py_scope.proofs.MarkSumLemmas as settling
+use Rattle.py_scope.proofs.PassLemmas.{once_settled}
 use Rattle.py_scope.proofs.Lawful.{is_settled, once}
 use Rattle.py_scope.proofs.Cellular.{kept}
 use Rattle.py_scope.proofs.Truth.{either, left_or, right_or, both, and_both, same_truth, any_scope, some_scope}

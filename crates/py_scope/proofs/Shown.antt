@@ -17,7 +17,7 @@ use Rattle.py_scope.specs.InOrder.{IsScanned}
 use Rattle.py_scope.specs.Resolved.{first_fault, after_lifts, after_looks}
 use Rattle.py_scope.specs.Resolve.{scopes, kind_at, goes_through, is_held, is_used, is_free_past, needs}
 use Rattle.py_scope.proofs.NameLemmas.{equal_names, names_same}
-use Rattle.py_scope.proofs.Flagging.{from_looks}
+use Rattle.py_scope.proofs.SymbolFlagLemmas.{from_looks}
 use Rattle.py_scope.proofs.Lawful.{is_lifted, is_settled}
 use Rattle.py_scope.proofs.Apart.{passes, is_passed}
 use Rattle.py_scope.proofs.Kinded.{none_stops}

@@ -19,7 +19,7 @@ use Rattle.py_scope.proofs.ByLifts as by_lifts
 use Rattle.py_scope.proofs.ByLifts.{is_through, is_holder}
 use Rattle.py_scope.proofs.Chains.{equal_numbers}
 use Rattle.py_scope.proofs.NameLemmas.{equal_names, names_same}
-use Rattle.py_scope.proofs.Flagging.{any_append, from_names, to_names}
+use Rattle.py_scope.proofs.SymbolFlagLemmas.{any_append, from_names, to_names}
 use Rattle.py_scope.proofs.Truth.{either, left_or, right_or, both, and_both, and_false, same_truth, same_tells, any_scope, some_scope}
 
 pub stage_kind : (m : Name) (o : Option Row) → (stage_of m o).kind ≡ kind_of o

@@ -11,9 +11,9 @@ use Rattle.py_scope.specs.Distinct.{names_of, AreDistinct, IsOnce}
 use Rattle.py_scope.specs.Checks.{entries_of}
 use Rattle.py_scope.specs.Tables.{table_of, table_from, symbol_in, symbols_in, all_symbols}
 use Rattle.py_scope.specs.Making.{kind_at, all_kinds, symbols_with}
-use Rattle.py_scope.proofs.Scanning.{length_push, length_changed}
-use Rattle.py_scope.proofs.Tabling.{take_next, length-kinds, symbols_with-kinds, get_all_kinds, get_all_symbols, length-all_kinds, length-all_symbols}
-use Rattle.py_scope.proofs.Nesting.{split_take, length_replicate, IsNested, nested_first, nest_done, nest_parent, nest_next}
+use Rattle.py_scope.proofs.ScanCallLemmas.{length_push, length_changed}
+use Rattle.py_scope.proofs.TableRowLemmas.{take_next, length-kinds, symbols_with-kinds, get_all_kinds, get_all_symbols, length-all_kinds, length-all_symbols}
+use Rattle.py_scope.proofs.NestedTableLemmas.{split_take, length_replicate, IsNested, nested_first, nest_done, nest_parent, nest_next}
 
 -- what waits while the scopes below count are left, and the kinds of their names beside them
 pub record IsTold (all : List Row) (rows : List Row) (kinds : List (List SymbolScope)) (waiting : List (List SymbolTable)) : Type 0 where

@@ -17,10 +17,10 @@ use Rattle.py_scope.specs.Scanned.{Scanned, order_of}
 use Rattle.py_scope.specs.InOrder.{IsScanned}
 use Rattle.py_scope.specs.Resolved.{first_fault, after_lifts, after_looks}
 use Rattle.py_scope.proofs.NameLemmas.{equal_names}
-use Rattle.py_scope.proofs.Settling.{lookup_put}
-use Rattle.py_scope.proofs.Flagging.{from_looks, to_looks}
-use Rattle.py_scope.proofs.Celling.{asks_to_wants}
-use Rattle.py_scope.proofs.Ending.{captures_ends}
+use Rattle.py_scope.proofs.MarkSumLemmas.{lookup_put}
+use Rattle.py_scope.proofs.SymbolFlagLemmas.{from_looks, to_looks}
+use Rattle.py_scope.proofs.CellLemmas.{asks_to_wants}
+use Rattle.py_scope.proofs.CapturedNameLemmas.{captures_ends}
 use Rattle.py_scope.proofs.Cellular.{ends_bound}
 use Rattle.py_scope.proofs.Apart.{is_passed}
 use Rattle.py_scope.proofs.Lawful.{is_settled, numbered, once, captures, lifts_captured, complete}

@@ -23,7 +23,7 @@ use Rattle.py_scope.specs.Laws.{CellsAreNeeded, CellsAreApart, LeadsTo, NamesLea
 use Rattle.py_scope.specs.Scanned.{Scanned}
 use Rattle.py_scope.specs.InOrder.{IsScanned}
 use Rattle.py_scope.specs.Resolved.{first_fault, after_lifts}
-use Rattle.py_scope.proofs.Needing.{captured_by_child}
+use Rattle.py_scope.proofs.NeededNameLemmas.{captured_by_child}
 use Rattle.py_scope.proofs.Lawful as lawful
 use Rattle.py_scope.proofs.Apart.{passed_past}
 use Rattle.py_scope.proofs.Truth.{both, and_both, any_scope, some_scope}

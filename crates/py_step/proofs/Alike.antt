@@ -2,9 +2,9 @@
 use Rattle.std.proofs.Common.{◌≡◌, List, [], ◌∷◌, ◌++◌, refl, ap, ◌∙◌}
 use Rattle.py_bytecode.specs.declared.instruction.Instruction.TheVariants as op
 use Rattle.py_bytecode.specs.Values.{operation, Number, Value, Constant, Given, Child, Entry, It, Cells, Event, Operates, Makes, Accesses, StoresCells, AsksTruth, AsksNext, Unsaid, Outcome, Returned, RaisedOut, Stopped, Wrong, Leaked, Going, Ran, ran}
-use Rattle.py_forms.specs.Agree.{SameEntry, SameEvent, SameEvents, SameOutcome, SameRan, SameValue, SameValues}
-use Rattle.py_forms.specs.View.{event_to, events_to, outcome_to, plain, ran_to, value_to, values_to}
-use Rattle.py_script.specs.Told.{short, short_event, short_events, short_outcome, short_returned, short_value, short_values}
+use Rattle.py_control.specs.Agree.{SameEntry, SameEvent, SameEvents, SameOutcome, SameRan, SameValue, SameValues}
+use Rattle.py_control.specs.View.{event_to, events_to, outcome_to, plain, ran_to, value_to, values_to}
+use Rattle.py_answers.specs.Told.{short, short_event, short_events, short_outcome, short_returned, short_value, short_values}
 
 module _ {K L : Type 0} (R : K → L → Type 0) where
   value_alike : (x : Value K) (y : Value L) → SameValue R x y → short_value x ≡ short_value y

@@ -1,11 +1,11 @@
 -- A code that agrees with a tree is told as the tree.
 use Rattle.std.proofs.Common.{sym, ◌∙◌}
 use Rattle.py_bytecode.specs.Units.{machine}
-use Rattle.py_forms.specs.Agree.{plainly}
-use Rattle.py_forms.specs.Agreement.{Agrees}
-use Rattle.py_forms.specs.View.{plain, ran_to}
+use Rattle.py_control.specs.Agree.{plainly}
+use Rattle.py_control.specs.Agreement.{Agrees}
+use Rattle.py_control.specs.View.{plain, ran_to}
 use Rattle.py_meaning.specs.Meaning.{body, meaning}
-use Rattle.py_walk.proofs.Walked.{meanings_walk}
+use Rattle.py_interp.proofs.Walked.{meanings_walk}
 use Rattle.py_step.specs.Laws.{AgreementToldAlike}
 use Rattle.py_step.proofs.Alike.{plain_told, runs_alike}
 

@@ -6,10 +6,10 @@ use Rattle.py_scope.specs.declared.flat.ScopeEntry.{ScopeEntry}
 use Rattle.py_bytecode.specs.Objects.{Object}
 use Rattle.py_bytecode.specs.Units.{machine}
 use Rattle.py_bytecode.specs.Values.{Answer}
-use Rattle.py_forms.specs.Agreement.{Agree}
+use Rattle.py_control.specs.Agreement.{Agree}
 use Rattle.py_meaning.specs.Meaning.{body}
-use Rattle.py_script.specs.Told.{short}
-use Rattle.py_walk.specs.Statements.{tree_run}
+use Rattle.py_answers.specs.Told.{short}
+use Rattle.py_interp.specs.Statements.{tree_run}
 
 -- so the lines of the two are equal
 abbrev pub AgreementToldAlike : Type 0

@@ -1,8 +1,8 @@
 -- The text of both runs.
 use Rattle.std.specs.Prelude.{ℕ, List, ◌++◌, codes}
 use Rattle.py_bytecode.specs.Values.{Ran}
-use Rattle.py_script.specs.Lines.{lines}
-use Rattle.py_script.specs.Told.{Known}
+use Rattle.py_answers.specs.Lines.{lines}
+use Rattle.py_answers.specs.Told.{Known}
 
 -- the lines of the code's run behind the line `code`, and those of the tree's behind the line `tree`
 abbrev pub report_text : (code tree : Ran Known) → List ℕ

@@ -6,5 +6,5 @@ mod report;
 mod run;
 
 pub use laws::agreement_told_alike;
-pub use py_script::{Answer, Detail, Event, Outcome, Script, StepValue, Trace, push_trace};
+pub use py_answers::{Answer, Detail, Event, Outcome, Script, StepValue, Trace, push_trace};
 pub use run::{StepReport, run_script};

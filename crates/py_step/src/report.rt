@@ -1,10 +1,10 @@
 //! The text of both runs.
 ghost use Rattle.std.specs.Prelude.{◌≡◌, true, IfOk, string_bytes};
-ghost use Rattle.py_script.specs.Told.{all_told, trace_of};
+ghost use Rattle.py_answers.specs.Told.{all_told, trace_of};
 ghost use Rattle.py_step.specs.Reports.{report_text};
 
 use crate::run::StepReport;
-use py_script::push_trace;
+use py_answers::push_trace;
 use std::alloc::{AllocError, Global};
 
 impl StepReport {

@@ -5,15 +5,15 @@ ghost use Rattle.py_bytecode.specs.View.{object};
 ghost use Rattle.py_meaning.specs.Meaning.{body, meaning};
 ghost use Rattle.py_scope.specs.declared.flat.ScopeEntry.{ScopeEntry};
 ghost use Rattle.py_tree.specs.View.{mod_tree};
-ghost use Rattle.py_script.specs.Scripts.{answers_of};
-ghost use Rattle.py_script.specs.Told.{all_told, short, trace_of};
-ghost use Rattle.py_walk.specs.Statements.{tree_run};
+ghost use Rattle.py_answers.specs.Scripts.{answers_of};
+ghost use Rattle.py_answers.specs.Told.{all_told, short, trace_of};
+ghost use Rattle.py_interp.specs.Statements.{tree_run};
 
+use py_answers::{Script, Trace};
 use py_bytecode::CodeObject;
-use py_script::{Script, Trace};
+use py_interp_stmts::run_tree;
 use py_step_machine::run_code;
 use py_tree::{Mod, Mode};
-use py_walk_stmts::run_tree;
 use std::alloc::{AllocError, Global};
 
 /// What the run of a code object over a script is told as, and that of a tree.
@@ -29,7 +29,7 @@ pub struct StepReport {
 ///
 /// # Errors
 /// There is no memory for the runs.
-#[tactic(auto, using(py_walk::proofs::Walked::meanings_walk))]
+#[tactic(auto, using(py_interp::proofs::Walked::meanings_walk))]
 pub fn run_script(
     alloc: Global,
     code: &CodeObject,

@@ -11,7 +11,7 @@ use Rattle.py_bytecode.specs.declared.code.ConstantData.{ConstantData, ConstantD
 use Rattle.py_bytecode.specs.declared.code.ConstantData.TheViews as view
 use Rattle.py_bytecode.specs.declared.code.CodeObject.{CodeObject}
 use Rattle.py_bytecode.proofs.View.{constant_roll, constant_Code, object_is}
-use Rattle.py_script.specs.Told.{AChild, short_value}
+use Rattle.py_answers.specs.Told.{AChild, short_value}
 
 -- ---- two tables as one
 

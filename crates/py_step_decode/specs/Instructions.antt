@@ -4,8 +4,8 @@ use Rattle.py_bytecode.specs.View.{constant}
 use Rattle.py_bytecode.specs.Values as values
 use Rattle.py_bytecode.specs.Values.{Constant, Given, Child, It, Cells, Load, Store, Delete, Unsaid, ByName, choose}
 use Rattle.py_bytecode.specs.Machine as machine
-use Rattle.py_script.specs.Told.{Known, AChild}
-use Rattle.py_script.specs.Log.{operation_of}
+use Rattle.py_answers.specs.Told.{Known, AChild}
+use Rattle.py_answers.specs.Log.{operation_of}
 use Rattle.py_step_decode.specs.declared.instructions.Value.{Value}
 use Rattle.py_step_decode.specs.declared.instructions.Entry.{Entry}
 use Rattle.py_step_decode.specs.declared.instructions.Instr.{Instr}

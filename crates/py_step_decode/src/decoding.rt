@@ -10,15 +10,15 @@ ghost use Rattle.py_bytecode.specs.Units.{place_in};
 ghost use Rattle.py_bytecode.specs.Values as values;
 ghost use Rattle.py_bytecode.specs.View.{object};
 ghost use Rattle.py_bytecode.specs.Objects.{Object, head};
-ghost use Rattle.py_script.specs.Log.{operand_of};
-ghost use Rattle.py_script.specs.Told.{short_value};
+ghost use Rattle.py_answers.specs.Log.{operand_of};
+ghost use Rattle.py_answers.specs.Told.{short_value};
 ghost use Rattle.py_step_decode.specs.Instructions.{decoded, instr_of, value_of};
 ghost use Rattle.py_step_decode.specs.Short.{short_found, short_instr};
 
 use crate::instructions::{Entry, Instr, Value};
+use py_answers::{Operand, Operation};
 use py_base::Text;
 use py_bytecode::{CodeObject, ConstantData, Instruction};
-use py_script::{Operand, Operation};
 
 // The entry of the table of names.
 fn name_at(code: &CodeObject, n: u32) -> Option<&Text>

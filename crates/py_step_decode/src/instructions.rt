@@ -1,7 +1,7 @@
 //! Instructions, with what their operands name. Nothing is kept of children and of cells.
+use py_answers::Operation;
 use py_base::Text;
 use py_bytecode::ConstantData;
-use py_script::Operation;
 
 /// A value of a run.
 #[derive(Clone, Copy)]

@@ -5,13 +5,13 @@ use Rattle.std.proofs.lemmas.List.{drop_more, drop_all, length-map}
 use Rattle.std.proofs.lemmas.Option.{slice_get_within, slice_get_cases, get_or_from_slice_get}
 use Rattle.py_bytecode.specs.Values.{Value, Entry, It, Event, World, Outcome, Wrong, choose, ran}
 use Rattle.py_bytecode.specs.Machine.{Reason, BreakTo, ContinueTo, ReturnOf, RaiseOf, Block, Loop, Except, Finally, ExceptHandler, FinallyHandler, Config, has_loop, wrong, unwind, unwind_out, slot_for}
-use Rattle.py_script.specs.Told.{Known}
+use Rattle.py_answers.specs.Told.{Known}
 use Rattle.py_step_machine.specs.declared.held.Block.{Block as Block1}
 use Rattle.py_step_machine.specs.declared.held.End.{End}
 use Rattle.py_step_machine.specs.Held.{block_of, ending_of}
 use Rattle.py_step_machine.specs.State.{State, state, Run, ◌>>=◌, fails, Fails, gone, blocked}
 use Rattle.py_step_machine.specs.Leaving.{cutting, passing, handling, leaving_loop, leaving_except, leaving_finally, leaving_handler, leaving_block, out_of, unwinding}
-use Rattle.py_step_machine.proofs.Failing.{fails_on, fails_same}
+use Rattle.py_step_machine.proofs.ProgramStopLemmas.{fails_on, fails_same}
 
 -- where a block takes the reason the run goes on, and else the next one is left
 abbrev pub after_block : Reason Known ℕ → Option ℕ × State → Run ℕ

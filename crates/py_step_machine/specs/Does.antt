@@ -4,7 +4,7 @@ use Rattle.py_bytecode.specs.declared.instruction.Instruction.TheVariants as op
 use Rattle.py_bytecode.specs.Values.{Operation, operation, Number, raise_again, enter_with, exit_with, Value, Entry, It, Cells, Usage, Load, Store, Delete, Kind, Unsaid, ByName, Operates, Accesses, Got, Fine, Raises, Stops, ask_for, for_one, for_none, truth_of, next_of, meets, choose, Stopped, Wrong, Leaked, ran}
 use Rattle.py_bytecode.specs.Machine as m
 use Rattle.py_bytecode.specs.Machine.{Instr, Reason, BreakTo, ContinueTo, ReturnOf, RaiseOf, Block, Loop, Except, Finally, ExceptHandler, FinallyHandler, has_loop, is_tuple, exception, push, stack_of}
-use Rattle.py_script.specs.Told.{Known}
+use Rattle.py_answers.specs.Told.{Known}
 use Rattle.py_step_machine.specs.State.{Doing, Leaves, Ends, ◌>>=◌, ends, leaves}
 
 -- ---- the stack

@@ -3,8 +3,8 @@ use Rattle.std.specs.Prelude.{ℕ, Option, Some, None}
 use Rattle.py_bytecode.specs.Values as values
 use Rattle.py_bytecode.specs.Values.{Given}
 use Rattle.py_bytecode.specs.Machine as machine
-use Rattle.py_script.specs.declared.log.Halt.{Halt}
-use Rattle.py_script.specs.Told.{Known}
+use Rattle.py_answers.specs.declared.log.Halt.{Halt}
+use Rattle.py_answers.specs.Told.{Known}
 use Rattle.py_step_decode.specs.declared.instructions.Instr.{Instr}
 use Rattle.py_step_decode.specs.Instructions.{entry_of, instr_of}
 use Rattle.py_step_machine.specs.declared.held.Reason.{Reason}

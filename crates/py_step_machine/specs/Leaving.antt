@@ -2,7 +2,7 @@
 use Rattle.std.specs.Prelude.{ℕ, ◌∷◌, ◌-◌, length, drop, Option, Some, None, Ok, Err, nat_le}
 use Rattle.py_bytecode.specs.Values.{Value, It, choose, Outcome, Returned, RaisedOut, Wrong}
 use Rattle.py_bytecode.specs.Machine.{Fetched, Found, Nothing, Reason, BreakTo, ContinueTo, ReturnOf, RaiseOf, Block, Loop, Except, Finally, ExceptHandler, FinallyHandler, slot_for, unwind}
-use Rattle.py_script.specs.Told.{Known}
+use Rattle.py_answers.specs.Told.{Known}
 use Rattle.py_step_machine.specs.State.{state, Did, Leaves, Ends, Run, Running, ◌>>=◌, fails, gone}
 use Rattle.py_step_machine.specs.Does.{does}
 

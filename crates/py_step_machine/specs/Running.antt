@@ -6,7 +6,7 @@ use Rattle.py_bytecode.specs.Values.{Value, Constant, Entry, It, Cells, Outcome,
 use Rattle.py_bytecode.specs.Decode.{tables}
 use Rattle.py_bytecode.specs.Machine.{Fetched}
 use Rattle.py_bytecode.specs.Units.{fetch_unit}
-use Rattle.py_script.specs.Told.{Known}
+use Rattle.py_answers.specs.Told.{Known}
 use Rattle.py_step_machine.specs.declared.held.End.{End}
 use Rattle.py_step_machine.specs.Held.{ending_of}
 use Rattle.py_step_machine.specs.Short.{short_fetched}

@@ -2,7 +2,7 @@
 use Rattle.std.specs.Prelude.{ℕ, List, [], ◌∷◌, Option, Some, None}
 use Rattle.py_bytecode.specs.Values.{Value, Entry, World, Outcome, Returned, RaisedOut, Stopped, Wrong, Leaked, Going}
 use Rattle.py_bytecode.specs.Machine.{Fetched, Found, Nothing, Reason, BreakTo, ContinueTo, ReturnOf, RaiseOf, Block, Loop, Except, Finally, ExceptHandler, FinallyHandler, Config, At, Over}
-use Rattle.py_script.specs.Told.{Known, short_value, short_events}
+use Rattle.py_answers.specs.Told.{Known, short_value, short_events}
 use Rattle.py_step_decode.specs.Short.{short_entry, short_instr}
 use Rattle.py_step_machine.specs.State.{State, state}
 

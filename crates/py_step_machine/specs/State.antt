@@ -3,8 +3,8 @@ use Rattle.std.specs.Prelude.{◌≡◌, ℕ, List, map, Option, Result, Ok, Err
 use Rattle.py_bytecode.specs.Values.{Value, Entry, Event, World, Outcome, Returned, RaisedOut, Stopped, Wrong, Leaked, Ran, ran}
 use Rattle.py_bytecode.specs.Machine as machine
 use Rattle.py_bytecode.specs.Machine.{Config, At, Over}
-use Rattle.py_script.specs.Told.{Known}
-use Rattle.py_script.specs.Log.{world_of}
+use Rattle.py_answers.specs.Told.{Known}
+use Rattle.py_answers.specs.Log.{world_of}
 use Rattle.py_step_machine.specs.declared.held.Block.{Block as Block1}
 use Rattle.py_step_decode.specs.declared.instructions.Entry.{Entry as Entry1}
 use Rattle.py_step_machine.specs.declared.held.Stop.{Stop}

@@ -1,7 +1,7 @@
 //! Blocks set up and popped, and the last parts of `try` and `with`.
 ghost use Rattle.std.specs.Prelude.{◌≡◌, ◌∷◌, []};
 ghost use Rattle.py_bytecode.specs.Machine.{exception, has_loop};
-ghost use Rattle.py_script.specs.Told as told;
+ghost use Rattle.py_answers.specs.Told as told;
 ghost use Rattle.py_step_machine.specs.Does.{ending_finally, entering_finally, finishing_cleanup, last_block, leaving, pop_last, popping_block, popping_exception, reraising, returning, setting_except, setting_finally, setting_loop, setting_with, starting_cleanup, unless_dropped};
 ghost use Rattle.py_step_machine.specs.Held.{block_of, kept_of, reason_of};
 ghost use Rattle.py_step_machine.specs.State.{Does, blocked, state_of};
@@ -9,8 +9,8 @@ ghost use Rattle.py_step_machine.specs.State.{Does, blocked, state_of};
 use crate::held::{Block, Reason, Stop};
 use crate::machine::Machine;
 use crate::parts::{alone, joined};
+use py_answers::{Operand, Operation, StepValue};
 use py_bytecode::{ConstantData, Instruction};
-use py_script::{Operand, Operation, StepValue};
 use py_step_decode::{Entry, Value};
 
 impl<'c> Machine<'c> {
@@ -123,7 +123,7 @@ impl<'c> Machine<'c> {
     }
 
     // The reason that the handler of a last part on top keeps.
-    #[tactic(auto, using(crate::proofs::Seeing::last_seen), unfolding(crate::specs::Does::last_block))]
+    #[tactic(auto, using(crate::proofs::PeekLemmas::last_seen), unfolding(crate::specs::Does::last_block))]
     fn last_reason(&mut self) -> Result<Option<Reason<'c>>, Stop<'c>>
         ensures { Does kept_of result (state_of self.new) (last_block (state_of self.old)) }
     {

@@ -1,6 +1,6 @@
 //! What a machine holds beside its stack: blocks, and reasons of leaving them; and how instructions and runs end.
 
-use py_script::Halt;
+use py_answers::Halt;
 use py_step_decode::Entry;
 use std::alloc::{AllocError, AllocFailed};
 

@@ -13,7 +13,7 @@ use py_step_decode::{Entry, Instr, Value};
 
 impl<'c> Machine<'c> {
     // Cuts the stack to a height; one above the present one is wrong.
-    #[tactic(auto, using(crate::proofs::Cutting::cut_above, crate::proofs::Cutting::cut_within))]
+    #[tactic(auto, using(crate::proofs::StackCutLemmas::cut_above, crate::proofs::StackCutLemmas::cut_within))]
     fn cut(&mut self, height: usize) -> Result<(), End<'c>>
         ensures { Runs (λ u. u) result (state_of self.new) (cutting height (state_of self.old)) }
     {

@@ -1,14 +1,14 @@
 //! A machine: its stack and blocks, the exception in hand, and what its run has listed.
 ghost use Rattle.std.specs.Prelude.{◌≡◌, [], IfOk};
-ghost use Rattle.py_script.specs.Told as told;
+ghost use Rattle.py_answers.specs.Told as told;
 ghost use Rattle.py_step_machine.specs.Does.{entry_below, pop_cell_tuple, pop_cells, pop_closure, pop_entry, pop_value, pop_values, value_below};
 ghost use Rattle.py_step_decode.specs.Instructions.{entry_of, value_of};
 ghost use Rattle.py_step_machine.specs.State.{Does, state_of};
 
 use crate::held::{Block, Stop};
+use py_answers::{Log, StepValue, copy_constant};
 use py_base::List;
-use py_pile::Pile;
-use py_script::{Log, StepValue, copy_constant};
+use py_stack::Pile;
 use py_step_decode::{Entry, Value};
 use std::alloc::{AllocError, Global};
 
@@ -61,7 +61,7 @@ impl<'c> Machine<'c> {
     }
 
     /// The entry that lies so many below the top, which stays.
-    #[tactic(auto, using(crate::proofs::Seeing::seen_some, crate::proofs::Seeing::seen_none), unfolding(crate::specs::Does::entry_below))]
+    #[tactic(auto, using(crate::proofs::PeekLemmas::seen_some, crate::proofs::PeekLemmas::seen_none), unfolding(crate::specs::Does::entry_below))]
     pub fn entry_below(&mut self, depth: usize) -> Result<Entry<'c>, Stop<'c>>
         ensures { Does entry_of result (state_of self.new) (entry_below depth (state_of self.old)) }
     {

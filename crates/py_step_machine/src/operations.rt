@@ -1,15 +1,15 @@
 //! Operations on values of the stack.
 ghost use Rattle.std.specs.Prelude.{◌≡◌};
 ghost use Rattle.py_bytecode.specs.Machine.{builds_tuple};
-ghost use Rattle.py_script.specs.Log.{operation_of};
+ghost use Rattle.py_answers.specs.Log.{operation_of};
 ghost use Rattle.py_step_machine.specs.Does.{appending, applying, cells_above, importing, joining, joins_cells, making, operating, unpacking};
 ghost use Rattle.py_step_machine.specs.State.{Does, stacked, state_of};
 
 use crate::held::Stop;
 use crate::machine::Machine;
 use crate::parts::{alone, joined, push_given, push_reversed};
+use py_answers::{Operand, Operation};
 use py_bytecode::Instruction;
-use py_script::{Operand, Operation};
 use py_step_decode::Entry;
 
 fn builds_tuple(op: Instruction) -> bool
@@ -37,7 +37,7 @@ impl<'c> Machine<'c> {
         }
     }
 
-    #[tactic(auto, using(crate::proofs::Giving::counted), unfolding(crate::specs::Does::applying))]
+    #[tactic(auto, using(crate::proofs::PushLemmas::counted), unfolding(crate::specs::Does::applying))]
     fn apply(
         &mut self,
         operation: Operation<'_>,
@@ -69,7 +69,7 @@ impl<'c> Machine<'c> {
         builds_tuple(op) && takes > 0 && self.has_cells_on_top()
     }
 
-    #[tactic(auto, using(crate::proofs::Seeing::cells_seen))]
+    #[tactic(auto, using(crate::proofs::PeekLemmas::cells_seen))]
     fn has_cells_on_top(&self) -> bool
         ensures { result ≡ cells_above 1 (stacked self.now.stack) }
     {

@@ -2,17 +2,17 @@
 ghost use Rattle.std.specs.Prelude.{◌≡◌, ◌∷◌, ◌++◌, [], IfOk, OnOk};
 ghost use Rattle.py_bytecode.specs.Machine.{push, stack_of};
 ghost use Rattle.py_bytecode.specs.Values.{given};
-ghost use Rattle.py_script.specs.Told.{value_of, values_of};
+ghost use Rattle.py_answers.specs.Told.{value_of, values_of};
 ghost use Rattle.py_step_machine.specs.State.{stacked};
 
+use py_answers::StepValue;
 use py_base::List;
-use py_pile::Pile;
-use py_script::StepValue;
+use py_stack::Pile;
 use py_step_decode::{Entry, Value};
 use std::alloc::{AllocError, Global};
 
 /// These operands, and then those.
-#[tactic(auto, using(crate::proofs::Taking::values_joined))]
+#[tactic(auto, using(crate::proofs::TakenValueLemmas::values_joined))]
 pub fn joined(
     first: List<StepValue>,
     second: List<StepValue>,

@@ -1,16 +1,16 @@
 //! What a machine asks of the answers that are left to it. An exception that is raised stops an instruction: blocks are
 //! left for it.
-ghost use Rattle.py_script.specs.Log.{counted_by, next_given, operation_of};
-ghost use Rattle.py_script.specs.Told as told;
+ghost use Rattle.py_answers.specs.Log.{counted_by, next_given, operation_of};
+ghost use Rattle.py_answers.specs.Told as told;
 ghost use Rattle.py_step_machine.specs.Does.{asks_delete, asks_for, asks_for_none, asks_for_one, asks_load, asks_next, asks_raise, asks_store, asks_truth};
 ghost use Rattle.py_step_machine.specs.Held.{raised};
 ghost use Rattle.py_step_machine.specs.State.{Does, state_of};
 
 use crate::held::Stop;
 use crate::machine::Machine;
+use py_answers::{Operand, Operation, StepValue};
 use py_base::{List, Text};
 use py_bytecode::Instruction;
-use py_script::{Operand, Operation, StepValue};
 
 impl<'c> Machine<'c> {
     /// Loads a name. The value is that of the answer with this number.

@@ -4,22 +4,22 @@ ghost use Rattle.py_bytecode.specs.Machine.{fuel, start};
 ghost use Rattle.py_bytecode.specs.Objects.{head};
 ghost use Rattle.py_bytecode.specs.Units.{machine};
 ghost use Rattle.py_bytecode.specs.View.{object};
-ghost use Rattle.py_script.specs.Scripts.{answers_of};
-ghost use Rattle.py_script.specs.Told.{all_told, outcome_of, short, trace_of};
+ghost use Rattle.py_answers.specs.Scripts.{answers_of};
+ghost use Rattle.py_answers.specs.Told.{all_told, outcome_of, short, trace_of};
 ghost use Rattle.py_step_machine.specs.Held.{fetched_as};
 ghost use Rattle.py_step_machine.specs.Leaving.{keeping};
 ghost use Rattle.py_step_machine.specs.Running.{fetch, lacks_memory, running, unit_step, went_to};
 ghost use Rattle.py_step_machine.specs.Short.{short_fetched};
 ghost use Rattle.py_step_machine.specs.State.{Runs, state, state_of};
-ghost use Rattle.py_units.specs.Reading.{IsReading};
+ghost use Rattle.py_decode.specs.Reading.{IsReading};
 
 use crate::held::End;
 use crate::machine::{Machine, shortened};
+use py_answers::{Log, Outcome, Script, StepValue, Trace};
 use py_bytecode::{CodeObject, ConstantData};
-use py_pile::Pile;
-use py_script::{Log, Outcome, Script, StepValue, Trace};
+use py_decode::{UnitRead, read_all, read_in};
+use py_stack::Pile;
 use py_step_decode::{Entry, Instr, decode};
-use py_units::{UnitRead, read_all, read_in};
 use std::alloc::{AllocError, Global};
 
 /// Runs a code object over a script, and tells the run as `machine` of py_bytecode's `specs/Units.antt` has it,

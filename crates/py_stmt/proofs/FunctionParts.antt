@@ -6,9 +6,9 @@ use Rattle.py_tree.specs.View.{stmt_tree, stmts}
 use Rattle.py_tree.specs.declared.statements.Stmt.{Stmt}
 use Rattle.py_emission.specs.Texts.{after_doc, stmt_text, unless_text}
 use Rattle.py_scope.specs.declared.table_type.SymbolTableType.TheVariants as kind
-use Rattle.py_steps.specs.Within.{function_inside}
-use Rattle.py_steps.specs.Context.{Context, function_path, inside, with_path}
-use Rattle.py_steps.specs.Emitting.{Emission, State, ◌▸◌, keep}
+use Rattle.py_emission_parts.specs.Within.{function_inside}
+use Rattle.py_emission_parts.specs.Context.{Context, function_path, inside, with_path}
+use Rattle.py_emission_parts.specs.Emitting.{Emission, State, ◌▸◌, keep}
 use Rattle.py_bytecode.specs.Objects.{Object}
 use Rattle.py_tree.specs.declared.statements.StmtFunctionDefOf.{StmtFunctionDefOf}
 use Rattle.py_emission.specs.Parameters.{function_shape}

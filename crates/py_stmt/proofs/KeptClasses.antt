@@ -4,12 +4,12 @@ use Rattle.std.specs.Prelude.{if◌then◌else◌}
 use Rattle.py_tree.specs.Tree as tree
 use Rattle.py_bytecode.specs.declared.instruction.Instruction.TheVariants as op
 use Rattle.py_bytecode.specs.Objects as const
-use Rattle.py_steps.specs.Children.{made}
-use Rattle.py_steps.specs.Classes.{class_shape}
-use Rattle.py_steps.specs.Within.{behind_name, class_path, class_within}
-use Rattle.py_steps.specs.Elements.{Element, Function, Single, Spread, starred}
-use Rattle.py_steps.specs.Emitting.{Emission, emit, emit_constant}
-use Rattle.py_steps.specs.EmissionParts.{built, elements}
+use Rattle.py_emission_parts.specs.Children.{made}
+use Rattle.py_emission_parts.specs.Classes.{class_shape}
+use Rattle.py_emission_parts.specs.Within.{behind_name, class_path, class_within}
+use Rattle.py_emission_parts.specs.Elements.{Element, Function, Single, Spread, starred}
+use Rattle.py_emission_parts.specs.Emitting.{Emission, emit, emit_constant}
+use Rattle.py_emission_parts.specs.EmissionParts.{built, elements}
 use Rattle.py_emission.specs.Emission.{all_emissions, keyword_emissions}
 use Rattle.py_emission.specs.EmissionDefs.{class_call, class_function, class_scope, emission_of_class}
 use Rattle.py_expr_scopes.proofs.OpenBlocks.{Keeps, constant_keeps, context_keeps, emit_keeps}

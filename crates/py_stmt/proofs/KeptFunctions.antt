@@ -5,11 +5,11 @@ use Rattle.py_tree.specs.Tree as tree
 use Rattle.py_bytecode.specs.declared.instruction.Instruction.TheVariants as op
 use Rattle.py_bytecode.specs.Objects as const
 use Rattle.py_bytecode.specs.Objects.{Object}
-use Rattle.py_steps.specs.Children.{decorated, decorations, documented, emission_of_defaults, flags_of_defaults, function_made, made, some_emitted}
-use Rattle.py_steps.specs.Within.{function_inside, some_flag}
-use Rattle.py_steps.specs.Context.{mangled, qualified}
-use Rattle.py_steps.specs.Emitting.{Emission, by_context, emit, emit_constant, emit_count, emit_name}
-use Rattle.py_steps.specs.EmissionParts.{built, in_turn}
+use Rattle.py_emission_parts.specs.Children.{decorated, decorations, documented, emission_of_defaults, flags_of_defaults, function_made, made, some_emitted}
+use Rattle.py_emission_parts.specs.Within.{function_inside, some_flag}
+use Rattle.py_emission_parts.specs.Context.{mangled, qualified}
+use Rattle.py_emission_parts.specs.Emitting.{Emission, by_context, emit, emit_constant, emit_count, emit_name}
+use Rattle.py_emission_parts.specs.EmissionParts.{built, in_turn}
 use Rattle.py_emission.specs.Emission.{default_emissions}
 use Rattle.py_emission.specs.Texts.{doc_of}
 use Rattle.py_emission.specs.EmissionDefs.{arg_note, arg_notes, emission_of_def, emission_of_note, notes, opt_arg_note, opt_note}

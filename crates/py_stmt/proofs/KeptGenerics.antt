@@ -6,12 +6,12 @@ use Rattle.py_bytecode.specs.Objects as const
 use Rattle.py_bytecode.specs.Values.{Store}
 use Rattle.py_bytecode.specs.declared.instruction.Instruction.TheVariants as op
 use Rattle.py_base.specs.declared.errors.CodegenErrorType.TheVariants as error
-use Rattle.py_steps.specs.Accesses.{accessed, emission_of_stored}
-use Rattle.py_steps.specs.Children.{DefaultEmissions, emission_of_defaults, made}
-use Rattle.py_steps.specs.Within.{class_path, handed, hidden_inside, hidden_name}
-use Rattle.py_steps.specs.Emitting.{Emission, ◌▸◌, emit, emit_constant, emit_count, emit_varname}
-use Rattle.py_steps.specs.Refused.{no_assignment}
-use Rattle.py_steps.specs.TypeParameters.{generic_alias, hidden, hidden_shape, kept_as, load_handed, no_defaults}
+use Rattle.py_emission_parts.specs.Accesses.{accessed, emission_of_stored}
+use Rattle.py_emission_parts.specs.Children.{DefaultEmissions, emission_of_defaults, made}
+use Rattle.py_emission_parts.specs.Within.{class_path, handed, hidden_inside, hidden_name}
+use Rattle.py_emission_parts.specs.Emitting.{Emission, ◌▸◌, emit, emit_constant, emit_count, emit_varname}
+use Rattle.py_emission_parts.specs.Refused.{no_assignment}
+use Rattle.py_emission_parts.specs.TypeParameters.{generic_alias, hidden, hidden_shape, kept_as, load_handed, no_defaults}
 use Rattle.py_emission.specs.Emission.{default_emissions, emission}
 use Rattle.py_emission.specs.EmissionDefs.{alias_value, class_call, class_function, emission_of_alias, emission_of_built, emission_of_function, emission_of_generic_class, emission_of_generic_def, emission_of_param, emission_of_params, param_emissions}
 use Rattle.py_expr_scopes.proofs.OpenBlocks.{Keeps, accessed_keeps, constant_keeps, context_keeps, count_keeps, emit_keeps, idle_keeps, refuse_keeps, then_keeps, varname_keeps}

@@ -7,10 +7,10 @@ use Rattle.py_bytecode.specs.Objects as const
 use Rattle.py_bytecode.specs.Objects.{Const}
 use Rattle.py_bytecode.specs.Values.{Store}
 use Rattle.py_base.specs.declared.errors.CodegenErrorType.TheVariants as error
-use Rattle.py_steps.specs.Accesses.{accessed, emission_of_stored}
-use Rattle.py_steps.specs.Context.{Context, is_function}
-use Rattle.py_steps.specs.Emitting.{Emission, ◌▸◌, emit, emit_constant, emit_mangled, refuse}
-use Rattle.py_steps.specs.Refused.{no_assignment}
+use Rattle.py_emission_parts.specs.Accesses.{accessed, emission_of_stored}
+use Rattle.py_emission_parts.specs.Context.{Context, is_function}
+use Rattle.py_emission_parts.specs.Emitting.{Emission, ◌▸◌, emit, emit_constant, emit_mangled, refuse}
+use Rattle.py_emission_parts.specs.Refused.{no_assignment}
 use Rattle.py_emission.specs.Imports.{asked, asked_all, from_future, further_segments, import_name, taken_name, takes_all}
 use Rattle.py_emission.specs.EmissionImports.{emission_of_alias, emission_of_attributes, emission_of_from, emission_of_import, emission_of_imported, emission_of_module, emission_of_names, emission_of_star, emission_of_taken, import_step}
 use Rattle.py_emission.specs.EmissionStmts.{emission_of_import_from}

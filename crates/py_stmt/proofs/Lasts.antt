@@ -4,7 +4,7 @@ use Rattle.py_tree.specs.Tree as tree
 use Rattle.py_tree.specs.View.{stmt_tree, stmts}
 use Rattle.py_tree.specs.declared.statements.Stmt.{Stmt}
 use Rattle.py_bytecode.specs.declared.instruction.Instruction.TheVariants as op
-use Rattle.py_steps.specs.Emitting.{Emission, ◌▸◌, emit, keep}
+use Rattle.py_emission_parts.specs.Emitting.{Emission, ◌▸◌, emit, keep}
 use Rattle.py_emission.specs.Emission.{emission}
 use Rattle.py_emission.specs.EmissionMods.{emission_of_block, emission_of_single, emission_of_value}
 use Rattle.py_emission.specs.EmissionStmts.{emission_of_stmt, emission_of_stmts}

@@ -1,11 +1,11 @@
-pub mod Entering
-pub mod Opening
+pub mod LocationLemmas
+pub mod OpenBlockLemmas
 pub mod Parts
 pub mod FunctionParts
 pub mod KeptFunctions
 pub mod KeptImports
 pub mod KeptGenerics
-pub mod Handing
-pub mod Building
+pub mod TypeParameterFunctionLemmas
+pub mod ClassCallLemmas
 pub mod KeptClasses
 pub mod Lasts

@@ -7,7 +7,7 @@ use Rattle.py_tree.specs.View.{expr_tree, handlers, opt_box, stmt_tree, stmts}
 use Rattle.py_tree.specs.declared.statements.Stmt.{Stmt}
 use Rattle.py_tree.specs.declared.statements.ExceptHandlerOf.{ExceptHandlerOf}
 use Rattle.py_bytecode.specs.declared.instruction.Instruction.TheVariants as op
-use Rattle.py_steps.specs.Emitting.{Emission, State, ◌▸◌, begin, emit, in_loop, jump, new_block, with_block}
+use Rattle.py_emission_parts.specs.Emitting.{Emission, State, ◌▸◌, begin, emit, in_loop, jump, new_block, with_block}
 use Rattle.py_emission.specs.Emission.{emission}
 use Rattle.py_emission.specs.ControlEmissions.{any_match, before_last, caught, for_each, handler, named_body, to_last, try_body, typed_match}
 use Rattle.py_emission.specs.EmissionStmts.{emission_of_handlers, emission_of_last, emission_of_stmts}
@@ -16,7 +16,7 @@ use Rattle.py_expr_parts.proofs.Steps.{block_goes}
 use Rattle.py_stmt_simple.specs.Parts.{each_begun}
 use Rattle.py_stmt.specs.Parts.{each_by_parts, each_ended, each_turn, emission_of_handler, guarded, one_handler, try_by_parts, unguarded}
 use Rattle.py_stmt_parts.specs.Parts.{handled}
-use Rattle.py_stmt_simple.proofs.Grouping.{first_three, first_four, first_five}
+use Rattle.py_stmt_simple.proofs.EmissionGroupLemmas.{first_three, first_four, first_five}
 
 -- what follows a block that is made
 pub block_then : (a : ℕ → Emission) (k : Emission) → new_block (λ n. a n ▸ k) ≡ new_block a ▸ k

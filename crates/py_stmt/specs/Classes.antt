@@ -7,12 +7,12 @@ use Rattle.py_tree.specs.declared.statements.StmtClassDefOf.{StmtClassDefOf}
 use Rattle.py_bytecode.specs.declared.instruction.Instruction.TheVariants as op
 use Rattle.py_bytecode.specs.Objects as const
 use Rattle.py_bytecode.specs.Objects.{Object}
-use Rattle.py_steps.specs.Children.{child}
-use Rattle.py_steps.specs.Classes.{class_shape}
-use Rattle.py_steps.specs.Context.{Context}
-use Rattle.py_steps.specs.Elements.{Element}
-use Rattle.py_steps.specs.Emitting.{Emission, ◌▸◌, emit, emit_constant, emit_count}
-use Rattle.py_steps.specs.EmissionParts.{Keywords, elements}
+use Rattle.py_emission_parts.specs.Children.{child}
+use Rattle.py_emission_parts.specs.Classes.{class_shape}
+use Rattle.py_emission_parts.specs.Context.{Context}
+use Rattle.py_emission_parts.specs.Elements.{Element}
+use Rattle.py_emission_parts.specs.Emitting.{Emission, ◌▸◌, emit, emit_constant, emit_count}
+use Rattle.py_emission_parts.specs.EmissionParts.{Keywords, elements}
 use Rattle.py_emission.specs.Emission.{all_emissions, keyword_emissions}
 use Rattle.py_emission.specs.EmissionDefs.{class_function, class_scope, emission_of_built}
 use Rattle.py_emission.specs.EmissionStmts.{emission_of_rest}

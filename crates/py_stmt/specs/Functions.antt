@@ -5,13 +5,13 @@ use Rattle.py_tree.specs.declared.statements.Stmt.{Stmt}
 use Rattle.py_tree.specs.declared.statements.StmtFunctionDefOf.{StmtFunctionDefOf}
 use Rattle.py_tree.specs.Tree as tree
 use Rattle.py_bytecode.specs.Objects.{Object}
-use Rattle.py_steps.specs.Children.{child, function_scope}
-use Rattle.py_steps.specs.Context.{Context, inside}
+use Rattle.py_emission_parts.specs.Children.{child, function_scope}
+use Rattle.py_emission_parts.specs.Context.{Context, inside}
 use Rattle.py_scope.specs.declared.table_type.SymbolTableType.TheVariants as kind
 use Rattle.py_emit.specs.declared.context.Naming.TheVariants as naming
 use Rattle.py_emit.specs.States.{named_in}
-use Rattle.py_steps.specs.Emitting.{Emission, ◌▸◌}
-use Rattle.py_steps.specs.TypeParameters.{load_handed}
+use Rattle.py_emission_parts.specs.Emitting.{Emission, ◌▸◌}
+use Rattle.py_emission_parts.specs.TypeParameters.{load_handed}
 use Rattle.py_emission.specs.Parameters.{function_shape, parameters}
 use Rattle.py_emission.specs.Texts.{after_doc}
 use Rattle.py_emission.specs.EmissionDefs.{emission_of_def, emission_of_end, emission_of_function, emission_of_generic_def, emission_of_params, function_value}

@@ -2,7 +2,7 @@
 use Rattle.py_tree.specs.Tree as tree
 use Rattle.py_bytecode.specs.declared.instruction.Instruction.TheVariants as op
 use Rattle.py_bytecode.specs.Objects as const
-use Rattle.py_steps.specs.Emitting.{Emission, ◌▸◌, emit, emit_constant, keep}
+use Rattle.py_emission_parts.specs.Emitting.{Emission, ◌▸◌, emit, emit_constant, keep}
 use Rattle.py_emission.specs.Emission.{emission}
 use Rattle.py_emission.specs.EmissionStmts.{emission_of_stmt}
 

@@ -3,7 +3,7 @@ use Rattle.std.specs.Prelude.{if◌then◌else◌}
 use Rattle.py_tree.specs.Tree as tree
 use Rattle.py_base.specs.declared.location.SourceLocation.{SourceLocation}
 use Rattle.py_base.specs.declared.errors.CodegenErrorType.TheVariants as error
-use Rattle.py_steps.specs.Emitting.{Emission, refuse}
+use Rattle.py_emission_parts.specs.Emitting.{Emission, refuse}
 use Rattle.py_emission.specs.EmissionStmts.{emission_of_items, emission_of_stmts}
 use Rattle.py_emission.specs.Predicates.{itemless, none}
 

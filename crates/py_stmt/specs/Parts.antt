@@ -2,7 +2,7 @@
 use Rattle.std.specs.Prelude.{ℕ, List, Bool, Option}
 use Rattle.py_tree.specs.Tree as tree
 use Rattle.py_bytecode.specs.declared.instruction.Instruction.TheVariants as op
-use Rattle.py_steps.specs.Emitting.{Emission, ◌▸◌, begin, emit, in_loop, jump, new_block}
+use Rattle.py_emission_parts.specs.Emitting.{Emission, ◌▸◌, begin, emit, in_loop, jump, new_block}
 use Rattle.py_emission.specs.ControlEmissions.{before_last, named_body, to_last}
 use Rattle.py_emission.specs.EmissionStmts.{emission_of_stmts}
 use Rattle.py_stmt_simple.specs.Parts.{each_begun, emission_of_match}

@@ -1,9 +1,9 @@
 //! Definitions of classes.
 ghost use Rattle.std.specs.Prelude.{◌≡◌};
 ghost use Rattle.py_tree.specs.View.{class_def_tree, expr_tree, exprs, stmt_tree, stmts};
-ghost use Rattle.py_steps.specs.Children.{decorated};
-ghost use Rattle.py_steps.specs.Within.{class_within};
-ghost use Rattle.py_steps.specs.EmissionParts.{values};
+ghost use Rattle.py_emission_parts.specs.Children.{decorated};
+ghost use Rattle.py_emission_parts.specs.Within.{class_within};
+ghost use Rattle.py_emission_parts.specs.EmissionParts.{values};
 ghost use Rattle.py_emission.specs.Emission.{all_emissions};
 ghost use Rattle.py_emission.specs.EmissionStmts.{emission_of_stmt};
 ghost use Rattle.py_emit.specs.States.{AreMade, Emits, Same, rest, state};

@@ -1,9 +1,9 @@
 //! Definitions of functions.
 ghost use Rattle.std.specs.Prelude.{◌≡◌, ◌≤◌, drop, length};
 ghost use Rattle.py_tree.specs.View.{expr_tree, exprs, function_def_tree, stmt_tree, stmts};
-ghost use Rattle.py_steps.specs.Children.{decorated};
-ghost use Rattle.py_steps.specs.Within.{function_inside};
-ghost use Rattle.py_steps.specs.EmissionParts.{values};
+ghost use Rattle.py_emission_parts.specs.Children.{decorated};
+ghost use Rattle.py_emission_parts.specs.Within.{function_inside};
+ghost use Rattle.py_emission_parts.specs.EmissionParts.{values};
 ghost use Rattle.py_emission.specs.Emission.{all_emissions};
 ghost use Rattle.py_emission.specs.EmissionStmts.{emission_of_stmt, emission_of_stmts};
 ghost use Rattle.py_emit.specs.States.{AreMade, Emits, Same, rest, state};

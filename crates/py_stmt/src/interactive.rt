@@ -1,7 +1,7 @@
 //! Statements at a prompt, and blocks whose last value is given.
 ghost use Rattle.py_bytecode.specs.Objects.{none};
 ghost use Rattle.py_tree.specs.View.{class_def_tree, function_def_tree, stmt_tree, stmts};
-ghost use Rattle.py_steps.specs.Emitting.{◌▸◌, emit_constant};
+ghost use Rattle.py_emission_parts.specs.Emitting.{◌▸◌, emit_constant};
 ghost use Rattle.py_emission.specs.EmissionMods.{emission_of_block, emission_of_single, emission_of_value};
 ghost use Rattle.py_emission.specs.EmissionStmts.{emission_of_stmt, emission_of_stmts};
 ghost use Rattle.py_emit.specs.States.{AreMade, Emits, rest};

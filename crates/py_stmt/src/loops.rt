@@ -1,7 +1,7 @@
 //! Loops.
 ghost use Rattle.std.specs.Prelude.{◌≡◌, ◌<◌};
 ghost use Rattle.py_tree.specs.View.{expr_tree, stmt_tree, stmts, while_tree};
-ghost use Rattle.py_steps.specs.Emitting.{in_loop};
+ghost use Rattle.py_emission_parts.specs.Emitting.{in_loop};
 ghost use Rattle.py_emission.specs.Emission.{emission, emission_of_store};
 ghost use Rattle.py_emission.specs.EmissionStmts.{emission_of_stmt, emission_of_stmts};
 ghost use Rattle.py_emit.specs.States.{AreMade, Emits, rest, state};
@@ -91,7 +91,7 @@ pub(crate) fn compile_while(em: &mut Emitter, s: &StmtWhile) -> Result<(), Codeg
 
 /// Emits the body of a loop, in which `continue` goes to the start and `break` to the end.
 #[cycle(code)]
-#[tactic(auto, unfolding(py_steps::specs::Emitting::in_loop))]
+#[tactic(auto, unfolding(py_emission_parts::specs::Emitting::in_loop))]
 fn compile_loop_body(
     em: &mut Emitter,
     start: BlockIdx,

@@ -2,7 +2,7 @@
 ghost use Rattle.std.specs.Prelude.{◌≡◌};
 ghost use Rattle.py_tree.specs.Tree.{stmt_location};
 ghost use Rattle.py_tree.specs.View.{expr_tree, if_tree, stmt_tree, stmts};
-ghost use Rattle.py_steps.specs.EmissionParts.{choice, only};
+ghost use Rattle.py_emission_parts.specs.EmissionParts.{choice, only};
 ghost use Rattle.py_emission.specs.Emission.{emission_of_test};
 ghost use Rattle.py_emission.specs.EmissionStmts.{emission_of_stmt, emission_of_stmts};
 ghost use Rattle.py_emit.specs.States.{AreMade, Emits, rest, state};

@@ -8,10 +8,10 @@ use Rattle.py_bytecode.specs.declared.instruction.Instruction.TheVariants as op
 use Rattle.py_bytecode.specs.Equality.{text_eq}
 use Rattle.py_bytecode.specs.Objects as const
 use Rattle.py_scope.specs.declared.table_type.SymbolTableType.TheVariants as kind
-use Rattle.py_steps.specs.Classes.{cell_returned, class_end, class_names}
-use Rattle.py_steps.specs.Within.{doc_const}
-use Rattle.py_steps.specs.Context.{inside, with_path}
-use Rattle.py_steps.specs.Emitting.{Around, Done, Emission, State, ◌▸◌, begun, by_context, emit, emit_constant, emit_name, go_on, with_name, with_step}
+use Rattle.py_emission_parts.specs.Classes.{cell_returned, class_end, class_names}
+use Rattle.py_emission_parts.specs.Within.{doc_const}
+use Rattle.py_emission_parts.specs.Context.{inside, with_path}
+use Rattle.py_emission_parts.specs.Emitting.{Around, Done, Emission, State, ◌▸◌, begun, by_context, emit, emit_constant, emit_name, go_on, with_name, with_step}
 use Rattle.py_emit.specs.States.{entered}
 use Rattle.py_emit.specs.declared.context.Naming.TheVariants as naming
 use Rattle.py_emit.proofs.Joined.{between, chosen_done, joined, went}

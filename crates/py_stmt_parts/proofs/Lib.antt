@@ -1,6 +1,6 @@
 pub mod Steps
-pub mod Managing
+pub mod WithItemLemmas
 pub mod LastReturn
-pub mod Leading
-pub mod Handing
+pub mod FutureImportLemmas
+pub mod DefaultLemmas
 pub mod ClassParts

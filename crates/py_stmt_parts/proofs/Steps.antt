@@ -6,8 +6,8 @@ use Rattle.py_tree.specs.declared.statements.Stmt.{Stmt}
 use Rattle.py_tree.specs.declared.statements.WithItemOf.{WithItemOf}
 use Rattle.py_tree.specs.declared.expressions.Expr.{Expr}
 use Rattle.py_tree.specs.View.{stmt_tree, stmts, with_items}
-use Rattle.py_steps.specs.Emitting.{Emission, LoopBlocks, State, by_context, by_loops}
-use Rattle.py_steps.specs.Context.{Context}
+use Rattle.py_emission_parts.specs.Emitting.{Emission, LoopBlocks, State, by_context, by_loops}
+use Rattle.py_emission_parts.specs.Context.{Context}
 use Rattle.py_emission.specs.Predicates.{itemless, none}
 use Rattle.py_expr_parts.proofs.Steps.{begin_goes, block_goes, level_goes, located_at, many_emissions, move_goes, refuse_goes, stays}
 

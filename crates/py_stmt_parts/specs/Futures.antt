@@ -8,7 +8,7 @@ use Rattle.py_tree.specs.declared.statements.StmtImportFrom.{StmtImportFrom}
 use Rattle.py_base.specs.declared.errors.CodegenErrorType.{CodegenErrorType}
 use Rattle.py_base.specs.declared.errors.CodegenErrorType.TheVariants as error
 use Rattle.py_emission.specs.Emission.{emission}
-use Rattle.py_steps.specs.Emitting.{Done, Emission, Outcome, Refused, State, go_on, with_postponed}
+use Rattle.py_emission_parts.specs.Emitting.{Done, Emission, Outcome, Refused, State, go_on, with_postponed}
 use Rattle.py_emission.specs.EmissionFutures.{emission_behind}
 use Rattle.py_emission.specs.Futures.{Future}
 use Rattle.py_emit.specs.States.{Rest, postponed_rest}

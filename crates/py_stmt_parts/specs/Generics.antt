@@ -1,7 +1,7 @@
 -- The defaults that a hidden scope is handed, and the flags of what is made with type parameters.
 use Rattle.std.specs.Prelude.{ℕ, ◌+◌, List, [], ◌∷◌, ◌++◌, Bool, true, false, ◌||◌, codes}
 use Rattle.py_tree.specs.Tree as tree
-use Rattle.py_uses.specs.Parts.{has_default}
+use Rattle.py_name_uses.specs.Parts.{has_default}
 use Rattle.py_expr_scopes.specs.declared.functions.Defaults.{Defaults}
 use Rattle.py_expr_scopes.specs.Functions.{flag_if}
 

@@ -2,8 +2,8 @@
 use Rattle.std.specs.Prelude.{◌≢◌, ◌<◌, ℕ, List, [], ◌∷◌}
 use Rattle.py_base.specs.declared.location.SourceLocation.{SourceLocation}
 use Rattle.py_bytecode.specs.declared.instruction.Instruction.TheVariants as op
-use Rattle.py_walks.specs.declared.info.BlockIdx.{BlockIdx}
-use Rattle.py_steps.specs.Emitting.{Emission, State, ◌▸◌, begin, emit, keep, move}
+use Rattle.py_dataflow.specs.declared.info.BlockIdx.{BlockIdx}
+use Rattle.py_emission_parts.specs.Emitting.{Emission, State, ◌▸◌, begin, emit, keep, move}
 use Rattle.py_emit.specs.Steps.{IsOpen}
 
 -- the item that ends at a block is left

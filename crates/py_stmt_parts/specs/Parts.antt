@@ -1,7 +1,7 @@
 -- The way out of a handler.
 use Rattle.std.specs.Prelude.{ℕ, Bool}
 use Rattle.py_bytecode.specs.declared.instruction.Instruction.TheVariants as op
-use Rattle.py_steps.specs.Emitting.{Emission, ◌▸◌, emit, jump}
+use Rattle.py_emission_parts.specs.Emitting.{Emission, ◌▸◌, emit, jump}
 use Rattle.py_emission.specs.ControlEmissions.{to_last}
 
 -- the way out of a handler

@@ -1,8 +1,8 @@
 //! What keeps annotations, and names as the innermost class writes them.
 ghost use Rattle.py_tree.specs.View.{expr_tree, name_tree};
 ghost use Rattle.py_bytecode.specs.Objects.{str};
-ghost use Rattle.py_steps.specs.Emitting.{◌▸◌, by_context, emit as emitting, emit_constant, emit_name};
-ghost use Rattle.py_steps.specs.Context.{mangled};
+ghost use Rattle.py_emission_parts.specs.Emitting.{◌▸◌, by_context, emit as emitting, emit_constant, emit_name};
+ghost use Rattle.py_emission_parts.specs.Context.{mangled};
 ghost use Rattle.py_emission.specs.EmissionStmts.{emission_of_annotation};
 ghost use Rattle.py_emit.specs.States.{Emits};
 
@@ -50,7 +50,7 @@ fn store_key(em: &mut Emitter, map: &str, key: &str) -> Result<(), CodegenError>
 ///
 /// # Errors
 /// OutOfMemory alone.
-#[tactic(auto, unfolding(py_steps::specs::Emitting::by_context))]
+#[tactic(auto, unfolding(py_emission_parts::specs::Emitting::by_context))]
 pub fn load_mangled(em: &mut Emitter, name: &str) -> Result<(), CodegenError>
     ensures { Emits result (by_context (λ c. emit_constant Instruction.LoadConst (str (mangled c name.now)))) em.old em.new }
 {

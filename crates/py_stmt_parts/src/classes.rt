@@ -3,10 +3,10 @@ ghost use Rattle.std.specs.Prelude.{◌≡◌, ◌≤◌, drop, length, suc, IfE
 ghost use Rattle.py_tree.specs.View.{stmt_tree, stmts};
 ghost use Rattle.py_bytecode.specs.Objects.{str};
 ghost use Rattle.py_bytecode.specs.View.{constant, object};
-ghost use Rattle.py_steps.specs.Children.{code_head, made};
-ghost use Rattle.py_steps.specs.Classes.{cell_returned, class_end, class_names, class_shape};
-ghost use Rattle.py_steps.specs.Within.{doc_const};
-ghost use Rattle.py_steps.specs.Emitting.{begun, by_level};
+ghost use Rattle.py_emission_parts.specs.Children.{code_head, made};
+ghost use Rattle.py_emission_parts.specs.Classes.{cell_returned, class_end, class_names, class_shape};
+ghost use Rattle.py_emission_parts.specs.Within.{doc_const};
+ghost use Rattle.py_emission_parts.specs.Emitting.{begun, by_level};
 ghost use Rattle.py_emission.specs.Texts.{after_doc, doc_of};
 ghost use Rattle.py_emit.specs.States.{Emits, IsStarved, entered, entered_rest, rest, state};
 ghost use Rattle.py_stmt_parts.specs.Classes.{cell_kept, cells_kept, copied, stored_as};
@@ -61,7 +61,7 @@ pub fn enter_class(em: &mut Emitter, name: &str, path: Text) -> Result<(), Codeg
 ///
 /// # Errors
 /// OutOfMemory alone.
-#[tactic(auto, unfolding(py_steps::specs::Emitting::by_level, py_emit::specs::States::rest))]
+#[tactic(auto, unfolding(py_emission_parts::specs::Emitting::by_level, py_emit::specs::States::rest))]
 pub fn begin_class(em: &mut Emitter, body: &Stmts, path: Text) -> Result<usize, CodegenError>
     requires path { path ≡ (state em.old).around.context.path }
     ensures emits { Emits result (by_level (λ l. class_names (doc_of l (stmts stmt_tree body.now)))) em.old em.new }

@@ -2,10 +2,10 @@
 ghost use Rattle.std.specs.Prelude.{◌≡◌};
 ghost use Rattle.py_tree.specs.View.{expr_tree, exprs, stmt_tree, stmts};
 ghost use Rattle.py_bytecode.specs.View.{object};
-ghost use Rattle.py_steps.specs.Context.{qualified};
-ghost use Rattle.py_steps.specs.Children.{decorations, documented, made};
-ghost use Rattle.py_steps.specs.Emitting.{by_context, by_level};
-ghost use Rattle.py_steps.specs.EmissionParts.{values};
+ghost use Rattle.py_emission_parts.specs.Context.{qualified};
+ghost use Rattle.py_emission_parts.specs.Children.{decorations, documented, made};
+ghost use Rattle.py_emission_parts.specs.Emitting.{by_context, by_level};
+ghost use Rattle.py_emission_parts.specs.EmissionParts.{values};
 ghost use Rattle.py_emission.specs.Emission.{all_emissions};
 ghost use Rattle.py_emission.specs.Texts.{doc_of};
 ghost use Rattle.py_emission.specs.EmissionDefs.{emission_of_end, ends_in_return};
@@ -67,7 +67,7 @@ fn is_return(statement: &Stmt) -> bool
 ///
 /// # Errors
 /// MissingCell, as `Emitter::make_function` has it, or OutOfMemory.
-#[tactic(auto, unfolding(py_steps::specs::Emitting::by_context))]
+#[tactic(auto, unfolding(py_emission_parts::specs::Emitting::by_context))]
 pub fn make_named(
     em: &mut Emitter,
     name: &str,
@@ -84,7 +84,7 @@ pub fn make_named(
 ///
 /// # Errors
 /// OutOfMemory alone.
-#[tactic(auto, unfolding(py_steps::specs::Emitting::by_level, py_emit::specs::States::rest))]
+#[tactic(auto, unfolding(py_emission_parts::specs::Emitting::by_level, py_emit::specs::States::rest))]
 pub fn store_doc(em: &mut Emitter, body: &Stmts) -> Result<(), CodegenError>
     ensures { Emits result (by_level (λ l. documented (doc_of l (stmts stmt_tree body.now)))) em.old em.new }
 {

@@ -1,7 +1,7 @@
 //! Imports from the future, which stand before all other statements.
 ghost use Rattle.std.specs.Prelude.{◌≡◌, ◌≤◌, ◌<◌, Some, None, [], ◌∷◌, drop, get_or, length, IfErr, IfNone, IfOk, IfSome, if◌then◌else◌};
 ghost use Rattle.py_tree.specs.View.{stmt_tree};
-ghost use Rattle.py_uses.specs.Parts.{names_annotations};
+ghost use Rattle.py_name_uses.specs.Parts.{names_annotations};
 ghost use Rattle.py_emission.specs.EmissionFutures.{check_features, emission_of_future};
 ghost use Rattle.py_emission.specs.Futures.{future_of, is_feature};
 ghost use Rattle.py_emit.specs.States.{Emits, IsTold, postponed_rest, rest, state};
@@ -10,8 +10,8 @@ ghost use Rattle.py_stmt_parts.specs.Futures.{AreChanged, Entered, IsRefusing, N
 use crate::imports::import_from;
 use py_base::{CodegenError, CodegenErrorType};
 use py_emit::{Emitter, refuse};
+use py_name_uses::names::{is_future, names_annotations};
 use py_tree::{Alias, Stmt, StmtImportFrom};
-use py_uses::names::{is_future, names_annotations};
 
 /// Where the statements begin that stand behind future imports, and whether one of these postpones annotations.
 #[derive(Clone, Copy)]

@@ -4,10 +4,10 @@ ghost use Rattle.std.specs.Prelude.{◌≡◌, ◌+◌, length, suc, IfErr, IfOk
 ghost use Rattle.py_tree.specs.View.{arguments, expr_tree, type_params as param_trees};
 ghost use Rattle.py_bytecode.specs.Objects.{str};
 ghost use Rattle.py_bytecode.specs.View.{object};
-ghost use Rattle.py_steps.specs.Children.{code_head, made};
-ghost use Rattle.py_steps.specs.Emitting.{begun, emit_constant};
-ghost use Rattle.py_steps.specs.TypeParameters.{hidden_shape, kept_as, load_handed, plain};
-ghost use Rattle.py_steps.specs.Within.{hidden_name};
+ghost use Rattle.py_emission_parts.specs.Children.{code_head, made};
+ghost use Rattle.py_emission_parts.specs.Emitting.{begun, emit_constant};
+ghost use Rattle.py_emission_parts.specs.TypeParameters.{hidden_shape, kept_as, load_handed, plain};
+ghost use Rattle.py_emission_parts.specs.Within.{hidden_name};
 ghost use Rattle.py_emission.specs.Emission.{unsupported};
 ghost use Rattle.py_emit.specs.States.{Emits, IsStarved, entered, entered_rest, rest, state};
 ghost use Rattle.py_expr_scopes.specs.Functions.{flag_if};
@@ -19,9 +19,9 @@ use py_bytecode::{CodeFlags, CodeObject, ConstantData, Instruction, MakeFunction
 use py_emit::{Emitter, NameUsage, Naming, ScopeHead, emit};
 use py_expr_parts::expressions::refuse_unsupported;
 use py_expr_scopes::functions::Defaults;
+use py_name_uses::type_params::has_default;
 use py_scope::SymbolTableType;
 use py_tree::{Arguments, SourceLocation, Text, TypeParam};
-use py_uses::type_params::has_default;
 use std::alloc::{AllocError, Global};
 
 /// The flag of a class that is made with type parameters, where it has some.
@@ -116,7 +116,7 @@ pub fn made_flags(defaults: Defaults, annotated: bool, generic: bool) -> MakeFun
 ///
 /// # Errors
 /// OutOfMemory alone.
-#[tactic(auto, using(crate::proofs::Handing::handed_in_turn))]
+#[tactic(auto, using(crate::proofs::DefaultLemmas::handed_in_turn))]
 pub fn load_defaults(em: &mut Emitter, defaults: Defaults) -> Result<(), CodegenError>
     ensures { Emits result (load_handed (handed_by defaults)) em.old em.new }
 {
@@ -191,7 +191,7 @@ fn hidden_text(em: &mut Emitter, name: &str) -> Result<Text, CodegenError>
 ///
 /// # Errors
 /// There is no memory for it.
-#[tactic(auto, using(crate::proofs::Handing::name_within))]
+#[tactic(auto, using(crate::proofs::DefaultLemmas::name_within))]
 fn hidden_name(alloc: Global, name: &str) -> Result<Text, AllocError>
     ensures { IfOk result (λ full. full ≡ hidden_name name.now) }
 {

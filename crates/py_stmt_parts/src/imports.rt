@@ -2,8 +2,8 @@
 ghost use Rattle.std.specs.Prelude.{Some, None, pos};
 ghost use Rattle.py_bytecode.specs.Objects.{integer, none};
 ghost use Rattle.py_bytecode.specs.View.{constant};
-ghost use Rattle.py_steps.specs.Accesses.{emission_of_stored};
-ghost use Rattle.py_steps.specs.Emitting.{◌▸◌, emit as emitting, emit_constant};
+ghost use Rattle.py_emission_parts.specs.Accesses.{emission_of_stored};
+ghost use Rattle.py_emission_parts.specs.Emitting.{◌▸◌, emit as emitting, emit_constant};
 ghost use Rattle.py_emission.specs.EmissionImports.{emission_of_alias, emission_of_attributes, emission_of_from, emission_of_import, emission_of_imported, emission_of_module, emission_of_names, emission_of_star, emission_of_taken};
 ghost use Rattle.py_emission.specs.EmissionStmts.{emission_of_import_from};
 ghost use Rattle.py_emission.specs.Imports.{asked, asked_all, further_segments, package_name};
@@ -13,11 +13,11 @@ use py_base::{CodegenError, CodegenErrorType};
 use py_bytecode::{ConstantData, Instruction};
 use py_emit::{Emitter, NameUsage, emit, refuse};
 use py_expr_parts::yields::is_function;
+use py_name_uses::names::is_future;
 use py_node_values::paths::{
     asked_names, behind_dot, first_segment, has_star, name_taken, single_name,
 };
 use py_tree::{Alias, StmtImportFrom, Text};
-use py_uses::names::is_future;
 
 /// Emits the imports of modules one after the other.
 ///
@@ -161,7 +161,7 @@ pub(crate) fn import_from(em: &mut Emitter, s: &StmtImportFrom) -> Result<(), Co
 }
 
 /// Emits the import of all names of a module, and refuses it in a function.
-#[tactic(auto, using(py_expr_parts::proofs::Steps::refuse_goes), unfolding(py_steps::specs::Emitting::by_context))]
+#[tactic(auto, using(py_expr_parts::proofs::Steps::refuse_goes), unfolding(py_emission_parts::specs::Emitting::by_context))]
 fn import_star(em: &mut Emitter, s: &StmtImportFrom) -> Result<(), CodegenError>
     ensures { Emits result (emission_of_star s.now.«module» s.now.level) em.old em.new }
 {

@@ -1,13 +1,13 @@
 //! The texts of annotations that are postponed.
 ghost use Rattle.py_tree.specs.View.{expr_tree};
 ghost use Rattle.py_emission.specs.EmissionDefs.{emission_of_text};
-ghost use Rattle.py_texts.specs.Annotation.{annotation as annotation_of};
+ghost use Rattle.py_annotation_text.specs.Annotation.{annotation as annotation_of};
 ghost use Rattle.py_emit.specs.States.{Emits};
 
+use py_annotation_text::{TextError, annotation_text};
 use py_base::{CodegenError, CodegenErrorType};
 use py_bytecode::ConstantData;
 use py_emit::{Emitter, refuse};
-use py_texts::{TextError, annotation_text};
 use py_tree::{Expr, Text};
 
 /// Emits the load of the text of an annotation, and refuses one in which an f-string stands, which has none.

@@ -1,14 +1,14 @@
 //! Parts of statements that are scanned and not compiled, whose scopes are passed over.
 ghost use Rattle.std.specs.Prelude.{◌+◌};
-ghost use Rattle.py_counts.specs.Counts.{IsSum, scopes_in, scopes_in_annotation as scopes_in_note, scopes_in_opt};
+ghost use Rattle.py_scope_counts.specs.Counts.{IsSum, scopes_in, scopes_in_annotation as scopes_in_note, scopes_in_opt};
 ghost use Rattle.py_tree.specs.View.{expr_tree, opt_box};
-ghost use Rattle.py_steps.specs.EmissionParts.{pass_scopes};
+ghost use Rattle.py_emission_parts.specs.EmissionParts.{pass_scopes};
 ghost use Rattle.py_emit.specs.States.{Emits};
 
 use py_base::CodegenError;
-use py_counts::{scopes_in_expr, scopes_in_opt};
 use py_emit::Emitter;
 use py_expr_scopes::functions::pass_counted;
+use py_scope_counts::{scopes_in_expr, scopes_in_opt};
 use py_tree::{Expr, StmtAssert};
 
 /// Passes over the scopes in an expression.

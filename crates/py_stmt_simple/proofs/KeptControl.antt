@@ -5,9 +5,9 @@ use Rattle.py_base.specs.declared.location.SourceLocation.{SourceLocation}
 use Rattle.py_bytecode.specs.declared.instruction.Instruction.TheVariants as op
 use Rattle.py_bytecode.specs.Objects as const
 use Rattle.py_bytecode.specs.Values.{Store, Delete}
-use Rattle.py_steps.specs.Accesses.{accessed}
-use Rattle.py_steps.specs.Emitting.{Emission, begin, emit, emit_constant, emit_count, emit_name, in_loop, jump, move}
-use Rattle.py_steps.specs.Refused.{no_assignment}
+use Rattle.py_emission_parts.specs.Accesses.{accessed}
+use Rattle.py_emission_parts.specs.Emitting.{Emission, begin, emit, emit_constant, emit_count, emit_name, in_loop, jump, move}
+use Rattle.py_emission_parts.specs.Refused.{no_assignment}
 use Rattle.py_emission.specs.ControlEmissions.{asserted, before_last, caught, finally_do, for_each, forgotten, handler, managed, named_body, to_last, try_body, typed_match}
 use Rattle.py_expr_scopes.proofs.OpenBlocks.{Keeps, begin_keeps, block_from, constant_keeps, count_keeps, emit_keeps, idle_keeps, jump_keeps, loop_keeps, move_keeps, accessed_keeps, name_keeps, then_from, then_keeps}
 use Rattle.py_expr_scopes.proofs.KeptTargets.{debug_keeps}

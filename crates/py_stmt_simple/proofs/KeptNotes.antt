@@ -4,9 +4,9 @@ use Rattle.std.specs.Prelude.{if◌then◌else◌}
 use Rattle.py_tree.specs.Tree as tree
 use Rattle.py_bytecode.specs.declared.instruction.Instruction.TheVariants as op
 use Rattle.py_bytecode.specs.Objects as const
-use Rattle.py_texts.specs.Annotation.{annotation}
+use Rattle.py_annotation_text.specs.Annotation.{annotation}
 use Rattle.py_base.specs.declared.errors.CodegenErrorType.TheVariants as error
-use Rattle.py_steps.specs.Context.{Context}
+use Rattle.py_emission_parts.specs.Context.{Context}
 use Rattle.py_emission.specs.Emission.{emission}
 use Rattle.py_emission.specs.EmissionDefs.{emission_of_note, emission_of_text}
 use Rattle.py_expr_scopes.proofs.OpenBlocks.{Keeps, constant_keeps, context_keeps, either_keeps, refuse_keeps}

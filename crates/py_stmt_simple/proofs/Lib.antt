@@ -1,9 +1,9 @@
 pub mod KeptControl
-pub mod Opening
-pub mod Assigning
-pub mod Grouping
-pub mod Managing
-pub mod Annotating
+pub mod OpenBlockLemmas
+pub mod AssignmentTargetLemmas
+pub mod EmissionGroupLemmas
+pub mod WithEntryLemmas
+pub mod AnnotationLemmas
 pub mod KeptNotes
-pub mod Prompting
-pub mod Handing
+pub mod PromptLemmas
+pub mod TypeParameterLemmas

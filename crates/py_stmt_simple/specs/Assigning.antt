@@ -2,7 +2,7 @@
 use Rattle.std.specs.Prelude.{Bool, true, false, if◌then◌else◌}
 use Rattle.py_tree.specs.Tree as tree
 use Rattle.py_bytecode.specs.declared.instruction.Instruction.TheVariants as op
-use Rattle.py_steps.specs.Emitting.{Emission, ◌▸◌, emit, keep}
+use Rattle.py_emission_parts.specs.Emitting.{Emission, ◌▸◌, emit, keep}
 use Rattle.py_emission.specs.Emission.{emission_of_store}
 
 -- the value that lies there is stored to a target, and kept where more follow

@@ -3,8 +3,8 @@ use Rattle.std.specs.Prelude.{ℕ, List, false}
 use Rattle.py_tree.specs.Tree as tree
 use Rattle.py_bytecode.specs.declared.instruction.Instruction.TheVariants as op
 use Rattle.py_bytecode.specs.Objects as const
-use Rattle.py_steps.specs.Emitting.{Emission, ◌▸◌, emit_constant}
-use Rattle.py_steps.specs.EmissionParts.{elements}
+use Rattle.py_emission_parts.specs.Emitting.{Emission, ◌▸◌, emit_constant}
+use Rattle.py_emission_parts.specs.EmissionParts.{elements}
 use Rattle.py_emission.specs.Emission.{all_emissions, keyword_emissions}
 use Rattle.py_expr_parts.specs.Calls.{arguments, calling, taken}
 

@@ -5,8 +5,8 @@ use Rattle.py_tree.specs.declared.statements.Stmt.{Stmt}
 use Rattle.py_tree.specs.declared.statements.StmtFunctionDefOf.{StmtFunctionDefOf}
 use Rattle.py_tree.specs.Tree as tree
 use Rattle.py_bytecode.specs.Objects.{Object}
-use Rattle.py_steps.specs.Children.{function_made}
-use Rattle.py_steps.specs.Emitting.{Emission}
+use Rattle.py_emission_parts.specs.Children.{function_made}
+use Rattle.py_emission_parts.specs.Emitting.{Emission}
 use Rattle.py_emission.specs.EmissionDefs.{notes}
 
 abbrev pub params_of : StmtFunctionDefOf Stmt → tree.Arguments

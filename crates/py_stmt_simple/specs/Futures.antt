@@ -7,9 +7,9 @@ use Rattle.py_tree.specs.declared.statements.Stmt.{Stmt}
 use Rattle.py_base.specs.declared.errors.CodegenErrorType.{CodegenErrorType}
 use Rattle.py_base.specs.declared.errors.CodegenErrorType.TheVariants as error
 use Rattle.py_bytecode.specs.declared.instruction.Instruction.TheVariants as op
-use Rattle.py_uses.specs.Parts.{names_annotations}
+use Rattle.py_name_uses.specs.Parts.{names_annotations}
 use Rattle.py_emission.specs.Emission.{emission}
-use Rattle.py_steps.specs.Emitting.{Emission, Refused, State, ◌▸◌, emit, go_on}
+use Rattle.py_emission_parts.specs.Emitting.{Emission, Refused, State, ◌▸◌, emit, go_on}
 use Rattle.py_emission.specs.EmissionFutures.{emission_of_future}
 use Rattle.py_emission.specs.EmissionMods.{emission_of_prompt, emission_of_single}
 use Rattle.py_emission.specs.Futures.{future_of}

@@ -3,10 +3,10 @@ use Rattle.std.specs.Prelude.{ℕ, List}
 use Rattle.py_tree.specs.Tree as tree
 use Rattle.py_bytecode.specs.declared.instruction.Instruction.TheVariants as op
 use Rattle.py_bytecode.specs.Objects.{Object}
-use Rattle.py_steps.specs.Children.{child, emission_of_defaults, made}
-use Rattle.py_steps.specs.Emitting.{Emission, ◌▸◌, emit, emit_count, keep}
-use Rattle.py_steps.specs.TypeParameters.{hidden_shape}
-use Rattle.py_steps.specs.Within.{hidden_inside, hidden_name}
+use Rattle.py_emission_parts.specs.Children.{child, emission_of_defaults, made}
+use Rattle.py_emission_parts.specs.Emitting.{Emission, ◌▸◌, emit, emit_count, keep}
+use Rattle.py_emission_parts.specs.TypeParameters.{hidden_shape}
+use Rattle.py_emission_parts.specs.Within.{hidden_inside, hidden_name}
 use Rattle.py_emission.specs.Emission.{default_emissions}
 use Rattle.py_emission.specs.EmissionDefs.{emission_of_params}
 

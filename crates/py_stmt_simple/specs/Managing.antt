@@ -4,10 +4,10 @@ use Rattle.py_tree.specs.Tree as tree
 use Rattle.py_base.specs.declared.location.SourceLocation.{SourceLocation}
 use Rattle.py_base.specs.declared.location.LocatedError.{LocatedError}
 use Rattle.py_bytecode.specs.declared.instruction.Instruction.TheVariants as op
-use Rattle.py_walks.specs.declared.info.BlockIdx.{BlockIdx}
+use Rattle.py_dataflow.specs.declared.info.BlockIdx.{BlockIdx}
 use Rattle.py_base.specs.declared.errors.CodegenErrorType.{CodegenErrorType}
 use Rattle.py_base.specs.declared.errors.CodegenErrorType.TheVariants as error
-use Rattle.py_steps.specs.Emitting.{Emission, Refused, State, ◌▸◌, jump, move, new_block}
+use Rattle.py_emission_parts.specs.Emitting.{Emission, Refused, State, ◌▸◌, jump, move, new_block}
 use Rattle.py_emission.specs.Emission.{emission_of_store}
 use Rattle.py_emission.specs.EmissionStmts.{emission_of_items}
 use Rattle.py_stmt_parts.specs.Managing.{left_all}

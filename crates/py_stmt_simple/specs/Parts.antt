@@ -2,7 +2,7 @@
 use Rattle.std.specs.Prelude.{ℕ, List, Option}
 use Rattle.py_tree.specs.Tree as tree
 use Rattle.py_bytecode.specs.declared.instruction.Instruction.TheVariants as op
-use Rattle.py_steps.specs.Emitting.{Emission, ◌▸◌, emit}
+use Rattle.py_emission_parts.specs.Emitting.{Emission, ◌▸◌, emit}
 use Rattle.py_emission.specs.Emission.{emission}
 use Rattle.py_emission.specs.ControlEmissions.{any_match, caught, typed_match}
 

@@ -2,9 +2,9 @@
 ghost use Rattle.std.specs.Prelude.{◌≡◌};
 ghost use Rattle.py_tree.specs.View.{expr_tree, type_alias_tree, type_params as param_trees};
 ghost use Rattle.py_bytecode.specs.declared.instruction.Instruction.TheVariants as op;
-ghost use Rattle.py_steps.specs.Accesses.{emission_of_stored};
-ghost use Rattle.py_steps.specs.Emitting.{◌▸◌, emit_count};
-ghost use Rattle.py_steps.specs.TypeParameters.{generic_alias, plain_alias};
+ghost use Rattle.py_emission_parts.specs.Accesses.{emission_of_stored};
+ghost use Rattle.py_emission_parts.specs.Emitting.{◌▸◌, emit_count};
+ghost use Rattle.py_emission_parts.specs.TypeParameters.{generic_alias, plain_alias};
 ghost use Rattle.py_emission.specs.Emission.{emission};
 ghost use Rattle.py_emission.specs.EmissionDefs.{alias_value, emission_of_alias, emission_of_params};
 ghost use Rattle.py_emission.specs.EmissionStmts.{emission_of_stmt};

@@ -139,7 +139,7 @@ pub fn compile_ann_assign(em: &mut Emitter, s: &StmtAnnAssign) -> Result<(), Cod
 }
 
 /// Emits an annotation and what keeps it, but in a function, which only has it scanned.
-#[tactic(auto, unfolding(py_steps::specs::Emitting::by_context))]
+#[tactic(auto, unfolding(py_emission_parts::specs::Emitting::by_context))]
 fn compile_annotated(em: &mut Emitter, s: &StmtAnnAssign) -> Result<(), CodegenError>
     ensures { Emits result (emission_of_annotated (expr_tree s.now.target.value) (expr_tree s.now.annotation.value)) em.old em.new }
 {

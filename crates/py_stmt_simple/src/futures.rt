@@ -1,7 +1,7 @@
 //! Future imports and expressions that stand before other statements at a prompt.
 ghost use Rattle.std.specs.Prelude.{◌≡◌, ◌≤◌, ◌<◌, ◌+◌, false, drop, get_or, length, IfErr, IfNone, IfOk, IfSome, if◌then◌else◌};
 ghost use Rattle.py_tree.specs.View.{expr_tree, stmt_tree};
-ghost use Rattle.py_steps.specs.Emitting.{◌▸◌, emit as emitting};
+ghost use Rattle.py_emission_parts.specs.Emitting.{◌▸◌, emit as emitting};
 ghost use Rattle.py_emission.specs.Emission.{emission};
 ghost use Rattle.py_emit.specs.States.{IsTold, rest, state};
 ghost use Rattle.py_stmt_parts.specs.Futures.{AreChanged, Entered, IsRefusing, changed_rest};
@@ -11,9 +11,9 @@ use crate::interactive::print_value;
 use py_base::CodegenError;
 use py_bytecode::Instruction;
 use py_emit::Emitter;
+use py_name_uses::names::is_future;
 use py_stmt_parts::{Opening, enter_future};
 use py_tree::{Stmt, StmtExpr, StmtImportFrom};
-use py_uses::names::is_future;
 
 /// What may stand at a prompt before a future import.
 enum Begin<'a> {

@@ -1,8 +1,8 @@
 //! Type parameters (PEP 695; language reference, "Type parameter lists"): each is kept under its name in a hidden scope
 //! around what is generic, which is called at once.
 ghost use Rattle.py_tree.specs.View.{arguments, expr_tree, type_param_tree, type_params as param_trees, type_var_tree};
-ghost use Rattle.py_steps.specs.EmissionParts.{in_turn};
-ghost use Rattle.py_steps.specs.TypeParameters.{bounded};
+ghost use Rattle.py_emission_parts.specs.EmissionParts.{in_turn};
+ghost use Rattle.py_emission_parts.specs.TypeParameters.{bounded};
 ghost use Rattle.py_emission.specs.Emission.{emission};
 ghost use Rattle.py_emission.specs.EmissionDefs.{emission_of_param, emission_of_params, param_emissions};
 ghost use Rattle.py_emit.specs.States.{Emits};
@@ -19,7 +19,7 @@ use py_tree::{Arguments, Expr, TypeParam, TypeParamTypeVar};
 ///
 /// # Errors
 /// The first compile fault of the parameters, with its location; MissingCell; or OutOfMemory.
-#[tactic(auto, using(crate::proofs::Handing::many_params))]
+#[tactic(auto, using(crate::proofs::TypeParameterLemmas::many_params))]
 pub fn compile_type_params(em: &mut Emitter, params: &[TypeParam]) -> Result<(), CodegenError>
     ensures { Emits result (emission_of_params (param_trees params.now)) em.old em.new }
 {

@@ -1,6 +1,6 @@
 //! Values that are printed at a prompt, and values that are returned.
 ghost use Rattle.py_tree.specs.View.{expr_tree};
-ghost use Rattle.py_steps.specs.Emitting.{◌▸◌, emit as emitting};
+ghost use Rattle.py_emission_parts.specs.Emitting.{◌▸◌, emit as emitting};
 ghost use Rattle.py_emission.specs.Emission.{emission};
 ghost use Rattle.py_emission.specs.EmissionMods.{stored_and_returned};
 ghost use Rattle.py_emit.specs.States.{Emits};

@@ -1,9 +1,9 @@
 //! The annotations of functions.
 ghost use Rattle.std.specs.Prelude.{◌≡◌, ◌+◌, ◌<◌, ◌≤◌, ◌^◌, length, IfOk};
 ghost use Rattle.py_tree.specs.View.{args, arguments, expr_tree, opt_arg, opt_box};
-ghost use Rattle.py_steps.specs.Children.{some_emitted};
-ghost use Rattle.py_steps.specs.Within.{some_flag};
-ghost use Rattle.py_steps.specs.EmissionParts.{built, in_turn};
+ghost use Rattle.py_emission_parts.specs.Children.{some_emitted};
+ghost use Rattle.py_emission_parts.specs.Within.{some_flag};
+ghost use Rattle.py_emission_parts.specs.EmissionParts.{built, in_turn};
 ghost use Rattle.py_emission.specs.EmissionDefs.{arg_notes, emission_of_note, notes, opt_arg_note, opt_note};
 ghost use Rattle.py_emit.specs.States.{Emits};
 ghost use Rattle.py_expr_scopes.specs.Functions.{flag_if};
@@ -31,7 +31,7 @@ pub(crate) fn compile_notes(
 }
 
 /// Emits the annotations of a function in turn, each after its name. Answers how many there are.
-#[tactic(auto, using(crate::proofs::Annotating::notes_are, crate::proofs::Annotating::many_notes))]
+#[tactic(auto, using(crate::proofs::AnnotationLemmas::notes_are, crate::proofs::AnnotationLemmas::many_notes))]
 fn compile_each_note(
     em: &mut Emitter,
     params: &Arguments,
@@ -87,7 +87,7 @@ fn compile_opt_note(
 }
 
 /// Emits an annotation after its name, where there is one. Answers `count` and their number.
-#[tactic(auto, using(crate::proofs::Annotating::one_note))]
+#[tactic(auto, using(crate::proofs::AnnotationLemmas::one_note))]
 fn compile_note(
     em: &mut Emitter,
     name: &str,
@@ -108,7 +108,7 @@ fn compile_note(
 }
 
 /// Emits an annotation, or its text where annotations are postponed.
-#[tactic(auto, unfolding(py_steps::specs::Emitting::by_context, py_emit::specs::States::rest))]
+#[tactic(auto, unfolding(py_emission_parts::specs::Emitting::by_context, py_emit::specs::States::rest))]
 pub(crate) fn compile_noted(em: &mut Emitter, annotation: &Expr) -> Result<(), CodegenError>
     ensures { Emits result (emission_of_note (expr_tree annotation.now)) em.old em.new }
 {

@@ -1,6 +1,6 @@
 //! Returns of functions.
 ghost use Rattle.py_tree.specs.View.{expr_tree, opt_box};
-ghost use Rattle.py_steps.specs.EmissionParts.{only_in_function};
+ghost use Rattle.py_emission_parts.specs.EmissionParts.{only_in_function};
 ghost use Rattle.py_emission.specs.EmissionStmts.{emission_of_returned};
 ghost use Rattle.py_emit.specs.States.{Emits};
 

@@ -7,7 +7,7 @@ use Rattle.py_bytecode.specs.Objects.{Object, Const, code, constants}
 use Rattle.py_verify.specs.declared.verdict.FlawKind.{FlawKind}
 use Rattle.py_verify.specs.declared.verdict.Spot.{Spot}
 use Rattle.py_verify.specs.declared.search.Pass.{Pass}
-use Rattle.py_walks.specs.Sound.{sound}
+use Rattle.py_dataflow.specs.Sound.{sound}
 use Rattle.py_verify.specs.Flaws.{IsFlaw, unit_count}
 use Rattle.py_verify.specs.Nested.{HoldsFrom, carried, is_limit}
 use Rattle.py_verify.specs.Searching.{looks_for, Unflawed, Clear, Found, Ready, ReadyAmong, ClearAmong, FoundAmong}

@@ -10,13 +10,13 @@ use Rattle.py_bytecode.specs.Table.{row_of, is_label}
 use Rattle.py_bytecode.specs.Objects.{Object, head}
 use Rattle.py_bytecode.specs.Decode.{tables}
 use Rattle.py_bytecode.specs.Units.{Read, is_prefix, read_from}
-use Rattle.py_units.specs.Reading.{read_at}
-use Rattle.py_walks.specs.Walks.{State, Seen, Edge, Falls, Jumps, Walk, Reached}
-use Rattle.py_walks.specs.Sound.{code_look}
+use Rattle.py_decode.specs.Reading.{read_at}
+use Rattle.py_dataflow.specs.Walks.{State, Seen, Edge, Falls, Jumps, Walk, Reached}
+use Rattle.py_dataflow.specs.Sound.{code_look}
 use Rattle.py_verify.specs.declared.verdict.FlawKind.{FlawKind}
 use Rattle.py_verify.specs.Flaws.{unit_count, in_range, operand_fits, WalkFlaw}
 use Rattle.py_verify.proofs.Ranges.{lower}
-use Rattle.py_verify.proofs.Seeing.{sees_of, unread, unfit, fit}
+use Rattle.py_verify.proofs.UnitViewLemmas.{sees_of, unread, unfit, fit}
 
 -- what is read ends no further than the units do
 module _ (u : CodeUnit) (us : List CodeUnit) (at : ℕ) where

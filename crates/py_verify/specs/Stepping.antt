@@ -1,14 +1,14 @@
 -- What is known while a code is walked.
 use Rattle.std.specs.Prelude.{◌≡◌, ◌≢◌, ℕ, ◌≤◌, ◌⊎◌, [], ◌∷◌, List, true, false, Option, Some, None}
 use Rattle.py_bytecode.specs.Objects.{Object, head}
-use Rattle.py_units.specs.Reading.{read_at}
-use Rattle.py_walks.specs.declared.known.KnownState.{KnownState}
-use Rattle.py_walks.specs.declared.known.Change.{Change}
-use Rattle.py_walks.specs.declared.known.Refused.{Refused}
-use Rattle.py_walks.specs.Walks.{State, state, Seen, Edge, has_block, falls_enough, jumps_enough, falls_to, jumps_to}
-use Rattle.py_walks.specs.Known.{state_at, state_of, Moves}
-use Rattle.py_walks.specs.Shown.{Shown, Closed_at, AllShown, Grows}
-use Rattle.py_walks.specs.Sound.{code_look}
+use Rattle.py_decode.specs.Reading.{read_at}
+use Rattle.py_dataflow.specs.declared.known.KnownState.{KnownState}
+use Rattle.py_dataflow.specs.declared.known.Change.{Change}
+use Rattle.py_dataflow.specs.declared.known.Refused.{Refused}
+use Rattle.py_dataflow.specs.Walks.{State, state, Seen, Edge, has_block, falls_enough, jumps_enough, falls_to, jumps_to}
+use Rattle.py_dataflow.specs.Known.{state_at, state_of, Moves}
+use Rattle.py_dataflow.specs.Shown.{Shown, Closed_at, AllShown, Grows}
+use Rattle.py_dataflow.specs.Sound.{code_look}
 use Rattle.py_verify.specs.declared.verdict.FlawKind.{FlawKind}
 use Rattle.py_verify.specs.declared.walk.Exits.{Exits}
 use Rattle.py_verify.specs.declared.walk.Halt.{Halt}
@@ -54,7 +54,7 @@ abbrev pub HaltsAt : Object → Halt → Type 0
 HaltsAt o (Halt.Flawed kind place) = WalkFlaw o place kind
 HaltsAt o Halt.OutOfMemory = Unit {0}
 
--- how py_walks tells a flaw at a unit
+-- how py_dataflow tells a flaw at a unit
 abbrev pub halted : Refused → (unit : ℕ) → Halt
 halted Refused.NoEnd unit = Halt.Flawed FlawKind.PlaceOutside unit
 halted Refused.UnevenHeights unit = Halt.Flawed FlawKind.UnevenHeights unit

@@ -3,11 +3,11 @@
 ghost use Rattle.std.specs.Prelude.{◌≡◌};
 ghost use Rattle.py_bytecode.specs.Decode.{tables};
 ghost use Rattle.py_bytecode.specs.View.{object};
-ghost use Rattle.py_units.specs.Reading.{read_of};
+ghost use Rattle.py_decode.specs.Reading.{read_of};
 ghost use Rattle.py_verify.specs.Flaws.{in_range, operand_fits, unit_count};
 
 use py_bytecode::{CodeObject, OperandKind};
-use py_units::UnitRead;
+use py_decode::UnitRead;
 
 /// Whether `n` is a place among cells and then free names.
 fn is_cell(code: &CodeObject, n: usize) -> bool

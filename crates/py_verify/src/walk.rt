@@ -3,11 +3,11 @@
 ghost use Rattle.std.specs.Prelude.{ℕ, ◌≡◌, ◌≢◌, ◌<◌, ◌^◌, ◌⊎◌, [], None, Some, true, false, IfErr, IfOk, length, replicate};
 ghost use Rattle.std.specs.Option.{IfNone, IfSome};
 ghost use Rattle.py_bytecode.specs.View.{object};
-ghost use Rattle.py_units.specs.Reading.{IsReading, read_at, reading_at};
-ghost use Rattle.py_walks.specs.Known.{Moves, state_at, state_of, unknown};
-ghost use Rattle.py_walks.specs.Shown.{Covered, Grows, Shown};
-ghost use Rattle.py_walks.specs.Sound.{code_look, sound};
-ghost use Rattle.py_walks.specs.Walks.{state};
+ghost use Rattle.py_decode.specs.Reading.{IsReading, read_at, reading_at};
+ghost use Rattle.py_dataflow.specs.Known.{Moves, state_at, state_of, unknown};
+ghost use Rattle.py_dataflow.specs.Shown.{Covered, Grows, Shown};
+ghost use Rattle.py_dataflow.specs.Sound.{code_look, sound};
+ghost use Rattle.py_dataflow.specs.Walks.{state};
 ghost use Rattle.py_verify.specs.Flaws.{WalkFlaw, unit_count};
 ghost use Rattle.py_verify.specs.Stepping.{Comes, HaltsAt, IsExits, IsListed, IsWorking, KnownIn, Settled, Steps, halted};
 
@@ -15,9 +15,11 @@ use crate::operands::operand_fits;
 use crate::verdict::{FlawKind, Spot};
 use py_base::SourceLocation;
 use py_bytecode::CodeObject;
-use py_units::{UnitRead, read_all, read_in};
-use py_walks::known::{Change, KnownState, arrive, combine, first_known, nexts_of, unknown_states};
-use py_walks::{BlockIdx, InstructionInfo, Refused};
+use py_dataflow::known::{
+    Change, KnownState, arrive, combine, first_known, nexts_of, unknown_states,
+};
+use py_dataflow::{BlockIdx, InstructionInfo, Refused};
+use py_decode::{UnitRead, read_all, read_in};
 use std::alloc::{AllocError, Global};
 
 /// Why a walk ended early.
@@ -51,7 +53,7 @@ pub struct Exits {
     pub jump: Option<KnownState>,
 }
 
-/// What a refusal of py_walks at a unit is here.
+/// What a refusal of py_dataflow at a unit is here.
 fn halt_of(refused: Refused, unit: usize) -> Halt
     ensures { result ≡ halted refused unit }
 {
@@ -65,7 +67,7 @@ fn halt_of(refused: Refused, unit: usize) -> Halt
     Halt::Flawed { kind, unit }
 }
 
-// The instruction as py_walks takes it. Where it goes on is told by what is read, so it has neither a block nor a
+// The instruction as py_dataflow takes it. Where it goes on is told by what is read, so it has neither a block nor a
 // location.
 fn info_of(read: UnitRead) -> InstructionInfo
     ensures instr { result.instr ≡ read.instr }

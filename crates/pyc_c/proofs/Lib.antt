@@ -1,3 +1,3 @@
 mod Ended
-mod Handing
+mod RunWordLemmas
 mod Written

@@ -1,8 +1,8 @@
 //! What is written of a run.
 
+use py_answers::{Script, push_trace};
 use py_bytecode::CodeObject;
 use py_codefile::read_code;
-use py_script::{Script, push_trace};
 use py_step_machine::run_code;
 use std::alloc::{AllocError, Global};
 

@@ -10,5 +10,5 @@ pub use py_scope::{
     ScanFault, StackStack, Symbol, SymbolFlags, SymbolScope, SymbolTable, SymbolTableError,
     SymbolTableType, Symbols, mangle_name,
 };
-pub use py_tables::{scan_body, scan_expr, scan_program, scan_value};
+pub use py_symbol_tables::{scan_body, scan_expr, scan_program, scan_value};
 pub use scans::Scan;

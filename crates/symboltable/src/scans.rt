@@ -1,10 +1,10 @@
 //! The scans as calls of the table that they answer.
 ghost use Rattle.std.specs.Prelude.{◌≡◌, [], IfErr, IfOk, OnOk, Some};
 ghost use Rattle.py_tree.specs.View.{expr_tree, stmt_tree, stmts};
-ghost use Rattle.py_uses.specs.Goes.{IsTextOrMemory};
+ghost use Rattle.py_name_uses.specs.Goes.{IsTextOrMemory};
 ghost use Rattle.py_scan.specs.Scan as scanned;
-ghost use Rattle.py_tables.specs.Tables.{IsFirst, IsPlaced, body_faults, expr_faults, program_faults, table_of, value_faults};
-ghost use Rattle.py_tables.specs.Following.{Follows};
+ghost use Rattle.py_symbol_tables.specs.Tables.{IsFirst, IsPlaced, body_faults, expr_faults, program_faults, table_of, value_faults};
+ghost use Rattle.py_symbol_tables.specs.Following.{Follows};
 
 use py_scope::{SymbolTable, SymbolTableError};
 use py_tree::{Expr, Stmts};
@@ -46,7 +46,7 @@ impl Scan for SymbolTable {
         ensures first { IfErr result (λ e. IsFirst e (program_faults (stmts stmt_tree program.now))) }
         ensures placed { IfErr result IsPlaced }
     {
-        py_tables::scan_program(alloc, program)
+        py_symbol_tables::scan_program(alloc, program)
     }
 
     fn scan_expr(alloc: Global, expr: &Expr) -> Result<SymbolTable, SymbolTableError>
@@ -56,7 +56,7 @@ impl Scan for SymbolTable {
         ensures first { IfErr result (λ e. IsFirst e (expr_faults (expr_tree expr.now))) }
         ensures placed { IfErr result IsPlaced }
     {
-        py_tables::scan_expr(alloc, expr)
+        py_symbol_tables::scan_expr(alloc, expr)
     }
 
     fn scan_body(alloc: Global, program: &Stmts) -> Result<SymbolTable, SymbolTableError>
@@ -66,7 +66,7 @@ impl Scan for SymbolTable {
         ensures first { IfErr result (λ e. IsFirst e (body_faults (stmts stmt_tree program.now))) }
         ensures told { IfErr result IsTextOrMemory }
     {
-        py_tables::scan_body(alloc, program)
+        py_symbol_tables::scan_body(alloc, program)
     }
 
     fn scan_value(alloc: Global, expr: &Expr) -> Result<SymbolTable, SymbolTableError>
@@ -76,6 +76,6 @@ impl Scan for SymbolTable {
         ensures first { IfErr result (λ e. IsFirst e (value_faults (expr_tree expr.now))) }
         ensures told { IfErr result IsTextOrMemory }
     {
-        py_tables::scan_value(alloc, expr)
+        py_symbol_tables::scan_value(alloc, expr)
     }
 }

@@ -10,17 +10,17 @@ use Rattle.py_bytecode.specs.Objects.{Object}
 use Rattle.py_bytecode.specs.Values.{Usage, Load, Store, Delete, Kind, Unsaid, Fast, ByName, Global, Deref, ClassDeref}
 use Rattle.py_scope.specs.declared.flat.ScopeEntry.{ScopeEntry}
 use Rattle.py_scope.specs.declared.table_type.SymbolTableType.{SymbolTableType}
-use Rattle.py_forms.specs.Agree.{AllOf}
-use Rattle.py_forms.specs.Form.{Resolved}
-use Rattle.py_steps.specs.Accesses.{access_by, accessed, emission_of_deleted, emission_of_name, emission_of_stored}
-use Rattle.py_steps.specs.Children.{cell_loads, closure, free_names, load_cell, made}
-use Rattle.py_steps.specs.Context.{Context, access_kind, cell_place, cells_among, frees_among, inside, mangled, outermost, symbols_in}
-use Rattle.py_steps.specs.Emitting.{Around, by_level, emit, emit_constant, Refused, refuse}
-use Rattle.py_steps.specs.EmissionParts.{in_turn}
-use Rattle.py_steps.specs.Everywhere.{Everywhere}
-use Rattle.py_steps.specs.Refused.{no_assignment, no_deletion}
-use Rattle.py_steps.specs.TableParts.{debug_constant, is_debug}
-use Rattle.py_steps.specs.Within.{some_flag}
+use Rattle.py_control.specs.Agree.{AllOf}
+use Rattle.py_control.specs.Form.{Resolved}
+use Rattle.py_emission_parts.specs.Accesses.{access_by, accessed, emission_of_deleted, emission_of_name, emission_of_stored}
+use Rattle.py_emission_parts.specs.Children.{cell_loads, closure, free_names, load_cell, made}
+use Rattle.py_emission_parts.specs.Context.{Context, access_kind, cell_place, cells_among, frees_among, inside, mangled, outermost, symbols_in}
+use Rattle.py_emission_parts.specs.Emitting.{Around, by_level, emit, emit_constant, Refused, refuse}
+use Rattle.py_emission_parts.specs.EmissionParts.{in_turn}
+use Rattle.py_emission_parts.specs.Everywhere.{Everywhere}
+use Rattle.py_emission_parts.specs.Refused.{no_assignment, no_deletion}
+use Rattle.py_emission_parts.specs.TableParts.{debug_constant, is_debug}
+use Rattle.py_emission_parts.specs.Within.{some_flag}
 use Rattle.py_emission_outcomes.specs.Fitting.{HasShortTables}
 use Rattle.py_emission_outcomes.proofs.Capacity.Fits.{Fits, constant_fits, count_fits, emit_fits, emits, if_fits, keep_fits, level_fits, name_fits, narrow, place_within, room, taken, then_fits, unless_debug_fits, varname_fits}
 

@@ -14,9 +14,9 @@ use Rattle.py_scope.specs.Entries.{entry_at, entry_of}
 use Rattle.py_scope.specs.Resolve.{among, goes_through, holder, is_free_in, is_free_past, is_held, is_used, kind_at, needs, scopes, stores, way}
 use Rattle.py_scope.specs.Scanned.{is_function}
 use Rattle.py_scope.proofs.Truth.{any_scope, both, either, left_or, right_or}
-use Rattle.py_steps.specs.Context.{names_of_those}
+use Rattle.py_emission_parts.specs.Context.{names_of_those}
 use Rattle.py_emission_proof.specs.Distinct.{AreDistinct}
-use Rattle.py_loads.proofs.Sharing.{Has, no_more}
+use Rattle.py_cell_loads.proofs.SharedUseLemmas.{Has, no_more}
 
 -- the names that are used in some scope
 abbrev pub all_names : List Row → List Name

@@ -9,18 +9,18 @@ use Rattle.py_base.specs.declared.shapes.Malformed.TheVariants as shape
 use Rattle.py_base.specs.declared.errors.CodegenErrorType.{CodegenErrorType}
 use Rattle.py_base.specs.declared.errors.CodegenErrorType.TheVariants as error
 use Rattle.py_limits.specs.Size.{expr_size, exprs_size, opt_expr_size, with_items_size}
-use Rattle.py_counts.specs.Counts.{scopes_in, scopes_in_all, scopes_in_annotation, scopes_in_opt}
+use Rattle.py_scope_counts.specs.Counts.{scopes_in, scopes_in_all, scopes_in_annotation, scopes_in_opt}
 use Rattle.py_bytecode.specs.declared.instruction.Instruction.{Instruction}
 use Rattle.py_bytecode.specs.declared.instruction.Instruction.TheVariants as op
 use Rattle.py_bytecode.specs.Objects as const
-use Rattle.py_forms.specs.Agree.{AllOf, kids, kids_g, kids_t, kids_v, kids_vs}
-use Rattle.py_forms.specs.Form.{SForm, SDo, SIf, SInto, SSkip, TNot, VMore, VNone}
+use Rattle.py_control.specs.Agree.{AllOf, kids, kids_g, kids_t, kids_v, kids_vs}
+use Rattle.py_control.specs.Form.{SForm, SDo, SIf, SInto, SSkip, TNot, VMore, VNone}
 use Rattle.py_bytecode.specs.Values.{operation, Number}
-use Rattle.py_steps.specs.Context.{is_function, mangled}
-use Rattle.py_steps.specs.Emitting.{Around, Emission, LoopBlocks, ◌▸◌, emit_constant}
-use Rattle.py_steps.specs.EmissionParts.{pass_scopes}
-use Rattle.py_steps.specs.Refused.{no_assignment, no_deletion}
-use Rattle.py_steps.specs.TableParts.{binary_case, name_form}
+use Rattle.py_emission_parts.specs.Context.{is_function, mangled}
+use Rattle.py_emission_parts.specs.Emitting.{Around, Emission, LoopBlocks, ◌▸◌, emit_constant}
+use Rattle.py_emission_parts.specs.EmissionParts.{pass_scopes}
+use Rattle.py_emission_parts.specs.Refused.{no_assignment, no_deletion}
+use Rattle.py_emission_parts.specs.TableParts.{binary_case, name_form}
 use Rattle.py_emission.specs.Emission.{emission, emission_of_delete, emission_of_deletes, emission_of_return, emission_of_store, emission_of_test}
 use Rattle.py_emission.specs.EmissionDefs.{emission_of_note}
 use Rattle.py_emission.specs.EmissionStmts.{emission_of_annotated, emission_of_annotation, emission_of_assert, emission_of_assign, emission_of_augment, emission_of_declared, emission_of_item, emission_of_items, emission_of_last, emission_of_message, emission_of_operand, emission_of_raise, emission_of_returned, leave_loop}
@@ -36,7 +36,7 @@ use Rattle.py_emission_outcomes.proofs.Capacity.FitExprs.{expr_fits, stores_fit}
 use Rattle.py_emission_outcomes.proofs.Capacity.FitPieces.{binary_small}
 use Rattle.py_emission_outcomes.proofs.Capacity.FitNotes.{note_fits}
 use Rattle.py_emission_outcomes.proofs.Capacity.FitControl.{asserted_fits, managed_fits}
-use Rattle.py_emission_outcomes.proofs.Capacity.Standing.{Here, apart, told}
+use Rattle.py_emission_outcomes.proofs.Capacity.AvailableCellLemmas.{Here, apart, told}
 use Rattle.py_emission_outcomes.proofs.Capacity.StandingForms.{TargetsStand, test_value}
 
 -- an assertion has one message at most

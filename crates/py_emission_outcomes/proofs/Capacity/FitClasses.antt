@@ -5,20 +5,20 @@ use Rattle.std.specs.List.{list_any}
 use Rattle.std.proofs.lemmas.List.Folds.{list_any-append}
 use Rattle.py_tree.specs.Tree as tree
 use Rattle.py_limits.specs.Size.{exprs_size, keywords_size, stmts_size, type_params_size}
-use Rattle.py_counts.specs.Counts.{scopes_in_all, scopes_in_keywords}
+use Rattle.py_scope_counts.specs.Counts.{scopes_in_all, scopes_in_keywords}
 use Rattle.py_bytecode.specs.declared.instruction.Instruction.TheVariants as op
 use Rattle.py_bytecode.specs.Equality.{text_eq}
 use Rattle.py_bytecode.specs.Objects as const
-use Rattle.py_forms.specs.Agree.{AllOf, kids_v}
-use Rattle.py_forms.specs.Form.{MkScope, SForm, Scope, VConst, VForm, VMake, VMore, VNone}
-use Rattle.py_steps.specs.Classes.{cell_returned, class_end, class_names, class_shape}
-use Rattle.py_steps.specs.Context.{class_cells, head_of, inside, with_path, within_class}
-use Rattle.py_steps.specs.Elements.{Element, Function, Single, Spread, starred}
-use Rattle.py_steps.specs.Emitting.{Around, Emission, ◌▸◌, emit, emit_constant}
-use Rattle.py_steps.specs.EmissionParts.{built, elements}
-use Rattle.py_steps.specs.TableParts as table
-use Rattle.py_steps.specs.TypeParameters.{hidden, no_defaults}
-use Rattle.py_steps.specs.Within.{behind_name, class_path, class_within, doc_const}
+use Rattle.py_control.specs.Agree.{AllOf, kids_v}
+use Rattle.py_control.specs.Form.{MkScope, SForm, Scope, VConst, VForm, VMake, VMore, VNone}
+use Rattle.py_emission_parts.specs.Classes.{cell_returned, class_end, class_names, class_shape}
+use Rattle.py_emission_parts.specs.Context.{class_cells, head_of, inside, with_path, within_class}
+use Rattle.py_emission_parts.specs.Elements.{Element, Function, Single, Spread, starred}
+use Rattle.py_emission_parts.specs.Emitting.{Around, Emission, ◌▸◌, emit, emit_constant}
+use Rattle.py_emission_parts.specs.EmissionParts.{built, elements}
+use Rattle.py_emission_parts.specs.TableParts as table
+use Rattle.py_emission_parts.specs.TypeParameters.{hidden, no_defaults}
+use Rattle.py_emission_parts.specs.Within.{behind_name, class_path, class_within, doc_const}
 use Rattle.py_emission.specs.Emission.{all_emissions, keyword_emissions}
 use Rattle.py_emission.specs.EmissionDefs.{class_call, class_function, class_scope, emission_of_class, emission_of_generic_class, emission_of_params, emission_of_setup}
 use Rattle.py_emission.specs.EmissionStmts.{emission_of_rest}
@@ -39,7 +39,7 @@ use Rattle.py_emission_outcomes.proofs.Capacity.FitScopes.{child_fits, hand_as}
 use Rattle.py_emission_outcomes.proofs.Capacity.FitExprs.{exprs_fit, keywords_fit}
 use Rattle.py_emission_outcomes.proofs.Capacity.FitDefs.{RestFits}
 use Rattle.py_emission_outcomes.proofs.Capacity.FitGeneric.{hidden_fits, hidden_of, hidden_stands, none_handed, params_fits, within, within_ready}
-use Rattle.py_emission_outcomes.proofs.Capacity.Standing.{Here, apart, free_at_hand, kids_stand, names_at_hand, told}
+use Rattle.py_emission_outcomes.proofs.Capacity.AvailableCellLemmas.{Here, apart, free_at_hand, kids_stand, names_at_hand, told}
 use Rattle.py_emission_outcomes.proofs.Capacity.StandingExprs.{InElement, InForm, call_in, elements_in, two_apart}
 use Rattle.py_emission_outcomes.proofs.Capacity.StandingForms.{InValue, class_form_apart, class_made_apart, hidden_apart}
 use Rattle.py_emission_outcomes.proofs.Capacity.Threads.{Thread}

@@ -4,7 +4,7 @@ use Rattle.std.specs.Prelude.{codes}
 use Rattle.py_base.specs.declared.location.SourceLocation.{SourceLocation}
 use Rattle.py_bytecode.specs.declared.instruction.Instruction.TheVariants as op
 use Rattle.py_emission.specs.ControlEmissions.{asserted, before_last, finally_do, for_each, handler, managed, to_last, try_body, typed_match}
-use Rattle.py_steps.specs.Emitting.{Around, Emission, LoopBlocks, ◌▸◌, begin, emit, in_loop, jump, new_block}
+use Rattle.py_emission_parts.specs.Emitting.{Around, Emission, LoopBlocks, ◌▸◌, begin, emit, in_loop, jump, new_block}
 use Rattle.py_emission_outcomes.proofs.Capacity.Fits.{Fits, begin_fits, count_fits, emit_fits, fits_as, jump_fits, keep_fits, loop_fits, looping, move_fits, name_fits, new_fits, plain_fits, room, then_fits}
 
 module _ {c : Around} where

@@ -2,13 +2,13 @@
 use Rattle.std.proofs.Common.{ℕ, suc, ◌+◌, ◌*◌, List, arith}
 use Rattle.py_tree.specs.Tree as tree
 use Rattle.py_limits.specs.Size.{arguments_size, exprs_size, keywords_size, opt_expr_size, stmts_size, type_params_size}
-use Rattle.py_counts.specs.Counts.{scopes_in_all, scopes_in_defaults, scopes_in_keywords, scopes_in_returns}
-use Rattle.py_forms.specs.Form.{VForm}
-use Rattle.py_steps.specs.Children.{decorated}
-use Rattle.py_steps.specs.Emitting.{Around, ◌▸◌}
-use Rattle.py_steps.specs.EmissionParts as emitting
-use Rattle.py_steps.specs.TableParts as table
-use Rattle.py_steps.specs.Within.{class_path, class_within, function_inside}
+use Rattle.py_scope_counts.specs.Counts.{scopes_in_all, scopes_in_defaults, scopes_in_keywords, scopes_in_returns}
+use Rattle.py_control.specs.Form.{VForm}
+use Rattle.py_emission_parts.specs.Children.{decorated}
+use Rattle.py_emission_parts.specs.Emitting.{Around, ◌▸◌}
+use Rattle.py_emission_parts.specs.EmissionParts as emitting
+use Rattle.py_emission_parts.specs.TableParts as table
+use Rattle.py_emission_parts.specs.Within.{class_path, class_within, function_inside}
 use Rattle.py_emission.specs.Emission.{all_emissions}
 use Rattle.py_emission.specs.EmissionDefs.{emission_of_built, emission_of_end, emission_of_function}
 use Rattle.py_emission.specs.EmissionStmts.{emission_of_rest}
@@ -25,7 +25,7 @@ use Rattle.py_emission_outcomes.proofs.Capacity.FitExprs.{exprs_fit}
 use Rattle.py_emission_outcomes.proofs.Capacity.FitDefs.{RestFits, decorated_fits, plain_def_fits}
 use Rattle.py_emission_outcomes.proofs.Capacity.FitGeneric.{generic_def_fits}
 use Rattle.py_emission_outcomes.proofs.Capacity.FitClasses.{generic_class_fits, plain_class_fits}
-use Rattle.py_emission_outcomes.proofs.Capacity.Standing.{Here, told}
+use Rattle.py_emission_outcomes.proofs.Capacity.AvailableCellLemmas.{Here, told}
 use Rattle.py_emission_outcomes.proofs.Capacity.StandingExprs.{values_in_forms}
 use Rattle.py_emission_outcomes.proofs.Capacity.StandingForms.{InValue, decorated_apart}
 

@@ -3,18 +3,18 @@ use Rattle.std.proofs.Common.{refl, ℕ, suc, ◌+◌, ◌*◌, ◌<◌, ◌≤�
 use Rattle.std.specs.Prelude.{codes}
 use Rattle.py_tree.specs.Tree as tree
 use Rattle.py_limits.specs.Size.{arguments_size, opt_expr_size, stmts_size}
-use Rattle.py_counts.specs.Counts.{scopes_in_defaults, scopes_in_returns}
+use Rattle.py_scope_counts.specs.Counts.{scopes_in_defaults, scopes_in_returns}
 use Rattle.py_bytecode.specs.declared.instruction.Instruction.TheVariants as op
 use Rattle.py_bytecode.specs.Objects as const
 use Rattle.py_bytecode.specs.Objects.{Object}
-use Rattle.py_forms.specs.Agree.{AllOf, kids}
-use Rattle.py_forms.specs.Form.{MkScope, SForm, Scope, VForms, VNone}
-use Rattle.py_steps.specs.Children.{DefaultEmissions, decorated, decorations, documented, emission_of_defaults, flags_of_defaults, free_names, function_made, made}
-use Rattle.py_steps.specs.Context.{Context, head_of, inside, qualified, with_path}
-use Rattle.py_steps.specs.Emitting.{Around, Emission, ◌▸◌}
-use Rattle.py_steps.specs.EmissionParts.{in_turn}
-use Rattle.py_steps.specs.Everywhere.{Everywhere}
-use Rattle.py_steps.specs.Within.{function_inside, some_flag}
+use Rattle.py_control.specs.Agree.{AllOf, kids}
+use Rattle.py_control.specs.Form.{MkScope, SForm, Scope, VForms, VNone}
+use Rattle.py_emission_parts.specs.Children.{DefaultEmissions, decorated, decorations, documented, emission_of_defaults, flags_of_defaults, free_names, function_made, made}
+use Rattle.py_emission_parts.specs.Context.{Context, head_of, inside, qualified, with_path}
+use Rattle.py_emission_parts.specs.Emitting.{Around, Emission, ◌▸◌}
+use Rattle.py_emission_parts.specs.EmissionParts.{in_turn}
+use Rattle.py_emission_parts.specs.Everywhere.{Everywhere}
+use Rattle.py_emission_parts.specs.Within.{function_inside, some_flag}
 use Rattle.py_emission.specs.Emission.{default_emissions}
 use Rattle.py_emission.specs.EmissionDefs.{emission_of_def, emission_of_end, ends_in_return, function_value, notes}
 use Rattle.py_emission.specs.EmissionStmts.{emission_of_rest}
@@ -35,7 +35,7 @@ use Rattle.py_emission_outcomes.proofs.Capacity.FitScopes.{child_fits, defaults_
 use Rattle.py_emission_outcomes.proofs.Capacity.FitLambdas.{defaults_size, function_few, parameters_less}
 use Rattle.py_emission_outcomes.proofs.Capacity.FitExprs.{defaults_fitted}
 use Rattle.py_emission_outcomes.proofs.Capacity.FitNotes.{notes_fit}
-use Rattle.py_emission_outcomes.proofs.Capacity.Standing.{Here, apart, free_at_hand, kids_stand, names_at_hand, together, told}
+use Rattle.py_emission_outcomes.proofs.Capacity.AvailableCellLemmas.{Here, apart, free_at_hand, kids_stand, names_at_hand, together, told}
 use Rattle.py_emission_outcomes.proofs.Capacity.StandingForms.{FunctionStands, InParts, InValue, function_apart}
 use Rattle.py_emission_outcomes.proofs.Capacity.Turns.{Turns, turns_some_built}
 

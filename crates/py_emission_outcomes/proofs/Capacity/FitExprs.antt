@@ -3,27 +3,27 @@ use Rattle.std.proofs.Common.{◌≡◌, refl, ℕ, suc, ◌+◌, ◌*◌, List,
 use Rattle.py_base.specs.declared.errors.CodegenErrorType.TheVariants as error
 use Rattle.py_tree.specs.Tree as tree
 use Rattle.py_tree.specs.PythonName.{python_name}
-use Rattle.py_counts.specs.Counts.{scopes_in, scopes_in_all, scopes_in_args, scopes_in_clauses, scopes_in_defaults, scopes_in_keywords, scopes_in_opt, scopes_in_opts}
+use Rattle.py_scope_counts.specs.Counts.{scopes_in, scopes_in_all, scopes_in_args, scopes_in_clauses, scopes_in_defaults, scopes_in_keywords, scopes_in_opt, scopes_in_opts}
 use Rattle.py_limits.specs.Size.{expr_size, exprs_size, generators_size, keys_size, keywords_size, opt_expr_size}
 use Rattle.py_bytecode.specs.declared.instruction.Instruction.TheVariants as op
 use Rattle.py_bytecode.specs.Objects as const
 use Rattle.py_emission.specs.Awaits.{awaits, some_async}
 use Rattle.py_emission.specs.Emission.{all_emissions, all_stores, clause_emissions, default_emissions, emission, emissions, keyword_emissions, keyword_only_emissions, opt_emission, opt_emissions, positional_emissions, stores}
 use Rattle.py_emission.specs.Texts.{texts_of}
-use Rattle.py_forms.specs.Agree.{AllOf, kids_bs, kids_c, kids_g, kids_gs, kids_t, kids_v, kids_vs}
-use Rattle.py_forms.specs.Form.{MkScope, SReturn, Scope, VMore, VNone}
+use Rattle.py_control.specs.Agree.{AllOf, kids_bs, kids_c, kids_g, kids_gs, kids_t, kids_v, kids_vs}
+use Rattle.py_control.specs.Form.{MkScope, SReturn, Scope, VMore, VNone}
 use Rattle.py_meaning.specs.Table.{after, after_clauses, all_forms, all_targets, clause_forms, default_forms, expr_form, expr_forms, filter_forms, first_iterable, further_forms, key_forms, keyword_defaults, keyword_forms, opt_form, positional_defaults, target_form, test_form, value_forms}
 use Rattle.py_meaning.specs.TableScopes.{default_parts, gathered, generated}
 use Rattle.py_scope.specs.declared.table_type.SymbolTableType.TheVariants as kind
-use Rattle.py_steps.specs.Comprehensions.{ClauseEmissions}
-use Rattle.py_steps.specs.Context.{head_of, inside}
-use Rattle.py_steps.specs.Elements.{bare, pairs}
-use Rattle.py_steps.specs.Emitting.{Around, ◌▸◌, emit, emit_mangled, move, refuse}
-use Rattle.py_steps.specs.EmissionParts.{elements, unless_debug, unpack, values}
-use Rattle.py_steps.specs.Refused.{lone_star, no_assignment}
-use Rattle.py_steps.specs.TableParts as table
-use Rattle.py_steps.specs.TableParts.{binary_case, constant_of, conversion_case}
-use Rattle.py_steps.specs.Within.{comprehension_inside, lambda_inside}
+use Rattle.py_emission_parts.specs.Comprehensions.{ClauseEmissions}
+use Rattle.py_emission_parts.specs.Context.{head_of, inside}
+use Rattle.py_emission_parts.specs.Elements.{bare, pairs}
+use Rattle.py_emission_parts.specs.Emitting.{Around, ◌▸◌, emit, emit_mangled, move, refuse}
+use Rattle.py_emission_parts.specs.EmissionParts.{elements, unless_debug, unpack, values}
+use Rattle.py_emission_parts.specs.Refused.{lone_star, no_assignment}
+use Rattle.py_emission_parts.specs.TableParts as table
+use Rattle.py_emission_parts.specs.TableParts.{binary_case, constant_of, conversion_case}
+use Rattle.py_emission_parts.specs.Within.{comprehension_inside, lambda_inside}
 use Rattle.py_emission_outcomes.proofs.Capacity.ShortTables.{literal_short}
 use Rattle.py_emission_outcomes.proofs.Capacity.Fits.{Fits, at_fits, constant_fits, emit_fits, fits_as, generating_fits, in_function_fits, mangled_fits, plain_fits, refuse_fits, room, then_fits, unless_debug_fits}
 use Rattle.py_emission_outcomes.proofs.Capacity.Accesses.{Ready, load_fits, outside, ready_inside, stored_fits}
@@ -33,7 +33,7 @@ use Rattle.py_emission_outcomes.proofs.Capacity.FitScopes.{ClausesFit, DefaultsF
 use Rattle.py_emission_outcomes.proofs.Capacity.FitLambdas.{default_sizes, defaults_size, lambda_fits, parameters_less}
 use Rattle.py_emission_outcomes.proofs.Capacity.FitTests.{bool_fits, tested_fits, by_return, choice_fits, compare_fits, truth_fits, unary_fits, value_returned, whole_fits}
 use Rattle.py_emission_outcomes.proofs.Capacity.Hands.{hand, kids_here}
-use Rattle.py_emission_outcomes.proofs.Capacity.Standing.{Here, apart, told}
+use Rattle.py_emission_outcomes.proofs.Capacity.AvailableCellLemmas.{Here, apart, told}
 use Rattle.py_emission_outcomes.proofs.Capacity.StandingExprs.{InEntry, InForm, InForms, InKeyword, InNamedForm, InOption, InTargetElement, call_in, called_in, callee_in, compare_in, dict_in, display_in, elements_in, one_apart, shorts_in, slice_in, targets_in, two_apart, value_or_in, values_in_forms}
 use Rattle.py_emission_outcomes.proofs.Capacity.StandingForms.{defaults_apart, test_value}
 use Rattle.py_emission_outcomes.proofs.Capacity.Threads.{Thread, thread_as, thread_join, thread_to}

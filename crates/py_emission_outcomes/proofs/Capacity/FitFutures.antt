@@ -3,10 +3,10 @@ use Rattle.std.proofs.Common.{◌≡◌, refl, ap, ℕ, ◌+◌, ◌*◌, ◌≤
 use Rattle.std.specs.Prelude.{if◌then◌else◌}
 use Rattle.py_tree.specs.Tree as tree
 use Rattle.py_limits.specs.Size.{aliases_size, stmt_size, stmts_size}
-use Rattle.py_forms.specs.Agree.{AllOf, kids}
-use Rattle.py_forms.specs.Form.{SForm, SThen}
-use Rattle.py_steps.specs.Context.{Context}
-use Rattle.py_steps.specs.Emitting.{Around, Emission, ◌▸◌, postponing}
+use Rattle.py_control.specs.Agree.{AllOf, kids}
+use Rattle.py_control.specs.Form.{SForm, SThen}
+use Rattle.py_emission_parts.specs.Context.{Context}
+use Rattle.py_emission_parts.specs.Emitting.{Around, Emission, ◌▸◌, postponing}
 use Rattle.py_emission.specs.EmissionFutures.{emission_behind, emission_of_future, following}
 use Rattle.py_emission.specs.Futures.{Future, after_future, future_in, future_of, postpones}
 use Rattle.py_emission.specs.Imports.{from_future}
@@ -14,7 +14,7 @@ use Rattle.py_meaning.specs.TableImports.{behind_futures, future_form}
 use Rattle.py_emission_outcomes.proofs.Capacity.Fits.{Fits, postponed_around, postponing_fits, room, then_fits}
 use Rattle.py_emission_outcomes.proofs.Capacity.Accesses.{Ready}
 use Rattle.py_emission_outcomes.proofs.Capacity.FitImports.{future_fits}
-use Rattle.py_emission_outcomes.proofs.Capacity.Standing.{Here, apart, postponed_ready, told}
+use Rattle.py_emission_outcomes.proofs.Capacity.AvailableCellLemmas.{Here, apart, postponed_ready, told}
 
 -- it fits, wherever the next scope then has its number, which is no further on than there is room for
 pub record Somehow (c : Around) (k w : ℕ) (a : Emission) : Type 0 where

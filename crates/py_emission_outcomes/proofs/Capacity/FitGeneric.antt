@@ -4,18 +4,18 @@ use Rattle.py_tree.specs.Tree as tree
 use Rattle.py_tree.specs.PythonName.{python_name}
 use Rattle.py_base.specs.declared.errors.CodegenErrorType.TheVariants as error
 use Rattle.py_limits.specs.Size.{arguments_size, expr_size, opt_expr_size, stmts_size, type_params_size}
-use Rattle.py_counts.specs.Counts.{scopes_in, scopes_in_defaults, scopes_in_returns}
+use Rattle.py_scope_counts.specs.Counts.{scopes_in, scopes_in_defaults, scopes_in_returns}
 use Rattle.py_bytecode.specs.declared.instruction.Instruction.TheVariants as op
 use Rattle.py_bytecode.specs.Objects as const
 use Rattle.py_bytecode.specs.Objects.{Object}
 use Rattle.py_bytecode.specs.Values.{operation, Bare}
-use Rattle.py_forms.specs.Agree.{AllOf, kids, kids_v}
-use Rattle.py_forms.specs.Form.{MkScope, SForm, SReturn, Scope, VForm, VForms, VConst, VMore, VNone, VSwap}
-use Rattle.py_steps.specs.Children.{DefaultEmissions, emission_of_defaults, flags_of_defaults}
-use Rattle.py_steps.specs.Context.{head_of, inside, with_path}
-use Rattle.py_steps.specs.Emitting.{Around, Emission, ◌▸◌}
-use Rattle.py_steps.specs.TypeParameters.{hidden, hidden_shape, kept_as, load_handed, no_defaults}
-use Rattle.py_steps.specs.Within.{function_inside, handed, handed_parts, hidden_inside, hidden_name, some_name}
+use Rattle.py_control.specs.Agree.{AllOf, kids, kids_v}
+use Rattle.py_control.specs.Form.{MkScope, SForm, SReturn, Scope, VForm, VForms, VConst, VMore, VNone, VSwap}
+use Rattle.py_emission_parts.specs.Children.{DefaultEmissions, emission_of_defaults, flags_of_defaults}
+use Rattle.py_emission_parts.specs.Context.{head_of, inside, with_path}
+use Rattle.py_emission_parts.specs.Emitting.{Around, Emission, ◌▸◌}
+use Rattle.py_emission_parts.specs.TypeParameters.{hidden, hidden_shape, kept_as, load_handed, no_defaults}
+use Rattle.py_emission_parts.specs.Within.{function_inside, handed, handed_parts, hidden_inside, hidden_name, some_name}
 use Rattle.std.specs.Prelude.{codes}
 use Rattle.py_emission.specs.Emission.{default_emissions}
 use Rattle.py_emission.specs.EmissionDefs as emitting
@@ -35,7 +35,7 @@ use Rattle.py_emission_outcomes.proofs.Capacity.FitScopes.{child_fits, hand_as}
 use Rattle.py_emission_outcomes.proofs.Capacity.FitChanges.{value_fits}
 use Rattle.py_emission_outcomes.proofs.Capacity.FitControl.{lands}
 use Rattle.py_emission_outcomes.proofs.Capacity.FitDefs.{RestFits, default_fits, default_flags_small, function_value_fits}
-use Rattle.py_emission_outcomes.proofs.Capacity.Standing.{Here, apart, free_at_hand, kids_stand, names_at_hand, told}
+use Rattle.py_emission_outcomes.proofs.Capacity.AvailableCellLemmas.{Here, apart, free_at_hand, kids_stand, names_at_hand, told}
 use Rattle.py_emission_outcomes.proofs.Capacity.StandingForms.{InValue, function_apart, handed_apart, hidden_apart, parts_apart}
 use Rattle.py_emission_outcomes.proofs.Capacity.Turns.{Turns, no_turns, turn_more, turns_as, turns_built}
 

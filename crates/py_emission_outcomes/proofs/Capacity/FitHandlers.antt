@@ -3,16 +3,16 @@ use Rattle.std.proofs.Common.{ℕ, ◌+◌, List, [], Option, Some, None, arith}
 use Rattle.py_bytecode.specs.declared.instruction.Instruction.TheVariants as op
 use Rattle.py_bytecode.specs.Objects as const
 use Rattle.py_bytecode.specs.Values.{Store, Delete}
-use Rattle.py_forms.specs.Agree.{AllOf, kids}
-use Rattle.py_forms.specs.Form.{SForm, Scope}
-use Rattle.py_steps.specs.Context.{Context}
-use Rattle.py_steps.specs.Emitting.{Around, Emission}
+use Rattle.py_control.specs.Agree.{AllOf, kids}
+use Rattle.py_control.specs.Form.{SForm, Scope}
+use Rattle.py_emission_parts.specs.Context.{Context}
+use Rattle.py_emission_parts.specs.Emitting.{Around, Emission}
 use Rattle.py_emission.specs.ControlEmissions.{caught, forgotten, named_body}
 use Rattle.py_meaning.specs.StmtParts.{named_form}
 use Rattle.py_emission_outcomes.proofs.Capacity.Fits.{Fits, constant_fits, plain_fits, room, then_fits}
 use Rattle.py_emission_outcomes.proofs.Capacity.Accesses.{Ready, accessed_fits, stored_fits}
 use Rattle.py_emission_outcomes.proofs.Capacity.FitControl.{finally_fits}
-use Rattle.py_emission_outcomes.proofs.Capacity.Standing.{apart}
+use Rattle.py_emission_outcomes.proofs.Capacity.AvailableCellLemmas.{apart}
 
 -- what is so of each scope in the body of a handler with its name is so of each in the body
 pub named_apart : (P : Scope → Type 0) (c : Context) (name : Option (List ℕ)) (f : SForm) → AllOf P (kids (named_form c name f)) → AllOf P (kids f)

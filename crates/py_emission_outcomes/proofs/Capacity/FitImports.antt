@@ -14,8 +14,8 @@ use Rattle.py_emission.specs.EmissionImports.{emission_of_alias, emission_of_att
 use Rattle.py_emission.specs.EmissionStmts.{emission_of_import_from}
 use Rattle.py_emission.specs.Futures.{Future, is_feature}
 use Rattle.py_emission.specs.Imports.{asked, asked_all, from_future, further_segments, import_name, taken_name, takes_all}
-use Rattle.py_steps.specs.Context.{is_function}
-use Rattle.py_steps.specs.Emitting.{Around, Emission, ◌▸◌, emit, refuse}
+use Rattle.py_emission_parts.specs.Context.{is_function}
+use Rattle.py_emission_parts.specs.Emitting.{Around, Emission, ◌▸◌, emit, refuse}
 use Rattle.py_emission_outcomes.proofs.Capacity.ShortTables.{IsShort}
 use Rattle.py_emission_outcomes.proofs.Capacity.Fits.{Fits, at_fits, constant_fits, context_fits, if_fits, keep_fits, mangled_fits, plain_fits, refuse_fits, room, then_fits}
 use Rattle.py_emission_outcomes.proofs.Capacity.Accesses.{Ready, stored_fits}

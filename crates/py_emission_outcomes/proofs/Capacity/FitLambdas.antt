@@ -2,14 +2,14 @@
 use Rattle.std.proofs.Common.{◌≡◌, refl, ℕ, suc, ◌+◌, ◌<◌, ◌≤◌, ◌^◌, List, ◌++◌, length, arith, length-append}
 use Rattle.std.specs.Prelude.{codes}
 use Rattle.py_tree.specs.Tree as tree
-use Rattle.py_counts.specs.Counts.{scopes_in_annotations}
+use Rattle.py_scope_counts.specs.Counts.{scopes_in_annotations}
 use Rattle.py_emission.specs.Emission.{lambda_value}
 use Rattle.py_emission.specs.Parameters.{arg_names, function_shape, names_with_default, names_without_default, opt_arg_names, parameters}
 use Rattle.py_limits.specs.Size.{args_size, arguments_size, opt_arg_size, opt_expr_size}
 use Rattle.py_scope.specs.declared.table_type.SymbolTableType.TheVariants as kind
-use Rattle.py_steps.specs.Children.{DefaultEmissions, flags_of_defaults}
-use Rattle.py_steps.specs.Within.{lambda_inside}
-use Rattle.py_steps.specs.Emitting.{Around, Emission}
+use Rattle.py_emission_parts.specs.Children.{DefaultEmissions, flags_of_defaults}
+use Rattle.py_emission_parts.specs.Within.{lambda_inside}
+use Rattle.py_emission_parts.specs.Emitting.{Around, Emission}
 use Rattle.py_emission_outcomes.proofs.Capacity.ShortTables.{HasFew}
 use Rattle.py_emission_outcomes.proofs.Capacity.Fits.{Fits, room, scopes_fit, then_fits}
 use Rattle.py_emission_outcomes.proofs.Capacity.Accesses.{AtHand, Ready, made_fits, outside, ready_inside}

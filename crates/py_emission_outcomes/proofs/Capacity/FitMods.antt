@@ -5,12 +5,12 @@ use Rattle.py_tree.specs.Tree as tree
 use Rattle.py_tree.specs.declared.modules.Mode.{Mode}
 use Rattle.py_tree.specs.declared.modules.Mode.TheVariants as mode
 use Rattle.py_limits.specs.Size.{size_of, stmt_size, stmts_size}
-use Rattle.py_counts.specs.Counts.{scopes_in}
+use Rattle.py_scope_counts.specs.Counts.{scopes_in}
 use Rattle.py_bytecode.specs.declared.instruction.Instruction.TheVariants as op
 use Rattle.py_bytecode.specs.Objects as const
-use Rattle.py_forms.specs.Agree.{AllOf, kids, kids_v}
-use Rattle.py_forms.specs.Form.{SForm, SThen, Scope, VForm}
-use Rattle.py_steps.specs.Emitting.{Around, Emission, ◌▸◌}
+use Rattle.py_control.specs.Agree.{AllOf, kids, kids_v}
+use Rattle.py_control.specs.Form.{SForm, SThen, Scope, VForm}
+use Rattle.py_emission_parts.specs.Emitting.{Around, Emission, ◌▸◌}
 use Rattle.py_emission.specs.EmissionFutures.{emission_of_future, following}
 use Rattle.py_emission.specs.EmissionMods.{emission_of_block, emission_of_doc, emission_of_interactive, emission_of_mod, emission_of_printed, emission_of_program, emission_of_prompt, emission_of_single, emission_of_value, stored_and_returned}
 use Rattle.py_emission.specs.EmissionStmts.{emission_of_stmts}
@@ -32,7 +32,7 @@ use Rattle.py_emission_outcomes.proofs.Capacity.FitDefinitions.{class_fits, deco
 use Rattle.py_emission_outcomes.proofs.Capacity.FitFutures.{Somehow, behind_fits, import_then, names_small, somehow}
 use Rattle.py_emission_outcomes.proofs.Capacity.FitStmts.{rest_fits, stmt_fits, stmts_fit}
 use Rattle.py_emission_outcomes.proofs.Capacity.FitChanges.{value_fits, whole_returned_fits}
-use Rattle.py_emission_outcomes.proofs.Capacity.Standing.{Here, apart, told}
+use Rattle.py_emission_outcomes.proofs.Capacity.AvailableCellLemmas.{Here, apart, told}
 
 -- what a docstring leaves is no larger
 left_less : (text : Option (List ℕ)) (ss : tree.Stmts) → stmts_size (unless_text text ss) ≤ stmts_size ss

@@ -3,16 +3,16 @@ use Rattle.std.proofs.Common.{◌≡◌, ℕ, ◌+◌, ◌*◌, List, ◌++◌, 
 use Rattle.std.specs.Prelude.{codes, if◌then◌else◌}
 use Rattle.py_tree.specs.Tree as tree
 use Rattle.py_limits.specs.Size.{arg_size, args_size, arguments_size, expr_size, opt_arg_size, opt_expr_size}
-use Rattle.py_counts.specs.Counts.{scopes_in, scopes_in_annotation, scopes_in_arg, scopes_in_notes, scopes_in_opt_arg, scopes_in_returns}
+use Rattle.py_scope_counts.specs.Counts.{scopes_in, scopes_in_annotation, scopes_in_arg, scopes_in_notes, scopes_in_opt_arg, scopes_in_returns}
 use Rattle.py_bytecode.specs.declared.instruction.Instruction.TheVariants as op
 use Rattle.py_bytecode.specs.Objects as const
-use Rattle.py_texts.specs.Annotation.{annotation}
+use Rattle.py_annotation_text.specs.Annotation.{annotation}
 use Rattle.py_base.specs.declared.errors.CodegenErrorType.TheVariants as error
-use Rattle.py_forms.specs.Agree.{AllOf, kids_v}
-use Rattle.py_forms.specs.Form.{VForm}
-use Rattle.py_steps.specs.Children.{noted}
-use Rattle.py_steps.specs.Context.{mangled}
-use Rattle.py_steps.specs.Emitting.{Around, Emission, emit_constant}
+use Rattle.py_control.specs.Agree.{AllOf, kids_v}
+use Rattle.py_control.specs.Form.{VForm}
+use Rattle.py_emission_parts.specs.Children.{noted}
+use Rattle.py_emission_parts.specs.Context.{mangled}
+use Rattle.py_emission_parts.specs.Emitting.{Around, Emission, emit_constant}
 use Rattle.py_emission.specs.Emission.{emission}
 use Rattle.py_emission.specs.EmissionDefs as emitting
 use Rattle.py_emission.specs.EmissionDefs.{emission_of_note, emission_of_text, notes}
@@ -23,7 +23,7 @@ use Rattle.py_meaning.specs.TableNotes.{note_form, note_forms, text_form}
 use Rattle.py_emission_outcomes.proofs.Capacity.Fits.{Fits, constant_fits, context_fits, fits_as, refuse_fits, room, then_fits}
 use Rattle.py_emission_outcomes.proofs.Capacity.Accesses.{Ready}
 use Rattle.py_emission_outcomes.proofs.Capacity.FitExprs.{expr_fits}
-use Rattle.py_emission_outcomes.proofs.Capacity.Standing.{Here, apart, told}
+use Rattle.py_emission_outcomes.proofs.Capacity.AvailableCellLemmas.{Here, apart, told}
 use Rattle.py_emission_outcomes.proofs.Capacity.StandingForms.{InNamed}
 use Rattle.py_emission_outcomes.proofs.Capacity.Turns.{Turns, no_turns, turn_join, turn_one, turns_as}
 

@@ -8,11 +8,11 @@ use Rattle.py_bytecode.specs.declared.instruction.Instruction.{Instruction}
 use Rattle.py_bytecode.specs.declared.instruction.Instruction.TheVariants as op
 use Rattle.py_bytecode.specs.Objects as const
 use Rattle.py_bytecode.specs.Objects.{Const}
-use Rattle.py_steps.specs.Elements.{Element, Single, Spread, Callee, Function, Method, after_star, bare, before_star, behind, front, groups, pairs, sides, starred, stars}
-use Rattle.py_steps.specs.Emitting.{Around, Emission, emit_constant}
-use Rattle.py_steps.specs.EmissionParts.{Emissions, Keywords, Stores, built, call_by, checked, dict_value, display, elements, emission_of_call, emission_of_dict, in_turn, joined_map, map_of, map_of_pairs, name_values, names_in, packed, packed_tuple, placed, slice_step, slice_value, unpack, unpack_starred, unpacking, updates, value_or, values, values_in}
-use Rattle.py_steps.specs.Refused.{few_aside, no_assignment}
-use Rattle.py_steps.specs.TableParts.{any}
+use Rattle.py_emission_parts.specs.Elements.{Element, Single, Spread, Callee, Function, Method, after_star, bare, before_star, behind, front, groups, pairs, sides, starred, stars}
+use Rattle.py_emission_parts.specs.Emitting.{Around, Emission, emit_constant}
+use Rattle.py_emission_parts.specs.EmissionParts.{Emissions, Keywords, Stores, built, call_by, checked, dict_value, display, elements, emission_of_call, emission_of_dict, in_turn, joined_map, map_of, map_of_pairs, name_values, names_in, packed, packed_tuple, placed, slice_step, slice_value, unpack, unpack_starred, unpacking, updates, value_or, values, values_in}
+use Rattle.py_emission_parts.specs.Refused.{few_aside, no_assignment}
+use Rattle.py_emission_parts.specs.TableParts.{any}
 use Rattle.py_emission_outcomes.proofs.Capacity.ShortTables.{IsShort}
 use Rattle.py_emission_outcomes.proofs.Capacity.Fits.{Fits, at_fits, constant_fits, count_fits, emit_fits, few_so, fits_as, if_fits, if_so, keep_fits, mangled_fits, plain_fits, refuse_fits, room, then_fits, unless_debug_fits}
 use Rattle.py_emission_outcomes.proofs.Capacity.Threads.{OneOf, Thread, all_groups, bare_so, parted, thread_few}

@@ -6,29 +6,29 @@ use Rattle.py_base.specs.declared.operators.ConversionFlag.TheVariants as conver
 use Rattle.py_base.specs.declared.operators.Operator.{Operator}
 use Rattle.py_base.specs.declared.operators.Operator.TheVariants as operator
 use Rattle.py_tree.specs.Tree as tree
-use Rattle.py_counts.specs.Counts.{scopes_in, scopes_in_all, scopes_in_clauses, scopes_in_opt, scopes_in_opts}
+use Rattle.py_scope_counts.specs.Counts.{scopes_in, scopes_in_all, scopes_in_clauses, scopes_in_opt, scopes_in_opts}
 use Rattle.py_limits.specs.Size.{expr_size, exprs_size, generators_size, keys_size}
 use Rattle.py_bytecode.specs.declared.instruction.Instruction.TheVariants as op
 use Rattle.py_bytecode.specs.Objects as const
 use Rattle.py_bytecode.specs.Values.{Load}
 use Rattle.py_emission.specs.Emission.{all_emissions, clause_emissions, emissions, joined_return, name_return, opt_emissions, stores}
-use Rattle.py_forms.specs.Agree.{AllOf, kids_g}
-use Rattle.py_forms.specs.Form.{VForm}
+use Rattle.py_control.specs.Agree.{AllOf, kids_g}
+use Rattle.py_control.specs.Form.{VForm}
 use Rattle.py_meaning.specs.Table.{after, after_clauses, all_forms, target_form, target_forms}
-use Rattle.py_steps.specs.Context.{Context}
-use Rattle.py_steps.specs.Comprehensions.{comprehension}
-use Rattle.py_steps.specs.Elements.{pairs}
-use Rattle.py_steps.specs.Emitting.{Around, Emission, ◌▸◌, move}
-use Rattle.py_steps.specs.EmissionParts.{joined_value, tested, values}
-use Rattle.py_steps.specs.Within.{comprehension_inside}
-use Rattle.py_steps.specs.TableParts as table
-use Rattle.py_steps.specs.TableParts.{binary_case, conversion_case, is_debug}
+use Rattle.py_emission_parts.specs.Context.{Context}
+use Rattle.py_emission_parts.specs.Comprehensions.{comprehension}
+use Rattle.py_emission_parts.specs.Elements.{pairs}
+use Rattle.py_emission_parts.specs.Emitting.{Around, Emission, ◌▸◌, move}
+use Rattle.py_emission_parts.specs.EmissionParts.{joined_value, tested, values}
+use Rattle.py_emission_parts.specs.Within.{comprehension_inside}
+use Rattle.py_emission_parts.specs.TableParts as table
+use Rattle.py_emission_parts.specs.TableParts.{binary_case, conversion_case, is_debug}
 use Rattle.py_emission_outcomes.proofs.Capacity.Fits.{Fits, constant_fits, fits_as, fits_from, if_fits, room}
 use Rattle.py_emission_outcomes.proofs.Capacity.Accesses.{AtHand, Ready, accessed_fits, debug_fits, outside}
 use Rattle.py_emission_outcomes.proofs.Capacity.FitParts.{ElementFits, EntryFits, FitsWell, PairFits, Takes, built_fits}
 use Rattle.py_emission_outcomes.proofs.Capacity.FitScopes.{FirstFits, comprehension_fits}
 use Rattle.py_emission_outcomes.proofs.Capacity.FitTests.{value_returned, whole_fits}
-use Rattle.py_emission_outcomes.proofs.Capacity.Standing.{Here, told}
+use Rattle.py_emission_outcomes.proofs.Capacity.AvailableCellLemmas.{Here, told}
 use Rattle.py_emission_outcomes.proofs.Capacity.StandingExprs.{InForm, InTargetElement, parts_in}
 use Rattle.py_emission_outcomes.proofs.Capacity.Threads.{Thread, thread_to}
 

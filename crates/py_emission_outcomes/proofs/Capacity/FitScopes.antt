@@ -9,15 +9,15 @@ use Rattle.py_bytecode.specs.declared.instruction.Instruction.TheVariants as op
 use Rattle.py_bytecode.specs.Objects as const
 use Rattle.py_bytecode.specs.Objects.{Object}
 use Rattle.py_scope.specs.declared.table_type.SymbolTableType.TheVariants as kind
-use Rattle.py_steps.specs.Children.{DefaultEmissions, behind_child, child, code_head, emission_of_defaults, enter_parameters, flags_of_defaults, free_names, function_scope, on_sealed, some_emitted}
-use Rattle.py_steps.specs.Comprehensions.{ClauseEmissions, as_element, called_at_once, clause, clauses, comprehension, comprehension_shape, conditions, further_clauses, gathered, generated, retold_in}
-use Rattle.py_steps.specs.Context.{Context}
-use Rattle.py_steps.specs.Emitting.{Around, Emission, Outcome, State, Done, TooWide, Refused, begun}
-use Rattle.py_steps.specs.EmissionParts.{Emissions, built, map_of}
-use Rattle.py_steps.specs.Everywhere.{Everywhere}
-use Rattle.py_steps.specs.Refused.{no_assignment, retold}
-use Rattle.py_steps.specs.Sealed.{Head, sealed}
-use Rattle.py_steps.specs.Within.{Shape, comprehension_inside, some_flag}
+use Rattle.py_emission_parts.specs.Children.{DefaultEmissions, behind_child, child, code_head, emission_of_defaults, enter_parameters, flags_of_defaults, free_names, function_scope, on_sealed, some_emitted}
+use Rattle.py_emission_parts.specs.Comprehensions.{ClauseEmissions, as_element, called_at_once, clause, clauses, comprehension, comprehension_shape, conditions, further_clauses, gathered, generated, retold_in}
+use Rattle.py_emission_parts.specs.Context.{Context}
+use Rattle.py_emission_parts.specs.Emitting.{Around, Emission, Outcome, State, Done, TooWide, Refused, begun}
+use Rattle.py_emission_parts.specs.EmissionParts.{Emissions, built, map_of}
+use Rattle.py_emission_parts.specs.Everywhere.{Everywhere}
+use Rattle.py_emission_parts.specs.Refused.{no_assignment, retold}
+use Rattle.py_emission_parts.specs.Sealed.{Head, sealed}
+use Rattle.py_emission_parts.specs.Within.{Shape, comprehension_inside, some_flag}
 use Rattle.py_emission_outcomes.specs.Fitting.{HasShortTables}
 use Rattle.py_emission_outcomes.proofs.Capacity.ShortTables.{FewParameters, HasFew, sealed_short}
 use Rattle.py_emission_outcomes.proofs.Capacity.Fits.{Fits, FitsIn, Stands, begin_fits, constant_added, constant_fits, count_fits, emit_fits, few_so, fits_as, fits_from, generating_fits, if_fits, jump_fits, keep_fits, more, new_fits, plain_fits, refuse_fits, room, taken, then_fits, unless_debug_fits, varname_added, varname_fits, IsOfTree}

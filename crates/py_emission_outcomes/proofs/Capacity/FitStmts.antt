@@ -4,11 +4,11 @@ use Rattle.py_tree.specs.Tree as tree
 use Rattle.py_base.specs.declared.location.SourceLocation.{SourceLocation}
 use Rattle.py_base.specs.declared.errors.CodegenErrorType.TheVariants as error
 use Rattle.py_limits.specs.Size.{expr_size, exprs_size, handlers_size, stmt_size, stmts_size}
-use Rattle.py_counts.specs.Counts.{scopes_in, scopes_in_all, scopes_in_opt}
+use Rattle.py_scope_counts.specs.Counts.{scopes_in, scopes_in_all, scopes_in_opt}
 use Rattle.py_bytecode.specs.declared.instruction.Instruction.TheVariants as op
-use Rattle.py_forms.specs.Agree.{AllOf, kids, kids_g, kids_h, kids_t, kids_v}
-use Rattle.py_forms.specs.Form.{SForm, SThen, Scope}
-use Rattle.py_steps.specs.Emitting.{Around, Emission, ◌▸◌}
+use Rattle.py_control.specs.Agree.{AllOf, kids, kids_g, kids_h, kids_t, kids_v}
+use Rattle.py_control.specs.Form.{SForm, SThen, Scope}
+use Rattle.py_emission_parts.specs.Emitting.{Around, Emission, ◌▸◌}
 use Rattle.py_emission.specs.Emission.{emission, unsupported}
 use Rattle.py_emission.specs.EmissionStmts.{emission_of_assert, emission_of_assign, emission_of_handlers, emission_of_rest, emission_of_stmt, emission_of_stmts, leave_loop}
 use Rattle.py_emission.specs.Predicates.{but_doc, itemless, none}
@@ -27,7 +27,7 @@ use Rattle.py_emission_outcomes.proofs.Capacity.FitGeneric.{alias_fits}
 use Rattle.py_emission_outcomes.proofs.Capacity.Scopeless.{doc_scopeless}
 use Rattle.py_emission_outcomes.proofs.Capacity.FitHandlers.{caught_fits, named_body_fits, named_apart}
 use Rattle.py_emission_outcomes.proofs.Capacity.FitImports.{import_fits, import_from_fits}
-use Rattle.py_emission_outcomes.proofs.Capacity.Standing.{Here, apart, looping_ready, told}
+use Rattle.py_emission_outcomes.proofs.Capacity.AvailableCellLemmas.{Here, apart, looping_ready, told}
 use Rattle.py_emission_outcomes.proofs.Capacity.StandingForms.{assigned_apart}
 
 -- a node that is not compiled

@@ -11,9 +11,9 @@ use Rattle.py_base.specs.declared.shapes.Malformed.TheVariants as shape
 use Rattle.py_base.specs.declared.errors.CodegenErrorType.TheVariants as error
 use Rattle.py_bytecode.specs.declared.instruction.Instruction.TheVariants as op
 use Rattle.py_bytecode.specs.Values.{flip}
-use Rattle.py_steps.specs.Emitting.{Around, Emission, ◌▸◌, emit, move}
-use Rattle.py_steps.specs.EmissionParts.{Emissions, bool_emissions, bool_test, bool_value, chain, choice, comparisons, emission_of_compare, emission_of_comparison, emission_of_link, first_comparison, keeping_jump, links, only, ordinary, past_tests, shorts, some_test, some_values, tested, testing_jump, tests, truth_of, unary_emissions, unary_value, values}
-use Rattle.py_steps.specs.TableParts.{deciding, unary_case}
+use Rattle.py_emission_parts.specs.Emitting.{Around, Emission, ◌▸◌, emit, move}
+use Rattle.py_emission_parts.specs.EmissionParts.{Emissions, bool_emissions, bool_test, bool_value, chain, choice, comparisons, emission_of_compare, emission_of_comparison, emission_of_link, first_comparison, keeping_jump, links, only, ordinary, past_tests, shorts, some_test, some_values, tested, testing_jump, tests, truth_of, unary_emissions, unary_value, values}
+use Rattle.py_emission_parts.specs.TableParts.{deciding, unary_case}
 use Rattle.py_emission_outcomes.proofs.Capacity.Fits.{Fits, at_fits, begin_fits, emit_fits, fits_as, if_fits, if_so, jump_fits, keep_fits, new_fits, plain_fits, refuse_fits, room, then_fits}
 use Rattle.py_emission_outcomes.proofs.Capacity.FitParts.{FitsWell, turn_fits, values_fit}
 use Rattle.py_emission_outcomes.proofs.Capacity.Threads.{Thread}

@@ -8,11 +8,11 @@ use Rattle.py_base.specs.declared.errors.CodegenErrorType.TheVariants as error
 use Rattle.py_bytecode.specs.declared.instruction.Instruction.{Instruction}
 use Rattle.py_bytecode.specs.Equality.{const_eq, text_eq, entered}
 use Rattle.py_bytecode.specs.Objects.{Const}
-use Rattle.py_forms.specs.Agree.{AllOf}
-use Rattle.py_steps.specs.Context.{Context, is_function, mangled}
-use Rattle.py_steps.specs.Emitting.{Around, State, Outcome, Done, TooWide, Refused, Emission, LoopBlocks, ◌▸◌, add_constant, add_varname, begin, by_context, by_level, by_loops, emit, emit_constant, emit_count, emit_mangled, emit_name, emit_varname, generating, go_on, in_loop, jump, keep, located, move, new_block, pass_over, place_in, postponing, Put, refuse, with_block, with_constant, with_loops, with_name, with_postponed, with_step, with_varname}
-use Rattle.py_steps.specs.EmissionParts.{only_in_function, pass_scopes, unless_debug}
-use Rattle.py_steps.specs.TableParts.{is_debug}
+use Rattle.py_control.specs.Agree.{AllOf}
+use Rattle.py_emission_parts.specs.Context.{Context, is_function, mangled}
+use Rattle.py_emission_parts.specs.Emitting.{Around, State, Outcome, Done, TooWide, Refused, Emission, LoopBlocks, ◌▸◌, add_constant, add_varname, begin, by_context, by_level, by_loops, emit, emit_constant, emit_count, emit_mangled, emit_name, emit_varname, generating, go_on, in_loop, jump, keep, located, move, new_block, pass_over, place_in, postponing, Put, refuse, with_block, with_constant, with_loops, with_name, with_postponed, with_step, with_varname}
+use Rattle.py_emission_parts.specs.EmissionParts.{only_in_function, pass_scopes, unless_debug}
+use Rattle.py_emission_parts.specs.TableParts.{is_debug}
 use Rattle.py_emission_outcomes.proofs.Capacity.ShortTables.{IsShort, entered_short}
 
 -- how much is in the tables, and how many blocks there are

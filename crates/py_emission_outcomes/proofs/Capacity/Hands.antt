@@ -1,12 +1,12 @@
 -- What a scope within has from outside is at hand where it is made, and the scopes in its form stand in it.
 use Rattle.std.proofs.Common.{ℕ}
 use Rattle.py_scope.specs.declared.table_type.SymbolTableType.{SymbolTableType}
-use Rattle.py_forms.specs.Agree.{AllOf, kids}
-use Rattle.py_forms.specs.Form.{MkScope, SForm}
-use Rattle.py_steps.specs.Context.{head_of, inside}
-use Rattle.py_steps.specs.Emitting.{Around}
+use Rattle.py_control.specs.Agree.{AllOf, kids}
+use Rattle.py_control.specs.Form.{MkScope, SForm}
+use Rattle.py_emission_parts.specs.Context.{head_of, inside}
+use Rattle.py_emission_parts.specs.Emitting.{Around}
 use Rattle.py_emission_outcomes.proofs.Capacity.Accesses.{AtHand, Ready, outside}
-use Rattle.py_emission_outcomes.proofs.Capacity.Standing.{Here, free_at_hand, kids_stand, names_at_hand, told}
+use Rattle.py_emission_outcomes.proofs.Capacity.AvailableCellLemmas.{Here, free_at_hand, kids_stand, names_at_hand, told}
 
 -- the names that a scope of this kind and number has from outside are at hand in what stands around
 pub hand : (c : Around) → Ready c → (typ : SymbolTableType) (n : ℕ) (f : SForm) → Here c (MkScope (head_of (inside typ n (told c))) f) → AtHand c (inside typ n c.context).frees

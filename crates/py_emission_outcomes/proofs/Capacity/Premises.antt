@@ -14,19 +14,19 @@ use Rattle.py_scope.specs.declared.symbols.Symbol.{Symbol}
 use Rattle.py_scope.specs.Laws.{SymbolsFollow}
 use Rattle.py_scope.specs.Names.{Name}
 use Rattle.py_scope.specs.Resolved.{resolved}
-use Rattle.py_tables.specs.Tables as tables
-use Rattle.py_uses.specs.Steps.{State}
-use Rattle.py_steps.specs.Context.{cells_among, cells_here, frees_among, frees_here, symbols_in}
+use Rattle.py_symbol_tables.specs.Tables as tables
+use Rattle.py_name_uses.specs.Steps.{State}
+use Rattle.py_emission_parts.specs.Context.{cells_among, cells_here, frees_among, frees_here, symbols_in}
 use Rattle.py_meaning.specs.ExprFaults.{Fault}
 use Rattle.py_meaning.specs.Faults.{compile_faults, faults, malformed, too_deep, too_large, whole}
 use Rattle.py_meaning.specs.Scanned.{entries_of, scan_faults, scopes_of}
-use Rattle.py_owners.specs.Entered.{ScansTo}
-use Rattle.py_owners.proofs.EnteringPrograms.{scan_came}
-use Rattle.py_owners.proofs.Facts.{tables_follow}
-use Rattle.py_owners.proofs.ListedTables.{numbered, or_none, symbols_there}
-use Rattle.py_owners.proofs.OwnerTables.{scan_done}
-use Rattle.py_loads.specs.Uses.{UsesAreFew, used}
-use Rattle.py_loads.proofs.Distinct.{those_distinct}
+use Rattle.py_scope_tree.specs.Entered.{ScansTo}
+use Rattle.py_scope_tree.proofs.EnteringPrograms.{scan_came}
+use Rattle.py_scope_tree.proofs.Facts.{tables_follow}
+use Rattle.py_scope_tree.proofs.ListedTables.{numbered, or_none, symbols_there}
+use Rattle.py_scope_tree.proofs.OwnerTables.{scan_done}
+use Rattle.py_cell_loads.specs.Uses.{UsesAreFew, used}
+use Rattle.py_cell_loads.proofs.Distinct.{those_distinct}
 use Rattle.py_emission_outcomes.proofs.Capacity.Among.{all_names, few_of_those}
 
 -- where two lists together are empty, each is

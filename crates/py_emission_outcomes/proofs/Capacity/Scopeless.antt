@@ -1,7 +1,7 @@
 -- No scope stands in texts, nor in a docstring.
 use Rattle.std.proofs.Common.{◌≡◌, ℕ, List, Bool, Option, Some, None, refl, arith}
 use Rattle.py_tree.specs.Tree as tree
-use Rattle.py_counts.specs.Counts.{scopes_in, scopes_in_all}
+use Rattle.py_scope_counts.specs.Counts.{scopes_in, scopes_in_all}
 use Rattle.py_emission.specs.Texts.{joined, stmt_text, text_of, texts_of}
 use Rattle.py_meaning.specs.StmtCounts.{scopes_in_stmt}
 

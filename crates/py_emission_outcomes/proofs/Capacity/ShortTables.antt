@@ -7,12 +7,12 @@ use Rattle.py_base.specs.Literal.{Literal}
 use Rattle.py_bytecode.specs.Equality.{const_eq, entered}
 use Rattle.py_bytecode.specs.Objects as const
 use Rattle.py_bytecode.specs.Objects.{Const, codes_in, consts_of, listed}
-use Rattle.py_forms.specs.Agree.{AllOf}
-use Rattle.py_steps.specs.Emitting.{State}
-use Rattle.py_steps.specs.Everywhere.{Everywhere, UpTo}
-use Rattle.py_steps.specs.Sealed.{Head, sealed}
-use Rattle.py_steps.specs.TableParts.{constant_of}
-use Rattle.py_steps.specs.Within.{Shape, doc_const}
+use Rattle.py_control.specs.Agree.{AllOf}
+use Rattle.py_emission_parts.specs.Emitting.{State}
+use Rattle.py_emission_parts.specs.Everywhere.{Everywhere, UpTo}
+use Rattle.py_emission_parts.specs.Sealed.{Head, sealed}
+use Rattle.py_emission_parts.specs.TableParts.{constant_of}
+use Rattle.py_emission_parts.specs.Within.{Shape, doc_const}
 use Rattle.py_emission_outcomes.specs.Fitting.{HasShortTables}
 
 -- a constant is no code object, or one that has short tables, as has each within it

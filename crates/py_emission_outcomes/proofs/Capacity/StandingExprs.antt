@@ -8,14 +8,14 @@ use Rattle.py_bytecode.specs.declared.instruction.Instruction.TheVariants as op
 use Rattle.py_bytecode.specs.Objects as const
 use Rattle.py_bytecode.specs.Objects.{Const}
 use Rattle.py_bytecode.specs.Values.{Operation, operation, Bare}
-use Rattle.py_forms.specs.Agree.{AllOf, kids_g, kids_gs, kids_ls, kids_ss, kids_v, kids_vs}
-use Rattle.py_forms.specs.Form.{Scope, Target, VConst, VForm, VForms, VMore, VNone, VOp}
-use Rattle.py_steps.specs.Context.{Context}
-use Rattle.py_steps.specs.Elements.{Callee, Element, Function, Method, Single, Spread, bare, behind, front, grouped, groups, sides, starred}
-use Rattle.py_steps.specs.TableParts.{ExprForms, Keywords, any, built, call_by, call_form, compare_form, counted, dict_form, display, elements, joined_map, links_of, map_of, map_of_pairs, name_values, names_in, packed, parts_of, placed, shorts_of, slice_form, targets_of, updated, value_or, values, values_in}
+use Rattle.py_control.specs.Agree.{AllOf, kids_g, kids_gs, kids_ls, kids_ss, kids_v, kids_vs}
+use Rattle.py_control.specs.Form.{Scope, Target, VConst, VForm, VForms, VMore, VNone, VOp}
+use Rattle.py_emission_parts.specs.Context.{Context}
+use Rattle.py_emission_parts.specs.Elements.{Callee, Element, Function, Method, Single, Spread, bare, behind, front, grouped, groups, sides, starred}
+use Rattle.py_emission_parts.specs.TableParts.{ExprForms, Keywords, any, built, call_by, call_form, compare_form, counted, dict_form, display, elements, joined_map, links_of, map_of, map_of_pairs, name_values, names_in, packed, parts_of, placed, shorts_of, slice_form, targets_of, updated, value_or, values, values_in}
 use Rattle.py_meaning.specs.Table.{after, all_forms, expr_form, expr_forms}
 use Rattle.py_meaning.specs.TableScopes.{called_at_once}
-use Rattle.py_emission_outcomes.proofs.Capacity.Standing.{apart, together}
+use Rattle.py_emission_outcomes.proofs.Capacity.AvailableCellLemmas.{apart, together}
 
 module _ (P : Scope → Type 0) where
   -- so it is of each scope in a value

@@ -3,14 +3,14 @@ use Rattle.std.proofs.Common.{ℕ, suc, ◌+◌, List, [], ◌∷◌, ◌++◌, 
 use Rattle.py_tree.specs.Tree as tree
 use Rattle.py_bytecode.specs.declared.instruction.Instruction.{Instruction}
 use Rattle.py_bytecode.specs.declared.instruction.Instruction.TheVariants as op
-use Rattle.py_forms.specs.Agree.{AllOf, kids, kids_g, kids_ss, kids_t, kids_ts, kids_v, kids_vs}
-use Rattle.py_forms.specs.Form.{MkScope, SForm, Scope, TForm, Target, VForm, VForms, VKeep, VMake, VNone}
-use Rattle.py_steps.specs.Context.{Context, head_of, qualified}
+use Rattle.py_control.specs.Agree.{AllOf, kids, kids_g, kids_ss, kids_t, kids_ts, kids_v, kids_vs}
+use Rattle.py_control.specs.Form.{MkScope, SForm, Scope, TForm, Target, VForm, VForms, VKeep, VMake, VNone}
+use Rattle.py_emission_parts.specs.Context.{Context, head_of, qualified}
 use Rattle.py_base.specs.declared.operators.BoolOp.{BoolOp}
 use Rattle.py_base.specs.declared.operators.BoolOp.TheVariants.{And, Or}
 use Rattle.py_base.specs.declared.operators.UnaryOp.TheVariants as unary
-use Rattle.py_steps.specs.TableParts.{built, map_of, name_values, part_test, parts_of, shorts_of, some_built, tests_of}
-use Rattle.py_steps.specs.Within.{function_inside, handed_parts, some_flag}
+use Rattle.py_emission_parts.specs.TableParts.{built, map_of, name_values, part_test, parts_of, shorts_of, some_built, tests_of}
+use Rattle.py_emission_parts.specs.Within.{function_inside, handed_parts, some_flag}
 use Rattle.py_emission.specs.Texts.{doc_of}
 use Rattle.py_meaning.specs.StmtCounts.{scopes_in_stmts}
 use Rattle.py_meaning.specs.StmtParts.{assigned, function_value}
@@ -18,7 +18,7 @@ use Rattle.py_meaning.specs.Table.{after, all_forms, expr_form, expr_forms, targ
 use Rattle.py_meaning.specs.TableNotes.{note_forms}
 use Rattle.py_meaning.specs.TableParams.{hidden_call}
 use Rattle.py_meaning.specs.TableScopes.{Defaults, class_form, decorated, default_parts, documented, setup_form}
-use Rattle.py_emission_outcomes.proofs.Capacity.Standing.{apart, together}
+use Rattle.py_emission_outcomes.proofs.Capacity.AvailableCellLemmas.{apart, together}
 
 module _ (P : Scope → Type 0) where
   -- so it is of each scope in a value, in a value with a name, and in parts

@@ -1,6 +1,6 @@
 -- Things one behind another: each goes on from the number of the next scope that those before it come to, and takes one at least of the room for all.
 use Rattle.std.proofs.Common.{◌≡◌, refl, sym, subst, ℕ, ◌+◌, ◌≤◌, List, [], ◌∷◌, ◌++◌, length, arith}
-use Rattle.py_steps.specs.Elements.{Element, Single, Spread, bare, behind, front, grouped, groups}
+use Rattle.py_emission_parts.specs.Elements.{Element, Single, Spread, bare, behind, front, grouped, groups}
 
 module _ {A : Type 0} (P : (k l w : ℕ) → A → Type 0) where
   -- from the number k to the number l, with this room

@@ -1,9 +1,9 @@
 -- Emissions that fit one behind another, in turn.
 use Rattle.std.proofs.Common.{◌≡◌, ℕ, ◌+◌, ◌≤◌, List, [], ◌∷◌, ◌++◌, length, arith}
 use Rattle.py_bytecode.specs.declared.instruction.Instruction.{Instruction}
-use Rattle.py_steps.specs.Children.{some_emitted}
-use Rattle.py_steps.specs.Emitting.{Around, Emission}
-use Rattle.py_steps.specs.EmissionParts.{built, in_turn}
+use Rattle.py_emission_parts.specs.Children.{some_emitted}
+use Rattle.py_emission_parts.specs.Emitting.{Around, Emission}
+use Rattle.py_emission_parts.specs.EmissionParts.{built, in_turn}
 use Rattle.py_emission_outcomes.proofs.Capacity.FitParts.{built_fits, turn_fits}
 use Rattle.py_emission_outcomes.proofs.Capacity.Fits.{Fits, fits_as, keep_fits, room}
 use Rattle.py_emission_outcomes.proofs.Capacity.Threads.{Thread, thread_as, thread_few, thread_join, thread_one, thread_to}

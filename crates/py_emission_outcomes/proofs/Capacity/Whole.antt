@@ -6,27 +6,27 @@ use Rattle.py_tree.specs.Tree as tree
 use Rattle.py_tree.specs.declared.modules.Mode.{Mode}
 use Rattle.py_limits.specs.Size.{size_of}
 use Rattle.py_scope.specs.declared.flat.ScopeEntry.{ScopeEntry}
-use Rattle.py_forms.specs.Agree.{AllOf, form_of, kids}
-use Rattle.py_steps.specs.Context.{Context, inside, outermost}
-use Rattle.py_steps.specs.Emitting.{Around, Done, Outcome, Refused, State, TooWide, nothing}
-use Rattle.py_steps.specs.Everywhere.{Everywhere}
-use Rattle.py_steps.specs.Sealed.{sealed}
+use Rattle.py_control.specs.Agree.{AllOf, form_of, kids}
+use Rattle.py_emission_parts.specs.Context.{Context, inside, outermost}
+use Rattle.py_emission_parts.specs.Emitting.{Around, Done, Outcome, Refused, State, TooWide, nothing}
+use Rattle.py_emission_parts.specs.Everywhere.{Everywhere}
+use Rattle.py_emission_parts.specs.Sealed.{sealed}
 use Rattle.py_emit.specs.States.{module_head}
 use Rattle.py_emission.specs.EmissionMods.{emission_of_mod, emitted}
 use Rattle.py_meaning.specs.ExprFaults.{Fault}
 use Rattle.py_meaning.specs.Faults.{compile_faults}
 use Rattle.py_meaning.specs.Meaning.{body, mod_form}
 use Rattle.py_meaning.specs.Scanned.{scopes_of}
-use Rattle.py_owners.proofs.EnteringPrograms.{parts_none}
-use Rattle.py_emission_outcomes.proofs.Faults.Ending.{refusal_heads}
-use Rattle.py_loads.specs.Uses.{UsesAreFew}
+use Rattle.py_scope_tree.proofs.EnteringPrograms.{parts_none}
+use Rattle.py_emission_outcomes.proofs.Faults.FaultOutcomeLemmas.{refusal_heads}
+use Rattle.py_cell_loads.specs.Uses.{UsesAreFew}
 use Rattle.py_emission_outcomes.specs.Fitting.{HasShortTables, IsSmall, TreesFit}
 use Rattle.py_emission_outcomes.proofs.Capacity.ShortTables.{sealed_short}
 use Rattle.py_emission_outcomes.proofs.Capacity.Fits.{Fits, FitsIn, IsOfTree, taken}
 use Rattle.py_emission_outcomes.proofs.Capacity.Accesses.{Ready, cells_few, outside, ready_outermost}
 use Rattle.py_emission_outcomes.proofs.Capacity.FitMods.{mod_fits}
 use Rattle.py_emission_outcomes.proofs.Capacity.Premises.{few_everywhere, small_tree}
-use Rattle.py_emission_outcomes.proofs.Capacity.Standing.{AllStand, Here, told, tree_stands}
+use Rattle.py_emission_outcomes.proofs.Capacity.AvailableCellLemmas.{AllStand, Here, told, tree_stands}
 
 -- what stands around the outermost scope finds the cells that the form of the tree wants
 pub stands_there : (t : tree.Mod) (m : Mode) (level : ℕ) (path : List ℕ) (scopes : List ScopeEntry) → AllStand scopes 0 (kids (form_of (body scopes t m level))) → AllOf (Here (outside (outermost level path scopes))) (kids (mod_form (told (outside (outermost level path scopes))) t m))

@@ -6,22 +6,22 @@ use Rattle.py_base.specs.declared.location.SourceLocation.{SourceLocation}
 use Rattle.py_tree.specs.Tree as tree
 use Rattle.py_tree.specs.declared.modules.Mode.{Mode}
 use Rattle.py_limits.specs.Size.{size_of}
-use Rattle.py_forms.specs.Agree.{AllOf, form_of, head_of, kids}
-use Rattle.py_forms.specs.Form.{Scope}
-use Rattle.py_steps.specs.Context.{outermost}
-use Rattle.py_steps.specs.Emitting.{Outcome, Done, Refused, TooWide}
+use Rattle.py_control.specs.Agree.{AllOf, form_of, head_of, kids}
+use Rattle.py_control.specs.Form.{Scope}
+use Rattle.py_emission_parts.specs.Context.{outermost}
+use Rattle.py_emission_parts.specs.Emitting.{Outcome, Done, Refused, TooWide}
 use Rattle.py_emission.specs.EmissionMods.{emitted}
 use Rattle.py_meaning.specs.Meaning.{body}
-use Rattle.py_owners.specs.Cells.{StandUpTo, at_hand, is_one_of, wanted_at}
-use Rattle.py_owners.specs.Own.{IsOwn, OwnUpTo, number_of}
-use Rattle.py_owners.specs.StmtOwners.{owners_of}
-use Rattle.py_owners.proofs.CellsOfScopes.{free_told}
-use Rattle.py_owners.proofs.EachOwn.{each_is_its_own}
-use Rattle.py_owners.proofs.OwnScopes.{all_as}
+use Rattle.py_scope_tree.specs.Cells.{StandUpTo, at_hand, is_one_of, wanted_at}
+use Rattle.py_scope_tree.specs.Own.{IsOwn, OwnUpTo, number_of}
+use Rattle.py_scope_tree.specs.StmtOwners.{owners_of}
+use Rattle.py_scope_tree.proofs.CellsOfScopes.{free_told}
+use Rattle.py_scope_tree.proofs.EachOwn.{each_is_its_own}
+use Rattle.py_scope_tree.proofs.OwnScopes.{all_as}
 use Rattle.py_emission_outcomes.proofs.Capacity.Fits.{FitsIn}
 use Rattle.py_emission_outcomes.proofs.Capacity.Accesses.{outside, ready_outermost}
 use Rattle.py_emission_outcomes.proofs.Capacity.FitMods.{mod_fits}
-use Rattle.py_emission_outcomes.proofs.Capacity.Standing.{AllStand, deep_all}
+use Rattle.py_emission_outcomes.proofs.Capacity.AvailableCellLemmas.{AllStand, deep_all}
 use Rattle.py_emission_outcomes.proofs.Capacity.Whole.{another, begins, stands_there}
 
 module _ (t : tree.Mod) (m : Mode) where

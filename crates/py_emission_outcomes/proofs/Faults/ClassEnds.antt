@@ -14,14 +14,14 @@ use Rattle.py_meaning.specs.ExprFaults as fault
 use Rattle.py_meaning.specs.Faults.{base_faults, class_faults}
 use Rattle.py_emission.specs.Emission.{all_emissions}
 use Rattle.py_emission.specs.Texts.{after_doc, doc_of}
-use Rattle.py_steps.specs.Children.{made}
-use Rattle.py_steps.specs.Classes.{cell_returned, class_end, class_names, class_shape}
-use Rattle.py_steps.specs.Within.{behind_name, class_inside, class_path, class_within, doc_const}
-use Rattle.py_steps.specs.Context.{class_cells}
-use Rattle.py_steps.specs.Elements.{Function, Single, Spread, starred}
-use Rattle.py_steps.specs.Emitting.{Around, Emission, emit, emit_constant}
-use Rattle.py_steps.specs.EmissionParts.{built, elements}
-use Rattle.py_emission_outcomes.proofs.Faults.Refusing.{EndsAs, Passes, cell_passes, child_ends, constant_passes, context_ends, count_passes, emit_passes, ends_so, in_function, last_ends, level_ends, name_passes, nothing_passes, outside, own_context_ends, then_ends}
+use Rattle.py_emission_parts.specs.Children.{made}
+use Rattle.py_emission_parts.specs.Classes.{cell_returned, class_end, class_names, class_shape}
+use Rattle.py_emission_parts.specs.Within.{behind_name, class_inside, class_path, class_within, doc_const}
+use Rattle.py_emission_parts.specs.Context.{class_cells}
+use Rattle.py_emission_parts.specs.Elements.{Function, Single, Spread, starred}
+use Rattle.py_emission_parts.specs.Emitting.{Around, Emission, emit, emit_constant}
+use Rattle.py_emission_parts.specs.EmissionParts.{built, elements}
+use Rattle.py_emission_outcomes.proofs.Faults.RefusalLemmas.{EndsAs, Passes, cell_passes, child_ends, constant_passes, context_ends, count_passes, emit_passes, ends_so, in_function, last_ends, level_ends, name_passes, nothing_passes, outside, own_context_ends, then_ends}
 use Rattle.py_emission_outcomes.proofs.Faults.RefusingCalls.{ArgsEnd, any_call_ends}
 use Rattle.py_emission_outcomes.proofs.Faults.RefusingDefaults.{made_passes}
 use Rattle.py_emission_outcomes.proofs.Faults.RefusingDisplays.{bare_ends, groups_end, tuples_end}

@@ -5,7 +5,7 @@ use Rattle.py_tree.specs.Tree as tree
 use Rattle.py_shapes.specs.Valid.{when, expr_shapes, opt_expr_shapes, with_items_shapes}
 use Rattle.py_shapes.specs.Parameters.{is_given}
 use Rattle.py_base.specs.declared.shapes.Malformed.TheVariants as shape
-use Rattle.py_counts.specs.Counts.{scopes_in, scopes_in_opt}
+use Rattle.py_scope_counts.specs.Counts.{scopes_in, scopes_in_opt}
 use Rattle.py_base.specs.declared.location.SourceLocation.{SourceLocation}
 use Rattle.py_bytecode.specs.declared.instruction.Instruction.TheVariants as op
 use Rattle.py_bytecode.specs.Objects as const
@@ -14,12 +14,12 @@ use Rattle.py_meaning.specs.ExprFaults.{Fault, expr_faults, opt_expr_faults}
 use Rattle.py_meaning.specs.StmtEnds.{assert_end, setting_of}
 use Rattle.py_emission.specs.Predicates.{message_count}
 use Rattle.py_meaning.specs.Faults.{assert_faults, item_faults, items_faults, match_faults, name_faults, raise_faults}
-use Rattle.py_steps.specs.Emitting.{Around, Emission, LoopBlocks, ◌▸◌, begin, by_level, emit, emit_count, emit_name, in_loop, jump, move, new_block}
-use Rattle.py_steps.specs.Refused.{no_assignment}
+use Rattle.py_emission_parts.specs.Emitting.{Around, Emission, LoopBlocks, ◌▸◌, begin, by_level, emit, emit_count, emit_name, in_loop, jump, move, new_block}
+use Rattle.py_emission_parts.specs.Refused.{no_assignment}
 use Rattle.py_emission.specs.Emission.{emission}
 use Rattle.py_emission.specs.ControlEmissions.{asserted, before_last, caught, finally_do, for_each, handler, managed, named_body, to_last, try_body, typed_match}
 use Rattle.py_emission.specs.EmissionStmts.{emission_of_assert, emission_of_item, emission_of_items, emission_of_message, emission_of_raise}
-use Rattle.py_emission_outcomes.proofs.Faults.Refusing.{EndsAs, Passes, in_function, looping, own_level_ends, scopes_passed, accessed_passes, alone_ends, begin_passes, constant_passes, count_passes, emit_passes, ends_so, jump_passes, last_ends, loop_ends, moved_ends, name_passes, new_ends, nothing_passes, then_ends, three_end, unless_debug_last}
+use Rattle.py_emission_outcomes.proofs.Faults.RefusalLemmas.{EndsAs, Passes, in_function, looping, own_level_ends, scopes_passed, accessed_passes, alone_ends, begin_passes, constant_passes, count_passes, emit_passes, ends_so, jump_passes, last_ends, loop_ends, moved_ends, name_passes, new_ends, nothing_passes, then_ends, three_end, unless_debug_last}
 use Rattle.py_emission_outcomes.proofs.Faults.RefusingTests.{TestEnds}
 use Rattle.py_emission_outcomes.proofs.Faults.RefusingExprs.{both_none, expr_ends, store_ends}
 use Rattle.py_bytecode.specs.Values.{Store, Delete}

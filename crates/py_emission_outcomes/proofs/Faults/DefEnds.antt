@@ -11,15 +11,15 @@ use Rattle.py_meaning.specs.Ends.{last_of}
 use Rattle.py_meaning.specs.StmtEnds.{default_ends, note_ends}
 use Rattle.py_meaning.specs.ExprFaults.{Fault, parameter_faults}
 use Rattle.py_meaning.specs.Faults.{def_faults, notes_faults}
-use Rattle.py_steps.specs.Children.{decorated, decorations, documented, flags_of_defaults, function_made, function_scope, made}
-use Rattle.py_steps.specs.Within.{function_inside, some_flag}
-use Rattle.py_steps.specs.Context.{qualified}
-use Rattle.py_steps.specs.Emitting.{Around, Emission}
-use Rattle.py_steps.specs.EmissionParts.{in_turn}
+use Rattle.py_emission_parts.specs.Children.{decorated, decorations, documented, flags_of_defaults, function_made, function_scope, made}
+use Rattle.py_emission_parts.specs.Within.{function_inside, some_flag}
+use Rattle.py_emission_parts.specs.Context.{qualified}
+use Rattle.py_emission_parts.specs.Emitting.{Around, Emission}
+use Rattle.py_emission_parts.specs.EmissionParts.{in_turn}
 use Rattle.py_emission.specs.Emission.{default_emissions}
 use Rattle.py_emission.specs.Parameters.{function_shape, parameters}
 use Rattle.py_emission.specs.Texts.{doc_of}
-use Rattle.py_emission_outcomes.proofs.Faults.Refusing.{EndsAs, Passes, child_ends, constant_passes, context_ends, count_passes, emit_passes, ends_so, if_ends, in_function, last_ends, level_ends, name_passes, nothing_passes, outside, then_ends}
+use Rattle.py_emission_outcomes.proofs.Faults.RefusalLemmas.{EndsAs, Passes, child_ends, constant_passes, context_ends, count_passes, emit_passes, ends_so, if_ends, in_function, last_ends, level_ends, name_passes, nothing_passes, outside, then_ends}
 use Rattle.py_emission_outcomes.proofs.Faults.RefusingDefaults.{defaults_end, made_passes, scope_ends, some_built_ends}
 use Rattle.py_emission_outcomes.proofs.Faults.RefusingExprs.{defaults_ending}
 use Rattle.py_emission_outcomes.proofs.Faults.NoteEnds.{notes_end}

@@ -6,14 +6,14 @@ use Rattle.py_tree.specs.declared.statements.Alias.{Alias}
 use Rattle.py_shapes.specs.Valid.{stmt_shapes, stmts_shapes}
 use Rattle.py_base.specs.declared.location.SourceLocation.{SourceLocation}
 use Rattle.py_base.specs.declared.errors.CodegenErrorType.TheVariants as error
-use Rattle.py_steps.specs.Context.{Context}
-use Rattle.py_steps.specs.Emitting.{Around, Emission, ◌▸◌, postponing}
+use Rattle.py_emission_parts.specs.Context.{Context}
+use Rattle.py_emission_parts.specs.Emitting.{Around, Emission, ◌▸◌, postponing}
 use Rattle.py_emission.specs.EmissionFutures.{check_features, emission_behind, emission_of_future, following}
 use Rattle.py_meaning.specs.ExprFaults.{Fault}
 use Rattle.py_meaning.specs.Faults.{faults_behind, feature_faults, future_faults, setting_after, stmts_faults}
 use Rattle.py_emission.specs.Futures.{Future, after_future, future_of, is_feature, postpones}
 use Rattle.py_meaning.specs.StmtEnds.{Setting, setting_of, stmts_end}
-use Rattle.py_emission_outcomes.proofs.Faults.Refusing.{EndsAs, function_or, in_function, moved_ends, nothing_passes, outside, postponed_ends, then_ends}
+use Rattle.py_emission_outcomes.proofs.Faults.RefusalLemmas.{EndsAs, function_or, in_function, moved_ends, nothing_passes, outside, postponed_ends, then_ends}
 use Rattle.py_emission_outcomes.proofs.Faults.RefusingExprs.{both_none}
 use Rattle.py_emission_outcomes.proofs.Faults.RefusingImports.{all_end}
 

@@ -15,14 +15,14 @@ use Rattle.py_meaning.specs.Ends.{ends_of, expr_end, keyword_ends, last_of}
 use Rattle.py_meaning.specs.ExprFaults.{Fault, debug_faults, expr_faults, parameter_faults}
 use Rattle.py_meaning.specs.Faults.{alias_faults, base_faults, class_faults, def_faults, notes_faults, param_faults, params_faults, within_params}
 use Rattle.py_meaning.specs.StmtEnds.{function_end, function_start, note_ends, param_end, param_ends, scope_setting, setting_of}
-use Rattle.py_steps.specs.Children.{DefaultEmissions, emission_of_defaults, flags_of_defaults, made}
-use Rattle.py_steps.specs.Within.{class_inside, class_path, class_within, function_inside, handed, hidden_inside, hidden_name}
-use Rattle.py_steps.specs.Context.{Context, inside, with_path, within_class}
-use Rattle.py_steps.specs.Emitting.{Around, Emission, ◌▸◌, emit}
-use Rattle.py_steps.specs.EmissionParts.{in_turn}
-use Rattle.py_steps.specs.Refused.{no_assignment}
-use Rattle.py_steps.specs.TypeParameters.{generic_alias, hidden, hidden_shape, kept_as, load_handed, no_defaults}
-use Rattle.py_emission_outcomes.proofs.Faults.Refusing.{EndsAs, Passes, accessed_passes, child_ends, constant_passes, count_passes, emit_passes, ends_so, ends_there, in_function, last_ends, moved_ends, nothing_passes, outside, own_context_ends, refusal_ends, then_ends, unless_debug_last, varname_passes}
+use Rattle.py_emission_parts.specs.Children.{DefaultEmissions, emission_of_defaults, flags_of_defaults, made}
+use Rattle.py_emission_parts.specs.Within.{class_inside, class_path, class_within, function_inside, handed, hidden_inside, hidden_name}
+use Rattle.py_emission_parts.specs.Context.{Context, inside, with_path, within_class}
+use Rattle.py_emission_parts.specs.Emitting.{Around, Emission, ◌▸◌, emit}
+use Rattle.py_emission_parts.specs.EmissionParts.{in_turn}
+use Rattle.py_emission_parts.specs.Refused.{no_assignment}
+use Rattle.py_emission_parts.specs.TypeParameters.{generic_alias, hidden, hidden_shape, kept_as, load_handed, no_defaults}
+use Rattle.py_emission_outcomes.proofs.Faults.RefusalLemmas.{EndsAs, Passes, accessed_passes, child_ends, constant_passes, count_passes, emit_passes, ends_so, ends_there, in_function, last_ends, moved_ends, nothing_passes, outside, own_context_ends, refusal_ends, then_ends, unless_debug_last, varname_passes}
 use Rattle.py_emission_outcomes.proofs.Faults.RefusingDefaults.{defaults_end, made_passes}
 use Rattle.py_emission_outcomes.proofs.Faults.RefusingDisplays.{last_append}
 use Rattle.py_emission_outcomes.proofs.Faults.RefusingExprs.{both_none, defaults_ending, expr_ends}

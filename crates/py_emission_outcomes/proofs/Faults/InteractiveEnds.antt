@@ -15,10 +15,10 @@ use Rattle.py_emission.specs.EmissionFutures.{emission_of_future, following}
 use Rattle.py_meaning.specs.Faults.{future_faults, interactive_faults, prompt_faults, setting_after, stmt_faults, stmts_faults}
 use Rattle.py_emission.specs.Futures.{Future, after_future, future_of}
 use Rattle.py_meaning.specs.StmtEnds.{Setting, setting_of, stmt_end, stmts_end}
-use Rattle.py_steps.specs.Context.{Context}
-use Rattle.py_steps.specs.Emitting.{Around, ◌▸◌}
-use Rattle.py_steps.specs.Refused.{no_assignment}
-use Rattle.py_emission_outcomes.proofs.Faults.Refusing.{EndsAs, accessed_passes, alone_ends, constant_passes, emit_passes, in_function, last_ends, moved_ends, outside, then_ends, unless_debug_last}
+use Rattle.py_emission_parts.specs.Context.{Context}
+use Rattle.py_emission_parts.specs.Emitting.{Around, ◌▸◌}
+use Rattle.py_emission_parts.specs.Refused.{no_assignment}
+use Rattle.py_emission_outcomes.proofs.Faults.RefusalLemmas.{EndsAs, accessed_passes, alone_ends, constant_passes, emit_passes, in_function, last_ends, moved_ends, outside, then_ends, unless_debug_last}
 use Rattle.py_emission_outcomes.proofs.Faults.FutureEnds.{behind_ends, end_behind, future_then}
 use Rattle.py_emission_outcomes.proofs.Faults.RefusingExprs.{both_none, expr_ends}
 use Rattle.py_emission_outcomes.proofs.Faults.RefusingStmts.{class_value_ends, def_value_ends, rest_ends, stmt_ends, value_then_ends}

@@ -6,7 +6,7 @@ use Rattle.py_shapes.specs.Valid.{arg_shapes, args_shapes, arguments_shapes, exp
 use Rattle.py_base.specs.declared.location.SourceLocation.{SourceLocation}
 use Rattle.py_bytecode.specs.declared.instruction.Instruction.TheVariants as op
 use Rattle.py_bytecode.specs.Objects as const
-use Rattle.py_texts.specs.Annotation.{annotation}
+use Rattle.py_annotation_text.specs.Annotation.{annotation}
 use Rattle.py_base.specs.declared.errors.CodegenErrorType.TheVariants as error
 use Rattle.py_emission.specs.Emission.{emission}
 use Rattle.py_emission.specs.EmissionDefs.{arg_note, arg_notes, emission_of_note, emission_of_text, notes, opt_arg_note, opt_note}
@@ -14,10 +14,10 @@ use Rattle.py_meaning.specs.Ends.{expr_end, last_of, opt_end, some_of}
 use Rattle.py_meaning.specs.StmtEnds.{arg_end, arg_ends, note_ends, opt_arg_end}
 use Rattle.py_meaning.specs.ExprFaults.{Fault}
 use Rattle.py_meaning.specs.Faults.{arg_note_faults, args_note_faults, note_faults, notes_faults, opt_arg_note_faults, opt_note_faults, text_faults}
-use Rattle.py_steps.specs.Context.{mangled}
-use Rattle.py_steps.specs.Emitting.{Around, Emission, by_context, emit_constant}
-use Rattle.py_steps.specs.EmissionParts.{in_turn}
-use Rattle.py_emission_outcomes.proofs.Faults.Refusing.{EndsAs, Passes, constant_passes, context_ends, in_function, last_ends, nothing_passes, own_context_ends, refusal_ends, then_ends}
+use Rattle.py_emission_parts.specs.Context.{mangled}
+use Rattle.py_emission_parts.specs.Emitting.{Around, Emission, by_context, emit_constant}
+use Rattle.py_emission_parts.specs.EmissionParts.{in_turn}
+use Rattle.py_emission_outcomes.proofs.Faults.RefusalLemmas.{EndsAs, Passes, constant_passes, context_ends, in_function, last_ends, nothing_passes, own_context_ends, refusal_ends, then_ends}
 use Rattle.py_emission_outcomes.proofs.Faults.RefusingDefaults.{Turn, no_turn, one_turn, turn_append, turns_join}
 use Rattle.py_emission_outcomes.proofs.Faults.RefusingExprs.{both_none, expr_ends, groups_none}
 

@@ -6,16 +6,16 @@ use Rattle.py_base.specs.declared.location.SourceLocation.{SourceLocation}
 use Rattle.py_bytecode.specs.declared.instruction.Instruction.{Instruction}
 use Rattle.py_bytecode.specs.declared.instruction.Instruction.TheVariants as op
 use Rattle.py_bytecode.specs.Objects as const
-use Rattle.py_steps.specs.Elements.{Element, Single, Spread, Callee, Function, Method, starred, bare, groups}
+use Rattle.py_emission_parts.specs.Elements.{Element, Single, Spread, Callee, Function, Method, starred, bare, groups}
 use Rattle.py_meaning.specs.Ends.{last_of, expr_end, keyword_ends, args_end}
 use Rattle.py_meaning.specs.ExprFaults.{Fault, in_order, faults_in, all_faults, keyword_faults, keyword_values}
 use Rattle.py_meaning.specs.ExprFaults as fault
-use Rattle.py_steps.specs.TableParts.{any}
-use Rattle.py_steps.specs.Emitting.{Around, Emission, ◌▸◌, emit_constant}
-use Rattle.py_steps.specs.EmissionParts.{elements, in_turn, built, call_by, checked, name_values, map_of, joined_map, names_in, values_in, packed_tuple, packed, placed, emission_of_call}
-use Rattle.py_steps.specs.Refused.{no_assignment}
+use Rattle.py_emission_parts.specs.TableParts.{any}
+use Rattle.py_emission_parts.specs.Emitting.{Around, Emission, ◌▸◌, emit_constant}
+use Rattle.py_emission_parts.specs.EmissionParts.{elements, in_turn, built, call_by, checked, name_values, map_of, joined_map, names_in, values_in, packed_tuple, packed, placed, emission_of_call}
+use Rattle.py_emission_parts.specs.Refused.{no_assignment}
 use Rattle.py_emission.specs.Emission.{emissions, all_emissions, keyword_emissions}
-use Rattle.py_emission_outcomes.proofs.Faults.Refusing.{EndsAs, in_function, then_ends, three_end, last_ends, alone_ends, unkept_ends, ends_so, nothing_passes, count_passes, mangled_passes, constant_passes, if_ends, unless_debug_last}
+use Rattle.py_emission_outcomes.proofs.Faults.RefusalLemmas.{EndsAs, in_function, then_ends, three_end, last_ends, alone_ends, unkept_ends, ends_so, nothing_passes, count_passes, mangled_passes, constant_passes, if_ends, unless_debug_last}
 use Rattle.py_emission_outcomes.proofs.Faults.RefusingTests.{CalleeEnds, EndsWell, AllEnding}
 use Rattle.py_emission_outcomes.proofs.Faults.RefusingPacks.{maps, last_grouped, group_step}
 use Rattle.py_emission_outcomes.proofs.Faults.RefusingDisplays.{bare_ends, tuples_end}

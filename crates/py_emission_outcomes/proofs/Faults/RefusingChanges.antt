@@ -11,20 +11,20 @@ use Rattle.py_bytecode.specs.Objects as const
 use Rattle.py_meaning.specs.Ends.{expr_end, store_end, stores_end, delete_end, deletes_end}
 use Rattle.py_meaning.specs.StmtEnds.{annotation_end, declared_end, setting_of}
 use Rattle.py_meaning.specs.Faults.{annotated_faults}
-use Rattle.py_counts.specs.Counts.{scopes_in, scopes_in_annotation}
+use Rattle.py_scope_counts.specs.Counts.{scopes_in, scopes_in_annotation}
 use Rattle.py_meaning.specs.ExprFaults.{Fault, expr_faults, delete_faults, deletes_faults, assign_faults, augment_faults, declared_faults}
-use Rattle.py_steps.specs.TableParts.{binary_case}
+use Rattle.py_emission_parts.specs.TableParts.{binary_case}
 use Rattle.py_base.specs.declared.errors.CodegenErrorType.TheVariants as error
-use Rattle.py_steps.specs.Emitting.{Around, Emission, ◌▸◌, emit_constant}
+use Rattle.py_emission_parts.specs.Emitting.{Around, Emission, ◌▸◌, emit_constant}
 use Rattle.py_bytecode.specs.Values.{Store, Delete}
-use Rattle.py_steps.specs.Context.{is_function, mangled}
-use Rattle.py_steps.specs.EmissionParts.{pass_scopes}
-use Rattle.py_steps.specs.Refused.{no_assignment, no_deletion}
+use Rattle.py_emission_parts.specs.Context.{is_function, mangled}
+use Rattle.py_emission_parts.specs.EmissionParts.{pass_scopes}
+use Rattle.py_emission_parts.specs.Refused.{no_assignment, no_deletion}
 use Rattle.py_emission.specs.Emission.{emission, emission_of_delete, emission_of_deletes}
 use Rattle.py_emission.specs.Predicates.{deletion_name}
 use Rattle.py_emission.specs.EmissionDefs.{emission_of_note}
 use Rattle.py_emission.specs.EmissionStmts.{emission_of_assign, emission_of_augment, emission_of_declared, emission_of_annotated, emission_of_annotation, emission_of_operand}
-use Rattle.py_emission_outcomes.proofs.Faults.Refusing.{EndsAs, Passes, in_function, own_context_ends, scopes_passed, then_ends, three_end, last_ends, alone_ends, ends_so, nothing_passes, emit_passes, name_passes, mangled_passes, accessed_passes, context_ends, constant_passes, refusal_ends, unless_debug_ends, unless_debug_last}
+use Rattle.py_emission_outcomes.proofs.Faults.RefusalLemmas.{EndsAs, Passes, in_function, own_context_ends, scopes_passed, then_ends, three_end, last_ends, alone_ends, ends_so, nothing_passes, emit_passes, name_passes, mangled_passes, accessed_passes, context_ends, constant_passes, refusal_ends, unless_debug_ends, unless_debug_last}
 use Rattle.py_emission_outcomes.proofs.Faults.NoteEnds.{note_end_so}
 use Rattle.py_emission_outcomes.proofs.Faults.RefusingExprs.{both_none, name_load_passes, no_target, expr_ends, store_ends}
 

@@ -11,14 +11,14 @@ use Rattle.py_meaning.specs.Ends.{expr_end, ends_of, first_iterable_end, last_of
 use Rattle.py_meaning.specs.ExprFaults.{Fault, all_faults, clause_faults, fault_at, faults_in, faults_to, first_iterable_faults, further_faults, in_order, retold_faults, when}
 use Rattle.py_meaning.specs.ExprFaults as fault
 use Rattle.py_base.specs.declared.errors.CodegenErrorType.TheVariants as error
-use Rattle.py_steps.specs.Children.{made}
-use Rattle.py_steps.specs.Comprehensions.{ClauseEmissions, as_element, called_at_once, clause, clauses, comprehension, comprehension_shape, conditions, further_clauses, gathered, generated, retold_in}
-use Rattle.py_steps.specs.Refused.{retold}
-use Rattle.py_steps.specs.Within.{comprehension_inside}
-use Rattle.py_steps.specs.Context.{Context, inside}
-use Rattle.py_steps.specs.Emitting.{Around, Emission, Outcome, ◌▸◌, begin, jump, new_block}
+use Rattle.py_emission_parts.specs.Children.{made}
+use Rattle.py_emission_parts.specs.Comprehensions.{ClauseEmissions, as_element, called_at_once, clause, clauses, comprehension, comprehension_shape, conditions, further_clauses, gathered, generated, retold_in}
+use Rattle.py_emission_parts.specs.Refused.{retold}
+use Rattle.py_emission_parts.specs.Within.{comprehension_inside}
+use Rattle.py_emission_parts.specs.Context.{Context, inside}
+use Rattle.py_emission_parts.specs.Emitting.{Around, Emission, Outcome, ◌▸◌, begin, jump, new_block}
 use Rattle.py_emission.specs.Emission.{all_emissions, clause_emissions, emissions, stores}
-use Rattle.py_emission_outcomes.proofs.Faults.Refusing.{Ends, EndsAs, GoesOn, Misses, Stops, Wide, begin_passes, child_ends, constant_passes, count_passes, emit_passes, ends_so, generating_passes, guarded_ends, in_function, jump_passes, last_ends, new_ends, nothing_passes, outside, then_ends, varname_passes}
+use Rattle.py_emission_outcomes.proofs.Faults.RefusalLemmas.{Ends, EndsAs, GoesOn, Misses, Stops, Wide, begin_passes, child_ends, constant_passes, count_passes, emit_passes, ends_so, generating_passes, guarded_ends, in_function, jump_passes, last_ends, new_ends, nothing_passes, outside, then_ends, varname_passes}
 use Rattle.py_emission_outcomes.proofs.Faults.RefusingTests.{AllEnding, EndsWell}
 use Rattle.py_emission_outcomes.proofs.Faults.RefusingTargets.{Storing}
 use Rattle.py_emission_outcomes.proofs.Faults.RefusingDefaults.{made_passes}

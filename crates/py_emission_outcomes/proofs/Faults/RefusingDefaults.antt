@@ -6,19 +6,19 @@ use Rattle.py_bytecode.specs.declared.instruction.Instruction.{Instruction}
 use Rattle.py_bytecode.specs.declared.instruction.Instruction.TheVariants as op
 use Rattle.py_bytecode.specs.Objects as const
 use Rattle.py_bytecode.specs.Objects.{Object}
-use Rattle.py_counts.specs.Counts.{scopes_in_annotations}
+use Rattle.py_scope_counts.specs.Counts.{scopes_in_annotations}
 use Rattle.py_meaning.specs.Ends.{expr_end, last_of}
 use Rattle.py_meaning.specs.StmtEnds.{arg_default_ends, default_ends}
 use Rattle.py_meaning.specs.ExprFaults.{Fault, arg_faults, default_faults, faults_in, parameter_faults}
-use Rattle.py_steps.specs.Children.{cell_loads, closure, emission_of_defaults, enter_parameters, flags_of_defaults, free_names, function_scope, made, some_emitted}
-use Rattle.py_steps.specs.Within.{lambda_inside, some_flag}
-use Rattle.py_steps.specs.Context.{Context, inside}
-use Rattle.py_steps.specs.Emitting.{Around, Emission, ◌▸◌}
-use Rattle.py_steps.specs.EmissionParts.{built, in_turn, map_of, name_values, pass_scopes}
-use Rattle.py_steps.specs.Refused.{no_assignment}
+use Rattle.py_emission_parts.specs.Children.{cell_loads, closure, emission_of_defaults, enter_parameters, flags_of_defaults, free_names, function_scope, made, some_emitted}
+use Rattle.py_emission_parts.specs.Within.{lambda_inside, some_flag}
+use Rattle.py_emission_parts.specs.Context.{Context, inside}
+use Rattle.py_emission_parts.specs.Emitting.{Around, Emission, ◌▸◌}
+use Rattle.py_emission_parts.specs.EmissionParts.{built, in_turn, map_of, name_values, pass_scopes}
+use Rattle.py_emission_parts.specs.Refused.{no_assignment}
 use Rattle.py_emission.specs.Emission.{default_emissions, emissions, keyword_only_emissions, lambda_value, positional_emissions}
 use Rattle.py_emission.specs.Parameters.{function_shape, parameters}
-use Rattle.py_emission_outcomes.proofs.Faults.Refusing.{EndsAs, Passes, cell_passes, child_ends, constant_added, constant_passes, count_passes, emit_passes, ends_so, ends_there, grouped_on, in_function, last_ends, nothing_passes, outside, scopes_passed, then_ends, unless_debug_last, varname_added}
+use Rattle.py_emission_outcomes.proofs.Faults.RefusalLemmas.{EndsAs, Passes, cell_passes, child_ends, constant_added, constant_passes, count_passes, emit_passes, ends_so, ends_there, grouped_on, in_function, last_ends, nothing_passes, outside, scopes_passed, then_ends, unless_debug_last, varname_added}
 use Rattle.py_emission_outcomes.proofs.Faults.RefusingTests.{EndsWell}
 use Rattle.py_emission_outcomes.proofs.Faults.RefusingDisplays.{OptEnding, last_append}
 

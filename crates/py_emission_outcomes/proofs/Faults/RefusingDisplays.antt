@@ -8,16 +8,16 @@ use Rattle.py_bytecode.specs.declared.instruction.Instruction.{Instruction}
 use Rattle.py_bytecode.specs.declared.instruction.Instruction.TheVariants as op
 use Rattle.py_bytecode.specs.Objects as const
 use Rattle.py_bytecode.specs.Objects.{Const}
-use Rattle.py_steps.specs.Elements.{starred, bare, grouped, groups, front, behind, pairs, sides, flat}
+use Rattle.py_emission_parts.specs.Elements.{starred, bare, grouped, groups, front, behind, pairs, sides, flat}
 use Rattle.py_base.specs.declared.errors.CodegenErrorType.{CodegenErrorType}
 use Rattle.py_base.specs.declared.errors.CodegenErrorType.TheVariants as error
 use Rattle.py_meaning.specs.Ends.{last_of, some_of, parts_entered, expr_end, ends_of, opt_end, opts_ends}
 use Rattle.py_meaning.specs.ExprFaults.{Fault, in_order, if_any, joined_faults, faults_in, all_faults, opt_faults, opts_faults}
 use Rattle.py_meaning.specs.ExprFaults as fault
-use Rattle.py_steps.specs.Emitting.{Around, Emission, ◌▸◌, emit_count, keep, refuse}
-use Rattle.py_steps.specs.EmissionParts.{values, elements, in_turn, built, display, updates, map_of_pairs, dict_value, emission_of_dict, value_or, slice_step, slice_value, joined_value}
+use Rattle.py_emission_parts.specs.Emitting.{Around, Emission, ◌▸◌, emit_count, keep, refuse}
+use Rattle.py_emission_parts.specs.EmissionParts.{values, elements, in_turn, built, display, updates, map_of_pairs, dict_value, emission_of_dict, value_or, slice_step, slice_value, joined_value}
 use Rattle.py_emission.specs.Emission.{emission, emissions, all_emissions, opt_emission, opt_emissions}
-use Rattle.py_emission_outcomes.proofs.Faults.Refusing.{EndsAs, grouped_on, in_function, kept_on, then_ends, three_end, last_ends, ends_so, ends_there, nothing_passes, emit_passes, count_passes, constant_passes, if_ends}
+use Rattle.py_emission_outcomes.proofs.Faults.RefusalLemmas.{EndsAs, grouped_on, in_function, kept_on, then_ends, three_end, last_ends, ends_so, ends_there, nothing_passes, emit_passes, count_passes, constant_passes, if_ends}
 use Rattle.py_emission_outcomes.proofs.Faults.RefusingTests.{EndsWell, AllEnding, turn_ends}
 use Rattle.py_emission_outcomes.proofs.Faults.RefusingPacks.{bare_step, tuples, last_grouped, group_step}
 

@@ -10,20 +10,20 @@ use Rattle.py_base.specs.declared.shapes.Malformed.TheVariants as shape
 use Rattle.py_bytecode.specs.declared.instruction.Instruction.{Instruction}
 use Rattle.py_bytecode.specs.declared.instruction.Instruction.TheVariants as op
 use Rattle.py_bytecode.specs.Objects as const
-use Rattle.py_steps.specs.Elements.{bare}
+use Rattle.py_emission_parts.specs.Elements.{bare}
 use Rattle.py_meaning.specs.Ends.{last_of, expr_end, ends_of, parts_entered, store_end, stores_end}
 use Rattle.py_meaning.specs.ExprFaults.{Fault, ExprFaults, either, in_order, fault_at, faults_in, all_faults, faults_to, all_faults_to, joined_faults}
 use Rattle.py_meaning.specs.ExprFaults as fault
 use Rattle.py_emission.specs.Awaits.{awaits, some_async}
 use Rattle.py_emission.specs.Texts.{texts_of}
-use Rattle.py_steps.specs.TableParts.{binary_case, conversion_case, constant_of, debug_constant, is_debug}
+use Rattle.py_emission_parts.specs.TableParts.{binary_case, conversion_case, constant_of, debug_constant, is_debug}
 use Rattle.py_base.specs.declared.errors.CodegenErrorType.TheVariants as error
-use Rattle.py_steps.specs.Emitting.{Around, Emission, ◌▸◌, refuse, emit_constant, emit_mangled, move}
+use Rattle.py_emission_parts.specs.Emitting.{Around, Emission, ◌▸◌, refuse, emit_constant, emit_mangled, move}
 use Rattle.py_bytecode.specs.Values.{Load, Store}
-use Rattle.py_steps.specs.EmissionParts.{tested, elements, display, in_turn, values}
-use Rattle.py_steps.specs.Refused.{no_assignment, lone_star}
+use Rattle.py_emission_parts.specs.EmissionParts.{tested, elements, display, in_turn, values}
+use Rattle.py_emission_parts.specs.Refused.{no_assignment, lone_star}
 use Rattle.py_emission.specs.Emission.{emissions, all_emissions, joined_return, name_return, opt_emissions, stores, all_stores}
-use Rattle.py_emission_outcomes.proofs.Faults.Refusing.{EndsAs, Passes, count_passes, generating_passes, in_function, function_ends, outside, then_ends, last_ends, nothing_passes, emit_passes, mangled_passes, accessed_passes, constant_passes, if_ends, level_ends, moved_ends, refusal_ends, unless_debug_ends, unless_debug_last}
+use Rattle.py_emission_outcomes.proofs.Faults.RefusalLemmas.{EndsAs, Passes, count_passes, generating_passes, in_function, function_ends, outside, then_ends, last_ends, nothing_passes, emit_passes, mangled_passes, accessed_passes, constant_passes, if_ends, level_ends, moved_ends, refusal_ends, unless_debug_ends, unless_debug_last}
 use Rattle.py_emission_outcomes.proofs.Faults.RefusingTests.{Ending, EndsWell, AllEnding, truth_ends, at_ends, by_return, turn_ends, value_returned, bool_ends, unary_ends, compare_ends, choice_ends}
 use Rattle.py_emission_outcomes.proofs.Faults.RefusingPacks.{bare_step}
 use Rattle.py_emission_outcomes.proofs.Faults.RefusingDisplays.{OptEnding, OptsEnding, display_ends, even_dict_ends, value_or_ends, slice_ends, joined_ends}
@@ -31,8 +31,8 @@ use Rattle.py_emission_outcomes.proofs.Faults.RefusingCalls.{KeywordsEnding, cal
 use Rattle.py_emission_outcomes.proofs.Faults.RefusingTargets.{Storing, plain_ends, list_ends}
 use Rattle.py_emission_outcomes.proofs.Faults.RefusingDefaults.{ArgsEnding, DefaultsEnding, lambda_ends}
 use Rattle.py_emission_outcomes.proofs.Faults.RefusingComprehensions.{ClausesEnding, FurtherEnding, gather_ends, gather_pairs_end, generate_ends, scope_around}
-use Rattle.py_steps.specs.Accesses.{emission_of_name}
-use Rattle.py_steps.specs.Within.{lambda_inside}
+use Rattle.py_emission_parts.specs.Accesses.{emission_of_name}
+use Rattle.py_emission_parts.specs.Within.{lambda_inside}
 
 -- no wrong shape in two parts
 pub both_none : {A : Type 0} (xs ys : List A) → xs ++ ys ≡ [] → (xs ≡ []) × (ys ≡ [])

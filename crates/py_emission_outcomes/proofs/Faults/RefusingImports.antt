@@ -8,16 +8,16 @@ use Rattle.py_bytecode.specs.Objects as const
 use Rattle.py_bytecode.specs.Objects.{Const}
 use Rattle.py_bytecode.specs.Values.{Store}
 use Rattle.py_base.specs.declared.errors.CodegenErrorType.TheVariants as error
-use Rattle.py_steps.specs.Accesses.{emission_of_stored}
-use Rattle.py_steps.specs.Context.{is_function}
-use Rattle.py_steps.specs.Emitting.{Around, ◌▸◌, emit, refuse}
-use Rattle.py_steps.specs.Refused.{no_assignment}
+use Rattle.py_emission_parts.specs.Accesses.{emission_of_stored}
+use Rattle.py_emission_parts.specs.Context.{is_function}
+use Rattle.py_emission_parts.specs.Emitting.{Around, ◌▸◌, emit, refuse}
+use Rattle.py_emission_parts.specs.Refused.{no_assignment}
 use Rattle.py_meaning.specs.ExprFaults.{debug_faults, fault_at, when}
 use Rattle.py_meaning.specs.Faults.{feature_faults, from_faults, import_faults, names_faults, placement_faults, taken_faults}
 use Rattle.py_emission.specs.Imports.{asked, asked_all, from_future, further_segments, import_name, taken_name, takes_all}
 use Rattle.py_emission.specs.EmissionImports.{emission_of_alias, emission_of_attributes, emission_of_from, emission_of_import, emission_of_imported, emission_of_module, emission_of_names, emission_of_star, import_step}
 use Rattle.py_emission.specs.EmissionStmts.{emission_of_import_from}
-use Rattle.py_emission_outcomes.proofs.Faults.Refusing.{EndsAs, Passes, accessed_passes, constant_passes, emit_passes, in_function, mangled_passes, nothing_passes, own_context_ends, refusal_ends, then_ends, unless_debug_last}
+use Rattle.py_emission_outcomes.proofs.Faults.RefusalLemmas.{EndsAs, Passes, accessed_passes, constant_passes, emit_passes, in_function, mangled_passes, nothing_passes, own_context_ends, refusal_ends, then_ends, unless_debug_last}
 
 module _ (c : Around) (p : SourceLocation) where
   stored_ends : (x : List ℕ) → EndsAs c (emission_of_stored x) p p (debug_faults no_assignment p x)

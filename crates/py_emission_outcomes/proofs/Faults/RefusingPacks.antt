@@ -3,11 +3,11 @@ use Rattle.std.proofs.Common.{◌≡◌, ℕ, List, [], ◌∷◌, ◌++◌, ref
 use Rattle.py_base.specs.declared.location.SourceLocation.{SourceLocation}
 use Rattle.py_bytecode.specs.declared.instruction.Instruction.TheVariants as op
 use Rattle.py_bytecode.specs.Objects as const
-use Rattle.py_steps.specs.Elements.{Element, Single, Spread, bare, grouped, groups}
+use Rattle.py_emission_parts.specs.Elements.{Element, Single, Spread, bare, grouped, groups}
 use Rattle.py_meaning.specs.ExprFaults.{Fault}
-use Rattle.py_steps.specs.Emitting.{Around, Emission, ◌▸◌, emit_constant, keep}
-use Rattle.py_steps.specs.EmissionParts.{in_turn, built, name_values, map_of}
-use Rattle.py_emission_outcomes.proofs.Faults.Refusing.{EndsAs, grouped_on, kept_on, then_ends, last_ends, ends_so, nothing_passes, count_passes}
+use Rattle.py_emission_parts.specs.Emitting.{Around, Emission, ◌▸◌, emit_constant, keep}
+use Rattle.py_emission_parts.specs.EmissionParts.{in_turn, built, name_values, map_of}
+use Rattle.py_emission_outcomes.proofs.Faults.RefusalLemmas.{EndsAs, grouped_on, kept_on, then_ends, last_ends, ends_so, nothing_passes, count_passes}
 use Rattle.py_emission_outcomes.proofs.Faults.RefusingTests.{ElementEnds}
 
 -- one value after those before it

@@ -22,13 +22,13 @@ use Rattle.py_emission.specs.Texts.{after_doc, stmt_text}
 use Rattle.py_base.specs.declared.errors.CodegenErrorType.{CodegenErrorType}
 use Rattle.py_base.specs.declared.errors.CodegenErrorType.TheVariants as error
 use Rattle.py_bytecode.specs.Values.{Store}
-use Rattle.py_steps.specs.Accesses.{emission_of_stored}
-use Rattle.py_steps.specs.Children.{decorated}
-use Rattle.py_steps.specs.Context.{Context}
-use Rattle.py_steps.specs.Emitting.{Around, Emission, LoopBlocks, ◌▸◌, begin, move, refuse}
-use Rattle.py_steps.specs.EmissionParts.{values, only, choice}
-use Rattle.py_steps.specs.Refused.{no_assignment}
-use Rattle.py_emission_outcomes.proofs.Faults.Refusing.{EndsAs, accessed_passes, begin_passes, constant_passes, emit_passes, ends_so, in_function, jump_passes, last_ends, looping, loops_end, moved_ends, new_ends, nothing_passes, function_ends, outside, refusal_ends, then_ends, unkept_ends, unless_debug_last}
+use Rattle.py_emission_parts.specs.Accesses.{emission_of_stored}
+use Rattle.py_emission_parts.specs.Children.{decorated}
+use Rattle.py_emission_parts.specs.Context.{Context}
+use Rattle.py_emission_parts.specs.Emitting.{Around, Emission, LoopBlocks, ◌▸◌, begin, move, refuse}
+use Rattle.py_emission_parts.specs.EmissionParts.{values, only, choice}
+use Rattle.py_emission_parts.specs.Refused.{no_assignment}
+use Rattle.py_emission_outcomes.proofs.Faults.RefusalLemmas.{EndsAs, accessed_passes, begin_passes, constant_passes, emit_passes, ends_so, in_function, jump_passes, last_ends, looping, loops_end, moved_ends, new_ends, nothing_passes, function_ends, outside, refusal_ends, then_ends, unkept_ends, unless_debug_last}
 use Rattle.py_emission_outcomes.proofs.Faults.RefusingTests.{TestEnds, choice_ends, turn_ends}
 use Rattle.py_emission_outcomes.proofs.Faults.RefusingExprs.{both_none, expr_ends, exprs_end, store_ends}
 use Rattle.py_emission_outcomes.proofs.Faults.RefusingChanges.{deletions_end, assign_ends, augment_ends, annotated_ends}

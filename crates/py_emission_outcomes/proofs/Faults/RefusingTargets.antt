@@ -4,14 +4,14 @@ use Rattle.std.specs.Prelude.{nat_eq, nat_lt, not, ◌&&◌, if◌then◌else◌
 use Rattle.py_tree.specs.Tree as tree
 use Rattle.py_base.specs.declared.location.SourceLocation.{SourceLocation}
 use Rattle.py_bytecode.specs.declared.instruction.Instruction.TheVariants as op
-use Rattle.py_steps.specs.Elements.{Element, Single, Spread, bare, stars, before_star, after_star}
+use Rattle.py_emission_parts.specs.Elements.{Element, Single, Spread, bare, stars, before_star, after_star}
 use Rattle.py_meaning.specs.ExprFaults.{Fault, TargetFaults, both, fault_at, when, star_faults, as_element, starring}
 use Rattle.py_base.specs.declared.errors.CodegenErrorType.TheVariants as error
-use Rattle.py_steps.specs.Emitting.{Around, Emission, ◌▸◌, refuse, emit, emit_count, move}
-use Rattle.py_steps.specs.EmissionParts.{Stores, plain_store, in_turn, unpack, unpack_starred}
-use Rattle.py_steps.specs.Refused.{few_aside}
+use Rattle.py_emission_parts.specs.Emitting.{Around, Emission, ◌▸◌, refuse, emit, emit_count, move}
+use Rattle.py_emission_parts.specs.EmissionParts.{Stores, plain_store, in_turn, unpack, unpack_starred}
+use Rattle.py_emission_parts.specs.Refused.{few_aside}
 use Rattle.py_emission.specs.Emission.{stores, all_stores}
-use Rattle.py_emission_outcomes.proofs.Faults.Refusing.{EndsAs, then_ends, ends_so, emit_passes, count_passes, refusal_ends, moved_ends}
+use Rattle.py_emission_outcomes.proofs.Faults.RefusalLemmas.{EndsAs, then_ends, ends_so, emit_passes, count_passes, refusal_ends, moved_ends}
 use Rattle.py_emission_outcomes.proofs.Faults.RefusingTests.{ElementEnds}
 
 -- a store ends as its faults say, alone and among others

@@ -10,17 +10,17 @@ use Rattle.py_base.specs.declared.operators.UnaryOp.TheVariants as unary
 use Rattle.py_base.specs.declared.shapes.Malformed.TheVariants as shape
 use Rattle.py_bytecode.specs.declared.instruction.Instruction.TheVariants as op
 use Rattle.py_bytecode.specs.Values.{flip}
-use Rattle.py_steps.specs.Elements.{Element, Single, Spread, Callee, Function, Method}
+use Rattle.py_emission_parts.specs.Elements.{Element, Single, Spread, Callee, Function, Method}
 use Rattle.py_meaning.specs.Ends.{last_of, expr_end, ends_of}
 use Rattle.py_meaning.specs.ExprFaults.{Fault, ExprFaults, either, in_order, faults_in, all_faults}
 use Rattle.py_meaning.specs.ExprFaults as fault
-use Rattle.py_steps.specs.TableParts.{unary_case, deciding}
+use Rattle.py_emission_parts.specs.TableParts.{unary_case, deciding}
 use Rattle.py_base.specs.declared.errors.CodegenErrorType.{CodegenErrorType}
 use Rattle.py_base.specs.declared.errors.CodegenErrorType.TheVariants as error
-use Rattle.py_steps.specs.Emitting.{Around, Emission, ◌▸◌, refuse, emit, jump, begin, new_block, move}
-use Rattle.py_steps.specs.EmissionParts.{keeping_jump, testing_jump, Emissions, ordinary, truth_of, tested, values, in_turn, shorts, tests, some_test, bool_emissions, unary_value, unary_emissions, links, chain, first_comparison, comparisons, emission_of_compare, choice}
+use Rattle.py_emission_parts.specs.Emitting.{Around, Emission, ◌▸◌, refuse, emit, jump, begin, new_block, move}
+use Rattle.py_emission_parts.specs.EmissionParts.{keeping_jump, testing_jump, Emissions, ordinary, truth_of, tested, values, in_turn, shorts, tests, some_test, bool_emissions, unary_value, unary_emissions, links, chain, first_comparison, comparisons, emission_of_compare, choice}
 use Rattle.py_emission.specs.Emission.{emissions, all_emissions}
-use Rattle.py_emission_outcomes.proofs.Faults.Refusing.{EndsAs, Passes, in_function, then_ends, three_end, last_ends, alone_ends, nothing_passes, emit_passes, jump_passes, begin_passes, moved_ends, new_ends, if_ends, comparison_passes, link_passes}
+use Rattle.py_emission_outcomes.proofs.Faults.RefusalLemmas.{EndsAs, Passes, in_function, then_ends, three_end, last_ends, alone_ends, nothing_passes, emit_passes, jump_passes, begin_passes, moved_ends, new_ends, if_ends, comparison_passes, link_passes}
 
 -- an element and what is called end as their values do
 abbrev pub ElementEnds : Around → Element Emission Emission → (p q : SourceLocation) → List Fault → Type 0

@@ -4,7 +4,7 @@ use Rattle.py_base.specs.declared.location.SourceLocation.{SourceLocation}
 use Rattle.py_bytecode.specs.declared.instruction.Instruction.TheVariants as op
 use Rattle.py_bytecode.specs.Values.{Store, Delete}
 use Rattle.py_emission.specs.ControlEmissions.{asserted, before_last, caught, finally_do, for_each, forgotten, handler, managed, named_body, to_last, try_body, typed_match}
-use Rattle.py_steps.specs.Emitting.{Emission}
+use Rattle.py_emission_parts.specs.Emitting.{Emission}
 use Rattle.py_emission_outcomes.proofs.Nesting.Nests.{Nests, accessed_nests, begin_nests, count_nests, emit_nests, jump_nests, keep_nests, loop_nests, move_nests, name_nests, new_nests, none_nests, stored_nests, then_nests}
 use Rattle.py_emission_outcomes.proofs.Nesting.NestingTests.{TestNests}
 

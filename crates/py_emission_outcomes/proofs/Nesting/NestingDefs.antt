@@ -12,15 +12,15 @@ use Rattle.py_emission.specs.Texts.{after_doc, doc_of}
 use Rattle.py_base.specs.declared.errors.CodegenErrorType.TheVariants as error
 use Rattle.py_emission.specs.EmissionDefs.{alias_value, arg_note, arg_notes, class_call, class_function, class_scope, emission_of_alias, emission_of_built, emission_of_class, emission_of_def, emission_of_end, emission_of_function, emission_of_generic_class, emission_of_generic_def, emission_of_note, emission_of_param, emission_of_params, emission_of_setup, emission_of_text, ends_in_return, function_value, notes, opt_arg_note, opt_note, param_emissions}
 use Rattle.py_emission.specs.Predicates.{annotated}
-use Rattle.py_texts.specs.Annotation.{annotation}
-use Rattle.py_steps.specs.Children.{DefaultEmissions, flags_of_defaults}
-use Rattle.py_steps.specs.Within.{behind_name, class_path, class_within, doc_const, function_inside, handed, hidden_inside, hidden_name}
-use Rattle.py_steps.specs.Classes.{cell_returned, class_names, class_shape}
-use Rattle.py_steps.specs.Context.{class_cells}
-use Rattle.py_steps.specs.Elements.{Element, Function, Single, Spread, starred}
-use Rattle.py_steps.specs.Emitting.{Emission, emit, emit_constant}
-use Rattle.py_steps.specs.EmissionParts.{built, elements}
-use Rattle.py_steps.specs.TypeParameters.{hidden, hidden_shape, kept_as, load_handed, no_defaults}
+use Rattle.py_annotation_text.specs.Annotation.{annotation}
+use Rattle.py_emission_parts.specs.Children.{DefaultEmissions, flags_of_defaults}
+use Rattle.py_emission_parts.specs.Within.{behind_name, class_path, class_within, doc_const, function_inside, handed, hidden_inside, hidden_name}
+use Rattle.py_emission_parts.specs.Classes.{cell_returned, class_names, class_shape}
+use Rattle.py_emission_parts.specs.Context.{class_cells}
+use Rattle.py_emission_parts.specs.Elements.{Element, Function, Single, Spread, starred}
+use Rattle.py_emission_parts.specs.Emitting.{Emission, emit, emit_constant}
+use Rattle.py_emission_parts.specs.EmissionParts.{built, elements}
+use Rattle.py_emission_parts.specs.TypeParameters.{hidden, hidden_shape, kept_as, load_handed, no_defaults}
 use Rattle.py_emission_outcomes.proofs.Nesting.Nests.{Nests, cell_nests, child_nests, context_nests, count_nests, emit_nests, if_nests, keep_nests, level_nests, name_nests, none_nests, refuse_nests, stored_nests, text_nests, then_nests, varname_nests}
 use Rattle.py_emission_outcomes.proofs.Nesting.NestingParts.{ElementNests, Every, built_nests, call_nests, elements_nest, join_every}
 use Rattle.py_emission_outcomes.proofs.Nesting.NestingScopes.{DefaultsNest, defaults_nest, documented_nests, function_made_nests, made_nests, noted_nests, scope_nests}

@@ -14,10 +14,10 @@ use Rattle.py_emission.specs.Emission.{all_emissions, all_stores, clause_emissio
 use Rattle.py_emission.specs.Predicates.{deletion_name}
 use Rattle.py_emission.specs.Texts.{texts_of}
 use Rattle.py_base.specs.declared.errors.CodegenErrorType.TheVariants as error
-use Rattle.py_steps.specs.Emitting.{Emission, ◌▸◌, emit_mangled, move}
-use Rattle.py_steps.specs.EmissionParts.{elements, values}
-use Rattle.py_steps.specs.Refused.{lone_star, no_assignment, no_deletion}
-use Rattle.py_steps.specs.TableParts.{binary_case, constant_of, constants_of, conversion_case, is_debug}
+use Rattle.py_emission_parts.specs.Emitting.{Emission, ◌▸◌, emit_mangled, move}
+use Rattle.py_emission_parts.specs.EmissionParts.{elements, values}
+use Rattle.py_emission_parts.specs.Refused.{lone_star, no_assignment, no_deletion}
+use Rattle.py_emission_parts.specs.TableParts.{binary_case, constant_of, constants_of, conversion_case, is_debug}
 use Rattle.py_emission_outcomes.proofs.Nesting.Nests.{Nests, accessed_nests, at_nests, constant_nests, debug_nests, deleted_nests, emit_nests, in_function_nests, generating_nests, if_nests, keep_nests, load_nests, mangled_nests, none_nests, refuse_nests, stored_nests, text_nests, then_nests, unless_debug_nests}
 use Rattle.py_emission_outcomes.proofs.Nesting.NestingParts.{ElementNests, Every, KeywordNests, NamedNests, NestsWell, SomeNests, StoresNest, built_nests, call_nests, dict_nests, display_nests, elements_nest, join_every, joined_nests, plain_nests, slice_nests, unpack_nests, value_or_nests, values_nest}
 use Rattle.py_emission_outcomes.proofs.Nesting.NestingScopes.{ClauseNests, DefaultsNest, comprehension_nests, element_nests, gathered_nests, generated_nests, lambda_nests}

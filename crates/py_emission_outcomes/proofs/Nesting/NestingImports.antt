@@ -11,8 +11,8 @@ use Rattle.py_emission.specs.EmissionImports.{emission_of_alias, emission_of_att
 use Rattle.py_emission.specs.EmissionStmts.{emission_of_import_from}
 use Rattle.py_emission.specs.Futures.{Future, is_feature, postpones}
 use Rattle.py_emission.specs.Imports.{asked, asked_all, from_future, further_segments, import_name, taken_name, takes_all}
-use Rattle.py_steps.specs.Context.{is_function}
-use Rattle.py_steps.specs.Emitting.{Emission, ◌▸◌}
+use Rattle.py_emission_parts.specs.Context.{is_function}
+use Rattle.py_emission_parts.specs.Emitting.{Emission, ◌▸◌}
 use Rattle.py_emission_outcomes.proofs.Nesting.Nests.{Nests, at_nests, constant_nests, context_nests, emit_nests, if_nests, keep_nests, mangled_nests, postponing_nests, refuse_nests, stored_nests, then_nests}
 
 step_nests : {k : ℕ} (path : Option (List ℕ)) → Nests k (import_step path)

@@ -13,8 +13,8 @@ use Rattle.py_emission.specs.EmissionMods.{emission_of_block, emission_of_doc, e
 use Rattle.py_emission.specs.EmissionStmts.{emission_of_stmts}
 use Rattle.py_emission.specs.Futures.{Future, future_of}
 use Rattle.py_emission.specs.Predicates.{annotated, none}
-use Rattle.py_steps.specs.Context.{Context}
-use Rattle.py_steps.specs.Emitting.{Emission, State, Done, ◌▸◌, nothing}
+use Rattle.py_emission_parts.specs.Context.{Context}
+use Rattle.py_emission_parts.specs.Emitting.{Emission, State, Done, ◌▸◌, nothing}
 use Rattle.py_emission_outcomes.proofs.Nesting.Nests.{DoneNests, Nests, at_nests, deepest, emit_nests, keep_nests, level_nests, name_nests, none_nests, stored_nests, text_nests, then_nests}
 use Rattle.py_emission_outcomes.proofs.Nesting.NestingExprs.{expr_nests}
 use Rattle.py_emission_outcomes.proofs.Nesting.NestingDefs.{setup_nests}

@@ -9,11 +9,11 @@ use Rattle.py_bytecode.specs.Nesting.{const_nesting, consts_nesting}
 use Rattle.py_bytecode.specs.Objects as const
 use Rattle.py_bytecode.specs.Objects.{Const}
 use Rattle.py_base.specs.declared.errors.CodegenErrorType.TheVariants as error
-use Rattle.py_steps.specs.Elements.{Element, Single, Spread, Callee, Function, Method, after_star, bare, before_star, behind, front, grouped, groups, pairs, sides, starred, stars}
-use Rattle.py_steps.specs.Emitting.{Emission}
-use Rattle.py_steps.specs.EmissionParts.{Emissions, Keywords, Stores, built, call_by, checked, dict_value, display, elements, emission_of_call, emission_of_dict, in_turn, joined_map, joined_value, map_of, map_of_pairs, name_values, names_in, packed, packed_tuple, placed, plain_store, slice_step, slice_value, unpack, unpacking, unpack_starred, updates, value_or, values, values_in}
-use Rattle.py_steps.specs.Refused.{few_aside, no_assignment}
-use Rattle.py_steps.specs.TableParts.{any}
+use Rattle.py_emission_parts.specs.Elements.{Element, Single, Spread, Callee, Function, Method, after_star, bare, before_star, behind, front, grouped, groups, pairs, sides, starred, stars}
+use Rattle.py_emission_parts.specs.Emitting.{Emission}
+use Rattle.py_emission_parts.specs.EmissionParts.{Emissions, Keywords, Stores, built, call_by, checked, dict_value, display, elements, emission_of_call, emission_of_dict, in_turn, joined_map, joined_value, map_of, map_of_pairs, name_values, names_in, packed, packed_tuple, placed, plain_store, slice_step, slice_value, unpack, unpacking, unpack_starred, updates, value_or, values, values_in}
+use Rattle.py_emission_parts.specs.Refused.{few_aside, no_assignment}
+use Rattle.py_emission_parts.specs.TableParts.{any}
 use Rattle.py_emission_outcomes.proofs.Nesting.Nests.{Nests, at_nests, constant_nests, count_nests, emit_nests, if_nests, keep_nests, mangled_nests, refuse_nests, text_nests, then_nests, unless_debug_nests}
 
 -- it holds of each of them

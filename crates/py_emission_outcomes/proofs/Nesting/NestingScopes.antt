@@ -7,17 +7,17 @@ use Rattle.py_bytecode.specs.declared.instruction.Instruction.TheVariants as op
 use Rattle.py_bytecode.specs.Nesting.{nesting}
 use Rattle.py_bytecode.specs.Objects as const
 use Rattle.py_bytecode.specs.Objects.{Object}
-use Rattle.py_counts.specs.Counts.{scopes_in_annotations}
+use Rattle.py_scope_counts.specs.Counts.{scopes_in_annotations}
 use Rattle.py_emission.specs.Emission.{lambda_value}
 use Rattle.py_emission.specs.Parameters.{function_shape, parameters}
 use Rattle.py_base.specs.declared.errors.CodegenErrorType.TheVariants as error
-use Rattle.py_steps.specs.Children.{DefaultEmissions, cell_loads, closure, decorated, decorations, documented, emission_of_defaults, enter_parameters, flags_of_defaults, free_names, function_made, function_scope, made, noted, some_emitted}
-use Rattle.py_steps.specs.Within.{comprehension_inside, lambda_inside, some_flag}
-use Rattle.py_steps.specs.Comprehensions.{ClauseEmissions, as_element, called_at_once, clause, clauses, comprehension, comprehension_shape, conditions, further_clauses, gathered, generated, retold_in}
-use Rattle.py_steps.specs.Context.{mangled, qualified}
-use Rattle.py_steps.specs.Emitting.{Emission, Outcome, Done, TooWide, Refused}
-use Rattle.py_steps.specs.EmissionParts.{Emissions, built, map_of}
-use Rattle.py_steps.specs.Refused.{no_assignment}
+use Rattle.py_emission_parts.specs.Children.{DefaultEmissions, cell_loads, closure, decorated, decorations, documented, emission_of_defaults, enter_parameters, flags_of_defaults, free_names, function_made, function_scope, made, noted, some_emitted}
+use Rattle.py_emission_parts.specs.Within.{comprehension_inside, lambda_inside, some_flag}
+use Rattle.py_emission_parts.specs.Comprehensions.{ClauseEmissions, as_element, called_at_once, clause, clauses, comprehension, comprehension_shape, conditions, further_clauses, gathered, generated, retold_in}
+use Rattle.py_emission_parts.specs.Context.{mangled, qualified}
+use Rattle.py_emission_parts.specs.Emitting.{Emission, Outcome, Done, TooWide, Refused}
+use Rattle.py_emission_parts.specs.EmissionParts.{Emissions, built, map_of}
+use Rattle.py_emission_parts.specs.Refused.{no_assignment}
 use Rattle.py_emission_outcomes.proofs.Nesting.Nests.{DoneNests, Nests, begin_nests, cell_nests, child_nests, constant_nests, context_nests, count_nests, emit_nests, generating_nests, if_nests, jump_nests, keep_nests, name_nests, new_nests, none_added, none_nests, refuse_nests, scopes_nest, text_nests, then_nests, unless_debug_nests, varname_added, varname_nests}
 use Rattle.py_emission_outcomes.proofs.Nesting.NestingParts.{Every, NamedNests, NestsWell, built_nests, map_nests, turn_nests}
 

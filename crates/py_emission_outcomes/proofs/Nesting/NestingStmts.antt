@@ -9,7 +9,7 @@ use Rattle.py_tree.specs.PythonName.{python_name}
 use Rattle.py_limits.specs.Nesting.{class_head_nesting, expr_nesting, exprs_nesting, handlers_nesting, head_nesting, opt_expr_nesting, stmt_nesting, stmts_nesting, with_items_nesting}
 use Rattle.py_bytecode.specs.declared.instruction.Instruction.{Instruction}
 use Rattle.py_bytecode.specs.declared.instruction.Instruction.TheVariants as op
-use Rattle.py_counts.specs.Counts.{scopes_in, scopes_in_annotation, scopes_in_opt}
+use Rattle.py_scope_counts.specs.Counts.{scopes_in, scopes_in_annotation, scopes_in_opt}
 use Rattle.py_emission.specs.Emission.{all_emissions}
 use Rattle.py_emission.specs.Texts.{after_doc, stmt_text}
 use Rattle.py_base.specs.declared.errors.CodegenErrorType.{CodegenErrorType}
@@ -17,12 +17,12 @@ use Rattle.py_base.specs.declared.errors.CodegenErrorType.TheVariants as error
 use Rattle.py_emission.specs.EmissionDefs.{emission_of_built, emission_of_end, emission_of_function}
 use Rattle.py_emission.specs.EmissionStmts.{emission_of_annotated, emission_of_annotation, emission_of_assert, emission_of_assign, emission_of_augment, emission_of_declared, emission_of_handlers, emission_of_item, emission_of_items, emission_of_last, emission_of_message, emission_of_operand, emission_of_raise, emission_of_rest, emission_of_returned, emission_of_stmt, emission_of_stmts, leave_loop}
 use Rattle.py_emission.specs.Predicates.{but_doc, itemless, message_count, none}
-use Rattle.py_steps.specs.Children.{decorated}
-use Rattle.py_steps.specs.Context.{is_function, mangled}
-use Rattle.py_steps.specs.Emitting.{Emission, LoopBlocks, ◌▸◌}
-use Rattle.py_steps.specs.EmissionParts.{values}
-use Rattle.py_steps.specs.Refused.{no_assignment}
-use Rattle.py_steps.specs.TableParts.{binary_case}
+use Rattle.py_emission_parts.specs.Children.{decorated}
+use Rattle.py_emission_parts.specs.Context.{is_function, mangled}
+use Rattle.py_emission_parts.specs.Emitting.{Emission, LoopBlocks, ◌▸◌}
+use Rattle.py_emission_parts.specs.EmissionParts.{values}
+use Rattle.py_emission_parts.specs.Refused.{no_assignment}
+use Rattle.py_emission_parts.specs.TableParts.{binary_case}
 use Rattle.py_emission_outcomes.proofs.Nesting.Nests.{Nests, at_nests, begin_nests, context_nests, emit_nests, if_nests, in_function_nests, jump_nests, keep_nests, level_nests, load_nests, loop_nests, loops_nest, mangled_nests, move_nests, name_nests, new_nests, none_nests, refuse_nests, scopes_nest, stored_nests, text_nests, then_nests, unless_debug_nests}
 use Rattle.py_emission_outcomes.proofs.Nesting.NestingParts.{values_nest}
 use Rattle.py_emission_outcomes.proofs.Nesting.NestingTests.{choice_nests, only_nests}

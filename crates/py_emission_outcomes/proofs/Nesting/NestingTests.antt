@@ -10,9 +10,9 @@ use Rattle.py_base.specs.declared.shapes.Malformed.TheVariants as shape
 use Rattle.py_bytecode.specs.declared.instruction.Instruction.TheVariants as op
 use Rattle.py_bytecode.specs.Values.{flip}
 use Rattle.py_base.specs.declared.errors.CodegenErrorType.TheVariants as error
-use Rattle.py_steps.specs.Emitting.{Emission, ◌▸◌, emit, move}
-use Rattle.py_steps.specs.EmissionParts.{Emissions, bool_emissions, bool_test, bool_value, chain, choice, comparisons, emission_of_compare, first_comparison, keeping_jump, links, only, ordinary, past_tests, shorts, some_test, some_values, tested, testing_jump, tests, truth_of, unary_emissions, unary_value, values}
-use Rattle.py_steps.specs.TableParts.{deciding, unary_case}
+use Rattle.py_emission_parts.specs.Emitting.{Emission, ◌▸◌, emit, move}
+use Rattle.py_emission_parts.specs.EmissionParts.{Emissions, bool_emissions, bool_test, bool_value, chain, choice, comparisons, emission_of_compare, first_comparison, keeping_jump, links, only, ordinary, past_tests, shorts, some_test, some_values, tested, testing_jump, tests, truth_of, unary_emissions, unary_value, values}
+use Rattle.py_emission_parts.specs.TableParts.{deciding, unary_case}
 use Rattle.py_emission_outcomes.proofs.Nesting.Nests.{Nests, at_nests, begin_nests, comparison_nests, emit_nests, if_nests, jump_nests, keep_nests, link_nests, new_nests, refuse_nests, then_nests}
 use Rattle.py_emission_outcomes.proofs.Nesting.NestingParts.{Every, NestsWell, turn_nests, values_nest}
 

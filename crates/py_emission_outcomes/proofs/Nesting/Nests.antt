@@ -12,18 +12,18 @@ use Rattle.py_bytecode.specs.Nesting.{const_nesting, consts_nesting, nesting}
 use Rattle.py_bytecode.specs.Objects as const
 use Rattle.py_bytecode.specs.Objects.{Const, Object, consts_of}
 use Rattle.py_bytecode.specs.Values.{Usage, Load, Store, Delete, Kind, Unsaid, Fast, ByName, Global, Deref, ClassDeref}
-use Rattle.py_forms.specs.Form.{Resolved}
+use Rattle.py_control.specs.Form.{Resolved}
 use Rattle.py_base.specs.declared.errors.CodegenErrorType.{CodegenErrorType}
 use Rattle.py_base.specs.declared.errors.CodegenErrorType.TheVariants as error
-use Rattle.py_steps.specs.Accesses.{access_by, accessed, emission_of_deleted, emission_of_name, emission_of_stored}
-use Rattle.py_steps.specs.Children.{behind_child, child, code_head, load_cell, on_sealed}
-use Rattle.py_steps.specs.Within.{Shape}
-use Rattle.py_steps.specs.Context.{Context, access_kind, cell_place, is_function, mangled}
-use Rattle.py_steps.specs.Emitting.{State, Outcome, Done, TooWide, Refused, Emission, LoopBlocks, ◌▸◌, add_constant, add_varname, begin, begun, by_context, by_level, by_loops, emit, emit_constant, emit_count, emit_mangled, emit_name, emit_varname, generating, go_on, in_loop, jump, keep, located, move, new_block, pass_over, place_in, postponing, Put, refuse, with_block, with_constant, with_loops, with_name, with_postponed, with_step, with_varname}
-use Rattle.py_steps.specs.EmissionParts.{emission_of_comparison, emission_of_link, only_in_function, pass_scopes, unless_debug}
-use Rattle.py_steps.specs.Refused.{no_assignment, no_deletion}
-use Rattle.py_steps.specs.Sealed.{Head, sealed}
-use Rattle.py_steps.specs.TableParts.{debug_constant, is_debug}
+use Rattle.py_emission_parts.specs.Accesses.{access_by, accessed, emission_of_deleted, emission_of_name, emission_of_stored}
+use Rattle.py_emission_parts.specs.Children.{behind_child, child, code_head, load_cell, on_sealed}
+use Rattle.py_emission_parts.specs.Within.{Shape}
+use Rattle.py_emission_parts.specs.Context.{Context, access_kind, cell_place, is_function, mangled}
+use Rattle.py_emission_parts.specs.Emitting.{State, Outcome, Done, TooWide, Refused, Emission, LoopBlocks, ◌▸◌, add_constant, add_varname, begin, begun, by_context, by_level, by_loops, emit, emit_constant, emit_count, emit_mangled, emit_name, emit_varname, generating, go_on, in_loop, jump, keep, located, move, new_block, pass_over, place_in, postponing, Put, refuse, with_block, with_constant, with_loops, with_name, with_postponed, with_step, with_varname}
+use Rattle.py_emission_parts.specs.EmissionParts.{emission_of_comparison, emission_of_link, only_in_function, pass_scopes, unless_debug}
+use Rattle.py_emission_parts.specs.Refused.{no_assignment, no_deletion}
+use Rattle.py_emission_parts.specs.Sealed.{Head, sealed}
+use Rattle.py_emission_parts.specs.TableParts.{debug_constant, is_debug}
 
 -- each of them nests so deep at most
 abbrev pub AllNest : ℕ → List Const → Type 0

@@ -12,14 +12,14 @@ use Rattle.py_bytecode.proofs.Entered.{entered_stands}
 use Rattle.py_scope.specs.declared.kinds.SymbolScope.{SymbolScope}
 use Rattle.py_scope.specs.declared.kinds.SymbolScope.TheVariants as scope
 use Rattle.py_scope.specs.declared.table_type.SymbolTableType.{SymbolTableType}
-use Rattle.py_forms.specs.Form.{Resolved, Scope}
-use Rattle.py_forms.specs.Code.{Do}
-use Rattle.py_steps.specs.Context.{Context, access_kind, cell_place, deref_kind, is_class, is_function, kind_by, mangled, place_by, scope_of}
-use Rattle.py_steps.specs.Emitting.{Around, Done, emit, emit_mangled, emit_name, emit_varname, place_in, with_varname}
-use Rattle.py_steps.specs.Accesses.{access_by, accessed, accessed_in}
-use Rattle.py_emission_proof.proofs.Additions.Adding.{IsPlain, cells_of}
+use Rattle.py_control.specs.Form.{Resolved, Scope}
+use Rattle.py_control.specs.Code.{Do}
+use Rattle.py_emission_parts.specs.Context.{Context, access_kind, cell_place, deref_kind, is_class, is_function, kind_by, mangled, place_by, scope_of}
+use Rattle.py_emission_parts.specs.Emitting.{Around, Done, emit, emit_mangled, emit_name, emit_varname, place_in, with_varname}
+use Rattle.py_emission_parts.specs.Accesses.{access_by, accessed, accessed_in}
+use Rattle.py_emission_proof.proofs.Additions.AddedCodeLemmas.{IsPlain, cells_of}
 use Rattle.py_emission_proof.proofs.Additions.Settled.{Settled, cell_stands, free_stands}
-use Rattle.py_emission_proof.proofs.Additions.Emitting.{yields}
+use Rattle.py_emission_proof.proofs.Additions.EmissionSequenceLemmas.{yields}
 use Rattle.py_emission_proof.proofs.Additions.Steps.{StepAdds, StepHere, adds_own, emit_step, entry_stays, instr_as}
 use Rattle.py_emission_proof.proofs.Additions.Instructions.{delete_adds, local_adds, name_adds, named_adds, store_adds}
 use Rattle.py_emission_proof.proofs.Additions.Texts.{text_eq_sound}

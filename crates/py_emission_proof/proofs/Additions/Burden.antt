@@ -4,10 +4,10 @@ use Rattle.std.proofs.Common.{◌≡◌, ℕ, suc, ◌+◌, ◌*◌, ◌≤◌, 
 use Rattle.py_bytecode.specs.Objects.{Object}
 use Rattle.py_bytecode.specs.Values.{It, Cells}
 use Rattle.py_bytecode.specs.Machine.{Instr, Push, Access, Operate, MakeFunction, Import, Append, Unpack, Nop, Pop, Rotate2, Rotate3, Duplicate, Duplicate2, JumpIf, JumpIfOrPop, Jump, SetupLoop, PopBlock, Break, Continue, ReturnValue, ReturnConst, SetupExcept, SetupFinally, PopException, EnterFinally, EndFinally, Reraise, ForIter, SetupWith, WithCleanupStart, WithCleanupFinish}
-use Rattle.py_forms.specs.Code.{Item, Do, Label, size}
-use Rattle.py_simulation.specs.Blocks.{placed_labels}
-use Rattle.py_forms.specs.Places.{instr_over, items_over}
-use Rattle.py_simulation.specs.Walks.{rise, rises}
+use Rattle.py_control.specs.Code.{Item, Do, Label, size}
+use Rattle.py_control_proof.specs.Blocks.{placed_labels}
+use Rattle.py_control.specs.Places.{instr_over, items_over}
+use Rattle.py_control_proof.specs.Walks.{rise, rises}
 
 -- a load of a cell weighs nothing
 abbrev pub weight : {K : Type 0} → Instr K ℕ → ℕ

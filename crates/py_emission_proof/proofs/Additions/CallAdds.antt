@@ -5,17 +5,17 @@ use Rattle.py_bytecode.specs.declared.instruction.Instruction.{Instruction}
 use Rattle.py_bytecode.specs.declared.instruction.Instruction.TheVariants as op
 use Rattle.py_bytecode.specs.Objects as const
 use Rattle.py_bytecode.specs.Machine.{Operate}
-use Rattle.py_forms.specs.Form.{Interp, Scope, VForm, VForms, VConst, VMore, VMethod}
-use Rattle.py_forms.specs.Code.{count as form_count}
-use Rattle.py_steps.specs.Elements.{Element, Single, Spread, Callee, Function, Method, starred, bare, groups}
-use Rattle.py_steps.specs.TableParts as table
-use Rattle.py_steps.specs.TableParts.{parts_of, counted, any}
-use Rattle.py_steps.specs.EmissionParts as emitting
-use Rattle.py_steps.specs.Emitting.{Around, Emission, ◌▸◌, emit_constant, emit_count, emit_mangled}
-use Rattle.py_steps.specs.Context.{mangled}
-use Rattle.py_steps.specs.EmissionParts.{in_turn, checked, packed_tuple, emission_of_call}
-use Rattle.py_steps.specs.Refused.{no_assignment}
-use Rattle.py_emission_proof.proofs.Additions.Emitting.{Yields, after_these, keep_yields, next_as, regroup, regroup_late, scopes_as, ungroup}
+use Rattle.py_control.specs.Form.{Interp, Scope, VForm, VForms, VConst, VMore, VMethod}
+use Rattle.py_control.specs.Code.{count as form_count}
+use Rattle.py_emission_parts.specs.Elements.{Element, Single, Spread, Callee, Function, Method, starred, bare, groups}
+use Rattle.py_emission_parts.specs.TableParts as table
+use Rattle.py_emission_parts.specs.TableParts.{parts_of, counted, any}
+use Rattle.py_emission_parts.specs.EmissionParts as emitting
+use Rattle.py_emission_parts.specs.Emitting.{Around, Emission, ◌▸◌, emit_constant, emit_count, emit_mangled}
+use Rattle.py_emission_parts.specs.Context.{mangled}
+use Rattle.py_emission_parts.specs.EmissionParts.{in_turn, checked, packed_tuple, emission_of_call}
+use Rattle.py_emission_parts.specs.Refused.{no_assignment}
+use Rattle.py_emission_proof.proofs.Additions.EmissionSequenceLemmas.{Yields, after_these, keep_yields, next_as, regroup, regroup_late, scopes_as, ungroup}
 use Rattle.py_emission_proof.proofs.Additions.Threaded.{Relation, Threaded, Alike, AlikeElement, same_length, same_starred, bare_alike, bare_length, groups_alike, threaded_as}
 use Rattle.py_emission_proof.proofs.Additions.Steps.{StepAdds}
 use Rattle.py_emission_proof.proofs.Additions.Instructions.{Builds, tuple_builds, tuple_unpacks, map_unpacks, map_adds, constant_adds, call_adds, method_call_adds, keyword_call_adds, keyword_method_adds, spread_call_adds, spread_method_adds}

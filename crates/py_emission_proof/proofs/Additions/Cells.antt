@@ -8,18 +8,18 @@ use Rattle.py_bytecode.specs.Equality.{text_eq}
 use Rattle.py_bytecode.specs.Values.{Cells}
 use Rattle.py_bytecode.specs.Machine.{Push, Operate}
 use Rattle.py_bytecode.specs.Decode.{for_some}
-use Rattle.py_forms.specs.Form.{Scope}
-use Rattle.py_forms.specs.Code.{Item, Do, cell_codes, closure_code, tuple_of}
-use Rattle.py_forms.specs.Agree.{cells_of}
-use Rattle.py_steps.specs.Context.{cell_place}
-use Rattle.py_steps.specs.Emitting.{Around, State, Done, emit, emit_count, refuse}
-use Rattle.py_steps.specs.EmissionParts.{in_turn}
-use Rattle.py_steps.specs.Children.{cell_loads, closure, load_cell}
+use Rattle.py_control.specs.Form.{Scope}
+use Rattle.py_control.specs.Code.{Item, Do, cell_codes, closure_code, tuple_of}
+use Rattle.py_control.specs.Agree.{cells_of}
+use Rattle.py_emission_parts.specs.Context.{cell_place}
+use Rattle.py_emission_parts.specs.Emitting.{Around, State, Done, emit, emit_count, refuse}
+use Rattle.py_emission_parts.specs.EmissionParts.{in_turn}
+use Rattle.py_emission_parts.specs.Children.{cell_loads, closure, load_cell}
 use Rattle.py_emit.proofs.Joined.{granted}
-use Rattle.py_emission_proof.proofs.Additions.Adding.{Added, added_join, added_nothing, settled_adds}
-use Rattle.py_emission_proof.proofs.Additions.Adding as adding
+use Rattle.py_emission_proof.proofs.Additions.AddedCodeLemmas.{Added, added_join, added_nothing, settled_adds}
+use Rattle.py_emission_proof.proofs.Additions.AddedCodeLemmas as adding
 use Rattle.py_emission_proof.proofs.Additions.Burden.{cells_in, cells-append}
-use Rattle.py_emission_proof.proofs.Additions.Emitting.{Stands, both, done_is, still}
+use Rattle.py_emission_proof.proofs.Additions.EmissionSequenceLemmas.{Stands, both, done_is, still}
 use Rattle.py_emission_proof.proofs.Additions.Instructions.{tuple_builds}
 use Rattle.py_emission_proof.proofs.Additions.Settled.{stands}
 use Rattle.py_emission_proof.proofs.Additions.Steps.{emit_read}

@@ -8,21 +8,21 @@ use Rattle.py_bytecode.specs.Objects as const
 use Rattle.py_bytecode.specs.Values.{ByName, Constant, Global, It, Load, Store}
 use Rattle.py_bytecode.specs.Machine.{Access, Duplicate, Push, ReturnValue, classcell}
 use Rattle.py_bytecode.specs.Decode.{value_of}
-use Rattle.py_forms.specs.Form.{Interp, Scope, VForm}
-use Rattle.py_forms.specs.Code.{Item, Do, cell_codes, class_code}
-use Rattle.py_forms.specs.Agree.{cells_of}
-use Rattle.py_steps.specs.Children.{load_cell}
-use Rattle.py_steps.specs.Classes.{cell_returned, class_end, class_names}
-use Rattle.py_steps.specs.Within.{behind_name, doc_const}
-use Rattle.py_steps.specs.Context.{cell_place, class_cells}
-use Rattle.py_steps.specs.Elements.{Element, Single, Spread, starred}
-use Rattle.py_steps.specs.EmissionParts as emitting
-use Rattle.py_steps.specs.TableParts as table
-use Rattle.py_steps.specs.Emitting.{Around, Emission, State, Done, ◌▸◌, by_context, emit, emit_constant, emit_name}
-use Rattle.py_emission_proof.proofs.Additions.Adding.{Adds, settled_adds}
+use Rattle.py_control.specs.Form.{Interp, Scope, VForm}
+use Rattle.py_control.specs.Code.{Item, Do, cell_codes, class_code}
+use Rattle.py_control.specs.Agree.{cells_of}
+use Rattle.py_emission_parts.specs.Children.{load_cell}
+use Rattle.py_emission_parts.specs.Classes.{cell_returned, class_end, class_names}
+use Rattle.py_emission_parts.specs.Within.{behind_name, doc_const}
+use Rattle.py_emission_parts.specs.Context.{cell_place, class_cells}
+use Rattle.py_emission_parts.specs.Elements.{Element, Single, Spread, starred}
+use Rattle.py_emission_parts.specs.EmissionParts as emitting
+use Rattle.py_emission_parts.specs.TableParts as table
+use Rattle.py_emission_parts.specs.Emitting.{Around, Emission, State, Done, ◌▸◌, by_context, emit, emit_constant, emit_name}
+use Rattle.py_emission_proof.proofs.Additions.AddedCodeLemmas.{Adds, settled_adds}
 use Rattle.py_emission_proof.proofs.Additions.Cells.{Quietly, load_adds, quietly_then}
 use Rattle.py_emission_proof.proofs.Additions.ControlInstructions.{global_adds}
-use Rattle.py_emission_proof.proofs.Additions.Emitting.{Stands, Yields, after_these, both, context_gives, still}
+use Rattle.py_emission_proof.proofs.Additions.EmissionSequenceLemmas.{Stands, Yields, after_these, both, context_gives, still}
 use Rattle.py_emission_proof.proofs.Additions.DisplayAdds.{built_adds}
 use Rattle.py_emission_proof.proofs.Additions.FormAdds.{AllElementsAdd, ValueAdds}
 use Rattle.py_emission_proof.proofs.Additions.Instructions.{constant_adds, duplicate_adds, local_adds, return_adds, return_value_adds, tuple_builds}

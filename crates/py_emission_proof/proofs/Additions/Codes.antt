@@ -5,14 +5,14 @@ use Rattle.std.proofs.lemmas.Bool.Decides.{nat_tests}
 use Rattle.py_bytecode.specs.Objects as const
 use Rattle.py_bytecode.specs.Objects.{Const, Object, codes_in, no_consts, object_of}
 use Rattle.py_scope.specs.declared.flat.ScopeEntry.{ScopeEntry}
-use Rattle.py_forms.specs.Form.{Scope}
-use Rattle.py_forms.specs.Code.{Item, Do, Label}
-use Rattle.py_forms.specs.Agree.{AllOf, OneOf, head_of}
-use Rattle.py_forms.specs.CodeRuns.{children, loaded}
-use Rattle.py_simulation.specs.Made.{IsMade, objects}
-use Rattle.py_steps.specs.Everywhere.{Everywhere}
+use Rattle.py_control.specs.Form.{Scope}
+use Rattle.py_control.specs.Code.{Item, Do, Label}
+use Rattle.py_control.specs.Agree.{AllOf, OneOf, head_of}
+use Rattle.py_control.specs.CodeRuns.{children, loaded}
+use Rattle.py_control_proof.specs.Made.{IsMade, objects}
+use Rattle.py_emission_parts.specs.Everywhere.{Everywhere}
 use Rattle.py_emission_proof.specs.Loads.{AreNumbered, LoadsUpTo, loads}
-use Rattle.py_emission_proof.proofs.Additions.Naming.{IsMadeSo, Named}
+use Rattle.py_emission_proof.proofs.Additions.CodeNameLemmas.{IsMadeSo, Named}
 use Rattle.py_emission_proof.proofs.Additions.WellMade.{WellMade, all_so}
 
 abbrev pub number_of : Scope → ℕ

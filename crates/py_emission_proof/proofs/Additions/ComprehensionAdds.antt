@@ -8,19 +8,19 @@ use Rattle.py_bytecode.specs.Objects as const
 use Rattle.py_bytecode.specs.Values.{Bare, Constant, Fast, Load, operation}
 use Rattle.py_bytecode.specs.Machine.{Access, Operate, ReturnConst, ReturnValue}
 use Rattle.py_base.specs.declared.errors.CodegenErrorType.TheVariants as error
-use Rattle.py_forms.specs.Form.{Interp, Scope, VForm, VForms, VOp, VMake, VMore, VNone, Target, TForm, Filters, NoFilter, MoreFilter, Clauses, CLast, CEach}
-use Rattle.py_forms.specs.Code.{Item, Do, append_code, code_bs, code_c, code_g, code_v, count, drop_code, each_code, labels_bs, labels_c, labels_g, labels_t, labels_v, labels_vs}
-use Rattle.py_forms.specs.Agree.{cells_of}
-use Rattle.py_steps.specs.TableParts.{counted}
-use Rattle.py_steps.specs.Context.{cell_place}
-use Rattle.py_steps.specs.Children.{child, made}
-use Rattle.py_steps.specs.Comprehensions.{ClauseEmissions, as_element, called_at_once, clause, clauses, comprehension, comprehension_shape, conditions, further_clauses, gathered, generated, handed_iterator, retold_in}
-use Rattle.py_steps.specs.Within.{comprehension_inside}
-use Rattle.py_steps.specs.Emitting.{Around, Emission, Outcome, State, Done, TooWide, Refused, ◌▸◌, begin, emit, emit_count, generating, jump}
-use Rattle.py_steps.specs.EmissionParts.{Emissions}
+use Rattle.py_control.specs.Form.{Interp, Scope, VForm, VForms, VOp, VMake, VMore, VNone, Target, TForm, Filters, NoFilter, MoreFilter, Clauses, CLast, CEach}
+use Rattle.py_control.specs.Code.{Item, Do, append_code, code_bs, code_c, code_g, code_v, count, drop_code, each_code, labels_bs, labels_c, labels_g, labels_t, labels_v, labels_vs}
+use Rattle.py_control.specs.Agree.{cells_of}
+use Rattle.py_emission_parts.specs.TableParts.{counted}
+use Rattle.py_emission_parts.specs.Context.{cell_place}
+use Rattle.py_emission_parts.specs.Children.{child, made}
+use Rattle.py_emission_parts.specs.Comprehensions.{ClauseEmissions, as_element, called_at_once, clause, clauses, comprehension, comprehension_shape, conditions, further_clauses, gathered, generated, handed_iterator, retold_in}
+use Rattle.py_emission_parts.specs.Within.{comprehension_inside}
+use Rattle.py_emission_parts.specs.Emitting.{Around, Emission, Outcome, State, Done, TooWide, Refused, ◌▸◌, begin, emit, emit_count, generating, jump}
+use Rattle.py_emission_parts.specs.EmissionParts.{Emissions}
 use Rattle.py_emission_proof.proofs.Additions.AccessAdds.{own_adds}
 use Rattle.py_emission_proof.proofs.Additions.ControlInstructions.{for_iter_adds, generating_yields, iterator_adds, yield_adds}
-use Rattle.py_emission_proof.proofs.Additions.Emitting.{Gives, Yields, after_these, counts_as, gives_as, keep_yields, next_as, refused_gives, regroup_late, scopes_as, then_these, then_yields, two_blocks_give}
+use Rattle.py_emission_proof.proofs.Additions.EmissionSequenceLemmas.{Gives, Yields, after_these, counts_as, gives_as, keep_yields, next_as, refused_gives, regroup_late, scopes_as, then_these, then_yields, two_blocks_give}
 use Rattle.py_emission_proof.proofs.Additions.FormAdds.{PartsAdd, TestAdds, ValueAdds, one_adds, operation_adds, two_parts}
 use Rattle.py_emission_proof.proofs.Additions.Functions.{Makes, made_alone_adds}
 use Rattle.py_emission_proof.proofs.Additions.Instructions.{Appends, MakesEmpty, call_adds, going_adds, pop_adds, return_adds, return_value_adds}

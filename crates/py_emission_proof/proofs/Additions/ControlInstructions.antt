@@ -3,8 +3,8 @@ use Rattle.std.proofs.Common.{ℕ, List, [], true, Some, None, refl}
 use Rattle.py_bytecode.specs.declared.instruction.Instruction.TheVariants as op
 use Rattle.py_bytecode.specs.Values.{Global, Load, operation, Bare, Number, match_exception}
 use Rattle.py_bytecode.specs.Machine.{Access, Operate, ForIter, SetupExcept, SetupFinally, SetupWith, PopException, EnterFinally, EndFinally, WithCleanupStart, WithCleanupFinish, Reraise}
-use Rattle.py_steps.specs.Emitting.{Around, emit, emit_name, generating, jump}
-use Rattle.py_emission_proof.proofs.Additions.Emitting.{Yields, elsewhere_yields}
+use Rattle.py_emission_parts.specs.Emitting.{Around, emit, emit_name, generating, jump}
+use Rattle.py_emission_proof.proofs.Additions.EmissionSequenceLemmas.{Yields, elsewhere_yields}
 use Rattle.py_emission_proof.proofs.Additions.Steps.{StepAdds, emit_adds, jump_adds}
 use Rattle.py_emission_proof.proofs.Additions.Instructions.{JumpAdds, named_adds}
 

@@ -1,18 +1,18 @@
 -- What the defaults of a function add, and what its flags say.
 use Rattle.std.proofs.Common.{◌≡◌, ℕ, ◌+◌, List, [], ◌∷◌, true, false, refl, sym, subst, arith}
 use Rattle.py_bytecode.specs.declared.instruction.Instruction.TheVariants as op
-use Rattle.py_forms.specs.Form.{Interp, Scope, VForm, VForms, VNone}
-use Rattle.py_forms.specs.Code.{count}
-use Rattle.py_steps.specs.TableParts as table
-use Rattle.py_steps.specs.TableParts.{any, some_built}
-use Rattle.py_steps.specs.EmissionParts as emitting
-use Rattle.py_steps.specs.EmissionParts.{map_of}
-use Rattle.py_steps.specs.Emitting.{Around, Emission, ◌▸◌}
-use Rattle.py_steps.specs.Children.{some_emitted}
-use Rattle.py_steps.specs.Within.{some_flag}
+use Rattle.py_control.specs.Form.{Interp, Scope, VForm, VForms, VNone}
+use Rattle.py_control.specs.Code.{count}
+use Rattle.py_emission_parts.specs.TableParts as table
+use Rattle.py_emission_parts.specs.TableParts.{any, some_built}
+use Rattle.py_emission_parts.specs.EmissionParts as emitting
+use Rattle.py_emission_parts.specs.EmissionParts.{map_of}
+use Rattle.py_emission_parts.specs.Emitting.{Around, Emission, ◌▸◌}
+use Rattle.py_emission_parts.specs.Children.{some_emitted}
+use Rattle.py_emission_parts.specs.Within.{some_flag}
 use Rattle.py_emission_proof.proofs.Additions.CallAdds.{NamedAdds, map_of_adds}
 use Rattle.py_emission_proof.proofs.Additions.DisplayAdds.{built_adds}
-use Rattle.py_emission_proof.proofs.Additions.Emitting.{after_these, keep_yields, next_as, scopes_as}
+use Rattle.py_emission_proof.proofs.Additions.EmissionSequenceLemmas.{after_these, keep_yields, next_as, scopes_as}
 use Rattle.py_emission_proof.proofs.Additions.FormAdds.{AllValuesAdd, PartsAdd, more_parts, no_parts, one_part}
 use Rattle.py_emission_proof.proofs.Additions.Functions.{Flagged}
 use Rattle.py_emission_proof.proofs.Additions.Instructions.{tuple_builds}

@@ -4,15 +4,15 @@ use Rattle.py_bytecode.specs.declared.instruction.Instruction.TheVariants as op
 use Rattle.py_bytecode.specs.Objects as const
 use Rattle.py_bytecode.specs.Values.{operation, Bare}
 use Rattle.py_bytecode.specs.Machine.{Operate}
-use Rattle.py_forms.specs.Form.{Interp, Scope, VForm, VOp, VMore, VNone}
-use Rattle.py_forms.specs.Code.{count as form_count}
-use Rattle.py_steps.specs.Elements.{Element, groups, front, behind, sides}
-use Rattle.py_steps.specs.TableParts as table
-use Rattle.py_steps.specs.TableParts.{parts_of, counted, updated, dict_form, slice_form, joined_form}
-use Rattle.py_steps.specs.EmissionParts as emitting
-use Rattle.py_steps.specs.Emitting.{Around, Emission, ◌▸◌, emit, emit_count}
-use Rattle.py_steps.specs.EmissionParts.{in_turn, updates, dict_value, slice_value, joined_value}
-use Rattle.py_emission_proof.proofs.Additions.Emitting.{regroup_late, scopes_as, then_keep}
+use Rattle.py_control.specs.Form.{Interp, Scope, VForm, VOp, VMore, VNone}
+use Rattle.py_control.specs.Code.{count as form_count}
+use Rattle.py_emission_parts.specs.Elements.{Element, groups, front, behind, sides}
+use Rattle.py_emission_parts.specs.TableParts as table
+use Rattle.py_emission_parts.specs.TableParts.{parts_of, counted, updated, dict_form, slice_form, joined_form}
+use Rattle.py_emission_parts.specs.EmissionParts as emitting
+use Rattle.py_emission_parts.specs.Emitting.{Around, Emission, ◌▸◌, emit, emit_count}
+use Rattle.py_emission_parts.specs.EmissionParts.{in_turn, updates, dict_value, slice_value, joined_value}
+use Rattle.py_emission_proof.proofs.Additions.EmissionSequenceLemmas.{regroup_late, scopes_as, then_keep}
 use Rattle.py_emission_proof.proofs.Additions.Threaded.{Relation, Threaded, Alike, AlikeElement, same_length, parted, groups_alike, threaded_as}
 use Rattle.py_emission_proof.proofs.Additions.Steps.{StepAdds, emit_adds}
 use Rattle.py_emission_proof.proofs.Additions.Instructions.{map_adds, string_builds, constant_adds}

@@ -3,14 +3,14 @@ use Rattle.std.proofs.Common.{◌≡◌, ℕ, ◌+◌, List, [], length, Some, r
 use Rattle.py_bytecode.specs.declared.instruction.Instruction.{Instruction}
 use Rattle.py_bytecode.specs.declared.instruction.Instruction.TheVariants as op
 use Rattle.py_bytecode.specs.Machine.{Operate}
-use Rattle.py_forms.specs.Form.{Interp, Scope, VForm}
-use Rattle.py_forms.specs.Code.{count as form_count}
-use Rattle.py_steps.specs.Elements.{Element, starred, bare, groups}
-use Rattle.py_steps.specs.TableParts as table
-use Rattle.py_steps.specs.TableParts.{parts_of, counted}
-use Rattle.py_steps.specs.EmissionParts as emitting
-use Rattle.py_steps.specs.Emitting.{Around, Emission, emit_count}
-use Rattle.py_steps.specs.EmissionParts.{in_turn}
+use Rattle.py_control.specs.Form.{Interp, Scope, VForm}
+use Rattle.py_control.specs.Code.{count as form_count}
+use Rattle.py_emission_parts.specs.Elements.{Element, starred, bare, groups}
+use Rattle.py_emission_parts.specs.TableParts as table
+use Rattle.py_emission_parts.specs.TableParts.{parts_of, counted}
+use Rattle.py_emission_parts.specs.EmissionParts as emitting
+use Rattle.py_emission_parts.specs.Emitting.{Around, Emission, emit_count}
+use Rattle.py_emission_parts.specs.EmissionParts.{in_turn}
 use Rattle.py_emission_proof.proofs.Additions.Threaded.{AlikeElement, same_length, same_starred, bare_alike, groups_alike, threaded_as}
 use Rattle.py_emission_proof.proofs.Additions.Steps.{StepAdds}
 use Rattle.py_emission_proof.proofs.Additions.Instructions.{Builds, tuple_builds}

@@ -7,17 +7,17 @@ use Rattle.py_bytecode.specs.Objects.{Const}
 use Rattle.py_bytecode.specs.Values.{Operation, Constant}
 use Rattle.py_bytecode.specs.Machine.{Operate, ReturnValue}
 use Rattle.py_bytecode.specs.Decode.{value_of}
-use Rattle.py_forms.specs.Form.{Interp, Scope, VForm, VForms, VOp, VMore, VMethod, VNone, TForm}
-use Rattle.py_forms.specs.Code.{Item, Do, count as form_count, labels_v, labels_vs, labels_t, code_v, code_vs, code_t, return_code}
-use Rattle.py_steps.specs.Elements.{Element, Callee, Function, Method}
-use Rattle.py_steps.specs.Context.{mangled}
-use Rattle.py_steps.specs.TableParts as table
-use Rattle.py_steps.specs.TableParts.{ExprForms, parts_of, is_debug}
+use Rattle.py_control.specs.Form.{Interp, Scope, VForm, VForms, VOp, VMore, VMethod, VNone, TForm}
+use Rattle.py_control.specs.Code.{Item, Do, count as form_count, labels_v, labels_vs, labels_t, code_v, code_vs, code_t, return_code}
+use Rattle.py_emission_parts.specs.Elements.{Element, Callee, Function, Method}
+use Rattle.py_emission_parts.specs.Context.{mangled}
+use Rattle.py_emission_parts.specs.TableParts as table
+use Rattle.py_emission_parts.specs.TableParts.{ExprForms, parts_of, is_debug}
 use Rattle.py_base.specs.declared.errors.CodegenErrorType.TheVariants as error
-use Rattle.py_steps.specs.EmissionParts as emitting
-use Rattle.py_steps.specs.Emitting.{Around, Emission, ◌▸◌, emit, emit_mangled, keep, move, refuse}
-use Rattle.py_steps.specs.EmissionParts.{Emissions, unless_debug, in_turn}
-use Rattle.py_emission_proof.proofs.Additions.Emitting.{Gives, Yields, after_these, gives_as, keep_yields, moved_gives, refused_gives, regroup, scopes_as, then_these, then_yields}
+use Rattle.py_emission_parts.specs.EmissionParts as emitting
+use Rattle.py_emission_parts.specs.Emitting.{Around, Emission, ◌▸◌, emit, emit_mangled, keep, move, refuse}
+use Rattle.py_emission_parts.specs.EmissionParts.{Emissions, unless_debug, in_turn}
+use Rattle.py_emission_proof.proofs.Additions.EmissionSequenceLemmas.{Gives, Yields, after_these, gives_as, keep_yields, moved_gives, refused_gives, regroup, scopes_as, then_these, then_yields}
 use Rattle.py_emission_proof.proofs.Additions.Threaded.{Relation, Threaded, AlikeElement}
 use Rattle.py_emission_proof.proofs.Additions.Steps.{StepHere}
 use Rattle.py_emission_proof.proofs.Additions.Instructions.{constant_adds, method_adds, return_value_adds, testing_adds}

@@ -11,21 +11,21 @@ use Rattle.py_bytecode.specs.Values.{Child, Constant, It}
 use Rattle.py_bytecode.specs.Machine.{MakeFunction, Push}
 use Rattle.py_bytecode.specs.Decode.{Tables, for_some, instr_of, value_of}
 use Rattle.py_bytecode.proofs.Entered.{constant_stands}
-use Rattle.py_forms.specs.Form.{Interp, Scope, VForms, VMake, VNone}
-use Rattle.py_forms.specs.Code.{Item, Do, closure_code, code_vs, has_cells, labels_vs, make_code}
-use Rattle.py_forms.specs.Agree.{AllOf, cells_of}
-use Rattle.py_steps.specs.Context.{Context, cell_place, frees_among, mangled, symbols_in}
-use Rattle.py_steps.specs.Emitting.{Around, Emission, Outcome, Put, State, Done, TooWide, Refused, ◌▸◌, add_constant, add_varname, begun, emit, emit_constant, keep, place_in, with_constant, with_step, with_varname}
-use Rattle.py_steps.specs.Children.{behind_child, child, closure, code_head, enter_parameters, free_names, function_scope, made, on_sealed}
-use Rattle.py_steps.specs.Within.{Shape, some_flag}
-use Rattle.py_steps.specs.Refused.{no_assignment}
-use Rattle.py_steps.specs.Sealed.{sealed}
+use Rattle.py_control.specs.Form.{Interp, Scope, VForms, VMake, VNone}
+use Rattle.py_control.specs.Code.{Item, Do, closure_code, code_vs, has_cells, labels_vs, make_code}
+use Rattle.py_control.specs.Agree.{AllOf, cells_of}
+use Rattle.py_emission_parts.specs.Context.{Context, cell_place, frees_among, mangled, symbols_in}
+use Rattle.py_emission_parts.specs.Emitting.{Around, Emission, Outcome, Put, State, Done, TooWide, Refused, ◌▸◌, add_constant, add_varname, begun, emit, emit_constant, keep, place_in, with_constant, with_step, with_varname}
+use Rattle.py_emission_parts.specs.Children.{behind_child, child, closure, code_head, enter_parameters, free_names, function_scope, made, on_sealed}
+use Rattle.py_emission_parts.specs.Within.{Shape, some_flag}
+use Rattle.py_emission_parts.specs.Refused.{no_assignment}
+use Rattle.py_emission_parts.specs.Sealed.{sealed}
 use Rattle.py_emission_proof.specs.Loads.{loads}
-use Rattle.py_emission_proof.proofs.Additions.Adding.{Added, Adds, added_join, adds_nothing, ground_in, ground_of, scopes_in, settled_adds}
+use Rattle.py_emission_proof.proofs.Additions.AddedCodeLemmas.{Added, Adds, added_join, adds_nothing, ground_in, ground_of, scopes_in, settled_adds}
 use Rattle.py_emission_proof.proofs.Additions.Burden.{cells_in, cells-append}
 use Rattle.py_emission_proof.proofs.Additions.Cells.{closure_adds, closure_count}
 use Rattle.py_emission_proof.proofs.Additions.Codes.{Counted, Known, MadeWhereFew, codes_join, counted_first, known_back, loads_join, number_of, scopes}
-use Rattle.py_emission_proof.proofs.Additions.Emitting.{Gives, Stands, Yields, after_these, both, done_is, elsewhere, gives_as, keep_yields, still, yields}
+use Rattle.py_emission_proof.proofs.Additions.EmissionSequenceLemmas.{Gives, Stands, Yields, after_these, both, done_is, elsewhere, gives_as, keep_yields, still, yields}
 use Rattle.py_emission_proof.proofs.Additions.FormAdds.{PartsAdd, ValueAdds, unless_debug_gives}
 use Rattle.py_emission_proof.proofs.Additions.Instructions.{constant_adds}
 use Rattle.py_emission_proof.proofs.Additions.Steps.{adds_constant, adds_own, emit_adds, enters, enters_if, entry_stays, fits_if}
@@ -88,12 +88,12 @@ flag_is place [] = refl
 flag_is place (x ∷ xs) = refl
 
 -- what follows a child
-sealed_on : (level : ℕ) (h : Rattle.py_steps.specs.Sealed.Head) (s r : State) (o : Outcome) (next : Object → Emission) → on_sealed level h s o next ≡ Done r → (t : State) × (o ≡ Done t) × (next (sealed level h t) (behind_child s t) ≡ Done r)
+sealed_on : (level : ℕ) (h : Rattle.py_emission_parts.specs.Sealed.Head) (s r : State) (o : Outcome) (next : Object → Emission) → on_sealed level h s o next ≡ Done r → (t : State) × (o ≡ Done t) × (next (sealed level h t) (behind_child s t) ≡ Done r)
 sealed_on level h s r (Done t) next e = (t, refl, e)
 sealed_on level h s r TooWide next e = absurd cc
 sealed_on level h s r (Refused d at) next e = absurd cc
 
-sealed_frees : (level : ℕ) (h : Rattle.py_steps.specs.Sealed.Head) (t : State) → free_names (sealed level h t) ≡ h.freevars
+sealed_frees : (level : ℕ) (h : Rattle.py_emission_parts.specs.Sealed.Head) (t : State) → free_names (sealed level h t) ≡ h.freevars
 unfolding sealed
 sealed_frees level h t = refl
 

@@ -18,13 +18,13 @@ use Rattle.py_bytecode.specs.Values.{Value, Constant, It, ByName, Global, Load, 
 use Rattle.py_bytecode.specs.Machine.{Instr, Push, Access, Append, Operate, Unpack, Pop, Duplicate, Duplicate2, Rotate2, Rotate3, Jump, JumpIf, JumpIfOrPop, SetupLoop, PopBlock, Break, Continue, ReturnConst, ReturnValue}
 use Rattle.py_bytecode.specs.Decode.{Tables, instr_of, value_of, for_some, within}
 use Rattle.py_bytecode.proofs.Entered.{entered_stands, constant_stands}
-use Rattle.py_forms.specs.Form.{Scope}
-use Rattle.py_forms.specs.Code.{Do}
-use Rattle.py_steps.specs.TableParts.{binary, binary_case, inplace, unary_operation, unary_case, conversion_case, comparison_operation, counted, named}
-use Rattle.py_steps.specs.Emitting.{Around, Emission, emit, emit_count, emit_name, emit_constant, jump, place_in, with_name, with_constant}
-use Rattle.py_steps.specs.EmissionParts.{keeping_jump, testing_jump, emission_of_comparison}
-use Rattle.py_emission_proof.proofs.Additions.Emitting.{Yields, yields}
-use Rattle.py_emission_proof.proofs.Additions.Adding.{IsPlain}
+use Rattle.py_control.specs.Form.{Scope}
+use Rattle.py_control.specs.Code.{Do}
+use Rattle.py_emission_parts.specs.TableParts.{binary, binary_case, inplace, unary_operation, unary_case, conversion_case, comparison_operation, counted, named}
+use Rattle.py_emission_parts.specs.Emitting.{Around, Emission, emit, emit_count, emit_name, emit_constant, jump, place_in, with_name, with_constant}
+use Rattle.py_emission_parts.specs.EmissionParts.{keeping_jump, testing_jump, emission_of_comparison}
+use Rattle.py_emission_proof.proofs.Additions.EmissionSequenceLemmas.{Yields, yields}
+use Rattle.py_emission_proof.proofs.Additions.AddedCodeLemmas.{IsPlain}
 use Rattle.py_emission_proof.proofs.Additions.Steps.{StepAdds, adds_constant, adds_named, emit_adds, emit_step, entry_stays, fits_if, instr_as, jump_adds}
 use Rattle.py_emission_proof.proofs.Additions.Texts.{text_eq_sound}
 

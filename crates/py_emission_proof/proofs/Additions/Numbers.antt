@@ -5,15 +5,15 @@ use Rattle.std.proofs.lemmas.List.{length-append}
 use Rattle.py_bytecode.specs.Table.{row_of}
 use Rattle.py_bytecode.specs.Objects.{Object}
 use Rattle.py_bytecode.specs.Decode.{Tables}
-use Rattle.py_walks.specs.declared.info.InstructionInfo.{InstructionInfo}
+use Rattle.py_dataflow.specs.declared.info.InstructionInfo.{InstructionInfo}
 use Rattle.py_ir.specs.Chain.{Blk, blk, cut, body, flat}
-use Rattle.py_forms.specs.Code.{Item, Do, Label, size}
-use Rattle.py_steps.specs.Emitting.{Step}
-use Rattle.py_simulation.proofs.Moves.{size-append}
+use Rattle.py_control.specs.Code.{Item, Do, Label, size}
+use Rattle.py_emission_parts.specs.Emitting.{Step}
+use Rattle.py_control_proof.proofs.Moves.{size-append}
 use Rattle.py_emit.specs.Steps.{step_of, onwards, steps_from}
-use Rattle.py_emission_proof.proofs.Additions.Adding.{AllRead}
+use Rattle.py_emission_proof.proofs.Additions.AddedCodeLemmas.{AllRead}
 use Rattle.py_emit.proofs.Chains.{Leads}
-use Rattle.py_emission_proof.proofs.Additions.Laying.{Parted, parted}
+use Rattle.py_emission_proof.proofs.Additions.LaidCodeLemmas.{Parted, parted}
 
 read_size : (t : Tables) (xs : List InstructionInfo) (items : List (Item Object)) → AllRead t (map step_of xs) items → length xs ≡ size items
 read_size t [] [] r = refl

@@ -11,16 +11,16 @@ use Rattle.py_base.specs.declared.shapes.Malformed.TheVariants as shape
 use Rattle.py_bytecode.specs.declared.instruction.Instruction.TheVariants as op
 use Rattle.py_bytecode.specs.Values.{flip}
 use Rattle.py_bytecode.specs.Machine.{Rotate2, Pop, Jump}
-use Rattle.py_forms.specs.Form.{Interp, Scope, VForm, VOp, VChoice, VAt, VMore, VNone, TTruth}
-use Rattle.py_forms.specs.Code.{Item, Do, Label, code_v, labels_v, labels_t, labels_ts, labels_ss, labels_ls, code_t, code_ts, code_ss, code_ls, link_code}
-use Rattle.py_steps.specs.TableParts as table
-use Rattle.py_steps.specs.TableParts.{ExprForms, no_operand, shorts_of, part_test, tests_of, bool_forms, unary_forms, links_of, compare_form, deciding, unary_operation, comparison_operation}
+use Rattle.py_control.specs.Form.{Interp, Scope, VForm, VOp, VChoice, VAt, VMore, VNone, TTruth}
+use Rattle.py_control.specs.Code.{Item, Do, Label, code_v, labels_v, labels_t, labels_ts, labels_ss, labels_ls, code_t, code_ts, code_ss, code_ls, link_code}
+use Rattle.py_emission_parts.specs.TableParts as table
+use Rattle.py_emission_parts.specs.TableParts.{ExprForms, no_operand, shorts_of, part_test, tests_of, bool_forms, unary_forms, links_of, compare_form, deciding, unary_operation, comparison_operation}
 use Rattle.py_base.specs.declared.errors.CodegenErrorType.{CodegenErrorType}
 use Rattle.py_base.specs.declared.errors.CodegenErrorType.TheVariants as error
-use Rattle.py_steps.specs.EmissionParts as emitting
-use Rattle.py_steps.specs.Emitting.{Around, Emission, ◌▸◌, refuse, emit, jump, begin, move}
-use Rattle.py_steps.specs.EmissionParts.{Emissions, in_turn, shorts, bool_value, tests, bool_test, bool_emissions, unary_value, unary_emissions, emission_of_comparison, emission_of_link, links, chain, comparisons, emission_of_compare, choice}
-use Rattle.py_emission_proof.proofs.Additions.Emitting.{Gives, Yields, after_these, block_gives, counts_as, items_so, moved_gives, moved_refused, never_on, refused_gives, scopes_as, so, then_keep, then_these, then_yields, two_blocks_give}
+use Rattle.py_emission_parts.specs.EmissionParts as emitting
+use Rattle.py_emission_parts.specs.Emitting.{Around, Emission, ◌▸◌, refuse, emit, jump, begin, move}
+use Rattle.py_emission_parts.specs.EmissionParts.{Emissions, in_turn, shorts, bool_value, tests, bool_test, bool_emissions, unary_value, unary_emissions, emission_of_comparison, emission_of_link, links, chain, comparisons, emission_of_compare, choice}
+use Rattle.py_emission_proof.proofs.Additions.EmissionSequenceLemmas.{Gives, Yields, after_these, block_gives, counts_as, items_so, moved_gives, moved_refused, never_on, refused_gives, scopes_as, so, then_keep, then_these, then_yields, two_blocks_give}
 use Rattle.py_emission_proof.proofs.Additions.Steps.{begin_adds}
 use Rattle.py_emission_proof.proofs.Additions.Instructions.{unary_adds, comparison_adds, keeping_adds, duplicate_adds, rotate_two_adds, rotate_three_adds, pop_adds, going_adds, return_value_adds}
 use Rattle.py_emission_proof.proofs.Additions.Shapes.{choice_gives}

@@ -4,11 +4,11 @@ use Rattle.std.specs.Prelude.{◌||◌, if◌then◌else◌}
 use Rattle.py_bytecode.specs.declared.instruction.Instruction.{Instruction}
 use Rattle.py_bytecode.specs.declared.instruction.Instruction.TheVariants as op
 use Rattle.py_bytecode.specs.Values.{Operation, operation, Bare}
-use Rattle.py_forms.specs.Form.{Interp, Scope, VForm, VForms, VOp, VMore, VNone}
-use Rattle.py_steps.specs.Elements.{Callee, Element, Function, Method, bare, starred, behind, front, groups}
-use Rattle.py_steps.specs.TableParts as table
-use Rattle.py_steps.specs.TableParts.{any, built, call_by, call_form, counted, dict_form, display, packed, placed, slice_form, unpacked, updated}
-use Rattle.py_steps.specs.Emitting.{Around}
+use Rattle.py_control.specs.Form.{Interp, Scope, VForm, VForms, VOp, VMore, VNone}
+use Rattle.py_emission_parts.specs.Elements.{Callee, Element, Function, Method, bare, starred, behind, front, groups}
+use Rattle.py_emission_parts.specs.TableParts as table
+use Rattle.py_emission_parts.specs.TableParts.{any, built, call_by, call_form, counted, dict_form, display, packed, placed, slice_form, unpacked, updated}
+use Rattle.py_emission_parts.specs.Emitting.{Around}
 use Rattle.py_emission_proof.proofs.Additions.FormAdds.{IsPushed}
 
 module _ (i : Interp Scope) (c : Around) where

@@ -4,21 +4,21 @@ use Rattle.std.proofs.lemmas.List.{length-map}
 use Rattle.py_bytecode.specs.Objects.{Object}
 use Rattle.py_bytecode.specs.Decode.{Tables}
 use Rattle.py_bytecode.specs.Blocks.{Of, fetch_block, settled}
-use Rattle.py_walks.specs.Walks.{seen, Sound}
+use Rattle.py_dataflow.specs.Walks.{seen, Sound}
 use Rattle.py_ir.specs.declared.error.FinalizeError.{FinalizeError}
 use Rattle.py_ir.specs.Chain.{Blk, coded_block, coded_blocks, IsChain}
 use Rattle.py_ir.specs.Refusals as refusals
 use Rattle.py_ir.specs.Sizes.{IsOfSize}
 use Rattle.py_ir.proofs.Unique.{not_broken, no_blocks}
-use Rattle.py_forms.specs.Form.{Scope}
-use Rattle.py_forms.specs.Agree.{exactly, form_of}
-use Rattle.py_forms.specs.Code.{Item, labels, body_code}
-use Rattle.py_forms.specs.Looped.{Looped}
-use Rattle.py_simulation.proofs.Assembly.{occurs}
-use Rattle.py_simulation.proofs.Labels.{placed_once}
-use Rattle.py_sound.proofs.Blocks.{laid_is_sound}
+use Rattle.py_control.specs.Form.{Scope}
+use Rattle.py_control.specs.Agree.{exactly, form_of}
+use Rattle.py_control.specs.Code.{Item, labels, body_code}
+use Rattle.py_control.specs.Looped.{Looped}
+use Rattle.py_control_proof.proofs.Assembly.{occurs}
+use Rattle.py_control_proof.proofs.Labels.{placed_once}
+use Rattle.py_control_sound.proofs.Blocks.{laid_is_sound}
 use Rattle.py_emit.specs.Steps.{steps_in}
-use Rattle.py_emission_proof.proofs.Additions.Adding.{AllRead, AllInside}
+use Rattle.py_emission_proof.proofs.Additions.AddedCodeLemmas.{AllRead, AllInside}
 use Rattle.py_emission_proof.proofs.Additions.Burden.{burden, burden_is, cells_in}
 use Rattle.py_emission_proof.proofs.Additions.Refuted.{target_inside, jump_has_target, other_has_none, no_prefix_given, operand_inside, few_enough, laid_along}
 
@@ -48,7 +48,7 @@ module _ (d : Scope → Object) (t : Tables) (level : ℕ) (bs : List Blk) (s : 
       let both = burden_is items in
       laid_is_sound d s t (coded_blocks bs) l.place l.laid l.ends (omega (arith, long, q)) r.looped (2 ^ 32) (omega (arith, small, cells, both))
 
-  abbrev few : 4 * Rattle.py_forms.specs.Code.size items < 2 ^ 32
+  abbrev few : 4 * Rattle.py_control.specs.Code.size items < 2 ^ 32
   few = let small = r.small in let cells = r.cells in let both = burden_is items in omega (arith, small, cells, both)
 
   pub only_sizes : (e : FinalizeError) → refusals.Holds t level bs e → IsOfSize e

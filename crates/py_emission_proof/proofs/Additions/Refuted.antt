@@ -7,20 +7,20 @@ use Rattle.py_bytecode.specs.Blocks.{Of}
 use Rattle.py_bytecode.specs.Objects.{Object}
 use Rattle.py_bytecode.specs.Decode.{Tables}
 use Rattle.py_bytecode.specs.Units.{is_prefix}
-use Rattle.py_walks.specs.declared.info.InstructionInfo.{InstructionInfo}
-use Rattle.py_walks.specs.Flat.{is_jump}
+use Rattle.py_dataflow.specs.declared.info.InstructionInfo.{InstructionInfo}
+use Rattle.py_dataflow.specs.Flat.{is_jump}
 use Rattle.py_ir.specs.Chain.{Blk, blk, block_number, body, coded_blocks, flat, IsChain}
 use Rattle.py_ir.specs.Checks.{lens_of, operand_fits}
 use Rattle.py_ir.specs.Refusals.{ItemAt, TooWide}
-use Rattle.py_forms.specs.Code.{Item, size}
-use Rattle.py_simulation.proofs.Assembly.{occurs}
+use Rattle.py_control.specs.Code.{Item, size}
+use Rattle.py_control_proof.proofs.Assembly.{occurs}
 use Rattle.py_emit.specs.Steps.{step_of, steps_in}
-use Rattle.py_emission_proof.proofs.Additions.Adding.{AllRead, Below, AllInside}
+use Rattle.py_emission_proof.proofs.Additions.AddedCodeLemmas.{AllRead, Below, AllInside}
 use Rattle.py_emit.proofs.Chains.{Leads, chain_leads, chain_short}
-use Rattle.py_emission_proof.proofs.Additions.Decoding.{operand_within, no_prefix, jump_aims}
-use Rattle.py_emission_proof.proofs.Additions.Laying.{Lays, lay}
+use Rattle.py_emission_proof.proofs.Additions.DecodedInstructionLemmas.{operand_within, no_prefix, jump_aims}
+use Rattle.py_emission_proof.proofs.Additions.LaidCodeLemmas.{Lays, lay}
 use Rattle.py_emission_proof.proofs.Additions.Numbers.{left_of_chain}
-use Rattle.py_emission_proof.proofs.Additions.Standing.{In, contained, contains, Fine, all_fine, fine_block, fine_at, body_at, begun_read, begun_in}
+use Rattle.py_emission_proof.proofs.Additions.BlockChainLemmas.{In, contained, contains, Fine, all_fine, fine_block, fine_at, body_at, begun_read, begun_in}
 use Rattle.py_emission_proof.proofs.Additions.Widths.{not_too_many}
 
 number_if : (b : Bool) (n : ℕ) → nat_eq n 0xffff_ffff ≡ b → n ≢ 0xffff_ffff → (if b then None else Some n) ≡ Some n

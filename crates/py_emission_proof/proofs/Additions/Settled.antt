@@ -12,7 +12,7 @@ use Rattle.py_scope.specs.declared.kinds.SymbolScope.{SymbolScope}
 use Rattle.py_scope.specs.declared.kinds.SymbolScope.TheVariants as scope
 use Rattle.py_scope.specs.declared.symbols.Symbol.{Symbol}
 use Rattle.py_scope.specs.declared.table_type.SymbolTableType.{SymbolTableType}
-use Rattle.py_steps.specs.Context.{Context, cell_place, cells_among, frees_among, inside, is_cell, is_free, outermost, scope_of, symbols_in}
+use Rattle.py_emission_parts.specs.Context.{Context, cell_place, cells_among, frees_among, inside, is_cell, is_free, outermost, scope_of, symbols_in}
 use Rattle.py_emission_proof.proofs.Additions.Texts.{text_eq_sound}
 
 -- the cells and the free names are those among the symbols of the present scope

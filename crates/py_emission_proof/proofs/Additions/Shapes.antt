@@ -1,11 +1,11 @@
 -- What choices and loops add, over what their parts add.
 use Rattle.std.proofs.Common.{ℕ, ◌+◌, List, Bool, false, arith}
 use Rattle.py_bytecode.specs.declared.instruction.Instruction.TheVariants as op
-use Rattle.py_forms.specs.Form.{Scope}
-use Rattle.py_forms.specs.Code.{Item, choice_code, if_code, while_code}
-use Rattle.py_steps.specs.Emitting.{Around, Emission, LoopBlocks, ◌▸◌, begin, emit, in_loop, jump, new_block}
-use Rattle.py_steps.specs.EmissionParts.{choice, only}
-use Rattle.py_emission_proof.proofs.Additions.Emitting.{Gives, Yields, after_these, block_gives, counts_as, loop_gives, looping, then_gives, then_these, then_yields, three_blocks_give, two_blocks_give}
+use Rattle.py_control.specs.Form.{Scope}
+use Rattle.py_control.specs.Code.{Item, choice_code, if_code, while_code}
+use Rattle.py_emission_parts.specs.Emitting.{Around, Emission, LoopBlocks, ◌▸◌, begin, emit, in_loop, jump, new_block}
+use Rattle.py_emission_parts.specs.EmissionParts.{choice, only}
+use Rattle.py_emission_proof.proofs.Additions.EmissionSequenceLemmas.{Gives, Yields, after_these, block_gives, counts_as, loop_gives, looping, then_gives, then_these, then_yields, three_blocks_give, two_blocks_give}
 use Rattle.py_emission_proof.proofs.Additions.Steps.{begin_adds}
 use Rattle.py_emission_proof.proofs.Additions.Instructions.{going_adds, pop_block_adds, setup_loop_adds}
 

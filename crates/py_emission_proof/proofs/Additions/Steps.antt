@@ -10,16 +10,16 @@ use Rattle.py_bytecode.specs.Values.{Constant}
 use Rattle.py_bytecode.specs.Machine.{Instr}
 use Rattle.py_bytecode.specs.Decode.{Tables, instr_of, value_of}
 use Rattle.py_bytecode.proofs.Tables.{get_left}
-use Rattle.py_walks.specs.Flat.{is_jump}
-use Rattle.py_forms.specs.Form.{Scope}
-use Rattle.py_forms.specs.Code.{Item, Do, Label}
-use Rattle.py_forms.specs.Places.{instr_over}
-use Rattle.py_steps.specs.Emitting.{Put, Begin, State, Outcome, Done, TooWide, Around, Emission, with_step, with_name, with_varname, with_constant, emit, jump, begin}
-use Rattle.py_forms.specs.CodeRuns.{loaded}
+use Rattle.py_dataflow.specs.Flat.{is_jump}
+use Rattle.py_control.specs.Form.{Scope}
+use Rattle.py_control.specs.Code.{Item, Do, Label}
+use Rattle.py_control.specs.Places.{instr_over}
+use Rattle.py_emission_parts.specs.Emitting.{Put, Begin, State, Outcome, Done, TooWide, Around, Emission, with_step, with_name, with_varname, with_constant, emit, jump, begin}
+use Rattle.py_control.specs.CodeRuns.{loaded}
 use Rattle.py_emission_proof.proofs.Additions.DistinctNames.{entered_distinct}
-use Rattle.py_emission_proof.proofs.Additions.Adding.{Added, Begins, Adds, IsPlain, added_step, adds_step}
+use Rattle.py_emission_proof.proofs.Additions.AddedCodeLemmas.{Added, Begins, Adds, IsPlain, added_step, adds_step}
 use Rattle.py_emission_proof.proofs.Additions.Codes.{by_number, codes_after, no_codes}
-use Rattle.py_emission_proof.proofs.Additions.Emitting.{Yields, yields, done_is}
+use Rattle.py_emission_proof.proofs.Additions.EmissionSequenceLemmas.{Yields, yields, done_is}
 
 -- one instruction is added with this around it
 abbrev pub StepHere : Around → Emission → Instr Scope ℕ → Type 0

@@ -5,17 +5,17 @@ use Rattle.py_base.specs.declared.location.SourceLocation.{SourceLocation}
 use Rattle.py_bytecode.specs.declared.instruction.Instruction.TheVariants as op
 use Rattle.py_bytecode.specs.Values.{Operation}
 use Rattle.py_bytecode.specs.Machine.{Operate, Unpack}
-use Rattle.py_forms.specs.Form.{Interp, Scope, VForm, VForms, VKeep, Target, GPut, GDrop, targets}
-use Rattle.py_forms.specs.Code.{Do, count as form_count, labels_v, labels_vs, labels_g, labels_gs, code_g, code_gs}
-use Rattle.py_steps.specs.Elements.{Element, bare, stars, before_star, after_star}
-use Rattle.py_steps.specs.TableParts.{TargetForms, plain_target, targets_of, unpacking, unpacked_to, counted}
-use Rattle.py_steps.specs.Emitting.{Around, Emission, ◌▸◌, emit, emit_count, move, refuse}
-use Rattle.py_steps.specs.EmissionParts as emitting
-use Rattle.py_steps.specs.EmissionParts.{Stores, plain_store, in_turn, unpack, unpack_starred, unless_debug}
-use Rattle.py_steps.specs.Refused.{few_aside}
+use Rattle.py_control.specs.Form.{Interp, Scope, VForm, VForms, VKeep, Target, GPut, GDrop, targets}
+use Rattle.py_control.specs.Code.{Do, count as form_count, labels_v, labels_vs, labels_g, labels_gs, code_g, code_gs}
+use Rattle.py_emission_parts.specs.Elements.{Element, bare, stars, before_star, after_star}
+use Rattle.py_emission_parts.specs.TableParts.{TargetForms, plain_target, targets_of, unpacking, unpacked_to, counted}
+use Rattle.py_emission_parts.specs.Emitting.{Around, Emission, ◌▸◌, emit, emit_count, move, refuse}
+use Rattle.py_emission_parts.specs.EmissionParts as emitting
+use Rattle.py_emission_parts.specs.EmissionParts.{Stores, plain_store, in_turn, unpack, unpack_starred, unless_debug}
+use Rattle.py_emission_parts.specs.Refused.{few_aside}
 use Rattle.py_base.specs.declared.errors.CodegenErrorType.{CodegenErrorType}
 use Rattle.py_base.specs.declared.errors.CodegenErrorType.TheVariants as error
-use Rattle.py_emission_proof.proofs.Additions.Emitting.{Yields, after_these, keep_yields, moved_refused, refused_gives, scopes_as, then_these, then_yields}
+use Rattle.py_emission_proof.proofs.Additions.EmissionSequenceLemmas.{Yields, after_these, keep_yields, moved_refused, refused_gives, scopes_as, then_these, then_yields}
 use Rattle.py_emission_proof.proofs.Additions.Threaded.{Relation, Threaded, Alike, AlikeElement, same_length, same_stars, same_before, same_after, bare_alike, bare_length, around_star}
 use Rattle.py_emission_proof.proofs.Additions.Steps.{StepAdds, StepHere}
 use Rattle.py_emission_proof.proofs.Additions.Instructions.{duplicate_adds, pop_adds, unpack_adds, unpack_star_adds}

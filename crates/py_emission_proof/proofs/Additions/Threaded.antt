@@ -1,7 +1,7 @@
 -- Lists that are related member by member, each member from the number of the next scope on that those before it come to, and elements that
 -- are so too.
 use Rattle.std.proofs.Common.{◌≡◌, ◌≢◌, ℕ, suc, ◌+◌, List, [], ◌∷◌, ◌++◌, length, refl, ap, subst, arith}
-use Rattle.py_steps.specs.Elements.{Element, Single, Spread, starred, bare, stars, before_star, after_star, grouped, groups, front, behind}
+use Rattle.py_emission_parts.specs.Elements.{Element, Single, Spread, starred, bare, stars, before_star, after_star, grouped, groups, front, behind}
 
 -- two things that are related where k is the number of the next scope, with so many scopes in them
 abbrev pub Relation : (B C : Type 0) → Type 1

@@ -3,16 +3,16 @@ use Rattle.std.proofs.Common.{◌≡◌, ℕ, zero, suc, ◌<◌, ◌^◌, List,
 use Rattle.py_bytecode.specs.Objects.{Object, constants, codes_in, head}
 use Rattle.py_bytecode.specs.Values.{Answer}
 use Rattle.py_bytecode.specs.Units.{machine}
-use Rattle.py_walks.specs.Sound.{code_look, sound}
-use Rattle.py_walks.specs.Walks.{IsDepth}
-use Rattle.py_walks.specs.declared.info.InstructionInfo.{InstructionInfo}
+use Rattle.py_dataflow.specs.Sound.{code_look, sound}
+use Rattle.py_dataflow.specs.Walks.{IsDepth}
+use Rattle.py_dataflow.specs.declared.info.InstructionInfo.{InstructionInfo}
 use Rattle.py_layout.specs.Written.{IsAssembled}
-use Rattle.py_forms.specs.Agree.{AllOf}
+use Rattle.py_control.specs.Agree.{AllOf}
 use Rattle.py_scope.specs.declared.flat.ScopeEntry.{ScopeEntry}
-use Rattle.py_steps.specs.Context.{cells_among, frees_among, symbols_in}
+use Rattle.py_emission_parts.specs.Context.{cells_among, frees_among, symbols_in}
 use Rattle.py_emission_proof.specs.Distinct.{AreDistinct}
-use Rattle.py_steps.specs.Everywhere.{Everywhere, UpTo}
-use Rattle.py_simulation.specs.Laws.{IsEnd}
+use Rattle.py_emission_parts.specs.Everywhere.{Everywhere, UpTo}
+use Rattle.py_control_proof.specs.Laws.{IsEnd}
 
 -- its cells and its free names are those of a scope with some number
 abbrev pub IsCelled : List ScopeEntry → Object → Type 0

@@ -5,8 +5,8 @@ use Rattle.std.proofs.lemmas.Bool.Decides.{nat_tests}
 use Rattle.std.proofs.lemmas.List.{length-map}
 use Rattle.std.proofs.lemmas.List.Sums.{sum_by-cons}
 use Rattle.py_bytecode.specs.Operands.{units_for}
-use Rattle.py_walks.specs.declared.info.InstructionInfo.{InstructionInfo}
-use Rattle.py_walks.specs.Flat.{is_jump, named_place}
+use Rattle.py_dataflow.specs.declared.info.InstructionInfo.{InstructionInfo}
+use Rattle.py_dataflow.specs.Flat.{is_jump, named_place}
 use Rattle.py_layout.specs.declared.widths.Need.{Need}
 use Rattle.py_layout.specs.declared.widths.Need.TheVariants.{Fixed, Jump}
 use Rattle.py_layout.specs.Widths.{width_for, offset, IsWidth, Reaches, TooManyUnits}

@@ -11,33 +11,33 @@ use Rattle.py_bytecode.specs.Decode.{Tables, tables as tables_of}
 use Rattle.py_bytecode.specs.Units.{fetch_unit, machine}
 use Rattle.py_bytecode.specs.Blocks.{Of}
 use Rattle.py_bytecode.specs.declared.operand.CodeUnit.{CodeUnit}
-use Rattle.py_walks.specs.Walks.{IsDepth, seen}
+use Rattle.py_dataflow.specs.Walks.{IsDepth, seen}
 use Rattle.py_ir.specs.Chain.{Blk, IsChain, coded_block, coded_blocks, flat}
-use Rattle.py_ir.proofs.Ending.{listed_is}
-use Rattle.py_forms.specs.Form.{Scope}
-use Rattle.py_forms.specs.Code.{Item, labels, body_code, size}
-use Rattle.py_simulation.specs.Live.{live}
-use Rattle.py_forms.specs.Looped.{Looped}
-use Rattle.py_forms.specs.Agree.{AllOf, exactly, form_of, kids}
-use Rattle.py_forms.specs.CodeRuns.{children, runs_code}
-use Rattle.py_simulation.specs.Made.{IsMade, SameMembers, objects}
-use Rattle.py_steps.specs.Everywhere.{Everywhere, UpTo}
-use Rattle.py_simulation.specs.Laws.{IsEnd}
-use Rattle.py_simulation.proofs.Agreement.{each_to}
-use Rattle.py_simulation.proofs.CodeObjects.{each_itself}
-use Rattle.py_simulation.proofs.CodeOver.{code_over}
-use Rattle.py_simulation.proofs.Kids.{children_are}
-use Rattle.py_simulation.proofs.LabelCount.{labels_counted}
-use Rattle.py_simulation.proofs.Labels.{never_placed, once}
-use Rattle.py_simulation.proofs.LaidOut.{laid_runs}
-use Rattle.py_simulation.proofs.Laws.{scope_ends}
-use Rattle.py_simulation.proofs.OtherChildren.{children_over}
-use Rattle.py_steps.specs.Context.{Context, cells_among, frees_among, symbols_in}
-use Rattle.py_steps.specs.Children.{code_head}
-use Rattle.py_steps.specs.Within.{Shape}
-use Rattle.py_steps.specs.Emitting.{Emission, State, Done, begun}
-use Rattle.py_steps.specs.Listed.{items_in, steps_at}
-use Rattle.py_steps.specs.Sealed.{Head, sealed, tables_in}
+use Rattle.py_ir.proofs.CodeTableLemmas.{listed_is}
+use Rattle.py_control.specs.Form.{Scope}
+use Rattle.py_control.specs.Code.{Item, labels, body_code, size}
+use Rattle.py_control_proof.specs.Live.{live}
+use Rattle.py_control.specs.Looped.{Looped}
+use Rattle.py_control.specs.Agree.{AllOf, exactly, form_of, kids}
+use Rattle.py_control.specs.CodeRuns.{children, runs_code}
+use Rattle.py_control_proof.specs.Made.{IsMade, SameMembers, objects}
+use Rattle.py_emission_parts.specs.Everywhere.{Everywhere, UpTo}
+use Rattle.py_control_proof.specs.Laws.{IsEnd}
+use Rattle.py_control_proof.proofs.Agreement.{each_to}
+use Rattle.py_control_proof.proofs.CodeObjects.{each_itself}
+use Rattle.py_control_proof.proofs.CodeOver.{code_over}
+use Rattle.py_control_proof.proofs.Kids.{children_are}
+use Rattle.py_control_proof.proofs.LabelCount.{labels_counted}
+use Rattle.py_control_proof.proofs.Labels.{never_placed, once}
+use Rattle.py_control_proof.proofs.LaidOut.{laid_runs}
+use Rattle.py_control_proof.proofs.Laws.{scope_ends}
+use Rattle.py_control_proof.proofs.OtherChildren.{children_over}
+use Rattle.py_emission_parts.specs.Context.{Context, cells_among, frees_among, symbols_in}
+use Rattle.py_emission_parts.specs.Children.{code_head}
+use Rattle.py_emission_parts.specs.Within.{Shape}
+use Rattle.py_emission_parts.specs.Emitting.{Emission, State, Done, begun}
+use Rattle.py_emission_parts.specs.Listed.{items_in, steps_at}
+use Rattle.py_emission_parts.specs.Sealed.{Head, sealed, tables_in}
 use Rattle.py_emit.specs.Placed.{IsFit, IsPlaced, IsSealedOf, begun_in, blocks_in}
 use Rattle.py_emit.specs.Steps.{steps_in}
 use Rattle.py_emit.proofs.Chains.{chain_leads, chain_short}
@@ -46,19 +46,19 @@ use Rattle.py_emit.proofs.Sealed.{items_are}
 use Rattle.py_emit.proofs.SealedLaid.{sealed_runs}
 use Rattle.py_emission_proof.specs.Distinct.{AreDistinct}
 use Rattle.py_emission_proof.specs.Loads.{AreNumbered, LoadsUpTo, loads}
-use Rattle.py_emission_proof.proofs.Additions.Adding.{AllInside, AllRead, Begins, Completes, cells_of, completed, ground_of, read_as}
+use Rattle.py_emission_proof.proofs.Additions.AddedCodeLemmas.{AllInside, AllRead, Begins, Completes, cells_of, completed, ground_of, read_as}
 use Rattle.py_emission_proof.proofs.Additions.Burden.{burden, burden_is, cells_in, cells_over, labels_few}
 use Rattle.py_emission_proof.proofs.Additions.Codes.{AllKnown, LoadsFew, MadeFrom, MadeWhereFew, Numbered, all_known, all_stand, by_number, each_made, number_of, own_numbers, scopes, stand_at}
-use Rattle.py_emission_proof.proofs.Additions.Emitting.{Gives, Stands, outside}
+use Rattle.py_emission_proof.proofs.Additions.EmissionSequenceLemmas.{Gives, Stands, outside}
 use Rattle.py_emission_proof.proofs.Additions.Functions.{Makes}
 use Rattle.py_emission_proof.proofs.Additions.Settled.{Settled}
-use Rattle.py_emission_proof.proofs.Additions.Counting.{few, units_enough}
-use Rattle.py_emission_proof.proofs.Additions.Laying.{Lays}
-use Rattle.py_emission_proof.proofs.Additions.Placing.{few_left, in_range, placing}
+use Rattle.py_emission_proof.proofs.Additions.ReachableUnitLemmas.{few, units_enough}
+use Rattle.py_emission_proof.proofs.Additions.LaidCodeLemmas.{Lays}
+use Rattle.py_emission_proof.proofs.Additions.BlockPlacementLemmas.{few_left, in_range, placing}
 use Rattle.py_emission_proof.proofs.Additions.Readings.{Read, only_sizes}
 use Rattle.py_emission_proof.proofs.Additions.Refuted.{laid_along}
 use Rattle.py_emission_proof.proofs.Additions.Units.{as_located, units_few}
-use Rattle.py_emission_proof.proofs.Additions.Naming.{IsMadeSo, Named, Says}
+use Rattle.py_emission_proof.proofs.Additions.CodeNameLemmas.{IsMadeSo, Named, Says}
 use Rattle.py_emission_proof.proofs.Additions.WellMade.{WellMade, all_so}
 
 -- pairs by their scopes

@@ -3,10 +3,10 @@ use Rattle.std.proofs.Common.{◌≡◌, ℕ, ◌+◌, ◌*◌, ◌≤◌, Bool,
 use Rattle.py_tree.specs.Tree as tree
 use Rattle.py_limits.specs.Size.{stmt_size, stmts_size}
 use Rattle.py_bytecode.specs.Objects.{Object}
-use Rattle.py_forms.specs.Form.{Interp, SForm, SThen}
-use Rattle.py_forms.specs.Fit.{Loops}
-use Rattle.py_forms.specs.Code.{code, labels}
-use Rattle.py_steps.specs.Context.{Context}
+use Rattle.py_control.specs.Form.{Interp, SForm, SThen}
+use Rattle.py_control.specs.Fit.{Loops}
+use Rattle.py_control.specs.Code.{code, labels}
+use Rattle.py_emission_parts.specs.Context.{Context}
 use Rattle.py_emission.specs.Futures.{Future, after_future, future_in, future_of}
 use Rattle.py_meaning.specs.TableImports.{behind_futures, future_form}
 use Rattle.py_emission.specs.Imports.{from_future}

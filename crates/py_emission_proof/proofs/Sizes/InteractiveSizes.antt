@@ -6,11 +6,11 @@ use Rattle.py_tree.specs.declared.modules.Mode.TheVariants as mode
 use Rattle.py_limits.specs.Size.{stmt_size, stmts_size}
 use Rattle.py_bytecode.specs.Objects as const
 use Rattle.py_bytecode.specs.Objects.{Object}
-use Rattle.py_forms.specs.Form.{Interp, VConst, SForm, SThen, SReturn}
-use Rattle.py_forms.specs.Fit.{Loops}
-use Rattle.py_forms.specs.Code.{labels, labels_v, code, code_v}
-use Rattle.py_steps.specs.Within.{class_path, class_within, function_inside}
-use Rattle.py_steps.specs.Context.{Context}
+use Rattle.py_control.specs.Form.{Interp, VConst, SForm, SThen, SReturn}
+use Rattle.py_control.specs.Fit.{Loops}
+use Rattle.py_control.specs.Code.{labels, labels_v, code, code_v}
+use Rattle.py_emission_parts.specs.Within.{class_path, class_within, function_inside}
+use Rattle.py_emission_parts.specs.Context.{Context}
 use Rattle.py_meaning.specs.Interactive.{block_form, interactive_form, last_form, prompt_form, single_form}
 use Rattle.py_emission.specs.Futures.{after_future, future_of}
 use Rattle.py_meaning.specs.StmtParts.{after_stmt}

@@ -9,13 +9,13 @@ use Rattle.py_bytecode.specs.declared.instruction.Instruction.TheVariants as op
 use Rattle.py_bytecode.specs.Objects as const
 use Rattle.py_bytecode.specs.Objects.{Object}
 use Rattle.py_bytecode.specs.Values.{Bare, Cell, operation}
-use Rattle.py_forms.specs.Form.{Interp, VForm, VConst, VLoad, VSwap, VNone, VMore, FixedFast, SForm, SThen, SReturn, Scope, MkScope}
-use Rattle.py_forms.specs.Fit.{Loops}
-use Rattle.py_forms.specs.Agree.{exactly, form_of}
-use Rattle.py_forms.specs.Code.{class_code, closes, closing, labels, labels_v, code, code_v, body_code}
+use Rattle.py_control.specs.Form.{Interp, VForm, VConst, VLoad, VSwap, VNone, VMore, FixedFast, SForm, SThen, SReturn, Scope, MkScope}
+use Rattle.py_control.specs.Fit.{Loops}
+use Rattle.py_control.specs.Agree.{exactly, form_of}
+use Rattle.py_control.specs.Code.{class_code, closes, closing, labels, labels_v, code, code_v, body_code}
 use Rattle.py_scope.specs.declared.flat.ScopeEntry.{ScopeEntry}
-use Rattle.py_steps.specs.Context.{Context, head_of, outermost}
-use Rattle.py_steps.specs.Within.{handed, handed_parts}
+use Rattle.py_emission_parts.specs.Context.{Context, head_of, outermost}
+use Rattle.py_emission_parts.specs.Within.{handed, handed_parts}
 use Rattle.py_emission.specs.Texts.{after_doc, doc_of, first_text, stmt_text, unless_text}
 use Rattle.py_meaning.specs.Interactive.{interactive_form}
 use Rattle.py_meaning.specs.Meaning.{body, mod_form}

@@ -9,12 +9,12 @@ use Rattle.py_bytecode.specs.declared.instruction.Instruction.TheVariants as op
 use Rattle.py_bytecode.specs.Objects as const
 use Rattle.py_bytecode.specs.Objects.{Object}
 use Rattle.py_bytecode.specs.Values.{Bare, operation}
-use Rattle.py_forms.specs.Form.{Interp, VForm, VConst, VLoad, VOp, VNone, VMore, VAt, VKeep, VMake, GPut, Resolved, SReturn, Scope, MkScope}
+use Rattle.py_control.specs.Form.{Interp, VForm, VConst, VLoad, VOp, VNone, VMore, VAt, VKeep, VMake, GPut, Resolved, SReturn, Scope, MkScope}
 use Rattle.py_emission.specs.Texts.{texts_of}
-use Rattle.py_forms.specs.Code.{labels_v}
-use Rattle.py_steps.specs.TableParts.{ExprForms, tested, values, elements, parts_of, conversion_case, counted, named, binary, display, value_or, debug_constant, is_debug, no_operand, unpacked_to}
-use Rattle.py_steps.specs.Within.{lambda_inside}
-use Rattle.py_steps.specs.Context.{Context, head_of, mangled}
+use Rattle.py_control.specs.Code.{labels_v}
+use Rattle.py_emission_parts.specs.TableParts.{ExprForms, tested, values, elements, parts_of, conversion_case, counted, named, binary, display, value_or, debug_constant, is_debug, no_operand, unpacked_to}
+use Rattle.py_emission_parts.specs.Within.{lambda_inside}
+use Rattle.py_emission_parts.specs.Context.{Context, head_of, mangled}
 use Rattle.py_meaning.specs.Table.{after, after_all, after_args, after_clauses, after_defaults, after_opt, after_key, after_value, but_first_key, but_first_value, expr_forms, all_forms, opt_form, key_forms, value_forms, default_forms, positional_defaults, keyword_defaults, keyword_forms, target_forms, all_targets, first_iterable, unsupported}
 use Rattle.py_meaning.specs.TableScopes.{Defaults, default_flags, default_parts}
 use Rattle.py_emission_proof.proofs.Additions.Burden.{burden-append}

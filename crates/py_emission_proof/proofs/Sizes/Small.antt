@@ -2,10 +2,10 @@
 use Rattle.std.proofs.Common.{ℕ, ◌+◌, ◌*◌, ◌≤◌, List, [], ◌∷◌, length, Bool, arith}
 use Rattle.py_bytecode.specs.Objects.{Object}
 use Rattle.py_bytecode.specs.Values.{Operation}
-use Rattle.py_steps.specs.Elements.{Callee, Function, Method}
-use Rattle.py_forms.specs.Form.{Interp, VForm, VOp, Target}
-use Rattle.py_forms.specs.Code.{labels_v, code_v, code_vs, code_t, code_g}
-use Rattle.py_steps.specs.TableParts.{ExprForms, TargetForms, tested, plain_target, values, elements, parts_of}
+use Rattle.py_emission_parts.specs.Elements.{Callee, Function, Method}
+use Rattle.py_control.specs.Form.{Interp, VForm, VOp, Target}
+use Rattle.py_control.specs.Code.{labels_v, code_v, code_vs, code_t, code_g}
+use Rattle.py_emission_parts.specs.TableParts.{ExprForms, TargetForms, tested, plain_target, values, elements, parts_of}
 use Rattle.py_emission_proof.proofs.Additions.Burden.{burden, burden-append}
 use Rattle.py_emission_proof.proofs.Sizes.Together.{Together, OneElement}
 

@@ -5,15 +5,15 @@ use Rattle.py_tree.specs.Tree as tree
 use Rattle.py_limits.specs.Size.{expr_size, exprs_size, opt_expr_size}
 use Rattle.py_base.specs.declared.operators.Operator.{Operator}
 use Rattle.py_bytecode.specs.Objects.{Object}
-use Rattle.py_forms.specs.Form.{Interp, VForm, VKeep, Target, SForm, SSkip, SThen, SInto}
-use Rattle.py_forms.specs.Fit.{Loops}
-use Rattle.py_forms.specs.Code.{labels, labels_v, code, code_v}
-use Rattle.py_steps.specs.TableParts.{name_form, is_debug}
-use Rattle.py_steps.specs.Context.{Context, is_function, mangled}
+use Rattle.py_control.specs.Form.{Interp, VForm, VKeep, Target, SForm, SSkip, SThen, SInto}
+use Rattle.py_control.specs.Fit.{Loops}
+use Rattle.py_control.specs.Code.{labels, labels_v, code, code_v}
+use Rattle.py_emission_parts.specs.TableParts.{name_form, is_debug}
+use Rattle.py_emission_parts.specs.Context.{Context, is_function, mangled}
 use Rattle.py_meaning.specs.StmtParts.{removal, removals, assigned, assign_form, augment_form, declared_form, annotation_target, annotated_form}
 use Rattle.py_meaning.specs.Table.{after, after_opt, expr_form, target_form}
 use Rattle.py_meaning.specs.TableNotes.{note_form, text_form}
-use Rattle.py_texts.specs.Annotation.{annotation}
+use Rattle.py_annotation_text.specs.Annotation.{annotation}
 use Rattle.py_emission_proof.proofs.Additions.Burden.{burden, burden-append}
 use Rattle.py_emission_proof.proofs.Sizes.Small.{FormSmall, TargetSmall}
 use Rattle.py_emission_proof.proofs.Sizes.SmallTargets.{keep_small}

@@ -6,10 +6,10 @@ use Rattle.py_bytecode.specs.declared.instruction.Instruction.TheVariants as op
 use Rattle.py_bytecode.specs.Objects as const
 use Rattle.py_bytecode.specs.Objects.{Object}
 use Rattle.py_bytecode.specs.Values.{Operation}
-use Rattle.py_steps.specs.Elements.{Element, Single, Spread, Callee, Function, Method, starred, bare, groups}
-use Rattle.py_forms.specs.Form.{Interp, VForm, VConst, VForms}
-use Rattle.py_forms.specs.Code.{labels_v, code_v, code_vs}
-use Rattle.py_steps.specs.TableParts.{counted, parts_of, built, unpacked, call_by, Keywords, name_values, map_of, joined_map, names_in, values_in, packed, any, placed, call_form}
+use Rattle.py_emission_parts.specs.Elements.{Element, Single, Spread, Callee, Function, Method, starred, bare, groups}
+use Rattle.py_control.specs.Form.{Interp, VForm, VConst, VForms}
+use Rattle.py_control.specs.Code.{labels_v, code_v, code_vs}
+use Rattle.py_emission_parts.specs.TableParts.{counted, parts_of, built, unpacked, call_by, Keywords, name_values, map_of, joined_map, names_in, values_in, packed, any, placed, call_form}
 use Rattle.py_emission_proof.proofs.Additions.Burden.{burden, burden-append}
 use Rattle.py_emission_proof.proofs.Sizes.Together.{Together, OneElement, join_together, push_together, bare_together}
 use Rattle.py_emission_proof.proofs.Sizes.Small.{FormSmall, CalleeSmall, parts_small}

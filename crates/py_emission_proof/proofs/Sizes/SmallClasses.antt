@@ -8,12 +8,12 @@ use Rattle.py_bytecode.specs.declared.instruction.Instruction.TheVariants as op
 use Rattle.py_bytecode.specs.Objects as const
 use Rattle.py_bytecode.specs.Objects.{Const, Object}
 use Rattle.py_bytecode.specs.Values.{Operation}
-use Rattle.py_forms.specs.Form.{Interp, VForm, VConst, VOp, VForms, VNone, VMore, SForm, MkScope}
+use Rattle.py_control.specs.Form.{Interp, VForm, VConst, VOp, VForms, VNone, VMore, SForm, MkScope}
 use Rattle.py_emission.specs.Texts.{after_doc, doc_of}
-use Rattle.py_steps.specs.Within.{behind_name, class_within}
-use Rattle.py_steps.specs.Context.{Context, head_of}
-use Rattle.py_steps.specs.Elements.{Element, Single, Spread, Function, starred, bare, groups}
-use Rattle.py_steps.specs.TableParts.{Keywords, any, built, call_by, call_form, counted, elements, joined_map, map_of, names_in, packed, parts_of, placed, unpacked, values_in}
+use Rattle.py_emission_parts.specs.Within.{behind_name, class_within}
+use Rattle.py_emission_parts.specs.Context.{Context, head_of}
+use Rattle.py_emission_parts.specs.Elements.{Element, Single, Spread, Function, starred, bare, groups}
+use Rattle.py_emission_parts.specs.TableParts.{Keywords, any, built, call_by, call_form, counted, elements, joined_map, map_of, names_in, packed, parts_of, placed, unpacked, values_in}
 use Rattle.py_meaning.specs.StmtCounts.{scopes_in_stmts}
 use Rattle.py_meaning.specs.StmtParts.{class_function, class_value}
 use Rattle.py_emission.specs.Predicates.{annotated}

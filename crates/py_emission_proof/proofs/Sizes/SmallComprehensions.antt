@@ -5,9 +5,9 @@ use Rattle.py_bytecode.specs.declared.instruction.Instruction.{Instruction}
 use Rattle.py_bytecode.specs.declared.instruction.Instruction.TheVariants as op
 use Rattle.py_bytecode.specs.Objects.{Object}
 use Rattle.py_bytecode.specs.Values.{operation, Bare}
-use Rattle.py_forms.specs.Form.{Interp, VForm, VLoad, VOp, VMake, VAt, VForms, VNone, VMore, TForm, Target, Fixed, Scope, Clauses, CLast, CEach, Filters, NoFilter, MoreFilter}
-use Rattle.py_forms.specs.Code.{Item, body_code, labels_v, labels_t, labels_g, labels_bs, code_t, code_bs, code_c, append_code, drop_code}
-use Rattle.py_steps.specs.TableParts.{counted, tested}
+use Rattle.py_control.specs.Form.{Interp, VForm, VLoad, VOp, VMake, VAt, VForms, VNone, VMore, TForm, Target, Fixed, Scope, Clauses, CLast, CEach, Filters, NoFilter, MoreFilter}
+use Rattle.py_control.specs.Code.{Item, body_code, labels_v, labels_t, labels_g, labels_bs, code_t, code_bs, code_c, append_code, drop_code}
+use Rattle.py_emission_parts.specs.TableParts.{counted, tested}
 use Rattle.py_meaning.specs.TableScopes.{called_at_once, gathered, generated, iterator}
 use Rattle.py_emission_proof.proofs.Additions.Burden.{burden, burden-append}
 use Rattle.py_emission_proof.proofs.Sizes.Small.{FormSmall, Small, TargetSmall, tested_small}

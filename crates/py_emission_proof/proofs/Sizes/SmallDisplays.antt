@@ -6,10 +6,10 @@ use Rattle.py_bytecode.specs.declared.instruction.Instruction.TheVariants as op
 use Rattle.py_bytecode.specs.Objects as const
 use Rattle.py_bytecode.specs.Objects.{Const, Object}
 use Rattle.py_bytecode.specs.Values.{Bare, operation}
-use Rattle.py_steps.specs.Elements.{Element, Single, Spread, starred, bare, grouped, groups, front, behind, pairs, sides}
-use Rattle.py_forms.specs.Form.{Interp, VForm, VOp, VNone, VMore}
-use Rattle.py_forms.specs.Code.{labels_v, code_v, code_vs}
-use Rattle.py_steps.specs.TableParts.{parts_of, built, counted, unpacked, display, updated, map_of_pairs, dict_form, value_or, slice_form, joined_form}
+use Rattle.py_emission_parts.specs.Elements.{Element, Single, Spread, starred, bare, grouped, groups, front, behind, pairs, sides}
+use Rattle.py_control.specs.Form.{Interp, VForm, VOp, VNone, VMore}
+use Rattle.py_control.specs.Code.{labels_v, code_v, code_vs}
+use Rattle.py_emission_parts.specs.TableParts.{parts_of, built, counted, unpacked, display, updated, map_of_pairs, dict_form, value_or, slice_form, joined_form}
 use Rattle.py_emission_proof.proofs.Additions.Burden.{burden, burden-append}
 use Rattle.py_emission_proof.proofs.Sizes.Together.{Together, Possible, OneElement, parted, groups_together, push_together, bare_together}
 use Rattle.py_emission_proof.proofs.Sizes.Small.{FormSmall, parts_small, operation_small}

@@ -4,10 +4,10 @@ use Rattle.py_bytecode.specs.declared.instruction.Instruction.TheVariants as op
 use Rattle.py_bytecode.specs.Objects as const
 use Rattle.py_bytecode.specs.Objects.{Object}
 use Rattle.py_bytecode.specs.Values.{operation, Bare, Cell}
-use Rattle.py_forms.specs.Form.{Interp, VForm, VConst, VOp, VMake, VForms, VNone, VMore, Scope}
-use Rattle.py_forms.specs.Code.{labels_v, labels_vs, cell_codes, closure_code, code_v, code_vs}
-use Rattle.py_steps.specs.Within.{some_flag}
-use Rattle.py_steps.specs.TableParts.{parts_of, built, map_of, name_values, some_built, value_or}
+use Rattle.py_control.specs.Form.{Interp, VForm, VConst, VOp, VMake, VForms, VNone, VMore, Scope}
+use Rattle.py_control.specs.Code.{labels_v, labels_vs, cell_codes, closure_code, code_v, code_vs}
+use Rattle.py_emission_parts.specs.Within.{some_flag}
+use Rattle.py_emission_parts.specs.TableParts.{parts_of, built, map_of, name_values, some_built, value_or}
 use Rattle.py_meaning.specs.TableScopes.{Defaults, default_parts, documented, function_form, decorated, iterator}
 use Rattle.py_emission_proof.proofs.Additions.Burden.{burden, burden-append}
 use Rattle.py_emission_proof.proofs.Sizes.Together.{Together, Possible}

@@ -9,10 +9,10 @@ use Rattle.py_bytecode.specs.declared.instruction.Instruction.TheVariants as op
 use Rattle.py_bytecode.specs.Objects as const
 use Rattle.py_bytecode.specs.Objects.{Const, Object}
 use Rattle.py_bytecode.specs.Values.{operation, Bare}
-use Rattle.py_forms.specs.Form.{Interp, VForm, VOp, VKeep, VMore, VNone, GStore, GPut, GDrop, Resolved, SInto}
-use Rattle.py_forms.specs.Code.{labels}
-use Rattle.py_steps.specs.Context.{Context, mangled}
-use Rattle.py_steps.specs.TableParts.{named}
+use Rattle.py_control.specs.Form.{Interp, VForm, VOp, VKeep, VMore, VNone, GStore, GPut, GDrop, Resolved, SInto}
+use Rattle.py_control.specs.Code.{labels}
+use Rattle.py_emission_parts.specs.Context.{Context, mangled}
+use Rattle.py_emission_parts.specs.TableParts.{named}
 use Rattle.py_emission.specs.Imports.{asked, asked_all, further_segments, import_name, taken_name, takes_all}
 use Rattle.py_meaning.specs.TableImports.{attributes, from_form, import_form, import_value, module_value, taken_from}
 use Rattle.py_emission_proof.proofs.Additions.Burden.{burden-append}

@@ -5,10 +5,10 @@ use Rattle.py_tree.specs.Tree as tree
 use Rattle.py_limits.specs.Size.{expr_size, opt_expr_size}
 use Rattle.py_bytecode.specs.Objects.{Object}
 use Rattle.py_emission.specs.Texts.{doc_of}
-use Rattle.py_forms.specs.Form.{Interp, SForm, VForms, MkScope}
-use Rattle.py_steps.specs.Within.{function_inside}
-use Rattle.py_steps.specs.Context.{Context, head_of, mangled, qualified}
-use Rattle.py_counts.specs.Counts.{scopes_in_arg, scopes_in_returns}
+use Rattle.py_control.specs.Form.{Interp, SForm, VForms, MkScope}
+use Rattle.py_emission_parts.specs.Within.{function_inside}
+use Rattle.py_emission_parts.specs.Context.{Context, head_of, mangled, qualified}
+use Rattle.py_scope_counts.specs.Counts.{scopes_in_arg, scopes_in_returns}
 use Rattle.py_meaning.specs.StmtCounts.{scopes_in_stmts}
 use Rattle.py_meaning.specs.StmtParts.{function_value}
 use Rattle.py_meaning.specs.TableNotes.{opt_note, arg_note, opt_arg_note, arg_notes, past_notes, past_opt_arg, param_notes, note_forms}

@@ -8,9 +8,9 @@ use Rattle.py_base.specs.declared.operators.UnaryOp.{UnaryOp}
 use Rattle.py_base.specs.declared.operators.UnaryOp.TheVariants as unary
 use Rattle.py_bytecode.specs.Objects.{Object}
 use Rattle.py_bytecode.specs.Values.{flip}
-use Rattle.py_forms.specs.Form.{Interp, VChoice}
-use Rattle.py_forms.specs.Code.{labels_v, labels_t, code_v, code_ss, code_ls, code_t, code_ts}
-use Rattle.py_steps.specs.TableParts.{ExprForms, shorts_of, part_test, tests_of, bool_forms, unary_forms, unary_operation, links_of, compare_form, comparison_operation, deciding}
+use Rattle.py_control.specs.Form.{Interp, VChoice}
+use Rattle.py_control.specs.Code.{labels_v, labels_t, code_v, code_ss, code_ls, code_t, code_ts}
+use Rattle.py_emission_parts.specs.TableParts.{ExprForms, shorts_of, part_test, tests_of, bool_forms, unary_forms, unary_operation, links_of, compare_form, comparison_operation, deciding}
 use Rattle.py_emission_proof.proofs.Additions.Burden.{burden, burden-append}
 use Rattle.py_emission_proof.proofs.Sizes.Together.{Together}
 use Rattle.py_emission_proof.proofs.Sizes.Small.{FormSmall, Small, tested_small, one_small, two_small}

@@ -7,11 +7,11 @@ use Rattle.py_bytecode.specs.Objects.{Object}
 use Rattle.py_bytecode.specs.Values.{operation, Number}
 use Rattle.py_bytecode.specs.declared.instruction.Instruction.TheVariants as op
 use Rattle.py_bytecode.specs.Machine.{ReturnValue}
-use Rattle.py_forms.specs.Form.{Interp, VForm, VConst, VLoad, VOp, VMake, VMore, VNone, VShort, VChain, VChoice, VKeep, VSwap, VAt, TNot, GDrop, SForm, SSkip, SDo, SIf, Handlers, HAny, HTyped}
-use Rattle.py_forms.specs.Fit.{Loops}
-use Rattle.py_forms.specs.Code.{Do, labels, labels_v, labels_g, labels_h, labels_t, code_v, code_vs, code_g, code_h, tail_code, return_code}
-use Rattle.py_steps.specs.Within.{class_path, class_within, function_inside}
-use Rattle.py_steps.specs.Context.{Context}
+use Rattle.py_control.specs.Form.{Interp, VForm, VConst, VLoad, VOp, VMake, VMore, VNone, VShort, VChain, VChoice, VKeep, VSwap, VAt, TNot, GDrop, SForm, SSkip, SDo, SIf, Handlers, HAny, HTyped}
+use Rattle.py_control.specs.Fit.{Loops}
+use Rattle.py_control.specs.Code.{Do, labels, labels_v, labels_g, labels_h, labels_t, code_v, code_vs, code_g, code_h, tail_code, return_code}
+use Rattle.py_emission_parts.specs.Within.{class_path, class_within, function_inside}
+use Rattle.py_emission_parts.specs.Context.{Context}
 use Rattle.py_meaning.specs.StmtCounts.{scopes_in_handlers, scopes_in_items}
 use Rattle.py_meaning.specs.StmtParts.{after_stmt, after_stmts, assertion, handler_target, item_target, message_parts, named_form, raise_form, return_form, with_form}
 use Rattle.py_meaning.specs.Table.{after, after_all, after_opt, expr_form, target_form, test_form}

@@ -2,10 +2,10 @@
 use Rattle.std.proofs.Common.{ℕ, ◌+◌, ◌*◌, ◌≤◌, List, [], ◌∷◌, None, arith}
 use Rattle.py_bytecode.specs.Objects.{Object}
 use Rattle.py_bytecode.specs.Values.{Operation}
-use Rattle.py_steps.specs.Elements.{Element, bare}
-use Rattle.py_forms.specs.Form.{Interp, VForm, VKeep, Target, GStore, GPut, GDrop, Resolved, targets}
-use Rattle.py_forms.specs.Code.{labels_v, labels_g, code_gs}
-use Rattle.py_steps.specs.TableParts.{plain_target, parts_of, targets_of, unpacked_to}
+use Rattle.py_emission_parts.specs.Elements.{Element, bare}
+use Rattle.py_control.specs.Form.{Interp, VForm, VKeep, Target, GStore, GPut, GDrop, Resolved, targets}
+use Rattle.py_control.specs.Code.{labels_v, labels_g, code_gs}
+use Rattle.py_emission_parts.specs.TableParts.{plain_target, parts_of, targets_of, unpacked_to}
 use Rattle.py_emission_proof.proofs.Additions.Burden.{burden, burden-append}
 use Rattle.py_emission_proof.proofs.Sizes.Together.{Together, OneElement, bare_together}
 use Rattle.py_emission_proof.proofs.Sizes.Small.{FormSmall, TargetSmall, SmallTarget, plain_small, parts_small}

@@ -6,11 +6,11 @@ use Rattle.py_bytecode.specs.declared.instruction.Instruction.TheVariants as op
 use Rattle.py_bytecode.specs.Objects as const
 use Rattle.py_bytecode.specs.Objects.{Object}
 use Rattle.py_bytecode.specs.Values.{Operation, operation, Bare}
-use Rattle.py_forms.specs.Form.{Interp, VForm, VConst, VMake, VSwap, VForms, VNone, VMore, SForm, SReturn, Scope, MkScope}
-use Rattle.py_forms.specs.Code.{labels_v}
-use Rattle.py_steps.specs.Within.{class_path, handed, handed_parts, hidden_inside, hidden_name}
-use Rattle.py_steps.specs.Context.{Context, head_of}
-use Rattle.py_steps.specs.TableParts.{counted, values}
+use Rattle.py_control.specs.Form.{Interp, VForm, VConst, VMake, VSwap, VForms, VNone, VMore, SForm, SReturn, Scope, MkScope}
+use Rattle.py_control.specs.Code.{labels_v}
+use Rattle.py_emission_parts.specs.Within.{class_path, handed, handed_parts, hidden_inside, hidden_name}
+use Rattle.py_emission_parts.specs.Context.{Context, head_of}
+use Rattle.py_emission_parts.specs.TableParts.{counted, values}
 use Rattle.py_meaning.specs.StmtCounts.{scopes_in_param}
 use Rattle.py_meaning.specs.StmtParts.{class_value, function_value}
 use Rattle.py_meaning.specs.Table.{after_all, after_defaults, all_forms, default_forms, expr_form}

@@ -1,6 +1,6 @@
 -- What it is for things to have at most such a size together.
 use Rattle.std.proofs.Common.{ℕ, ◌+◌, ◌≤◌, List, [], ◌∷◌, ◌++◌, Option, Some, None, arith}
-use Rattle.py_steps.specs.Elements.{Element, Single, Spread, bare, grouped, groups, front, behind}
+use Rattle.py_emission_parts.specs.Elements.{Element, Single, Spread, bare, grouped, groups, front, behind}
 
 -- the size is shared among them
 abbrev pub Together : {A : Type 0} → (A → ℕ → Type 0) → List A → ℕ → Type 0

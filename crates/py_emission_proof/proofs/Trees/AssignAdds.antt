@@ -6,22 +6,22 @@ use Rattle.py_tree.specs.Tree as tree
 use Rattle.py_base.specs.declared.operators.Operator.{Operator}
 use Rattle.py_base.specs.declared.shapes.Malformed.TheVariants as shape
 use Rattle.py_limits.specs.Size.{expr_size, exprs_size, opt_expr_size}
-use Rattle.py_counts.specs.Counts.{scopes_in, scopes_in_all, scopes_in_annotation, scopes_in_opt}
+use Rattle.py_scope_counts.specs.Counts.{scopes_in, scopes_in_all, scopes_in_annotation, scopes_in_opt}
 use Rattle.py_bytecode.specs.declared.instruction.Instruction.TheVariants as op
 use Rattle.py_bytecode.specs.Objects as const
 use Rattle.py_bytecode.specs.Values.{Operation, Delete, Store, operation, Bare}
 use Rattle.py_bytecode.specs.Machine.{Operate}
-use Rattle.py_forms.specs.Form.{Interp, Scope, VForm, VForms, VConst, VLoad, VOp, VKeep, VMore, VNone, Target, GStore, GDrop, FixedByName, Resolved, SForm, SSkip, SThen, SDo, SInto, SAugment, SAugmentTwo}
-use Rattle.py_forms.specs.Fit.{Loops}
-use Rattle.py_forms.specs.Code.{count as form_count, labels_v, labels_vs, labels, code}
-use Rattle.py_steps.specs.TableParts.{name_form, inplace, binary_case, named}
-use Rattle.py_steps.specs.Context.{is_function, mangled}
-use Rattle.py_steps.specs.Accesses.{accessed, emission_of_name}
+use Rattle.py_control.specs.Form.{Interp, Scope, VForm, VForms, VConst, VLoad, VOp, VKeep, VMore, VNone, Target, GStore, GDrop, FixedByName, Resolved, SForm, SSkip, SThen, SDo, SInto, SAugment, SAugmentTwo}
+use Rattle.py_control.specs.Fit.{Loops}
+use Rattle.py_control.specs.Code.{count as form_count, labels_v, labels_vs, labels, code}
+use Rattle.py_emission_parts.specs.TableParts.{name_form, inplace, binary_case, named}
+use Rattle.py_emission_parts.specs.Context.{is_function, mangled}
+use Rattle.py_emission_parts.specs.Accesses.{accessed, emission_of_name}
 use Rattle.py_meaning.specs.Table.{expr_form, target_form}
 use Rattle.py_meaning.specs.StmtParts.{removal, removals, assigned, assign_form, augment_form, declared_form, annotated_form, annotation_target}
-use Rattle.py_steps.specs.Emitting.{Around, Emission, ◌▸◌, refuse, by_context, emit, emit_mangled, emit_name, emit_constant, pass_over}
-use Rattle.py_steps.specs.EmissionParts.{unless_debug, pass_scopes}
-use Rattle.py_steps.specs.Refused.{no_assignment, no_deletion}
+use Rattle.py_emission_parts.specs.Emitting.{Around, Emission, ◌▸◌, refuse, by_context, emit, emit_mangled, emit_name, emit_constant, pass_over}
+use Rattle.py_emission_parts.specs.EmissionParts.{unless_debug, pass_scopes}
+use Rattle.py_emission_parts.specs.Refused.{no_assignment, no_deletion}
 use Rattle.py_emission.specs.Emission.{emission, emission_of_store, emission_of_delete, emission_of_deletes}
 use Rattle.py_emission.specs.Predicates.{deletion_name}
 use Rattle.py_emission.specs.EmissionDefs.{emission_of_note}
@@ -29,7 +29,7 @@ use Rattle.py_meaning.specs.TableNotes.{note_form}
 use Rattle.py_emission.specs.EmissionStmts.{emission_of_assign, emission_of_augment, emission_of_declared, emission_of_annotated, emission_of_annotation}
 use Rattle.py_base.specs.declared.errors.CodegenErrorType.{CodegenErrorType}
 use Rattle.py_base.specs.declared.errors.CodegenErrorType.TheVariants as error
-use Rattle.py_emission_proof.proofs.Additions.Emitting.{Yields, after_these, context_gives, gives_as, keep_yields, next_as, pass_yields, refused_gives, regroup, regroup_late, scopes_as, then_these, then_yields, ungroup}
+use Rattle.py_emission_proof.proofs.Additions.EmissionSequenceLemmas.{Yields, after_these, context_gives, gives_as, keep_yields, next_as, pass_yields, refused_gives, regroup, regroup_late, scopes_as, then_these, then_yields, ungroup}
 use Rattle.py_emission_proof.proofs.Additions.Threaded.{Relation}
 use Rattle.py_emission_proof.proofs.Additions.Steps.{StepHere}
 use Rattle.py_emission_proof.proofs.Additions.Instructions.{inplace_adds, name_adds, constant_adds, attribute_adds, attribute_put_adds, attribute_delete_adds, subscript_adds, subscript_put_adds, subscript_delete_adds, duplicate_adds, duplicate_two_adds, rotate_two_adds, rotate_three_adds}

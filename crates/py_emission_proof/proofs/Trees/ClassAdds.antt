@@ -4,28 +4,28 @@ use Rattle.std.specs.Prelude.{codes, if◌then◌else◌}
 use Rattle.std.specs.List.{list_any}
 use Rattle.py_tree.specs.Tree as tree
 use Rattle.py_limits.specs.Size.{exprs_size, keywords_size, stmts_size}
-use Rattle.py_counts.specs.Counts.{scopes_in_all, scopes_in_keywords}
+use Rattle.py_scope_counts.specs.Counts.{scopes_in_all, scopes_in_keywords}
 use Rattle.py_bytecode.specs.declared.instruction.Instruction.TheVariants as op
 use Rattle.py_bytecode.specs.Equality.{text_eq}
 use Rattle.py_bytecode.specs.Objects as const
 use Rattle.py_bytecode.specs.Objects.{Object}
 use Rattle.py_bytecode.specs.Values.{operation, Bare}
 use Rattle.py_bytecode.specs.Machine.{Operate}
-use Rattle.py_forms.specs.Form.{Scope, MkScope, SForm, VForm, VForms, VConst, VMake, VNone}
-use Rattle.py_forms.specs.Fit.{Loops}
-use Rattle.py_forms.specs.Code.{Item, body_code, class_code, code, labels}
-use Rattle.py_forms.specs.Code.{count as count_parts}
-use Rattle.py_forms.specs.Looped.{Looped}
-use Rattle.py_forms.specs.Agree.{cells_of, form_of}
+use Rattle.py_control.specs.Form.{Scope, MkScope, SForm, VForm, VForms, VConst, VMake, VNone}
+use Rattle.py_control.specs.Fit.{Loops}
+use Rattle.py_control.specs.Code.{Item, body_code, class_code, code, labels}
+use Rattle.py_control.specs.Code.{count as count_parts}
+use Rattle.py_control.specs.Looped.{Looped}
+use Rattle.py_control.specs.Agree.{cells_of, form_of}
 use Rattle.py_scope.specs.declared.table_type.SymbolTableType.TheVariants as kind
-use Rattle.py_steps.specs.Classes.{class_end, class_names, class_shape}
-use Rattle.py_steps.specs.Within.{behind_name, class_path, class_within}
-use Rattle.py_steps.specs.Context.{Context, cell_place, class_cells, head_of, inside, with_path, within_class}
-use Rattle.py_steps.specs.Elements.{Function}
-use Rattle.py_steps.specs.Emitting.{Around, Emission, State, ◌▸◌, begun, by_level, emit, emit_constant}
-use Rattle.py_steps.specs.TableParts.{call_form}
-use Rattle.py_steps.specs.EmissionParts as emitting
-use Rattle.py_steps.specs.TableParts as table
+use Rattle.py_emission_parts.specs.Classes.{class_end, class_names, class_shape}
+use Rattle.py_emission_parts.specs.Within.{behind_name, class_path, class_within}
+use Rattle.py_emission_parts.specs.Context.{Context, cell_place, class_cells, head_of, inside, with_path, within_class}
+use Rattle.py_emission_parts.specs.Elements.{Function}
+use Rattle.py_emission_parts.specs.Emitting.{Around, Emission, State, ◌▸◌, begun, by_level, emit, emit_constant}
+use Rattle.py_emission_parts.specs.TableParts.{call_form}
+use Rattle.py_emission_parts.specs.EmissionParts as emitting
+use Rattle.py_emission_parts.specs.TableParts as table
 use Rattle.py_emission.specs.Emission.{all_emissions, keyword_emissions}
 use Rattle.py_emission.specs.Texts.{after_doc, doc_of}
 use Rattle.py_emission.specs.EmissionDefs.{class_call, class_function, class_scope, emission_of_class, emission_of_setup}
@@ -36,12 +36,12 @@ use Rattle.py_meaning.specs.Table.{all_forms, keyword_forms}
 use Rattle.py_meaning.specs.TableScopes.{build_class, class_form, setup_form}
 use Rattle.py_meaning.specs.TableStmts.{rest_form}
 use Rattle.py_emission_proof.specs.Loads.{loads}
-use Rattle.py_emission_proof.proofs.Additions.Adding.{Added, added_join, scopes_in}
+use Rattle.py_emission_proof.proofs.Additions.AddedCodeLemmas.{Added, added_join, scopes_in}
 use Rattle.py_emission_proof.proofs.Additions.Burden.{cells_in, cells-append}
 use Rattle.py_emission_proof.proofs.Additions.CallAdds.{NamedAdds, call_form_adds}
 use Rattle.py_emission_proof.proofs.Additions.ClassAdds.{behind_adds, end_adds, names_code, names_yield}
 use Rattle.py_emission_proof.proofs.Additions.Codes.{Counted, loads_join, scopes}
-use Rattle.py_emission_proof.proofs.Additions.Emitting.{Gives, Yields, after_these, both, context_gives, grouped, keep_yields, level_gives, next_as, outside, scopes_as, still, then_yields}
+use Rattle.py_emission_proof.proofs.Additions.EmissionSequenceLemmas.{Gives, Yields, after_these, both, context_gives, grouped, keep_yields, level_gives, next_as, outside, scopes_as, still, then_yields}
 use Rattle.py_emission_proof.proofs.Additions.FormAdds.{PartsAdd, ValueAdds, all_elements_add}
 use Rattle.py_emission_proof.proofs.Additions.Functions.{Flagged, Makes, made_alone_adds}
 use Rattle.py_emission_proof.proofs.Additions.Instructions.{constant_adds}

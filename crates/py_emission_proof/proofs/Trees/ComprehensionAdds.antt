@@ -2,27 +2,27 @@
 use Rattle.std.proofs.Common.{◌≡◌, ℕ, suc, ◌+◌, ◌<◌, ◌≤◌, ◌^◌, List, length, Bool, refl, sym, arith, append-nil}
 use Rattle.py_base.specs.declared.location.SourceLocation.{SourceLocation}
 use Rattle.py_tree.specs.Tree as tree
-use Rattle.py_counts.specs.Counts.{scopes_in, scopes_in_all, scopes_in_clauses}
+use Rattle.py_scope_counts.specs.Counts.{scopes_in, scopes_in_all, scopes_in_clauses}
 use Rattle.py_limits.specs.Size.{expr_size, generators_size}
 use Rattle.py_bytecode.specs.declared.instruction.Instruction.{Instruction}
 use Rattle.py_bytecode.specs.declared.instruction.Instruction.TheVariants as op
 use Rattle.py_bytecode.specs.Objects.{Object}
 use Rattle.py_scope.specs.declared.table_type.SymbolTableType.TheVariants as kind
-use Rattle.py_forms.specs.Form.{Scope, MkScope, SForm, VForm, VForms, VAt, VMore, VNone}
-use Rattle.py_forms.specs.Code.{body_code, count}
-use Rattle.py_forms.specs.Agree.{exactly}
-use Rattle.py_steps.specs.Comprehensions.{as_element, comprehension, comprehension_shape, gathered, generated}
-use Rattle.py_steps.specs.Within.{comprehension_inside}
-use Rattle.py_steps.specs.Context.{Context, head_of, inside}
-use Rattle.py_steps.specs.EmissionParts as emitting
-use Rattle.py_steps.specs.Emitting.{Around, Emission, ◌▸◌, move}
-use Rattle.py_steps.specs.TableParts as table
+use Rattle.py_control.specs.Form.{Scope, MkScope, SForm, VForm, VForms, VAt, VMore, VNone}
+use Rattle.py_control.specs.Code.{body_code, count}
+use Rattle.py_control.specs.Agree.{exactly}
+use Rattle.py_emission_parts.specs.Comprehensions.{as_element, comprehension, comprehension_shape, gathered, generated}
+use Rattle.py_emission_parts.specs.Within.{comprehension_inside}
+use Rattle.py_emission_parts.specs.Context.{Context, head_of, inside}
+use Rattle.py_emission_parts.specs.EmissionParts as emitting
+use Rattle.py_emission_parts.specs.Emitting.{Around, Emission, ◌▸◌, move}
+use Rattle.py_emission_parts.specs.TableParts as table
 use Rattle.py_emission.specs.Emission.{all_emissions, clause_emissions, emissions, stores}
 use Rattle.py_meaning.specs.Table.{after, after_clauses, clause_forms, expr_forms, first_iterable}
 use Rattle.py_meaning.specs.TableScopes as forms
 use Rattle.py_emission_proof.proofs.Additions.Burden.{burden}
 use Rattle.py_emission_proof.proofs.Additions.ComprehensionAdds.{ClausesAdd, called_adds, comprehension_adds, element_gives, gathered_adds, generated_adds, no_comprehension}
-use Rattle.py_emission_proof.proofs.Additions.Emitting.{gives_as, next_as, outside, scopes_as, so}
+use Rattle.py_emission_proof.proofs.Additions.EmissionSequenceLemmas.{gives_as, next_as, outside, scopes_as, so}
 use Rattle.py_emission_proof.proofs.Additions.FormAdds.{AddsForms, PartsAdd, ValueAdds, one_part, two_parts}
 use Rattle.py_emission_proof.proofs.Additions.Functions.{Makes}
 use Rattle.py_emission_proof.proofs.Additions.Instructions.{Appends, MakesEmpty, empty_map, map_appends}

@@ -2,14 +2,14 @@
 use Rattle.std.proofs.Common.{◌≡◌, ℕ, suc, ◌+◌, ◌<◌, List, [], ◌∷◌, ◌++◌, Bool, true, false, Some, None, codes, refl, ap, arith, append_assoc, append-nil}
 use Rattle.py_base.specs.declared.location.SourceLocation.{SourceLocation}
 use Rattle.py_bytecode.specs.declared.instruction.Instruction.TheVariants as op
-use Rattle.py_forms.specs.Form.{Scope}
+use Rattle.py_control.specs.Form.{Scope}
 use Rattle.py_bytecode.specs.Values.{Global, Load, operation, Number, match_exception}
 use Rattle.py_bytecode.specs.Machine.{Access, Duplicate, Jump, JumpIf, Operate, Pop, PopBlock, PopException, SetupExcept, SetupFinally}
-use Rattle.py_forms.specs.Code.{Item, Do, Label, any_code, for_code, if_code, with_code, tail_code, try_code, typed_code, last_code}
-use Rattle.py_steps.specs.TableParts.{counted}
-use Rattle.py_steps.specs.Emitting.{Around, Emission, LoopBlocks, ◌▸◌, begin, emit, emit_count, emit_name, in_loop, jump, move}
+use Rattle.py_control.specs.Code.{Item, Do, Label, any_code, for_code, if_code, with_code, tail_code, try_code, typed_code, last_code}
+use Rattle.py_emission_parts.specs.TableParts.{counted}
+use Rattle.py_emission_parts.specs.Emitting.{Around, Emission, LoopBlocks, ◌▸◌, begin, emit, emit_count, emit_name, in_loop, jump, move}
 use Rattle.py_emission.specs.ControlEmissions.{any_match, asserted, before_last, finally_do, for_each, handler, managed, to_last, try_body, typed_match}
-use Rattle.py_emission_proof.proofs.Additions.Emitting.{Gives, Yields, after_these, block_gives, counts_as, from_as, gives_as, keep_yields, loop_gives, looping, moved_gives, next_as, regroup, scopes_as, so, then_gives, then_these, then_yields, three_blocks_give}
+use Rattle.py_emission_proof.proofs.Additions.EmissionSequenceLemmas.{Gives, Yields, after_these, block_gives, counts_as, from_as, gives_as, keep_yields, loop_gives, looping, moved_gives, next_as, regroup, scopes_as, so, then_gives, then_these, then_yields, three_blocks_give}
 use Rattle.py_emission_proof.proofs.Additions.Steps.{begin_adds}
 use Rattle.py_emission_proof.proofs.Additions.Instructions.{call_adds, duplicate_adds, going_adds, pop_adds, pop_block_adds, setup_loop_adds, testing_adds}
 use Rattle.py_emission_proof.proofs.Additions.ControlInstructions.{cleanup_finish_adds, cleanup_start_adds, end_finally_adds, enter_finally_adds, for_iter_adds, global_adds, match_adds, pop_exception_adds, raise_adds, setup_except_adds, setup_finally_adds, setup_with_adds}

@@ -2,15 +2,15 @@
 use Rattle.std.proofs.Common.{◌≡◌, ℕ, ◌<◌, ◌≤◌, Bool, true, false, Option, Some, None, arith}
 use Rattle.py_tree.specs.Tree as tree
 use Rattle.py_base.specs.declared.location.SourceLocation.{SourceLocation}
-use Rattle.py_forms.specs.Form.{SForm}
-use Rattle.py_forms.specs.Fit.{Loops}
-use Rattle.py_forms.specs.Code.{labels, code}
-use Rattle.py_forms.specs.Looped.{Looped}
+use Rattle.py_control.specs.Form.{SForm}
+use Rattle.py_control.specs.Fit.{Loops}
+use Rattle.py_control.specs.Code.{labels, code}
+use Rattle.py_control.specs.Looped.{Looped}
 use Rattle.py_meaning.specs.StmtCounts.{scopes_in_stmt, scopes_in_stmts}
 use Rattle.py_meaning.specs.TableStmts.{stmt_form, stmts_form}
-use Rattle.py_steps.specs.Emitting.{Around, Emission, LoopBlocks, ◌▸◌, move}
+use Rattle.py_emission_parts.specs.Emitting.{Around, Emission, LoopBlocks, ◌▸◌, move}
 use Rattle.py_emission.specs.EmissionStmts.{emission_of_stmt, emission_of_stmts}
-use Rattle.py_emission_proof.proofs.Additions.Emitting.{Gives, moved_gives, so}
+use Rattle.py_emission_proof.proofs.Additions.EmissionSequenceLemmas.{Gives, moved_gives, so}
 use Rattle.py_emission_proof.proofs.Trees.Told.{outer, told}
 use Rattle.py_emission_proof.proofs.Trees.AssignAdds.{ActAdds}
 use Rattle.py_emission_proof.proofs.Trees.Unlooped.{Unlooped}

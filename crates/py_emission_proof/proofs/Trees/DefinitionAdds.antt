@@ -4,18 +4,18 @@ use Rattle.std.specs.Prelude.{if◌then◌else◌}
 use Rattle.py_tree.specs.Tree as tree
 use Rattle.py_base.specs.declared.location.SourceLocation.{SourceLocation}
 use Rattle.py_limits.specs.Size.{arguments_size, class_head_size, expr_size, exprs_size, head_size, keywords_size, opt_expr_size, stmts_size, type_params_size}
-use Rattle.py_counts.specs.Counts.{scopes_in, scopes_in_all, scopes_in_defaults, scopes_in_keywords, scopes_in_returns}
+use Rattle.py_scope_counts.specs.Counts.{scopes_in, scopes_in_all, scopes_in_defaults, scopes_in_keywords, scopes_in_returns}
 use Rattle.py_bytecode.specs.declared.instruction.Instruction.TheVariants as op
 use Rattle.py_bytecode.specs.Objects as const
-use Rattle.py_forms.specs.Form.{MkScope, VForm, VConst, Target, SForm, SThen, SInto, SReturn, GStore, Resolved}
-use Rattle.py_forms.specs.Fit.{Loops}
-use Rattle.py_forms.specs.Code.{Item, closes, closing, labels, code}
-use Rattle.py_steps.specs.Context.{Context, head_of, inside, mangled, with_path, within_class}
-use Rattle.py_steps.specs.Accesses.{emission_of_stored}
-use Rattle.py_steps.specs.Children.{decorated}
-use Rattle.py_steps.specs.Within.{class_path, class_within, function_inside}
-use Rattle.py_steps.specs.TableParts as table
-use Rattle.py_steps.specs.EmissionParts as emitting
+use Rattle.py_control.specs.Form.{MkScope, VForm, VConst, Target, SForm, SThen, SInto, SReturn, GStore, Resolved}
+use Rattle.py_control.specs.Fit.{Loops}
+use Rattle.py_control.specs.Code.{Item, closes, closing, labels, code}
+use Rattle.py_emission_parts.specs.Context.{Context, head_of, inside, mangled, with_path, within_class}
+use Rattle.py_emission_parts.specs.Accesses.{emission_of_stored}
+use Rattle.py_emission_parts.specs.Children.{decorated}
+use Rattle.py_emission_parts.specs.Within.{class_path, class_within, function_inside}
+use Rattle.py_emission_parts.specs.TableParts as table
+use Rattle.py_emission_parts.specs.EmissionParts as emitting
 use Rattle.py_emission.specs.Texts.{after_doc, stmt_text, unless_text}
 use Rattle.py_meaning.specs.StmtCounts.{hidden_scope, scopes_in_all_notes, scopes_in_params, scopes_in_stmt, scopes_in_stmts}
 use Rattle.py_meaning.specs.Table.{all_forms, expr_form}
@@ -27,13 +27,13 @@ use Rattle.py_meaning.specs.TableParams.{alias_value, around_own, built_value, d
 use Rattle.py_meaning.specs.TableStmts.{ended_form, function_body, rest_form, stmt_form, stmts_form}
 use Rattle.py_meaning.specs.StmtParts.{after_stmt, unless_last}
 use Rattle.py_emission.specs.Predicates.{but_doc, is_return}
-use Rattle.py_steps.specs.Emitting.{Around, Emission, ◌▸◌, emit_constant, keep, move}
-use Rattle.py_steps.specs.EmissionParts.{only_in_function, pass_scopes}
+use Rattle.py_emission_parts.specs.Emitting.{Around, Emission, ◌▸◌, emit_constant, keep, move}
+use Rattle.py_emission_parts.specs.EmissionParts.{only_in_function, pass_scopes}
 use Rattle.py_emission.specs.Emission.{all_emissions, emission}
 use Rattle.py_tree.specs.PythonName.{python_name}
 use Rattle.py_base.specs.declared.errors.CodegenErrorType.TheVariants as error
 use Rattle.py_emission.specs.EmissionStmts.{emission_of_rest, emission_of_stmt, emission_of_stmts}
-use Rattle.py_emission_proof.proofs.Additions.Emitting.{gives_as, moved_refused, outside, scopes_as, then_gives, then_keep, ungroup}
+use Rattle.py_emission_proof.proofs.Additions.EmissionSequenceLemmas.{gives_as, moved_refused, outside, scopes_as, then_gives, then_keep, ungroup}
 use Rattle.py_emission_proof.proofs.Additions.TypeParameterAdds.{plain_alias_adds}
 use Rattle.py_emission_proof.proofs.Sizes.ProgramSizes.{hidden_alias_small, hidden_class_small, hidden_function_small}
 use Rattle.py_emission_proof.proofs.Additions.Instructions.{return_adds}

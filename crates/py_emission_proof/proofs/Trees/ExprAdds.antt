@@ -7,36 +7,36 @@ use Rattle.py_base.specs.declared.location.SourceLocation.{SourceLocation}
 use Rattle.py_base.specs.declared.shapes.Malformed.TheVariants as shape
 use Rattle.py_tree.specs.PythonName.{python_name}
 use Rattle.py_tree.specs.Tree as tree
-use Rattle.py_counts.specs.Counts.{scopes_in, scopes_in_all, scopes_in_args, scopes_in_clauses, scopes_in_defaults, scopes_in_keywords, scopes_in_opt, scopes_in_opts}
+use Rattle.py_scope_counts.specs.Counts.{scopes_in, scopes_in_all, scopes_in_args, scopes_in_clauses, scopes_in_defaults, scopes_in_keywords, scopes_in_opt, scopes_in_opts}
 use Rattle.py_limits.specs.Size.{args_size, arguments_size, expr_size, exprs_size, generators_size, keys_size, keywords_size, opt_expr_size}
 use Rattle.py_bytecode.specs.declared.instruction.Instruction.TheVariants as op
 use Rattle.py_bytecode.specs.Objects as const
 use Rattle.py_bytecode.specs.Values.{Constant, Load, Store, operation, Bare}
 use Rattle.py_bytecode.specs.Machine.{Operate}
 use Rattle.py_bytecode.specs.Decode.{value_of}
-use Rattle.py_forms.specs.Form.{Interp, Scope, VForm, VConst, VLoad, VOp, VAt, VMore, VNone, Resolved, FixedFast, GStore, GPut, GDrop}
-use Rattle.py_forms.specs.Code.{Item}
-use Rattle.py_steps.specs.Elements.{pairs}
+use Rattle.py_control.specs.Form.{Interp, Scope, VForm, VConst, VLoad, VOp, VAt, VMore, VNone, Resolved, FixedFast, GStore, GPut, GDrop}
+use Rattle.py_control.specs.Code.{Item}
+use Rattle.py_emission_parts.specs.Elements.{pairs}
 use Rattle.py_emission.specs.Texts.{texts_of}
-use Rattle.py_steps.specs.TableParts as table
-use Rattle.py_steps.specs.TableParts.{binary, binary_case, conversion_case, counted, constant_of, debug_constant, is_debug, name_form, no_operand}
+use Rattle.py_emission_parts.specs.TableParts as table
+use Rattle.py_emission_parts.specs.TableParts.{binary, binary_case, conversion_case, counted, constant_of, debug_constant, is_debug, name_form, no_operand}
 use Rattle.py_meaning.specs.Table.{after, after_clauses, expr_forms, all_forms, opt_form, key_forms, value_forms, keyword_forms, clause_forms, further_forms, filter_forms, default_forms, positional_defaults, keyword_defaults, target_forms, all_targets}
 use Rattle.py_meaning.specs.Table.{unsupported as empty}
 use Rattle.py_meaning.specs.TableScopes.{default_parts, iterator}
 use Rattle.py_base.specs.declared.errors.CodegenErrorType.{CodegenErrorType}
 use Rattle.py_base.specs.declared.errors.CodegenErrorType.TheVariants as error
-use Rattle.py_steps.specs.Context.{is_function, mangled}
-use Rattle.py_steps.specs.Within.{comprehension_inside, lambda_inside}
-use Rattle.py_steps.specs.Accesses.{accessed, emission_of_name}
-use Rattle.py_steps.specs.Children.{emission_of_defaults}
-use Rattle.py_steps.specs.EmissionParts as emitting
-use Rattle.py_steps.specs.EmissionParts.{constant_emissions, emission_of_dict, only_in_function}
-use Rattle.py_steps.specs.Refused.{no_assignment, lone_star}
-use Rattle.py_steps.specs.Emitting.{Around, Emission, ◌▸◌, by_level, refuse, emit, emit_mangled, emit_constant, generating, move}
+use Rattle.py_emission_parts.specs.Context.{is_function, mangled}
+use Rattle.py_emission_parts.specs.Within.{comprehension_inside, lambda_inside}
+use Rattle.py_emission_parts.specs.Accesses.{accessed, emission_of_name}
+use Rattle.py_emission_parts.specs.Children.{emission_of_defaults}
+use Rattle.py_emission_parts.specs.EmissionParts as emitting
+use Rattle.py_emission_parts.specs.EmissionParts.{constant_emissions, emission_of_dict, only_in_function}
+use Rattle.py_emission_parts.specs.Refused.{no_assignment, lone_star}
+use Rattle.py_emission_parts.specs.Emitting.{Around, Emission, ◌▸◌, by_level, refuse, emit, emit_mangled, emit_constant, generating, move}
 use Rattle.py_emission.specs.Awaits.{awaits, some_async}
 use Rattle.py_emission.specs.Emission.{clause_emissions, default_emissions, emissions, all_emissions, joined_return, keyword_emissions, keyword_only_emissions, opt_emission, opt_emissions, positional_emissions, stores, all_stores}
 use Rattle.py_emission_proof.proofs.Additions.ComprehensionAdds.{ClausesAdd, ConditionsAdd, FurtherAdd, all_clauses, handed_adds, more_conditions, more_further, no_clauses, no_conditions, no_further}
-use Rattle.py_emission_proof.proofs.Additions.Emitting.{Gives, after_these, context_gives, level_gives, moved_gives, moved_refused, never_on, outside, regroup, scopes_as}
+use Rattle.py_emission_proof.proofs.Additions.EmissionSequenceLemmas.{Gives, after_these, context_gives, level_gives, moved_gives, moved_refused, never_on, outside, regroup, scopes_as}
 use Rattle.py_emission_proof.proofs.Additions.Instructions.{binary_adds, conversion_adds, attribute_adds, attribute_put_adds, subscript_adds, subscript_put_adds, constant_adds, list_appends, list_builds, list_unpacks, empty_list, empty_set, return_adds, return_value_adds, set_appends, set_builds, set_unpacks, string_builds, tuple_builds, tuple_unpacks}
 use Rattle.py_emission_proof.proofs.Additions.ControlInstructions.{generating_yields, iterator_adds, yield_adds, yield_from_adds}
 use Rattle.py_emission_proof.proofs.Additions.AccessAdds.{accessed_adds, mangled_adds}

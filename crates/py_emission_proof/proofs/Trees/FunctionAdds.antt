@@ -4,22 +4,22 @@ use Rattle.std.specs.Prelude.{codes}
 use Rattle.py_tree.specs.Tree as tree
 use Rattle.py_base.specs.Mangle.{mangled_in}
 use Rattle.py_limits.specs.Size.{arg_size, args_size, arguments_size, opt_arg_size, opt_expr_size, stmts_size}
-use Rattle.py_counts.specs.Counts.{scopes_in_annotation, scopes_in_arg, scopes_in_args, scopes_in_defaults, scopes_in_notes, scopes_in_opt_arg, scopes_in_returns}
+use Rattle.py_scope_counts.specs.Counts.{scopes_in_annotation, scopes_in_arg, scopes_in_args, scopes_in_defaults, scopes_in_notes, scopes_in_opt_arg, scopes_in_returns}
 use Rattle.py_bytecode.specs.declared.instruction.Instruction.TheVariants as op
 use Rattle.py_bytecode.specs.Objects as const
 use Rattle.py_bytecode.specs.Objects.{Object}
 use Rattle.py_bytecode.specs.Values.{Child, Constant, It}
 use Rattle.py_bytecode.specs.Machine.{Duplicate, Operate, Push, Rotate2}
-use Rattle.py_forms.specs.Form.{Interp, Scope, MkScope, VForm, VForms, VConst, VMake, VMore, VNone}
-use Rattle.py_forms.specs.Code.{Item, Do, code_v, code_vs, count, labels_v, labels_vs, make_code}
-use Rattle.py_forms.specs.Agree.{cells_of}
-use Rattle.py_steps.specs.Context.{Context, cell_place, head_of, inside, mangled, qualified, with_path}
-use Rattle.py_steps.specs.Emitting.{Around, Emission, Outcome, State, Done, TooWide, Refused, ◌▸◌, by_context, by_level, emit_constant, emit_count, go_on}
-use Rattle.py_steps.specs.EmissionParts.{built, in_turn}
-use Rattle.py_steps.specs.Children.{child, decorated, decorations, documented, emission_of_defaults, flags_of_defaults, function_made, function_scope, made, noted, some_emitted}
-use Rattle.py_steps.specs.Within.{Shape, function_inside, some_flag}
-use Rattle.py_steps.specs.TableParts as table
-use Rattle.py_steps.specs.TableParts.{counted, map_of, name_values, named, parts_of, some_built}
+use Rattle.py_control.specs.Form.{Interp, Scope, MkScope, VForm, VForms, VConst, VMake, VMore, VNone}
+use Rattle.py_control.specs.Code.{Item, Do, code_v, code_vs, count, labels_v, labels_vs, make_code}
+use Rattle.py_control.specs.Agree.{cells_of}
+use Rattle.py_emission_parts.specs.Context.{Context, cell_place, head_of, inside, mangled, qualified, with_path}
+use Rattle.py_emission_parts.specs.Emitting.{Around, Emission, Outcome, State, Done, TooWide, Refused, ◌▸◌, by_context, by_level, emit_constant, emit_count, go_on}
+use Rattle.py_emission_parts.specs.EmissionParts.{built, in_turn}
+use Rattle.py_emission_parts.specs.Children.{child, decorated, decorations, documented, emission_of_defaults, flags_of_defaults, function_made, function_scope, made, noted, some_emitted}
+use Rattle.py_emission_parts.specs.Within.{Shape, function_inside, some_flag}
+use Rattle.py_emission_parts.specs.TableParts as table
+use Rattle.py_emission_parts.specs.TableParts.{counted, map_of, name_values, named, parts_of, some_built}
 use Rattle.py_emission.specs.Emission.{default_emissions, keyword_only_emissions, positional_emissions}
 use Rattle.py_emission.specs.Parameters.{function_shape, parameters}
 use Rattle.py_emission.specs.Texts.{doc_of}
@@ -34,7 +34,7 @@ use Rattle.py_meaning.specs.TableScopes.{default_flags, default_parts}
 use Rattle.py_meaning.specs.TableScopes as forms
 use Rattle.py_meaning.specs.TableStmts.{function_body}
 use Rattle.py_emission_proof.proofs.Additions.Defaults.{flags_say, part_count, parts_count, same_flag}
-use Rattle.py_emission_proof.proofs.Additions.Emitting.{Gives, Stands, Yields, after_these, both, context_gives, gives_as, grouped, keep_yields, kept_on, level_gives, next_as, regroup, scopes_as, then_keep, then_these, then_yields, ungroup}
+use Rattle.py_emission_proof.proofs.Additions.EmissionSequenceLemmas.{Gives, Stands, Yields, after_these, both, context_gives, gives_as, grouped, keep_yields, kept_on, level_gives, next_as, regroup, scopes_as, then_keep, then_these, then_yields, ungroup}
 use Rattle.py_emission_proof.proofs.Additions.FormAdds.{PartsAdd, ValueAdds, AllValuesAdd, more_parts, no_parts, one_part, operation_adds, two_add}
 use Rattle.py_emission_proof.proofs.Additions.Functions.{Flagged, Makes, function_adds, scope_gives}
 use Rattle.py_emission_proof.proofs.Additions.Instructions.{attribute_put_adds, call_adds, constant_adds, duplicate_adds, map_adds, rotate_two_adds}

@@ -5,19 +5,19 @@ use Rattle.py_tree.specs.Tree as tree
 use Rattle.py_tree.specs.declared.statements.Alias.{Alias}
 use Rattle.py_limits.specs.Size.{stmts_size}
 use Rattle.py_bytecode.specs.Values.{Usage}
-use Rattle.py_forms.specs.Form.{Fixed, FixedByName, FixedFast, FixedGlobal, Head, Interp, MkScope, Resolved, SForm, SSkip, SThen, Scope}
-use Rattle.py_forms.specs.Fit.{Loops}
-use Rattle.py_forms.specs.Agree.{exactly}
-use Rattle.py_forms.specs.Code.{closes, code, labels}
-use Rattle.py_forms.specs.Looped.{Looped}
+use Rattle.py_control.specs.Form.{Fixed, FixedByName, FixedFast, FixedGlobal, Head, Interp, MkScope, Resolved, SForm, SSkip, SThen, Scope}
+use Rattle.py_control.specs.Fit.{Loops}
+use Rattle.py_control.specs.Agree.{exactly}
+use Rattle.py_control.specs.Code.{closes, code, labels}
+use Rattle.py_control.specs.Looped.{Looped}
 use Rattle.py_base.specs.declared.errors.CodegenErrorType.TheVariants as error
-use Rattle.py_steps.specs.Context.{Context, access_kind, cell_place, class_cells, head_of, place_by}
-use Rattle.py_steps.specs.Emitting.{Around, Emission, ◌▸◌, postponing, refuse}
+use Rattle.py_emission_parts.specs.Context.{Context, access_kind, cell_place, class_cells, head_of, place_by}
+use Rattle.py_emission_parts.specs.Emitting.{Around, Emission, ◌▸◌, postponing, refuse}
 use Rattle.py_emission.specs.EmissionFutures.{check_features, emission_behind, emission_of_future, following}
 use Rattle.py_emission.specs.EmissionImports.{emission_of_from}
 use Rattle.py_emission.specs.Futures.{Future, after_future, future_of, is_feature, postpones}
 use Rattle.py_meaning.specs.TableImports.{behind_futures, from_form, future_form}
-use Rattle.py_emission_proof.proofs.Additions.Emitting.{Gives, Yields, after_these, keep_yields, next_as, postponed_around, postponed_gives, refused_gives, scopes_as, then_gives}
+use Rattle.py_emission_proof.proofs.Additions.EmissionSequenceLemmas.{Gives, Yields, after_these, keep_yields, next_as, postponed_around, postponed_gives, refused_gives, scopes_as, then_gives}
 use Rattle.py_emission_proof.proofs.Trees.Controls.{Controls, InLoop, act_gives, held, in_more}
 use Rattle.py_emission_proof.proofs.Trees.ImportAdds.{present_adds}
 use Rattle.py_emission_proof.proofs.Trees.Told.{outer, told}

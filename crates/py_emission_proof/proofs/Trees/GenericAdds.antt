@@ -2,20 +2,20 @@
 use Rattle.std.proofs.Common.{◌≡◌, ℕ, suc, ◌+◌, ◌<◌, ◌^◌, List, Option, Some, None, refl, ap, subst, arith}
 use Rattle.py_tree.specs.Tree as tree
 use Rattle.py_limits.specs.Size.{arguments_size, expr_size, exprs_size, keywords_size, opt_expr_size, stmts_size, type_params_size}
-use Rattle.py_counts.specs.Counts.{scopes_in, scopes_in_all, scopes_in_defaults, scopes_in_keywords, scopes_in_returns}
+use Rattle.py_scope_counts.specs.Counts.{scopes_in, scopes_in_all, scopes_in_defaults, scopes_in_keywords, scopes_in_returns}
 use Rattle.py_bytecode.specs.declared.instruction.Instruction.TheVariants as op
 use Rattle.py_bytecode.specs.Objects as const
 use Rattle.py_bytecode.specs.Values.{operation, Bare}
-use Rattle.py_forms.specs.Form.{MkScope, SForm, SReturn, Scope, VForm, VForms, VConst, VMake, VMore, VNone, VSwap}
-use Rattle.py_forms.specs.Code.{count}
-use Rattle.py_steps.specs.Children.{emission_of_defaults, flags_of_defaults}
-use Rattle.py_steps.specs.Within.{behind_name, class_path, class_within, function_inside, handed, handed_parts, hidden_inside, some_flag}
-use Rattle.py_steps.specs.Context.{Context, head_of, inside, qualified, with_path, within_class}
-use Rattle.py_steps.specs.Elements.{Function}
-use Rattle.py_steps.specs.Emitting.{Around, Emission, ◌▸◌}
-use Rattle.py_steps.specs.TableParts.{built, elements, map_of, some_built}
-use Rattle.py_steps.specs.TypeParameters as emitted
-use Rattle.py_steps.specs.TypeParameters.{generic_alias, hidden, load_handed, plain_alias}
+use Rattle.py_control.specs.Form.{MkScope, SForm, SReturn, Scope, VForm, VForms, VConst, VMake, VMore, VNone, VSwap}
+use Rattle.py_control.specs.Code.{count}
+use Rattle.py_emission_parts.specs.Children.{emission_of_defaults, flags_of_defaults}
+use Rattle.py_emission_parts.specs.Within.{behind_name, class_path, class_within, function_inside, handed, handed_parts, hidden_inside, some_flag}
+use Rattle.py_emission_parts.specs.Context.{Context, head_of, inside, qualified, with_path, within_class}
+use Rattle.py_emission_parts.specs.Elements.{Function}
+use Rattle.py_emission_parts.specs.Emitting.{Around, Emission, ◌▸◌}
+use Rattle.py_emission_parts.specs.TableParts.{built, elements, map_of, some_built}
+use Rattle.py_emission_parts.specs.TypeParameters as emitted
+use Rattle.py_emission_parts.specs.TypeParameters.{generic_alias, hidden, load_handed, plain_alias}
 use Rattle.py_emission.specs.Emission.{default_emissions, emission}
 use Rattle.py_emission.specs.EmissionDefs as emitting
 use Rattle.py_emission.specs.EmissionDefs.{class_call, class_function, emission_of_generic_class, emission_of_generic_def, emission_of_params}
@@ -29,7 +29,7 @@ use Rattle.py_meaning.specs.TableScopes.{default_flags, default_parts}
 use Rattle.py_meaning.specs.TableScopes as forms
 use Rattle.py_meaning.specs.TableStmts.{function_body, rest_form}
 use Rattle.py_emission_proof.proofs.Additions.Defaults.{part_count}
-use Rattle.py_emission_proof.proofs.Additions.Emitting.{after_these, context_gives, keep_yields, next_as, regroup}
+use Rattle.py_emission_proof.proofs.Additions.EmissionSequenceLemmas.{after_these, context_gives, keep_yields, next_as, regroup}
 use Rattle.py_emission_proof.proofs.Additions.FormAdds.{IsPushed, PartsAdd, ValueAdds, one_part}
 use Rattle.py_emission_proof.proofs.Additions.Functions.{Flagged}
 use Rattle.py_emission_proof.proofs.Additions.Pushed.{call_pushed}

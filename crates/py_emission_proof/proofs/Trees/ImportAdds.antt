@@ -8,19 +8,19 @@ use Rattle.py_bytecode.specs.Objects.{Const}
 use Rattle.py_bytecode.specs.Values.{Store, Constant, operation, Bare}
 use Rattle.py_bytecode.specs.Machine.{Operate, Import}
 use Rattle.py_bytecode.specs.Decode.{value_of}
-use Rattle.py_forms.specs.Form.{Interp, Scope, VForm, VConst, VOp, VKeep, VMore, VNone, GStore, GPut, GDrop, Resolved, SForm, SInto}
-use Rattle.py_forms.specs.Code.{labels_v}
+use Rattle.py_control.specs.Form.{Interp, Scope, VForm, VConst, VOp, VKeep, VMore, VNone, GStore, GPut, GDrop, Resolved, SForm, SInto}
+use Rattle.py_control.specs.Code.{labels_v}
 use Rattle.py_base.specs.declared.errors.CodegenErrorType.TheVariants as error
-use Rattle.py_steps.specs.Accesses.{emission_of_stored}
-use Rattle.py_steps.specs.Context.{is_function, mangled}
-use Rattle.py_steps.specs.Emitting.{Around, Emission, ◌▸◌, emit, emit_constant, emit_mangled, emit_name, refuse}
-use Rattle.py_steps.specs.Refused.{no_assignment}
-use Rattle.py_steps.specs.TableParts.{named}
+use Rattle.py_emission_parts.specs.Accesses.{emission_of_stored}
+use Rattle.py_emission_parts.specs.Context.{is_function, mangled}
+use Rattle.py_emission_parts.specs.Emitting.{Around, Emission, ◌▸◌, emit, emit_constant, emit_mangled, emit_name, refuse}
+use Rattle.py_emission_parts.specs.Refused.{no_assignment}
+use Rattle.py_emission_parts.specs.TableParts.{named}
 use Rattle.py_emission.specs.Imports.{asked, asked_all, from_future, further_segments, import_name, taken_name, takes_all}
 use Rattle.py_meaning.specs.TableImports.{attributes, from_form, import_form, import_operation, import_value, module_value, taken_from}
 use Rattle.py_emission.specs.EmissionImports.{emission_of_alias, emission_of_attributes, emission_of_from, emission_of_import, emission_of_imported, emission_of_module, emission_of_names, emission_of_star, emission_of_taken, import_step}
 use Rattle.py_emission.specs.EmissionStmts.{emission_of_import_from}
-use Rattle.py_emission_proof.proofs.Additions.Emitting.{after_these, context_gives, keep_yields, refused_gives, regroup, scopes_as, then_keep, then_yields}
+use Rattle.py_emission_proof.proofs.Additions.EmissionSequenceLemmas.{after_these, context_gives, keep_yields, refused_gives, regroup, scopes_as, then_keep, then_yields}
 use Rattle.py_emission_proof.proofs.Additions.Steps.{StepAdds, StepHere, emit_adds}
 use Rattle.py_emission_proof.proofs.Additions.Instructions.{attribute_adds, constant_adds, named_adds}
 use Rattle.py_emission_proof.proofs.Additions.AccessAdds.{accessed_adds, mangled_adds}

@@ -5,16 +5,16 @@ use Rattle.py_tree.specs.declared.modules.Mode.{Mode}
 use Rattle.py_tree.specs.declared.modules.Mode.TheVariants as mode
 use Rattle.py_base.specs.declared.location.SourceLocation.{SourceLocation}
 use Rattle.py_limits.specs.Size.{stmt_size, stmts_size}
-use Rattle.py_counts.specs.Counts.{scopes_in}
+use Rattle.py_scope_counts.specs.Counts.{scopes_in}
 use Rattle.py_bytecode.specs.declared.instruction.Instruction.TheVariants as op
 use Rattle.py_bytecode.specs.Objects as const
 use Rattle.py_bytecode.specs.Machine.{Operate}
 use Rattle.py_bytecode.specs.Values.{operation, Bare}
-use Rattle.py_forms.specs.Form.{VForm, VKeep, Target, GStore, Resolved, SForm, SReturn, SThen}
-use Rattle.py_forms.specs.Fit.{Loops}
-use Rattle.py_forms.specs.Code.{closes, labels, labels_v}
-use Rattle.py_steps.specs.Context.{Context, mangled}
-use Rattle.py_steps.specs.Emitting.{Around, Emission, ◌▸◌, emit, move}
+use Rattle.py_control.specs.Form.{VForm, VKeep, Target, GStore, Resolved, SForm, SReturn, SThen}
+use Rattle.py_control.specs.Fit.{Loops}
+use Rattle.py_control.specs.Code.{closes, labels, labels_v}
+use Rattle.py_emission_parts.specs.Context.{Context, mangled}
+use Rattle.py_emission_parts.specs.Emitting.{Around, Emission, ◌▸◌, emit, move}
 use Rattle.py_emission.specs.Emission.{emission}
 use Rattle.py_emission.specs.EmissionMods.{emission_of_block, emission_of_interactive, emission_of_prompt, emission_of_single, emission_of_value, stored_and_returned}
 use Rattle.py_meaning.specs.Interactive.{block_form, interactive_form, last_form, printing, prompt_form, single_form}
@@ -25,7 +25,7 @@ use Rattle.py_meaning.specs.StmtCounts.{scopes_in_stmt, scopes_in_stmts}
 use Rattle.py_meaning.specs.StmtParts.{after_stmt}
 use Rattle.py_meaning.specs.Table.{after, expr_form}
 use Rattle.py_meaning.specs.TableStmts.{stmt_form}
-use Rattle.py_emission_proof.proofs.Additions.Emitting.{moved_gives, next_as, regroup, regroup_late, scopes_as, then_gives, then_these}
+use Rattle.py_emission_proof.proofs.Additions.EmissionSequenceLemmas.{moved_gives, next_as, regroup, regroup_late, scopes_as, then_gives, then_these}
 use Rattle.py_emission_proof.proofs.Additions.FormAdds.{ValueAdds}
 use Rattle.py_emission_proof.proofs.Additions.Instructions.{return_adds, return_value_adds}
 use Rattle.py_emission_proof.proofs.Additions.Steps.{StepHere, emit_adds}

@@ -3,28 +3,28 @@ use Rattle.std.proofs.Common.{◌≡◌, ℕ, suc, ◌+◌, ◌<◌, ◌^◌, re
 use Rattle.std.specs.Prelude.{codes}
 use Rattle.py_base.specs.declared.location.SourceLocation.{SourceLocation}
 use Rattle.py_tree.specs.Tree as tree
-use Rattle.py_counts.specs.Counts.{scopes_in, scopes_in_annotations, scopes_in_defaults}
+use Rattle.py_scope_counts.specs.Counts.{scopes_in, scopes_in_annotations, scopes_in_defaults}
 use Rattle.py_limits.specs.Size.{expr_size}
 use Rattle.py_bytecode.specs.declared.instruction.Instruction.TheVariants as op
 use Rattle.py_bytecode.specs.Values.{Child}
 use Rattle.py_scope.specs.declared.table_type.SymbolTableType.TheVariants as kind
-use Rattle.py_forms.specs.Form.{Scope, MkScope, VForm, VMake, VNone, SReturn}
-use Rattle.py_forms.specs.Code.{count, labels_vs, make_code}
-use Rattle.py_steps.specs.Children.{child, emission_of_defaults, flags_of_defaults, function_scope, made, some_emitted}
-use Rattle.py_steps.specs.Within.{lambda_inside}
-use Rattle.py_steps.specs.Context.{Context, head_of, inside}
-use Rattle.py_steps.specs.EmissionParts as emitting
-use Rattle.py_steps.specs.EmissionParts.{pass_scopes}
-use Rattle.py_steps.specs.Emitting.{Around, Emission, ◌▸◌, pass_over}
-use Rattle.py_steps.specs.TableParts as table
-use Rattle.py_steps.specs.TableParts.{some_built}
+use Rattle.py_control.specs.Form.{Scope, MkScope, VForm, VMake, VNone, SReturn}
+use Rattle.py_control.specs.Code.{count, labels_vs, make_code}
+use Rattle.py_emission_parts.specs.Children.{child, emission_of_defaults, flags_of_defaults, function_scope, made, some_emitted}
+use Rattle.py_emission_parts.specs.Within.{lambda_inside}
+use Rattle.py_emission_parts.specs.Context.{Context, head_of, inside}
+use Rattle.py_emission_parts.specs.EmissionParts as emitting
+use Rattle.py_emission_parts.specs.EmissionParts.{pass_scopes}
+use Rattle.py_emission_parts.specs.Emitting.{Around, Emission, ◌▸◌, pass_over}
+use Rattle.py_emission_parts.specs.TableParts as table
+use Rattle.py_emission_parts.specs.TableParts.{some_built}
 use Rattle.py_emission.specs.Emission.{default_emissions, emissions, lambda_value}
 use Rattle.py_emission.specs.Parameters.{function_shape, parameters}
 use Rattle.py_meaning.specs.Table.{default_forms, expr_forms}
 use Rattle.py_meaning.specs.TableScopes.{default_flags, default_parts}
 use Rattle.py_emission_proof.proofs.Additions.CallAdds.{NamedAdds}
 use Rattle.py_emission_proof.proofs.Additions.Defaults.{flags_say_two, map_adds, parts_count, same_flag, tuple_adds}
-use Rattle.py_emission_proof.proofs.Additions.Emitting.{Yields, context_gives, gives_as, outside, pass_yields, scopes_as, so, then_yields}
+use Rattle.py_emission_proof.proofs.Additions.EmissionSequenceLemmas.{Yields, context_gives, gives_as, outside, pass_yields, scopes_as, so, then_yields}
 use Rattle.py_emission_proof.proofs.Additions.FormAdds.{AddsForms, AllValuesAdd, PartsAdd, ValueAdds}
 use Rattle.py_emission_proof.proofs.Additions.Functions.{Flagged, Makes, function_adds, scope_gives}
 use Rattle.py_emission_proof.proofs.Additions.Settled.{inside_settled}

@@ -9,15 +9,15 @@ use Rattle.py_ir.specs.declared.info.CodeInfo.{CodeInfo}
 use Rattle.py_ir.specs.Chain.{plain}
 use Rattle.py_ir.specs.Final.{tables_of}
 use Rattle.py_scope.specs.declared.flat.ScopeEntry.{ScopeEntry}
-use Rattle.py_steps.specs.Context.{Context, outermost}
-use Rattle.py_forms.specs.Form.{Scope}
+use Rattle.py_emission_parts.specs.Context.{Context, outermost}
+use Rattle.py_control.specs.Form.{Scope}
 use Rattle.py_meaning.specs.Meaning.{body}
-use Rattle.py_steps.specs.Emitting.{State, Done}
+use Rattle.py_emission_parts.specs.Emitting.{State, Done}
 use Rattle.py_emission.specs.EmissionMods.{emitted}
 use Rattle.py_emit.specs.Emitted.{Holds}
-use Rattle.py_steps.specs.Sealed.{Head}
+use Rattle.py_emission_parts.specs.Sealed.{Head}
 use Rattle.py_emit.specs.States.{IsUnrefused}
-use Rattle.py_emission_proof.proofs.Additions.Adding.{Begins}
+use Rattle.py_emission_proof.proofs.Additions.AddedCodeLemmas.{Begins}
 use Rattle.py_emission_proof.proofs.Additions.Codes.{LoadsFew}
 use Rattle.py_emission_proof.proofs.Additions.Readings.{only_memory}
 use Rattle.py_emission_proof.proofs.Additions.Within.{Emitted, child_at, reading}

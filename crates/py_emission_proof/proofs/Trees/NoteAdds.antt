@@ -3,16 +3,16 @@ use Rattle.std.proofs.Common.{ℕ, ◌<◌, ◌^◌, List, Bool, true, false, Op
 use Rattle.std.specs.Prelude.{if◌then◌else◌}
 use Rattle.py_tree.specs.Tree as tree
 use Rattle.py_limits.specs.Size.{expr_size}
-use Rattle.py_counts.specs.Counts.{scopes_in, scopes_in_annotation}
+use Rattle.py_scope_counts.specs.Counts.{scopes_in, scopes_in_annotation}
 use Rattle.py_bytecode.specs.Objects as const
-use Rattle.py_texts.specs.Annotation.{annotation}
+use Rattle.py_annotation_text.specs.Annotation.{annotation}
 use Rattle.py_base.specs.declared.errors.CodegenErrorType.TheVariants as error
-use Rattle.py_steps.specs.Emitting.{Around}
+use Rattle.py_emission_parts.specs.Emitting.{Around}
 use Rattle.py_emission.specs.Emission.{emission}
 use Rattle.py_emission.specs.EmissionDefs.{emission_of_note, emission_of_text}
 use Rattle.py_meaning.specs.Table.{expr_form}
 use Rattle.py_meaning.specs.TableNotes.{note_form, text_form}
-use Rattle.py_emission_proof.proofs.Additions.Emitting.{context_gives, refused_gives}
+use Rattle.py_emission_proof.proofs.Additions.EmissionSequenceLemmas.{context_gives, refused_gives}
 use Rattle.py_emission_proof.proofs.Additions.FormAdds.{ValueAdds}
 use Rattle.py_emission_proof.proofs.Additions.Instructions.{constant_adds}
 use Rattle.py_emission_proof.proofs.Trees.ExprAdds.{expr_adds}

@@ -3,18 +3,18 @@ use Rattle.std.proofs.Common.{◌≡◌, ℕ, ◌+◌, ◌<◌, ◌≤◌, ◌^�
 use Rattle.py_tree.specs.Tree as tree
 use Rattle.py_tree.specs.declared.modules.Mode.{Mode}
 use Rattle.py_limits.specs.Size.{size_of, stmts_size}
-use Rattle.py_counts.specs.Counts.{scopes_in}
+use Rattle.py_scope_counts.specs.Counts.{scopes_in}
 use Rattle.py_base.specs.declared.location.SourceLocation.{SourceLocation}
 use Rattle.py_bytecode.specs.Objects as const
 use Rattle.py_bytecode.specs.Objects.{Object}
 use Rattle.py_scope.specs.declared.flat.ScopeEntry.{ScopeEntry}
-use Rattle.py_forms.specs.Form.{Scope, MkScope}
-use Rattle.py_forms.specs.Code.{Item, body_code, closes, code, labels, labels_v, return_code}
-use Rattle.py_forms.specs.Looped.{Looped}
-use Rattle.py_forms.specs.Agree.{exactly, form_of}
+use Rattle.py_control.specs.Form.{Scope, MkScope}
+use Rattle.py_control.specs.Code.{Item, body_code, closes, code, labels, labels_v, return_code}
+use Rattle.py_control.specs.Looped.{Looped}
+use Rattle.py_control.specs.Agree.{exactly, form_of}
 use Rattle.py_emission.specs.Texts.{after_doc, doc_of, first_text, unless_text}
-use Rattle.py_steps.specs.Context.{Context, head_of, inside, outermost}
-use Rattle.py_steps.specs.Emitting.{Around, State, Done, nothing}
+use Rattle.py_emission_parts.specs.Context.{Context, head_of, inside, outermost}
+use Rattle.py_emission_parts.specs.Emitting.{Around, State, Done, nothing}
 use Rattle.py_emission.specs.EmissionMods.{emission_of_doc, emission_of_interactive, emission_of_program, emitted}
 use Rattle.py_meaning.specs.Interactive.{interactive_form}
 use Rattle.py_meaning.specs.Meaning.{body, mod_form}
@@ -24,10 +24,10 @@ use Rattle.py_meaning.specs.Table.{expr_form}
 use Rattle.py_meaning.specs.TableScopes.{setup_form}
 use Rattle.py_emission.specs.EmissionStmts.{emission_of_stmts}
 use Rattle.py_meaning.specs.TableStmts.{doc_form, program_form, stmts_form}
-use Rattle.py_emission_proof.proofs.Additions.Adding.{adds_as, completed}
+use Rattle.py_emission_proof.proofs.Additions.AddedCodeLemmas.{adds_as, completed}
 use Rattle.py_emission_proof.proofs.Additions.Burden.{burden}
 use Rattle.py_emission_proof.proofs.Additions.Codes.{LoadsFew}
-use Rattle.py_emission_proof.proofs.Additions.Emitting.{Gives, Yields, after_these, and_yields, gives_as, keep_yields, level_gives, outside, so, then_yields}
+use Rattle.py_emission_proof.proofs.Additions.EmissionSequenceLemmas.{Gives, Yields, after_these, and_yields, gives_as, keep_yields, level_gives, outside, so, then_yields}
 use Rattle.py_emission_proof.proofs.Additions.Instructions.{constant_adds, return_adds, store_adds}
 use Rattle.py_emission_proof.proofs.Additions.Settled.{Settled, outermost_settled}
 use Rattle.py_emission_proof.proofs.Additions.Within.{Emitted}

@@ -4,16 +4,16 @@ use Rattle.std.specs.Prelude.{nat_eq, if◌then◌else◌}
 use Rattle.py_tree.specs.Tree as tree
 use Rattle.py_base.specs.declared.location.SourceLocation.{SourceLocation}
 use Rattle.py_limits.specs.Size.{expr_size, handlers_size, opt_expr_size, stmt_size, stmts_size, with_items_size}
-use Rattle.py_counts.specs.Counts.{scopes_in, scopes_in_opt}
+use Rattle.py_scope_counts.specs.Counts.{scopes_in, scopes_in_opt}
 use Rattle.py_bytecode.specs.declared.instruction.Instruction.TheVariants as op
 use Rattle.py_bytecode.specs.Objects as const
 use Rattle.py_bytecode.specs.Values.{Store, Delete, operation, Bare, Number}
 use Rattle.py_bytecode.specs.Machine.{Break, Continue}
-use Rattle.py_forms.specs.Form.{VMore, VNone, TNot, SForm, SSkip, SDo, SInto, SIf, SBreak, SContinue, GDrop}
-use Rattle.py_forms.specs.Fit.{Loops}
-use Rattle.py_forms.specs.Code.{Do, labels_v, labels_g, labels_t, labels_h, labels, code_h}
-use Rattle.py_forms.specs.Looped.{Looped, LoopedAll}
-use Rattle.py_steps.specs.Context.{Context, is_function}
+use Rattle.py_control.specs.Form.{VMore, VNone, TNot, SForm, SSkip, SDo, SInto, SIf, SBreak, SContinue, GDrop}
+use Rattle.py_control.specs.Fit.{Loops}
+use Rattle.py_control.specs.Code.{Do, labels_v, labels_g, labels_t, labels_h, labels, code_h}
+use Rattle.py_control.specs.Looped.{Looped, LoopedAll}
+use Rattle.py_emission_parts.specs.Context.{Context, is_function}
 use Rattle.py_meaning.specs.StmtCounts.{scopes_in_handlers, scopes_in_items, scopes_in_raise, scopes_in_stmt, scopes_in_stmts}
 use Rattle.py_meaning.specs.Table.{expr_form, target_form, test_form}
 use Rattle.py_meaning.specs.TableScopes.{iterator}
@@ -23,13 +23,13 @@ use Rattle.py_meaning.specs.StmtParts.{assert_form, assertion, handler_target, i
 use Rattle.py_emission.specs.Predicates.{message_count, none}
 use Rattle.py_base.specs.declared.errors.CodegenErrorType.{CodegenErrorType}
 use Rattle.py_base.specs.declared.errors.CodegenErrorType.TheVariants as error
-use Rattle.py_steps.specs.Emitting.{Around, Emission, LoopBlocks, ◌▸◌, by_level, emit, jump, keep, refuse}
-use Rattle.py_steps.specs.EmissionParts.{only_in_function, pass_scopes}
-use Rattle.py_steps.specs.Refused.{no_assignment}
+use Rattle.py_emission_parts.specs.Emitting.{Around, Emission, LoopBlocks, ◌▸◌, by_level, emit, jump, keep, refuse}
+use Rattle.py_emission_parts.specs.EmissionParts.{only_in_function, pass_scopes}
+use Rattle.py_emission_parts.specs.Refused.{no_assignment}
 use Rattle.py_emission.specs.Emission.{emission, emission_of_store, emission_of_test}
 use Rattle.py_emission.specs.ControlEmissions.{asserted, caught, forgotten, named_body}
 use Rattle.py_emission.specs.EmissionStmts.{emission_of_assert, emission_of_handlers, emission_of_item, emission_of_items, emission_of_message, emission_of_raise, emission_of_returned, emission_of_stmts, leave_loop}
-use Rattle.py_emission_proof.proofs.Additions.Emitting.{Gives, Yields, after_these, context_gives, from_as, gives_as, keep_yields, level_gives, loops_give, looping, move_yields, moved_gives, moved_refused, next_as, refused_gives, regroup, scopes_as, so, then_gives, then_these}
+use Rattle.py_emission_proof.proofs.Additions.EmissionSequenceLemmas.{Gives, Yields, after_these, context_gives, from_as, gives_as, keep_yields, level_gives, loops_give, looping, move_yields, moved_gives, moved_refused, next_as, refused_gives, regroup, scopes_as, so, then_gives, then_these}
 use Rattle.py_emission_proof.proofs.Additions.Instructions.{break_adds, constant_adds, continue_adds, return_adds}
 use Rattle.py_emission_proof.proofs.Additions.AccessAdds.{accessed_adds}
 use Rattle.py_emission_proof.proofs.Additions.ControlInstructions.{end_finally_adds, iterator_adds, raise_adds, raise_cause_adds, reraise_adds}

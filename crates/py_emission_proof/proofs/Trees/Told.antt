@@ -1,12 +1,12 @@
 -- What the table is told by what stands around, and the present scope as its code sees it.
 use Rattle.std.proofs.Common.{ℕ, []}
 use Rattle.py_base.specs.declared.location.SourceLocation.{SourceLocation}
-use Rattle.py_forms.specs.Form.{Interp, Scope, MkScope, VForm, VAt, SSkip}
-use Rattle.py_forms.specs.Agree.{exactly}
-use Rattle.py_steps.specs.Context.{Context, head_of}
-use Rattle.py_steps.specs.EmissionParts as emitting
-use Rattle.py_steps.specs.Emitting.{Around, Emission, ◌▸◌, move}
-use Rattle.py_steps.specs.TableParts as table
+use Rattle.py_control.specs.Form.{Interp, Scope, MkScope, VForm, VAt, SSkip}
+use Rattle.py_control.specs.Agree.{exactly}
+use Rattle.py_emission_parts.specs.Context.{Context, head_of}
+use Rattle.py_emission_parts.specs.EmissionParts as emitting
+use Rattle.py_emission_parts.specs.Emitting.{Around, Emission, ◌▸◌, move}
+use Rattle.py_emission_parts.specs.TableParts as table
 use Rattle.py_emission_proof.proofs.Additions.FormAdds.{AddsForms, IsPushed, ValueAdds, moved_adds, tested_adds}
 
 -- a context, but for the path of the source

@@ -3,25 +3,25 @@ use Rattle.std.proofs.Common.{◌≡◌, ℕ, suc, ◌+◌, ◌<◌, ◌^◌, Li
 use Rattle.std.specs.Prelude.{codes}
 use Rattle.py_tree.specs.Tree as tree
 use Rattle.py_limits.specs.Size.{arguments_size, type_param_size, type_params_size}
-use Rattle.py_counts.specs.Counts.{scopes_in}
+use Rattle.py_scope_counts.specs.Counts.{scopes_in}
 use Rattle.py_bytecode.specs.declared.instruction.Instruction.TheVariants as op
 use Rattle.py_bytecode.specs.Objects.{Object}
 use Rattle.py_bytecode.specs.Values.{Store, Fast, Load}
 use Rattle.py_bytecode.specs.Machine.{Access}
 use Rattle.py_scope.specs.declared.table_type.SymbolTableType.TheVariants as kind
-use Rattle.py_forms.specs.Form.{Scope, MkScope, VForm, VLoad, VMake, VMore, VNone, VOp, FixedFast, GStore, Resolved, SReturn}
-use Rattle.py_forms.specs.Code.{body_code, code_v, labels_v}
-use Rattle.py_forms.specs.Agree.{exactly}
+use Rattle.py_control.specs.Form.{Scope, MkScope, VForm, VLoad, VMake, VMore, VNone, VOp, FixedFast, GStore, Resolved, SReturn}
+use Rattle.py_control.specs.Code.{body_code, code_v, labels_v}
+use Rattle.py_control.specs.Agree.{exactly}
 use Rattle.py_base.specs.declared.errors.CodegenErrorType.TheVariants as error
-use Rattle.py_steps.specs.Accesses.{emission_of_stored}
-use Rattle.py_steps.specs.Children.{DefaultEmissions, emission_of_defaults}
-use Rattle.py_steps.specs.Context.{head_of, inside, mangled}
-use Rattle.py_steps.specs.Emitting.{Around, Emission, ◌▸◌, emit, emit_varname}
-use Rattle.py_steps.specs.Refused.{no_assignment}
-use Rattle.py_steps.specs.TableParts as table
-use Rattle.py_steps.specs.TableParts.{counted, map_of}
-use Rattle.py_steps.specs.TypeParameters.{hidden, hidden_shape}
-use Rattle.py_steps.specs.Within.{handed, hidden_inside, hidden_name, some_name}
+use Rattle.py_emission_parts.specs.Accesses.{emission_of_stored}
+use Rattle.py_emission_parts.specs.Children.{DefaultEmissions, emission_of_defaults}
+use Rattle.py_emission_parts.specs.Context.{head_of, inside, mangled}
+use Rattle.py_emission_parts.specs.Emitting.{Around, Emission, ◌▸◌, emit, emit_varname}
+use Rattle.py_emission_parts.specs.Refused.{no_assignment}
+use Rattle.py_emission_parts.specs.TableParts as table
+use Rattle.py_emission_parts.specs.TableParts.{counted, map_of}
+use Rattle.py_emission_parts.specs.TypeParameters.{hidden, hidden_shape}
+use Rattle.py_emission_parts.specs.Within.{handed, hidden_inside, hidden_name, some_name}
 use Rattle.py_emission.specs.Emission.{default_emissions, emission}
 use Rattle.py_emission.specs.EmissionDefs.{emission_of_param, emission_of_params, param_emissions}
 use Rattle.py_meaning.specs.StmtCounts.{scopes_in_param, scopes_in_params}
@@ -33,7 +33,7 @@ use Rattle.py_emission_proof.proofs.Additions.Burden.{burden}
 use Rattle.py_emission_proof.proofs.Additions.CallAdds.{NamedAdds}
 use Rattle.py_emission_proof.proofs.Additions.Defaults.{parts_count}
 use Rattle.py_emission_proof.proofs.Additions.DisplayAdds.{built_adds}
-use Rattle.py_emission_proof.proofs.Additions.Emitting.{Yields, gives_as, moved_refused, outside, so}
+use Rattle.py_emission_proof.proofs.Additions.EmissionSequenceLemmas.{Yields, gives_as, moved_refused, outside, so}
 use Rattle.py_emission_proof.proofs.Additions.FormAdds.{AllValuesAdd, IsPushed, PartsAdd, ValueAdds, pushed_adds, unless_debug_gives}
 use Rattle.py_emission_proof.proofs.Additions.Functions.{Makes}
 use Rattle.py_emission_proof.proofs.Additions.Instructions.{tuple_builds}

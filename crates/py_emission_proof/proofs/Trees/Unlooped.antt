@@ -4,9 +4,9 @@ use Rattle.std.specs.Prelude.{if◌then◌else◌}
 use Rattle.py_tree.specs.Tree as tree
 use Rattle.py_tree.specs.declared.statements.Alias.{Alias}
 use Rattle.py_base.specs.declared.operators.Operator.{Operator}
-use Rattle.py_forms.specs.Form.{VForm, VKeep, Target, SForm, SInto, SSkip}
-use Rattle.py_forms.specs.Looped.{Looped}
-use Rattle.py_steps.specs.Context.{Context, is_function}
+use Rattle.py_control.specs.Form.{VForm, VKeep, Target, SForm, SInto, SSkip}
+use Rattle.py_control.specs.Looped.{Looped}
+use Rattle.py_emission_parts.specs.Context.{Context, is_function}
 use Rattle.py_meaning.specs.Table.{after, target_form}
 use Rattle.py_meaning.specs.TableNotes.{note_form}
 use Rattle.py_emission.specs.Imports.{takes_all}

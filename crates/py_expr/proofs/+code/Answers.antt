@@ -10,11 +10,11 @@ use Rattle.std.specs.Prelude.{nat_eq}
 use Rattle.py_bytecode.specs.declared.instruction.Instruction.TheVariants as op
 use Rattle.py_base.specs.declared.operators.CmpOp.TheVariants as comparison
 use Rattle.py_base.specs.declared.errors.CodegenErrorType.TheVariants as error
-use Rattle.py_steps.specs.TableParts.{deciding}
+use Rattle.py_emission_parts.specs.TableParts.{deciding}
 use Rattle.py_tree.specs.View.{expr_tree, exprs, opt_exprs}
-use Rattle.py_steps.specs.Elements.{Callee, Element}
-use Rattle.py_steps.specs.Emitting.{Emission, emit_count, located}
-use Rattle.py_steps.specs.EmissionParts.{Emissions, elements, in_turn, some_test, some_values, values}
+use Rattle.py_emission_parts.specs.Elements.{Callee, Element}
+use Rattle.py_emission_parts.specs.Emitting.{Emission, emit_count, located}
+use Rattle.py_emission_parts.specs.EmissionParts.{Emissions, elements, in_turn, some_test, some_values, values}
 use Rattle.py_emission.specs.Emission.{all_emissions, emission, emission_of_return, emissions, opt_emissions}
 use Rattle.py_emit.specs.States.{state}
 use Rattle.py_emit.proofs.Joined.{first_refuses, goes_as, refuses_as, same_error, went}

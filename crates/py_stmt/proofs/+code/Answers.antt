@@ -9,20 +9,20 @@ use Rattle.std.proofs.Common.{rules, Option, ap, false, sym, ◌∙◌}
 use Rattle.std.specs.Prelude.{if◌then◌else◌}
 use Rattle.py_bytecode.specs.declared.instruction.Instruction.TheVariants as op
 use Rattle.py_tree.specs.View.{expr_tree, stmt_tree, stmts}
-use Rattle.py_steps.specs.Emitting.{Done, Emission, State, go_on, in_loop, located, with_loops}
-use Rattle.py_steps.specs.EmissionParts.{choice, only}
+use Rattle.py_emission_parts.specs.Emitting.{Done, Emission, State, go_on, in_loop, located, with_loops}
+use Rattle.py_emission_parts.specs.EmissionParts.{choice, only}
 use Rattle.py_emission.specs.Emission.{emission_of_test}
 use Rattle.py_emission.specs.EmissionStmts.{emission_of_stmt, emission_of_stmts}
 use Rattle.py_emission.specs.Predicates.{none}
 use Rattle.py_emit.specs.States.{loop_blocks, rest, state}
-use Rattle.py_walks.specs.declared.info.BlockIdx.{BlockIdx}
+use Rattle.py_dataflow.specs.declared.info.BlockIdx.{BlockIdx}
 use Rattle.py_emit.proofs.Joined.{goes_as, went}
 use Rattle.py_expr_parts.proofs.Turns.{if_not}
-use Rattle.py_stmt.proofs.Entering.{entering}
+use Rattle.py_stmt.proofs.LocationLemmas.{entering}
 use Rattle.py_stmt_parts.proofs.Steps.{none_is}
 use Rattle.py_expr_parts.proofs.Steps.{stays}
 use Rattle.py_expr_scopes.proofs.KeptExpressions.{apart, begin_opens, block_opens, emit_opens, jump_opens, test_opens}
-use Rattle.py_stmt.proofs.Opening.{loop_opens, stmts_open}
+use Rattle.py_stmt.proofs.OpenBlockLemmas.{loop_opens, stmts_open}
 use Rattle.py_stmt.proofs.+code.Answers.Around.{each_around, last_around, unguarded_around, while_around}
 use Rattle.py_stmt.proofs.+code.Answers.Classes as class
 use Rattle.py_stmt.proofs.+code.Answers.Defining.{decorated_refused, defaults_refused, inner_goes, inner_refused, made_goes, made_refused, plain_goes, rest_done, rest_goes_on, rest_refused, scope_inner, scope_left, scope_refused, scope_unlooped, some_goes, value_refused}

@@ -2,7 +2,7 @@ use Rattle.std.proofs.Common.{subst}
 use Rattle.pyc_c.specs.Runs.{IsRun}
 use Rattle.pyc_c.specs.Handed.{words_of}
 use Rattle.pyc_c.proofs.Ended.{no_memory}
-use Rattle.pyc_c.proofs.Handing.{asks_as}
+use Rattle.pyc_c.proofs.RunWordLemmas.{asks_as}
 use Rattle.pyc_c.proofs.status_of.Goals as goal
 
 pub ended-requires : goal.ended-requires

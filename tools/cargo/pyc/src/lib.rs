@@ -37,7 +37,7 @@ pub use py_bytecode::{
     CodeFlags, CodeObject, Constant, Elements, Instruction, MakeFunctionFlags, Operation, OperandKind, Unit,
 };
 pub use py_names::NameKind;
-pub use py_script::{Detail, Event, Outcome, StepValue, Trace};
+pub use py_answers::{Detail, Event, Outcome, StepValue, Trace};
 pub use py_tree::{Mod, Mode};
 pub use rshim::reserve::Reserving;
 pub use run::{Run, step};

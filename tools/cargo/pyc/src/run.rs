@@ -1,7 +1,7 @@
 //! Runs over scripts of answers.
 
 use crate::{Code, Error};
-use py_script::{Script, Trace};
+use py_answers::{Script, Trace};
 use py_step::{StepReport, run_script};
 use py_tree::{Mod, Mode};
 use rshim::alloc::Global;

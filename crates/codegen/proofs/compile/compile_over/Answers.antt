@@ -3,12 +3,12 @@ use Rattle.std.proofs.lemmas.Result.{err_from_is_err_and}
 use Rattle.codegen.specs.Calls.{tree_of}
 use Rattle.py_base.specs.declared.location.LocatedError.{LocatedError}
 use Rattle.py_ir.specs.Final.{IsFinal}
-use Rattle.py_steps.specs.Context.{outermost}
-use Rattle.py_steps.specs.Emitting.{Done}
+use Rattle.py_emission_parts.specs.Context.{outermost}
+use Rattle.py_emission_parts.specs.Emitting.{Done}
 use Rattle.py_emission.specs.EmissionMods.{emitted}
 use Rattle.py_meaning.specs.Meaning.{body}
 use Rattle.py_emission_proof.proofs.Additions.Codes.{LoadsFew}
-use Rattle.py_loads.proofs.Loading.{tree_loads_few}
+use Rattle.py_cell_loads.proofs.CellLoadLemmas.{tree_loads_few}
 use Rattle.py_base.specs.declared.errors.CodegenErrorType.{CodegenErrorType}
 use Rattle.py_emit.specs.Emitted.{IsEmitted}
 use Rattle.py_emit.specs.States.{IsTold, Rest, info, rest, state}

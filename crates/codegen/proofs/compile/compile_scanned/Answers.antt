@@ -1,5 +1,5 @@
 use Rattle.std.proofs.Common.{IfErr, sym, subst, ◌∙◌}
-use Rattle.py_uses.specs.Goes.{IsTextOrMemory}
+use Rattle.py_name_uses.specs.Goes.{IsTextOrMemory}
 use Rattle.codegen.specs.Calls.{tree_of}
 use Rattle.codegen.specs.Compiled.{IsScan}
 use Rattle.codegen.proofs.Firsts.{told_first, told_nowhere}

@@ -1,6 +1,6 @@
 use Rattle.std.proofs.Common.{◌≡◌, ◌∙◌, List, [], ◌∷◌, ◌++◌, ap, sym, subst}
 use Rattle.py_scope.specs.declared.table.SymbolTable.{SymbolTable, out-SymbolTable}
-use Rattle.py_steps.specs.Emitting.{State}
+use Rattle.py_emission_parts.specs.Emitting.{State}
 use Rattle.py_emit.specs.Tables.{AreLeft}
 use Rattle.emit_vectors.proofs.Left.{one_left}
 use Rattle.emit_vectors.proofs.tables.emitter.Goals as goal

@@ -1,9 +1,9 @@
 use Rattle.std.proofs.Common.{sym, ap, ◌∙◌}
 use Rattle.py_bytecode.specs.Objects as const
 use Rattle.py_tree.specs.View.{arguments, expr_tree}
-use Rattle.py_steps.specs.Children.{code_head, enter_parameters}
-use Rattle.py_steps.specs.Emitting.{Done, ◌▸◌, add_constant}
-use Rattle.py_steps.specs.Within.{lambda_inside}
+use Rattle.py_emission_parts.specs.Children.{code_head, enter_parameters}
+use Rattle.py_emission_parts.specs.Emitting.{Done, ◌▸◌, add_constant}
+use Rattle.py_emission_parts.specs.Within.{lambda_inside}
 use Rattle.py_emission.specs.Parameters.{function_shape, parameters}
 use Rattle.py_emit.specs.States.{entered_rest, rest, state}
 use Rattle.py_emit.specs.declared.emitter.Emitter.{Emitter}

@@ -1,5 +1,5 @@
 use Rattle.std.proofs.Common.{◌≡◌}
-use Rattle.py_steps.specs.Context.{behind_dot}
+use Rattle.py_emission_parts.specs.Context.{behind_dot}
 use Rattle.py_emit.proofs.Dotted.{cut_last}
 use Rattle.py_emit.proofs.around.before_last_dot.Goals as goal
 

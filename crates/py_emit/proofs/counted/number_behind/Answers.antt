@@ -1,6 +1,6 @@
 use Rattle.std.proofs.Common.{◌≡◌, ◌∙◌, ◌+◌, ◌-◌, sym, ap, arith}
 use Rattle.py_emit.specs.Tables.{behind, beyond}
-use Rattle.py_emit.proofs.Dropping.{all_behind, all_left, beyond_is, one_behind, one_left, none_left}
+use Rattle.py_emit.proofs.TableDropLemmas.{all_behind, all_left, beyond_is, one_behind, one_left, none_left}
 use Rattle.py_emit.proofs.counted.number_behind.Goals as goal
 
 pub loop-dropped-init : goal.loop-dropped-init

@@ -1,5 +1,5 @@
 use Rattle.std.proofs.Common.{◌≡◌, take}
-use Rattle.py_steps.specs.Context.{cells_among}
+use Rattle.py_emission_parts.specs.Context.{cells_among}
 use Rattle.py_emit.proofs.scopes.cells_among.Given as goal
 
 abbrev pub invariant-loop-i : goal.invariant-loop-i

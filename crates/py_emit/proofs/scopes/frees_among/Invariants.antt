@@ -1,5 +1,5 @@
 use Rattle.std.proofs.Common.{◌≡◌, take}
-use Rattle.py_steps.specs.Context.{frees_among}
+use Rattle.py_emission_parts.specs.Context.{frees_among}
 use Rattle.py_emit.proofs.scopes.frees_among.Given as goal
 
 abbrev pub invariant-loop-i : goal.invariant-loop-i

@@ -8,10 +8,10 @@ use Rattle.py_tree.specs.Tree as tree
 use Rattle.py_tree.specs.View.{expr_tree, generators}
 use Rattle.py_tree.specs.declared.expressions.ComprehensionOf.{ComprehensionOf}
 use Rattle.py_tree.specs.declared.expressions.Expr.{Expr}
-use Rattle.py_steps.specs.Children.{made}
-use Rattle.py_steps.specs.Comprehensions.{as_element, called_at_once, comprehension, comprehension_shape, gathered, generated}
-use Rattle.py_steps.specs.Refused.{retold}
-use Rattle.py_steps.specs.Emitting.{Emission, Refused, ◌▸◌, emit_count, keep}
+use Rattle.py_emission_parts.specs.Children.{made}
+use Rattle.py_emission_parts.specs.Comprehensions.{as_element, called_at_once, comprehension, comprehension_shape, gathered, generated}
+use Rattle.py_emission_parts.specs.Refused.{retold}
+use Rattle.py_emission_parts.specs.Emitting.{Emission, Refused, ◌▸◌, emit_count, keep}
 use Rattle.py_emission.specs.Awaits.{awaits, some_async}
 use Rattle.py_emission.specs.Emission.{clause_emissions, emission}
 use Rattle.py_emit.specs.States.{state}

@@ -7,9 +7,9 @@ use Rattle.py_tree.specs.View.{arguments, expr_tree}
 use Rattle.py_tree.specs.declared.expressions.ArgumentsOf.{ArgumentsOf}
 use Rattle.py_tree.specs.declared.expressions.Expr.{Expr}
 use Rattle.py_tree.specs.declared.expressions.ExprLambdaOf.{ExprLambdaOf}
-use Rattle.py_steps.specs.Emitting.{State}
+use Rattle.py_emission_parts.specs.Emitting.{State}
 use Rattle.py_scope.specs.declared.table_type.SymbolTableType.TheVariants as kind
-use Rattle.py_steps.specs.Children.{function_scope}
+use Rattle.py_emission_parts.specs.Children.{function_scope}
 use Rattle.py_emission.specs.Emission.{default_emissions, emission_of_return, lambda_value}
 use Rattle.py_emission.specs.Parameters.{function_shape, parameters}
 use Rattle.py_emit.specs.States.{Goes, state}

@@ -2,9 +2,9 @@
 use Rattle.std.proofs.Common.{rules, arith, [], Err, refl, ◌≡◌, ◌+◌, ◌∙◌, ap, drop, length, sym}
 use Rattle.py_tree.specs.View.{expr_tree, keywords}
 use Rattle.py_bytecode.specs.declared.instruction.Instruction.TheVariants as op
-use Rattle.py_steps.specs.Elements.{groups}
-use Rattle.py_steps.specs.Emitting.{Emission, emit_count}
-use Rattle.py_steps.specs.EmissionParts.{Keywords, map_of}
+use Rattle.py_emission_parts.specs.Elements.{groups}
+use Rattle.py_emission_parts.specs.Emitting.{Emission, emit_count}
+use Rattle.py_emission_parts.specs.EmissionParts.{Keywords, map_of}
 use Rattle.py_emission.specs.Emission.{keyword_emissions}
 use Rattle.py_emit.specs.States.{state}
 use Rattle.py_emit.proofs.Joined.{first_refuses, goes_as, went}

@@ -1,9 +1,9 @@
 -- The loop over the entries of a dict display.
 use Rattle.std.proofs.Common.{rules, arith, ◌<◌, Bool, Err, ℕ, List, Option, refl, ◌≡◌, ◌+◌, ◌∙◌, ap, drop, get_or, length, sym}
 use Rattle.py_tree.specs.View.{expr_tree, opt_expr}
-use Rattle.py_steps.specs.Elements.{Element}
-use Rattle.py_steps.specs.Emitting.{Emission, ◌▸◌}
-use Rattle.py_steps.specs.EmissionParts.{dict_value}
+use Rattle.py_emission_parts.specs.Elements.{Element}
+use Rattle.py_emission_parts.specs.Emitting.{Emission, ◌▸◌}
+use Rattle.py_emission_parts.specs.EmissionParts.{dict_value}
 use Rattle.py_emission.specs.Emission.{emission}
 use Rattle.py_emit.specs.States.{state}
 use Rattle.py_expr_parts.specs.Dicts.{begun_behind, dict_rest, entry_begun, entry_ended, entry_of}

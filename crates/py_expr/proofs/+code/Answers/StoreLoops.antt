@@ -4,8 +4,8 @@ use Rattle.py_tree.specs.View.{expr_tree}
 use Rattle.py_tree.proofs.View.{tree_Attribute}
 use Rattle.py_tree.specs.Tree as tree
 use Rattle.py_tree.specs.declared.expressions.Expr.{Expr}
-use Rattle.py_steps.specs.Elements.{Element}
-use Rattle.py_steps.specs.Emitting.{Emission}
+use Rattle.py_emission_parts.specs.Elements.{Element}
+use Rattle.py_emission_parts.specs.Emitting.{Emission}
 use Rattle.py_emission.specs.Emission.{emission_of_store}
 use Rattle.py_emit.specs.States.{state}
 use Rattle.py_emit.proofs.Joined.{first_refuses, goes_as, went}

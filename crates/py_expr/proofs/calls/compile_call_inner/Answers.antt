@@ -1,7 +1,7 @@
 use Rattle.std.proofs.Common.{subst, ◌≡◌, ◌∙◌, ap}
 use Rattle.std.specs.Prelude.{IfOk}
 use Rattle.py_tree.specs.View.{expr_tree, exprs, keywords}
-use Rattle.py_steps.specs.EmissionParts.{elements}
+use Rattle.py_emission_parts.specs.EmissionParts.{elements}
 use Rattle.py_emission.specs.Emission.{all_emissions, keyword_emissions}
 use Rattle.py_expr_parts.specs.Calls.{taken}
 use Rattle.py_expr_parts.specs.declared.calls.CallType.{CallType}

@@ -1,7 +1,7 @@
 use Rattle.std.proofs.Common.{◌≡◌, drop}
 use Rattle.py_tree.specs.View.{expr_tree, exprs}
-use Rattle.py_steps.specs.Elements.{starred}
-use Rattle.py_steps.specs.EmissionParts.{elements}
+use Rattle.py_emission_parts.specs.Elements.{starred}
+use Rattle.py_emission_parts.specs.EmissionParts.{elements}
 use Rattle.py_emission.specs.Emission.{all_emissions}
 use Rattle.py_expr_parts.proofs.elements.has_star.Given as goal
 

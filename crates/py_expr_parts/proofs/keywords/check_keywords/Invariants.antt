@@ -1,6 +1,6 @@
 use Rattle.std.proofs.Common.{◌≡◌, drop}
 use Rattle.py_tree.specs.View.{expr_tree, keywords}
-use Rattle.py_steps.specs.EmissionParts.{checked}
+use Rattle.py_emission_parts.specs.EmissionParts.{checked}
 use Rattle.py_emission.specs.Emission.{keyword_emissions}
 use Rattle.py_emit.specs.States.{rest, state}
 use Rattle.py_expr_parts.proofs.keywords.check_keywords.Given as goal

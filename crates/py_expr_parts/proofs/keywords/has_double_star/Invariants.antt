@@ -1,6 +1,6 @@
 use Rattle.std.proofs.Common.{◌≡◌, drop}
 use Rattle.py_tree.specs.View.{expr_tree, keywords}
-use Rattle.py_steps.specs.Elements.{starred}
+use Rattle.py_emission_parts.specs.Elements.{starred}
 use Rattle.py_emission.specs.Emission.{keyword_emissions}
 use Rattle.py_expr_parts.proofs.keywords.has_double_star.Given as goal
 

@@ -2,7 +2,7 @@ use Rattle.std.proofs.Common.{◌≡◌, ◌++◌, drop, map}
 use Rattle.py_tree.specs.View.{expr_tree, keywords}
 use Rattle.py_bytecode.specs.Objects.{listed}
 use Rattle.py_bytecode.specs.View.{constant}
-use Rattle.py_steps.specs.EmissionParts.{names_in}
+use Rattle.py_emission_parts.specs.EmissionParts.{names_in}
 use Rattle.py_emission.specs.Emission.{keyword_emissions}
 use Rattle.py_expr_parts.proofs.keywords.name_tuple.Given as goal
 

@@ -1,6 +1,6 @@
 use Rattle.std.proofs.Common.{◌≡◌, ◌≤◌, ◌+◌, drop}
 use Rattle.py_tree.specs.View.{expr_tree, exprs}
-use Rattle.py_steps.specs.Elements.{before_star}
+use Rattle.py_emission_parts.specs.Elements.{before_star}
 use Rattle.py_emission.specs.Emission.{all_stores}
 use Rattle.py_expr_parts.proofs.targets.before_star.Given as goal
 

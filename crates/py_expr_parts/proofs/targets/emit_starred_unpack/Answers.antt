@@ -1,7 +1,7 @@
 use Rattle.std.proofs.Common.{rules, ◌≡◌, ap, ◌∙◌, sym, arith}
 use Rattle.py_tree.specs.View.{expr_tree, exprs}
-use Rattle.py_steps.specs.Emitting.{Emission, ◌▸◌, emit, move, refuse}
-use Rattle.py_steps.specs.EmissionParts.{unpack_starred}
+use Rattle.py_emission_parts.specs.Emitting.{Emission, ◌▸◌, emit, move, refuse}
+use Rattle.py_emission_parts.specs.EmissionParts.{unpack_starred}
 use Rattle.py_emission.specs.Emission.{all_stores}
 use Rattle.py_base.specs.declared.errors.CodegenErrorType.TheVariants as error
 use Rattle.py_bytecode.specs.declared.instruction.Instruction.TheVariants as op

@@ -1,6 +1,6 @@
 use Rattle.std.proofs.Common.{ap, ◌∙◌, sym}
 use Rattle.py_tree.specs.View.{expr_tree, exprs}
-use Rattle.py_steps.specs.Emitting.{Emission, emit_count}
+use Rattle.py_emission_parts.specs.Emitting.{Emission, emit_count}
 use Rattle.py_emission.specs.Emission.{all_stores}
 use Rattle.py_bytecode.specs.declared.instruction.Instruction.TheVariants as op
 use Rattle.py_emit.specs.States.{state}

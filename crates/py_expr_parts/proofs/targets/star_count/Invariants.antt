@@ -1,6 +1,6 @@
 use Rattle.std.proofs.Common.{◌≡◌, ◌≤◌, ◌+◌, drop}
 use Rattle.py_tree.specs.View.{expr_tree, exprs}
-use Rattle.py_steps.specs.Elements.{stars}
+use Rattle.py_emission_parts.specs.Elements.{stars}
 use Rattle.py_emission.specs.Emission.{all_stores}
 use Rattle.py_expr_parts.proofs.targets.star_count.Given as goal
 

@@ -1,6 +1,6 @@
 use Rattle.std.proofs.Common.{rules, ap, sym, ◌∙◌}
-use Rattle.py_steps.specs.Context.{is_function}
-use Rattle.py_steps.specs.Emitting.{keep}
+use Rattle.py_emission_parts.specs.Context.{is_function}
+use Rattle.py_emission_parts.specs.Emitting.{keep}
 use Rattle.py_emit.specs.States.{rest, state}
 use Rattle.py_expr_parts.proofs.InFunctions.{outside_function, within_function}
 use Rattle.py_expr_parts.proofs.Turns.{placed_path, refused_so}

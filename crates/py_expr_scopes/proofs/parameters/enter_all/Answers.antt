@@ -1,5 +1,5 @@
 use Rattle.std.proofs.Common.{rules, ◌≡◌, Err, ap, ◌∙◌, arith}
-use Rattle.py_steps.specs.Emitting.{Emission}
+use Rattle.py_emission_parts.specs.Emitting.{Emission}
 use Rattle.py_emit.specs.States.{state}
 use Rattle.py_emit.proofs.Joined.{first_refuses, went}
 use Rattle.py_expr_scopes.proofs.Signatures.{parameter_at}

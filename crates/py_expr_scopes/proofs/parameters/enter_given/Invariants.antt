@@ -1,6 +1,6 @@
 use Rattle.std.proofs.Common.{◌≡◌, drop}
 use Rattle.py_tree.specs.View.{args, expr_tree}
-use Rattle.py_steps.specs.Children.{enter_parameters}
+use Rattle.py_emission_parts.specs.Children.{enter_parameters}
 use Rattle.py_emit.specs.States.{rest, state}
 use Rattle.py_expr_scopes.specs.Functions.{names_given}
 use Rattle.py_expr_scopes.proofs.parameters.enter_given.Given as goal

@@ -4,7 +4,7 @@ use Rattle.std.specs.List.{count_by}
 use Rattle.std.proofs.lemmas.List.{length-map, get_or_default}
 use Rattle.py_ir.specs.declared.blocks.Block.{Block}
 use Rattle.py_ir.specs.Chain.{Blk, blk, plain}
-use Rattle.py_ir.proofs.Following.{Following, blk_plain, inside_now, fewer, follow, breaks}
+use Rattle.py_ir.proofs.ChainOrderLemmas.{Following, blk_plain, inside_now, fewer, follow, breaks}
 use Rattle.py_ir.proofs.chain.chain_of.Goals as goal
 
 next_is : (blocks : List Block) (b : ℕ) (block : Block) (o : Option ℕ) (n : ℕ) → b < length blocks → block ≡ get_or blocks b block → o ≡ (plain block).next → o ≡ Some n → (blk (map plain blocks) b).next ≡ Some n

@@ -2,7 +2,7 @@ use Rattle.std.proofs.Common.{◌≡◌, ◌<◌, ℕ, length, get_or, arith}
 use Rattle.std.proofs.lemmas.List.{length-map}
 use Rattle.std.proofs.lemmas.Grind.{common_steps}
 use Rattle.py_ir.specs.Chain.{plain}
-use Rattle.py_ir.proofs.Flattening.{flat_step, flat_done}
+use Rattle.py_ir.proofs.BlockListLemmas.{flat_step, flat_done}
 use Rattle.py_ir.proofs.chain.cut.Goals as goal
 
 pub loop-block-preserved : goal.loop-block-preserved

@@ -1,4 +1,4 @@
-use Rattle.py_ir.proofs.Flattening.{Flattening}
+use Rattle.py_ir.proofs.BlockListLemmas.{Flattening}
 use Rattle.py_ir.proofs.chain.cut.Given as goal
 
 abbrev pub invariant-loop-block : goal.invariant-loop-block

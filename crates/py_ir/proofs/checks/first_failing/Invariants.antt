@@ -1,5 +1,5 @@
 use Rattle.std.proofs.Common.{ℕ, ◌<◌, ◌^◌, get_or}
-use Rattle.py_walks.specs.declared.info.InstructionInfo.{InstructionInfo}
+use Rattle.py_dataflow.specs.declared.info.InstructionInfo.{InstructionInfo}
 use Rattle.py_ir.specs.Checks.{Fails}
 use Rattle.py_ir.proofs.checks.first_failing.Given as goal
 

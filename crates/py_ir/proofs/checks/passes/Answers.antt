@@ -1,8 +1,8 @@
 use Rattle.std.proofs.Common.{◌≡◌, ap, sym, ◌∙◌, true}
 use Rattle.py_bytecode.specs.Table.{is_label}
-use Rattle.py_walks.specs.Flat.{is_jump}
+use Rattle.py_dataflow.specs.Flat.{is_jump}
 use Rattle.py_ir.specs.Checks.{in_kind, operand_fits}
-use Rattle.py_ir.proofs.Passing.{none_fails}
+use Rattle.py_ir.proofs.CheckLemmas.{none_fails}
 use Rattle.py_ir.proofs.checks.passes.Goals as goal
 
 pub returns-clause-all : goal.returns-clause-all

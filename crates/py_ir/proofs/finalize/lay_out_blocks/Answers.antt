@@ -1,7 +1,7 @@
 use Rattle.std.proofs.Common.{sym, subst}
 use Rattle.py_ir.specs.Refusals.{Refused}
 use Rattle.py_ir.specs.Finished.{IsLaid}
-use Rattle.py_ir.proofs.Joining.{if_err_then, if_ok_then}
+use Rattle.py_ir.proofs.FlatBlockLemmas.{if_err_then, if_ok_then}
 use Rattle.py_ir.proofs.finalize.lay_out_blocks.Goals as goal
 
 pub returns-then-level-eq0-clause-refused : goal.returns-then-level-eq0-clause-refused

@@ -2,7 +2,7 @@ use Rattle.std.proofs.Common.{◌≡◌, ◌∙◌, ℕ, List, All, length, subs
 use Rattle.py_layout.specs.declared.widths.Need.{Need}
 use Rattle.py_layout.specs.Widths.{IsNeed}
 use Rattle.py_layout.specs.Written.{located, needs_of, operand_in, written}
-use Rattle.py_layout.proofs.Writing.{needs_are}
+use Rattle.py_layout.proofs.UnitWriteLemmas.{needs_are}
 use Rattle.py_layout.proofs.SameUnits.{assembled, not_many}
 use Rattle.py_layout.proofs.units.assemble.Goals as goal
 

@@ -1,5 +1,5 @@
 use Rattle.std.proofs.Common.{arith}
-use Rattle.py_layout.proofs.Writing.{put_step}
+use Rattle.py_layout.proofs.UnitWriteLemmas.{put_step}
 use Rattle.py_layout.proofs.units.put_all.Goals as goal
 
 pub loop-left-preserved : goal.loop-left-preserved

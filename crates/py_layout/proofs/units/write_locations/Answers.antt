@@ -1,6 +1,6 @@
 use Rattle.std.proofs.Common.{arith}
 use Rattle.py_layout.proofs.Offsets.{offset-suc}
-use Rattle.py_layout.proofs.Writing.{locate_step}
+use Rattle.py_layout.proofs.UnitWriteLemmas.{locate_step}
 use Rattle.py_layout.proofs.units.write_locations.Goals as goal
 
 pub loop-k-preserved : goal.loop-k-preserved

@@ -1,7 +1,7 @@
 use Rattle.std.proofs.Common.{map, ap, ◌∙◌, arith}
 use Rattle.std.proofs.lemmas.List.{take_all}
 use Rattle.py_layout.specs.Widths.{narrowest}
-use Rattle.py_layout.proofs.Ending.{first_least}
+use Rattle.py_layout.proofs.WidthRoundLemmas.{first_least}
 use Rattle.py_layout.proofs.widths.first_widths.Goals as goal
 
 pub returns-clause-least : goal.returns-clause-least

@@ -2,7 +2,7 @@ use Rattle.std.proofs.Common.{◌≡◌, ◌+◌, ◌<◌, List, ℕ, length, ge
 use Rattle.std.proofs.lemmas.List.{get_or_default}
 use Rattle.py_layout.specs.declared.widths.Need.{Need}
 use Rattle.py_layout.specs.declared.widths.Need.TheVariants.{Fixed}
-use Rattle.py_layout.proofs.Growing.{kept, widened, carry}
+use Rattle.py_layout.proofs.WidthGrowthLemmas.{kept, widened, carry}
 use Rattle.py_layout.proofs.widths.grow.Goals as goal
 use Rattle.py_layout.proofs.widths.grow.Goals.{then-width-widths, else-width-widths}
 

@@ -1,4 +1,4 @@
-use Rattle.py_layout.proofs.Growing.{Growing}
+use Rattle.py_layout.proofs.WidthGrowthLemmas.{Growing}
 use Rattle.py_layout.proofs.widths.grow.Given as goal
 
 abbrev pub invariant-loop-k : goal.invariant-loop-k

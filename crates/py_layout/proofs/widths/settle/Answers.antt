@@ -1,5 +1,5 @@
 use Rattle.std.proofs.Common.{◌<◌, ◌≤◌, ◌*◌, ◌^◌, length, sum, arith}
-use Rattle.py_layout.proofs.Ending.{chosen_bound, too_many}
+use Rattle.py_layout.proofs.WidthRoundLemmas.{chosen_bound, too_many}
 use Rattle.py_layout.proofs.widths.settle.Goals as goal
 
 pub loop-units-smaller : goal.loop-units-smaller

@@ -1,5 +1,5 @@
 use Rattle.std.proofs.Common.{arith}
-use Rattle.py_listing.proofs.Joining.{joined_next}
+use Rattle.py_listing.proofs.ConstantListLemmas.{joined_next}
 use Rattle.py_listing.proofs.constants.+constant_text.Goals as goal
 
 pub push_joined-loop-i-preserved : goal.push_joined-loop-i-preserved

@@ -1,5 +1,5 @@
 use Rattle.std.proofs.Common.{rules}
-use Rattle.py_listing.proofs.Joining.{tuple_end_one, tuple_end_other}
+use Rattle.py_listing.proofs.ConstantListLemmas.{tuple_end_one, tuple_end_other}
 use Rattle.py_listing.proofs.constants.push_tuple_end.Goals as goal
 
 pub returns-then-elements-eq1 : goal.returns-then-elements-eq1

@@ -1,7 +1,7 @@
 use Rattle.std.proofs.Common.{◌++◌, codes, string_bytes}
 use Rattle.py_listing.specs.Listing.{joined}
 use Rattle.py_bytecode.specs.View.{constants_of}
-use Rattle.py_listing.proofs.Joining.{then_append}
+use Rattle.py_listing.proofs.ConstantListLemmas.{then_append}
 use Rattle.py_listing.proofs.lines.push_all_constants.Goals as goal
 
 pub returns : goal.returns

@@ -1,6 +1,6 @@
 use Rattle.std.proofs.Common.{Ok, refl}
 use Rattle.py_rows_slots.specs.Nodes.{nodes_view}
-use Rattle.py_rows_slots.proofs.Carrying.{carried}
+use Rattle.py_rows_slots.proofs.ReadingLemmas.{carried}
 use Rattle.py_rows_slots.proofs.adds.add_arg.Goals as goal
 
 pub returns : goal.returns

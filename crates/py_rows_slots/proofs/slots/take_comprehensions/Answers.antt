@@ -1,7 +1,7 @@
 use Rattle.std.proofs.Common.{Ok, refl}
 use Rattle.py_rows_slots.specs.Lists.{generators_of}
 use Rattle.py_rows_slots.specs.Nodes.{nodes_view}
-use Rattle.py_rows_slots.proofs.Carrying.{carried}
+use Rattle.py_rows_slots.proofs.ReadingLemmas.{carried}
 use Rattle.py_rows_slots.proofs.ListsOf.{generators_same}
 use Rattle.py_rows_slots.proofs.slots.take_comprehensions.Goals as goal
 

@@ -2,7 +2,7 @@ use Rattle.std.proofs.Common.{Ok, refl}
 use Rattle.py_base.specs.Literal.{Literal}
 use Rattle.py_tree.specs.View.{literal_list}
 use Rattle.py_rows_slots.specs.Nodes.{nodes_view}
-use Rattle.py_rows_slots.proofs.Carrying.{carried}
+use Rattle.py_rows_slots.proofs.ReadingLemmas.{carried}
 use Rattle.py_rows_slots.proofs.ListsOf.{constants_same}
 use Rattle.py_rows_slots.proofs.slots.take_constants.Goals as goal
 

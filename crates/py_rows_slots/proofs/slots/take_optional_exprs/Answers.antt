@@ -1,7 +1,7 @@
 use Rattle.std.proofs.Common.{Ok, refl}
 use Rattle.py_rows_slots.specs.Lists.{opts_of}
 use Rattle.py_rows_slots.specs.Nodes.{nodes_view}
-use Rattle.py_rows_slots.proofs.Carrying.{carried}
+use Rattle.py_rows_slots.proofs.ReadingLemmas.{carried}
 use Rattle.py_rows_slots.proofs.ListsOf.{opts_same}
 use Rattle.py_rows_slots.proofs.slots.take_optional_exprs.Goals as goal
 

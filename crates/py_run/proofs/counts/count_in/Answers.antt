@@ -1,7 +1,7 @@
 use Rattle.std.proofs.Common.{◌≡◌, ◌+◌, None, drop, get_or, sym, ◌∙◌, arith, rules}
 use Rattle.std.proofs.lemmas.List.{at_drop_more}
 use Rattle.py_run.specs.Words.{count_behind}
-use Rattle.py_run.proofs.Counting.{stopped}
+use Rattle.py_run.proofs.WordNumberLemmas.{stopped}
 use Rattle.py_run.proofs.counts.count_in.Goals as goal
 
 pub returns-in_err-count-clause-value : goal.returns-in_err-count-clause-value

@@ -1,10 +1,10 @@
 use Rattle.std.proofs.Common.{ap, sym, ◌∙◌}
 use Rattle.py_tree.specs.View.{arguments, expr_tree, generators}
-use Rattle.py_uses.specs.declared.usage.Usage.TheVariants.{Load}
-use Rattle.py_uses.specs.Goes.{state}
-use Rattle.py_uses.specs.Steps.{Step}
+use Rattle.py_name_uses.specs.declared.usage.Usage.TheVariants.{Load}
+use Rattle.py_name_uses.specs.Goes.{state}
+use Rattle.py_name_uses.specs.Steps.{Step}
 use Rattle.py_scan.proofs.Pairs.{pairs_of, pairs_over}
-use Rattle.py_scan.proofs.Staying.{clauses_within, expr_within, parameters_within}
+use Rattle.py_scan.proofs.OpenScopeLemmas.{clauses_within, expr_within, parameters_within}
 use Rattle.py_scan.proofs.expressions.+scan.Goals as goal
 
 pub scan_lambda-leave-requires : goal.scan_lambda-leave-requires

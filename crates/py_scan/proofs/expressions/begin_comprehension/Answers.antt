@@ -1,8 +1,8 @@
 use Rattle.std.specs.Prelude.{codes}
 use Rattle.py_scope.specs.declared.roles.Role.TheVariants as role
-use Rattle.py_uses.specs.Goes.{state}
-use Rattle.py_uses.specs.Steps.{use_name}
-use Rattle.py_scan.proofs.Staying.{step_within, use_stays}
+use Rattle.py_name_uses.specs.Goes.{state}
+use Rattle.py_name_uses.specs.Steps.{use_name}
+use Rattle.py_scan.proofs.OpenScopeLemmas.{step_within, use_stays}
 use Rattle.py_scan.proofs.expressions.begin_comprehension.Goals as goal
 
 pub returns-clause-within : goal.returns-clause-within

@@ -1,13 +1,13 @@
 use Rattle.std.proofs.Common.{◌≡◌, ◌∙◌, [], Err, ap, arith}
 use Rattle.py_tree.specs.View.{expr_tree, type_params}
-use Rattle.py_uses.specs.declared.usage.Usage.TheVariants.{Load}
-use Rattle.py_uses.specs.Goes.{state}
-use Rattle.py_uses.specs.Parts.{alias_name, plain_name}
-use Rattle.py_uses.specs.Steps.{◌▸◌, Step}
+use Rattle.py_name_uses.specs.declared.usage.Usage.TheVariants.{Load}
+use Rattle.py_name_uses.specs.Goes.{state}
+use Rattle.py_name_uses.specs.Parts.{alias_name, plain_name}
+use Rattle.py_name_uses.specs.Steps.{◌▸◌, Step}
 use Rattle.py_scan.specs.Scan.{scan_expr, scan_type_params}
 use Rattle.py_scan.proofs.Generic.{entered_as, generic_leaves, generic_refuses, goes_as, refuses_as}
 use Rattle.py_scan.proofs.InductionStatements.{alias_value_closed}
-use Rattle.py_scan.proofs.Staying.{stays, step_open}
+use Rattle.py_scan.proofs.OpenScopeLemmas.{stays, step_open}
 use Rattle.py_scan.proofs.simple.scan_generic_alias.Goals as goal
 
 pub leave_type_params-requires : goal.leave_type_params-requires

@@ -1,6 +1,6 @@
 use Rattle.std.proofs.Common.{◌≡◌, drop}
 use Rattle.py_tree.specs.View.{with_items}
-use Rattle.py_uses.specs.Goes.{state}
+use Rattle.py_name_uses.specs.Goes.{state}
 use Rattle.py_scan.specs.Scan.{scan_items}
 use Rattle.py_scan.proofs.simple.scan_items.Given as goal
 

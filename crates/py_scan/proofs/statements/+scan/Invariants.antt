@@ -3,7 +3,7 @@ use Rattle.std.proofs.Common.{◌≡◌, ◌+◌, ◌*◌, drop}
 use Rattle.std.specs.Prelude.{max}
 use Rattle.py_tree.specs.View.{handlers, stmt_tree, stmts}
 use Rattle.py_tree.proofs.statements.Stmt.TheLaws.{the_size}
-use Rattle.py_uses.specs.Goes.{state}
+use Rattle.py_name_uses.specs.Goes.{state}
 use Rattle.py_scan.specs.Scan.{scan_handlers, scan_stmts}
 use Rattle.py_scan.proofs.statements.+scan.Given as goal
 

@@ -1,11 +1,11 @@
 use Rattle.std.proofs.Common.{◌≡◌, Err, sym, ap, ◌∙◌, subst, arith}
 use Rattle.py_scope.specs.declared.roles.Role.TheVariants as role
 use Rattle.py_tree.specs.View.{expr_tree, opt_box, type_var_tree}
-use Rattle.py_uses.specs.declared.usage.Usage.TheVariants.{Load}
-use Rattle.py_uses.specs.Goes.{Goes, state}
-use Rattle.py_uses.specs.Parts.{check_new}
-use Rattle.py_uses.specs.Steps.{◌▸◌, Outcome, Step, go_on, use_name}
-use Rattle.py_uses.specs.Written.{AreWritten}
+use Rattle.py_name_uses.specs.declared.usage.Usage.TheVariants.{Load}
+use Rattle.py_name_uses.specs.Goes.{Goes, state}
+use Rattle.py_name_uses.specs.Parts.{check_new}
+use Rattle.py_name_uses.specs.Steps.{◌▸◌, Outcome, Step, go_on, use_name}
+use Rattle.py_name_uses.specs.Written.{AreWritten}
 use Rattle.py_scan.specs.Scan.{scan_type_param}
 use Rattle.py_scan.proofs.Classes.{opt_class}
 use Rattle.py_scan.proofs.type_params.scan_type_var.Goals as goal

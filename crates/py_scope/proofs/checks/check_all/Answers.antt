@@ -1,6 +1,6 @@
 use Rattle.std.proofs.Common.{slice_index_or}
 use Rattle.py_scope.specs.Checks.{wrong_in}
-use Rattle.py_scope.proofs.Checking.{first_next, first_found, get_at}
+use Rattle.py_scope.proofs.CheckListLemmas.{first_next, first_found, get_at}
 use Rattle.py_scope.proofs.checks.check_all.Goals as goal
 
 pub returns-in-Err-clause-refused : goal.returns-in-Err-clause-refused

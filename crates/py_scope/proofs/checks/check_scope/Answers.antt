@@ -2,7 +2,7 @@ use Rattle.std.proofs.Common.{◌≡◌, refl, sym, ap, ◌∙◌, subst, ◌<�
 use Rattle.std.proofs.lemmas.Option.{slice_get_read}
 use Rattle.py_scope.specs.Lifts.{IsRefusal}
 use Rattle.py_scope.specs.Checks.{first_by, wrong_entry, wrong_opt, entries_of}
-use Rattle.py_scope.proofs.Checking.{first_next, first_found, some_at}
+use Rattle.py_scope.proofs.CheckListLemmas.{first_next, first_found, some_at}
 use Rattle.py_scope.proofs.checks.check_scope.Goals as goal
 
 pub returns-in-Err-clause-refused : goal.returns-in-Err-clause-refused

@@ -2,7 +2,7 @@ use Rattle.std.proofs.Common.{◌≡◌, refl, sym, ap, ◌∙◌, List, [], ◌
 use Rattle.py_scope.specs.declared.table.SymbolTable.{out-SymbolTable}
 use Rattle.std.proofs.lemmas.Iterator.Adapters.{YieldsList-from_vec}
 use Rattle.std.proofs.lemmas.Iterator.Consumers.{YieldsList-end}
-use Rattle.py_scope.proofs.Flattening.{flat_next, flat_done, first_within}
+use Rattle.py_scope.proofs.FlatTableLemmas.{flat_next, flat_done, first_within}
 use Rattle.py_scope.proofs.flat.+push_table.Goals as goal
 
 same_map : {A : Type 0} (xs : List A) → map (λ x. x) xs ≡ xs

@@ -2,7 +2,7 @@ use Rattle.std.proofs.Common.{sym, ap, ◌∙◌, subst, ◌<◌, ◌||◌, take
 use Rattle.std.specs.List.{list_any}
 use Rattle.py_scope.specs.Names.{same_name}
 use Rattle.py_scope.specs.Tables.{declares, declares_opt}
-use Rattle.py_scope.proofs.Checking.{some_at}
+use Rattle.py_scope.proofs.CheckListLemmas.{some_at}
 use Rattle.py_scope.proofs.Anys.{or_assoc, any_next}
 use Rattle.py_scope.proofs.globals.note_row.Goals as goal
 

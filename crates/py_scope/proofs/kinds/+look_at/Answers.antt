@@ -1,5 +1,5 @@
 use Rattle.std.proofs.Common.{arith}
-use Rattle.py_scope.proofs.Looking.{found_further}
+use Rattle.py_scope.proofs.LookupLemmas.{found_further}
 use Rattle.py_scope.proofs.kinds.+look_at.Goals as goal
 
 pub returns-else-at-eq0 : goal.returns-else-at-eq0

@@ -1,5 +1,5 @@
 use Rattle.std.proofs.Common.{arith}
-use Rattle.py_scope.proofs.Looking.{found_outward}
+use Rattle.py_scope.proofs.LookupLemmas.{found_outward}
 use Rattle.py_scope.proofs.kinds.look_outward.Goals as goal
 
 pub returns-else-scope-eq0 : goal.returns-else-scope-eq0

@@ -3,7 +3,7 @@ use Rattle.py_scope.specs.declared.table_type.SymbolTableType.TheVariants.{Modul
 use Rattle.py_scope.specs.Lifts.{iterated_opt}
 use Rattle.py_scope.specs.declared.rows.Holds.TheVariants.{LiftedModule}
 use Rattle.py_scope.specs.Outward.{enclosing, parents}
-use Rattle.py_scope.proofs.Lifting.{lifted_is, refusal_is, stops_still, holder_here, still_there, held_through, goes_through, allowed_through, refused_through}
+use Rattle.py_scope.proofs.LiftLemmas.{lifted_is, refusal_is, stops_still, holder_here, still_there, held_through, goes_through, allowed_through, refused_through}
 use Rattle.py_scope.proofs.lifts.+lift_from.Goals as goal
 
 pub returns-in-Module-clause-held : goal.returns-in-Module-clause-held

@@ -1,4 +1,4 @@
-use Rattle.py_scope.proofs.Lifting.{allowed_first, refused_first, lifted_first}
+use Rattle.py_scope.proofs.LiftLemmas.{allowed_first, refused_first, lifted_first}
 use Rattle.py_scope.proofs.lifts.lift_one.Goals as goal
 
 pub returns-in_ok-hold_as-in-Ok-clause-allowed : goal.returns-in_ok-hold_as-in-Ok-clause-allowed

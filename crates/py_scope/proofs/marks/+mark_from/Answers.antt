@@ -1,6 +1,6 @@
 use Rattle.std.proofs.Common.{sym, ◌∙◌, arith}
 use Rattle.py_scope.proofs.marks.+mark_from.Goals as goal
-use Rattle.py_scope.proofs.Marking.{found_past, marked_past, clear_past}
+use Rattle.py_scope.proofs.MarkLemmas.{found_past, marked_past, clear_past}
 
 -- src/marks.rt:64:1
 pub returns-in_ok-pass_on-in-Past-clause-found : goal.returns-in_ok-pass_on-in-Past-clause-found

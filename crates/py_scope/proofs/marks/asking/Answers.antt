@@ -1,6 +1,6 @@
 use Rattle.std.proofs.Common.{ap, ◌∙◌, ◌++◌}
 use Rattle.py_scope.specs.Outward.{asking_in}
-use Rattle.py_scope.proofs.Settling.{asking_so_far}
+use Rattle.py_scope.proofs.MarkSumLemmas.{asking_so_far}
 use Rattle.py_scope.proofs.marks.asking.Goals as goal
 
 pub loop-i-preserved : goal.loop-i-preserved

@@ -1,6 +1,6 @@
 use Rattle.std.proofs.Common.{◌≡◌, length, take, refl, slice_index_or, arith}
 use Rattle.py_scope.specs.Marks.{looks}
-use Rattle.py_scope.proofs.Settling.{still_numbered, same_length, one_scope}
+use Rattle.py_scope.proofs.MarkSumLemmas.{still_numbered, same_length, one_scope}
 use Rattle.py_scope.proofs.marks.mark_all.Goals as goal
 
 pub mark_scope-requires-clause-numbered : goal.mark_scope-requires-clause-numbered

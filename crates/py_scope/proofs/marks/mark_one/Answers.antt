@@ -1,5 +1,5 @@
 use Rattle.std.proofs.Common.{arith}
-use Rattle.py_scope.proofs.Settling.{from_parent}
+use Rattle.py_scope.proofs.MarkSumLemmas.{from_parent}
 use Rattle.py_scope.proofs.marks.mark_one.Goals as goal
 
 pub returns : goal.returns

@@ -1,6 +1,6 @@
 use Rattle.std.proofs.Common.{◌≡◌, ◌∙◌, length, take, arith}
 use Rattle.py_scope.specs.Marks.{from_scope}
-use Rattle.py_scope.proofs.Settling.{still_numbered, same_length, one_name, whole_scope}
+use Rattle.py_scope.proofs.MarkSumLemmas.{still_numbered, same_length, one_name, whole_scope}
 use Rattle.py_scope.proofs.marks.mark_scope.Goals as goal
 
 pub mark_one-requires-clause-numbered : goal.mark_one-requires-clause-numbered

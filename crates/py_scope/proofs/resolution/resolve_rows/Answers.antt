@@ -6,9 +6,9 @@ use Rattle.py_scope.specs.Checks.{first_wrong}
 use Rattle.py_scope.specs.Tables.{table_from}
 use Rattle.py_scope.specs.Resolved.{settled_rows}
 use Rattle.py_scope.proofs.LiftKeeps as lifting
-use Rattle.py_scope.proofs.Settling as settling
-use Rattle.py_scope.proofs.Checking.{two_none, second_told}
-use Rattle.py_scope.proofs.Resolving.{lifted_is, settled_is, once_lifted, once_settled}
+use Rattle.py_scope.proofs.MarkSumLemmas as settling
+use Rattle.py_scope.proofs.CheckListLemmas.{two_none, second_told}
+use Rattle.py_scope.proofs.PassLemmas.{lifted_is, settled_is, once_lifted, once_settled}
 use Rattle.py_scope.proofs.resolution.resolve_rows.Goals as goal
 
 pub check_all-requires-clause-numbered : goal.check_all-requires-clause-numbered

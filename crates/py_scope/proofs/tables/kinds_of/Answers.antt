@@ -3,7 +3,7 @@ use Rattle.std.proofs.lemmas.Option.{slice_get_read}
 use Rattle.py_scope.specs.declared.kinds.SymbolScope.{SymbolScope}
 use Rattle.py_scope.specs.Checks.{entries_of}
 use Rattle.py_scope.specs.Making.{kind_at, kinds_at}
-use Rattle.py_scope.proofs.Tabling.{kinds_next}
+use Rattle.py_scope.proofs.TableRowLemmas.{kinds_next}
 use Rattle.py_scope.proofs.tables.kinds_of.Goals as goal
 
 pub loop-i-preserved : goal.loop-i-preserved

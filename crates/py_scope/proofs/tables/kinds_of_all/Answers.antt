@@ -1,6 +1,6 @@
 use Rattle.std.proofs.Common.{sym, ◌∙◌, ◌++◌, ◌∷◌, [], take_all, length, arith}
 use Rattle.py_scope.specs.Making.{all_kinds, kinds_in}
-use Rattle.py_scope.proofs.Tabling.{take_next, get_all_kinds, length-all_kinds}
+use Rattle.py_scope.proofs.TableRowLemmas.{take_next, get_all_kinds, length-all_kinds}
 use Rattle.py_scope.proofs.tables.kinds_of_all.Goals as goal
 
 pub loop-scope-preserved : goal.loop-scope-preserved

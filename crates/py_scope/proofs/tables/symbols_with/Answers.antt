@@ -2,7 +2,7 @@ use Rattle.std.proofs.Common.{sym, ap, ◌∙◌, subst, ◌<◌, ◌++◌, ◌�
 use Rattle.std.specs.List.{list_any}
 use Rattle.py_scope.specs.Names.{same_name}
 use Rattle.py_scope.specs.Making.{symbols_with}
-use Rattle.py_scope.proofs.Tabling.{rest_next, rest_some, took, symbol_absent, symbols_next}
+use Rattle.py_scope.proofs.TableRowLemmas.{rest_next, rest_some, took, symbol_absent, symbols_next}
 use Rattle.py_scope.proofs.tables.symbols_with.Goals as goal
 
 pub unwrap-pair-requires : goal.unwrap-pair-requires

@@ -1,6 +1,6 @@
 use Rattle.std.proofs.Common.{◌∙◌, ap, refl, ◌++◌, ◌∷◌, [], slice_set, length}
 use Rattle.std.proofs.lemmas.Option.{slice_get_read}
-use Rattle.py_scope.proofs.Scanning.{set_changed}
+use Rattle.py_scope.proofs.ScanCallLemmas.{set_changed}
 use Rattle.py_scope.proofs.tables.wait.Goals as goal
 
 pub returns : goal.returns

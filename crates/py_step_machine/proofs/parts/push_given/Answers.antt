@@ -1,6 +1,6 @@
 use Rattle.std.proofs.Common.{refl, sym, ◌∙◌}
 use Rattle.py_step_machine.specs.State.{stacked}
-use Rattle.py_step_machine.proofs.Giving.{all_pushed, first_to_push, pushed_on}
+use Rattle.py_step_machine.proofs.PushLemmas.{all_pushed, first_to_push, pushed_on}
 use Rattle.py_step_machine.proofs.parts.push_given.Goals as goal
 
 pub loop-index-init : goal.loop-index-init

@@ -1,7 +1,7 @@
 use Rattle.std.proofs.Common.{◌≡◌}
 use Rattle.py_bytecode.specs.Machine.{push}
 use Rattle.py_step_machine.specs.State.{stacked}
-use Rattle.py_step_machine.proofs.Giving.{rest_given}
+use Rattle.py_step_machine.proofs.PushLemmas.{rest_given}
 use Rattle.py_step_machine.proofs.parts.push_given.Given as goal
 
 -- the values from one on are still to be pushed

@@ -2,7 +2,7 @@ use Rattle.std.proofs.Common.{◌≡◌, ◌∷◌, ◌-◌, sym, ap, ◌∙◌,
 use Rattle.py_bytecode.specs.Values.{Given, It}
 use Rattle.py_bytecode.specs.Machine.{stack_of}
 use Rattle.py_step_machine.specs.State.{stacked}
-use Rattle.py_step_machine.proofs.Giving.{all_stacked, none_stacked, rest_given, stacked_on}
+use Rattle.py_step_machine.proofs.PushLemmas.{all_stacked, none_stacked, rest_given, stacked_on}
 use Rattle.py_step_machine.proofs.parts.push_reversed.Goals as goal
 
 pub loop-index-init : goal.loop-index-init

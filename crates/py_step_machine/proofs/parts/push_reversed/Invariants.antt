@@ -1,7 +1,7 @@
 use Rattle.std.proofs.Common.{◌≡◌, ◌≤◌}
 use Rattle.py_bytecode.specs.Machine.{stack_of}
 use Rattle.py_step_machine.specs.State.{stacked}
-use Rattle.py_step_machine.proofs.Giving.{rest_given}
+use Rattle.py_step_machine.proofs.PushLemmas.{rest_given}
 use Rattle.py_step_machine.proofs.parts.push_reversed.Given as goal
 
 -- the values from one on are on top

@@ -1,8 +1,8 @@
 use Rattle.std.proofs.Common.{◌∙◌}
 use Rattle.py_bytecode.specs.View.{object}
 use Rattle.py_step_decode.specs.Instructions.{instr_of}
-use Rattle.py_units.specs.Reading.{read_of}
-use Rattle.py_step_machine.proofs.Fetching.{nothing_made, nothing_read, one_made}
+use Rattle.py_decode.specs.Reading.{read_of}
+use Rattle.py_step_machine.proofs.FetchLemmas.{nothing_made, nothing_read, one_made}
 use Rattle.py_step_machine.proofs.run.fetch.Goals as goal
 
 pub returns-in_err-read : goal.returns-in_err-read

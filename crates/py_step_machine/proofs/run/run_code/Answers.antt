@@ -1,13 +1,13 @@
 use Rattle.std.proofs.Common.{sym, ap, ◌∙◌}
 use Rattle.py_bytecode.specs.Values.{Outcome, ran}
 use Rattle.py_bytecode.specs.View.{object}
-use Rattle.py_script.specs.declared.log.Log.{Log}
-use Rattle.py_script.specs.Log.{world_of}
-use Rattle.py_script.specs.Scripts.{answers_of}
-use Rattle.py_script.specs.Told.{Known}
+use Rattle.py_answers.specs.declared.log.Log.{Log}
+use Rattle.py_answers.specs.Log.{world_of}
+use Rattle.py_answers.specs.Scripts.{answers_of}
+use Rattle.py_answers.specs.Told.{Known}
 use Rattle.py_step_machine.specs.Running.{running, went_to}
 use Rattle.py_step_machine.specs.State.{state_of}
-use Rattle.py_step_machine.proofs.Running.{run_told, told_as}
+use Rattle.py_step_machine.proofs.RunViewLemmas.{run_told, told_as}
 use Rattle.py_step_machine.proofs.run.run_code.Goals as goal
 
 pub returns-clause-trace : goal.returns-clause-trace

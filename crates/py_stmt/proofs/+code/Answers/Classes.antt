@@ -3,12 +3,12 @@ use Rattle.std.proofs.Common.{◌≡◌, suc, ◌≤◌, List, length, Err, refl
 use Rattle.py_tree.specs.View.{expr_tree, exprs, stmt_tree, stmts, type_params}
 use Rattle.py_tree.specs.declared.statements.TypeParam.{TypeParam}
 use Rattle.py_scope.specs.declared.table_type.SymbolTableType.TheVariants as kind
-use Rattle.py_steps.specs.Accesses.{emission_of_stored}
-use Rattle.py_steps.specs.Children.{decorated, made}
-use Rattle.py_steps.specs.Classes.{class_shape}
-use Rattle.py_steps.specs.Within.{class_path, class_within}
-use Rattle.py_steps.specs.Emitting.{Emission, State, ◌▸◌, by_context, go_on}
-use Rattle.py_steps.specs.EmissionParts.{values}
+use Rattle.py_emission_parts.specs.Accesses.{emission_of_stored}
+use Rattle.py_emission_parts.specs.Children.{decorated, made}
+use Rattle.py_emission_parts.specs.Classes.{class_shape}
+use Rattle.py_emission_parts.specs.Within.{class_path, class_within}
+use Rattle.py_emission_parts.specs.Emitting.{Emission, State, ◌▸◌, by_context, go_on}
+use Rattle.py_emission_parts.specs.EmissionParts.{values}
 use Rattle.py_emission.specs.Emission.{all_emissions}
 use Rattle.py_emit.specs.States.{AreMade, Rest, Same, rest, state}
 use Rattle.py_emit.specs.declared.context.Naming.TheVariants as naming
@@ -21,7 +21,7 @@ use Rattle.py_expr_parts.proofs.Steps.{stays}
 use Rattle.py_stmt.specs.Classes.{class_body, class_emission, class_params, function_emission, own_emission, own_scope, placed}
 use Rattle.py_stmt_parts.specs.Generics.{params_flag}
 use Rattle.py_stmt_simple.specs.Generics.{some_params}
-use Rattle.py_stmt.proofs.Building.{class_is, some_params_placed}
+use Rattle.py_stmt.proofs.ClassCallLemmas.{class_is, some_params_placed}
 use Rattle.py_stmt_parts.proofs.ClassParts.{entered_path}
 use Rattle.py_stmt.proofs.+code.Goals as goal
 

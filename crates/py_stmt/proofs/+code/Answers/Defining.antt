@@ -9,12 +9,12 @@ use Rattle.py_tree.specs.declared.statements.TypeParam.{TypeParam}
 use Rattle.py_scope.specs.declared.table_type.SymbolTableType.TheVariants as kind
 use Rattle.py_emission.specs.Parameters.{function_shape, parameters}
 use Rattle.py_bytecode.specs.Objects as const
-use Rattle.py_steps.specs.Accesses.{emission_of_stored}
-use Rattle.py_steps.specs.Children.{code_head, decorated, documented, emission_of_defaults, enter_parameters, flags_of_defaults}
-use Rattle.py_steps.specs.Within.{function_inside}
-use Rattle.py_steps.specs.Context.{function_path}
-use Rattle.py_steps.specs.Emitting.{Emission, State, ◌▸◌, add_constant, by_level, go_on}
-use Rattle.py_steps.specs.EmissionParts.{values}
+use Rattle.py_emission_parts.specs.Accesses.{emission_of_stored}
+use Rattle.py_emission_parts.specs.Children.{code_head, decorated, documented, emission_of_defaults, enter_parameters, flags_of_defaults}
+use Rattle.py_emission_parts.specs.Within.{function_inside}
+use Rattle.py_emission_parts.specs.Context.{function_path}
+use Rattle.py_emission_parts.specs.Emitting.{Emission, State, ◌▸◌, add_constant, by_level, go_on}
+use Rattle.py_emission_parts.specs.EmissionParts.{values}
 use Rattle.py_emission.specs.Emission.{all_emissions, default_emissions}
 use Rattle.py_emission.specs.Texts.{doc_of}
 use Rattle.py_emission.specs.EmissionDefs.{emission_of_def}
@@ -29,8 +29,8 @@ use Rattle.py_expr_scopes.proofs.Scopes.{left_gives, left_keeps, refused_gives, 
 use Rattle.py_stmt.specs.Functions.{body_emission, body_of, def_emission, inner_emission, plain_emission, scope_emission, value_emission}
 use Rattle.py_stmt_simple.specs.Functions.{made_emission, params_of}
 use Rattle.py_stmt_parts.specs.Generics.{given_flags}
-use Rattle.py_stmt_parts.proofs.Handing.{plain_flags}
-use Rattle.py_stmt.proofs.Handing.{some_generic}
+use Rattle.py_stmt_parts.proofs.DefaultLemmas.{plain_flags}
+use Rattle.py_stmt.proofs.TypeParameterFunctionLemmas.{some_generic}
 use Rattle.py_stmt.proofs.FunctionParts.{none_left, scope_as, statement_at}
 use Rattle.py_stmt.proofs.+code.Goals as goal
 

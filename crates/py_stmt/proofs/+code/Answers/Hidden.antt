@@ -4,10 +4,10 @@ use Rattle.py_tree.specs.View.{arguments, expr_tree}
 use Rattle.py_tree.specs.declared.expressions.ArgumentsOf.{ArgumentsOf}
 use Rattle.py_tree.specs.declared.expressions.Expr.{Expr}
 use Rattle.py_scope.specs.declared.table_type.SymbolTableType.TheVariants as kind
-use Rattle.py_steps.specs.Children.{code_head, made}
-use Rattle.py_steps.specs.Emitting.{Emission, ◌▸◌}
-use Rattle.py_steps.specs.TypeParameters.{hidden_shape}
-use Rattle.py_steps.specs.Within.{hidden_name}
+use Rattle.py_emission_parts.specs.Children.{code_head, made}
+use Rattle.py_emission_parts.specs.Emitting.{Emission, ◌▸◌}
+use Rattle.py_emission_parts.specs.TypeParameters.{hidden_shape}
+use Rattle.py_emission_parts.specs.Within.{hidden_name}
 use Rattle.py_bytecode.specs.View.{object}
 use Rattle.py_emit.specs.States.{Rest, entered, entered_rest, rest, state}
 use Rattle.py_emit.specs.declared.context.Naming.TheVariants as naming
@@ -21,7 +21,7 @@ use Rattle.py_stmt.specs.Functions.{hidden_function, hidden_value}
 use Rattle.py_stmt_simple.specs.Functions.{params_of}
 use Rattle.py_stmt_parts.specs.Generics.{defaults_of, handed_by}
 use Rattle.py_stmt_simple.specs.Generics.{hidden_called, returned}
-use Rattle.py_stmt.proofs.Handing.{generic_is}
+use Rattle.py_stmt.proofs.TypeParameterFunctionLemmas.{generic_is}
 use Rattle.py_stmt.proofs.+code.Goals as goal
 
 -- what is kept on entering, by the name and the count as they are meant

@@ -5,7 +5,7 @@ use Rattle.py_tree.specs.declared.statements.Stmt.{Stmt}
 use Rattle.py_tree.specs.Tree as tree
 use Rattle.py_tree.specs.View.{expr_tree, stmt_tree, stmts}
 use Rattle.py_tree.proofs.View.{tree_For}
-use Rattle.py_steps.specs.Emitting.{Emission, ◌▸◌, begin, located}
+use Rattle.py_emission_parts.specs.Emitting.{Emission, ◌▸◌, begin, located}
 use Rattle.py_emission.specs.Emission.{emission, emission_of_store}
 use Rattle.py_emission.specs.ControlEmissions.{for_each}
 use Rattle.py_emission.specs.EmissionStmts.{emission_of_stmt, emission_of_stmts}
@@ -15,8 +15,8 @@ use Rattle.py_expr_scopes.proofs.KeptExpressions.{apart, begin_opens, block_open
 use Rattle.py_expr_parts.proofs.Steps.{begin_goes, stays}
 use Rattle.py_stmt_simple.specs.Parts.{each_begun}
 use Rattle.py_stmt.specs.Parts.{each_by_parts, each_ended, each_turn}
-use Rattle.py_stmt_simple.proofs.Opening.{each_begun_opens}
-use Rattle.py_stmt.proofs.Opening.{each_ended_opens, each_turn_opens}
+use Rattle.py_stmt_simple.proofs.OpenBlockLemmas.{each_begun_opens}
+use Rattle.py_stmt.proofs.OpenBlockLemmas.{each_ended_opens, each_turn_opens}
 use Rattle.py_stmt.proofs.Parts.{each_parts, three_blocks}
 use Rattle.py_stmt.proofs.+code.Goals as goal
 

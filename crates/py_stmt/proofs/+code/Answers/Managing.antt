@@ -4,14 +4,14 @@ use Rattle.py_base.specs.declared.location.LocatedError.{LocatedError}
 use Rattle.py_tree.specs.View.{stmt_tree, stmts, with_items}
 use Rattle.py_base.specs.declared.errors.CodegenErrorType.{CodegenErrorType}
 use Rattle.py_base.specs.declared.errors.CodegenErrorType.TheVariants as error
-use Rattle.py_steps.specs.Emitting.{Emission}
+use Rattle.py_emission_parts.specs.Emitting.{Emission}
 use Rattle.py_emission.specs.EmissionStmts.{emission_of_items, emission_of_stmts}
 use Rattle.py_emit.specs.States.{state}
 use Rattle.py_emit.proofs.Joined.{goes_as}
 use Rattle.py_expr_parts.proofs.Turns.{if_not, if_so, refused_as}
 use Rattle.py_stmt.specs.Managing.{full_body}
-use Rattle.py_stmt_simple.proofs.Managing.{all_opens}
-use Rattle.py_stmt.proofs.Opening.{full_opens}
+use Rattle.py_stmt_simple.proofs.WithEntryLemmas.{all_opens}
+use Rattle.py_stmt.proofs.OpenBlockLemmas.{full_opens}
 use Rattle.py_stmt_parts.proofs.Steps.{itemless_is, none_stmts}
 use Rattle.py_stmt.proofs.+code.Goals as goal
 

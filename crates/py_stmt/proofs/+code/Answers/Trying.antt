@@ -3,7 +3,7 @@ use Rattle.std.proofs.Common.{◌≡◌, ◌∙◌, Err, ap, arith, rules, sym, 
 use Rattle.std.specs.Prelude.{not}
 use Rattle.py_tree.specs.View.{expr_tree, handlers, opt_box, stmt_tree, stmts}
 use Rattle.py_bytecode.specs.declared.instruction.Instruction.TheVariants as op
-use Rattle.py_steps.specs.Emitting.{Emission, emit, located}
+use Rattle.py_emission_parts.specs.Emitting.{Emission, emit, located}
 use Rattle.py_emission.specs.ControlEmissions.{try_body}
 use Rattle.py_emission.specs.EmissionStmts.{emission_of_handlers, emission_of_last, emission_of_stmts}
 use Rattle.py_emission.specs.Predicates.{none}
@@ -12,7 +12,7 @@ use Rattle.py_emit.proofs.Joined.{first_refuses, goes_as, went}
 use Rattle.py_expr_scopes.proofs.KeptExpressions.{apart, begin_opens, block_opens, jump_opens}
 use Rattle.py_expr_parts.proofs.Steps.{stays}
 use Rattle.py_stmt.specs.Parts.{try_by_parts}
-use Rattle.py_stmt.proofs.Opening.{caught_opens, guarded_opens, handled_opens, handlers_open, match_opens, stmts_open, to_last_opens, unguarded_opens}
+use Rattle.py_stmt.proofs.OpenBlockLemmas.{caught_opens, guarded_opens, handled_opens, handlers_open, match_opens, stmts_open, to_last_opens, unguarded_opens}
 use Rattle.py_stmt.proofs.Parts.{handlers_at, last_some, try_parts}
 use Rattle.py_stmt_parts.proofs.Steps.{none_is}
 use Rattle.py_stmt.proofs.+code.Goals as goal

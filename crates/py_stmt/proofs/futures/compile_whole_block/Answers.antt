@@ -4,7 +4,7 @@ use Rattle.py_tree.specs.declared.statements.Stmt.{Stmt}
 use Rattle.py_emission.specs.EmissionMods.{emission_of_block}
 use Rattle.py_emit.specs.States.{state}
 use Rattle.py_emit.specs.declared.context.EmitContext.{EmitContext}
-use Rattle.py_stmt_parts.proofs.Leading.{flag, flag_is, restored_last, slice_rest}
+use Rattle.py_stmt_parts.proofs.FutureImportLemmas.{flag, flag_is, restored_last, slice_rest}
 use Rattle.py_stmt.proofs.futures.compile_whole_block.Goals as goal
 
 pub returns : goal.returns

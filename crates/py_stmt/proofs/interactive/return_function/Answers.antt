@@ -1,8 +1,8 @@
 use Rattle.std.proofs.Common.{rules, ◌≡◌, Err, sym, ap, ◌∙◌, arith}
 use Rattle.py_tree.specs.View.{expr_tree, exprs}
-use Rattle.py_steps.specs.Children.{decorated}
-use Rattle.py_steps.specs.Emitting.{◌▸◌, go_on}
-use Rattle.py_steps.specs.EmissionParts.{values}
+use Rattle.py_emission_parts.specs.Children.{decorated}
+use Rattle.py_emission_parts.specs.Emitting.{◌▸◌, go_on}
+use Rattle.py_emission_parts.specs.EmissionParts.{values}
 use Rattle.py_emission.specs.Emission.{all_emissions}
 use Rattle.py_emission.specs.EmissionMods.{stored_and_returned}
 use Rattle.py_emit.specs.States.{state}

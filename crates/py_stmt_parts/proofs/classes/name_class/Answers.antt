@@ -1,6 +1,6 @@
 use Rattle.std.proofs.Common.{rules, ◌≡◌, Err, ◌∙◌, arith}
 use Rattle.std.specs.Prelude.{codes}
-use Rattle.py_steps.specs.Within.{doc_const}
+use Rattle.py_emission_parts.specs.Within.{doc_const}
 use Rattle.py_emit.specs.States.{state}
 use Rattle.py_emit.proofs.Joined.{first_refuses, goes_as, went}
 use Rattle.py_stmt_parts.specs.Classes.{stored_as}

@@ -1,7 +1,7 @@
 use Rattle.std.proofs.Common.{◌≡◌, drop}
 use Rattle.py_tree.specs.View.{expr_tree, exprs}
-use Rattle.py_steps.specs.Children.{decorations}
-use Rattle.py_steps.specs.EmissionParts.{values}
+use Rattle.py_emission_parts.specs.Children.{decorations}
+use Rattle.py_emission_parts.specs.EmissionParts.{values}
 use Rattle.py_emission.specs.Emission.{all_emissions}
 use Rattle.py_emit.specs.States.{rest, state}
 use Rattle.py_stmt_parts.proofs.functions.call_decorators.Given as goal

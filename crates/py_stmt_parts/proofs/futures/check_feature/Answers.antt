@@ -1,7 +1,7 @@
 use Rattle.std.specs.Prelude.{if◌then◌else◌}
 use Rattle.std.proofs.Common.{rules, ◌≡◌, false, [], ◌∙◌, ap, sym}
 use Rattle.py_base.specs.declared.errors.CodegenErrorType.TheVariants as error
-use Rattle.py_steps.specs.Emitting.{refuse}
+use Rattle.py_emission_parts.specs.Emitting.{refuse}
 use Rattle.py_emission.specs.EmissionFutures.{check_features}
 use Rattle.py_emission.specs.Futures.{is_feature}
 use Rattle.py_emit.specs.States.{state}

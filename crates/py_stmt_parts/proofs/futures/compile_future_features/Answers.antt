@@ -1,6 +1,6 @@
 use Rattle.std.proofs.Common.{◌∙◌}
 use Rattle.py_emit.specs.States.{state}
-use Rattle.py_stmt_parts.proofs.Leading.{features_at}
+use Rattle.py_stmt_parts.proofs.FutureImportLemmas.{features_at}
 use Rattle.py_stmt_parts.proofs.futures.compile_future_features.Goals as goal
 
 pub loop-alias-preserved : goal.loop-alias-preserved

@@ -1,7 +1,7 @@
 use Rattle.std.proofs.Common.{◌≡◌, Err, arith}
 use Rattle.py_emit.specs.States.{rest, state}
 use Rattle.py_stmt_parts.specs.Futures.{future}
-use Rattle.py_stmt_parts.proofs.Leading.{flag_as, leads_entered, leads_refused}
+use Rattle.py_stmt_parts.proofs.FutureImportLemmas.{flag_as, leads_entered, leads_refused}
 use Rattle.py_stmt_parts.proofs.futures.compile_futures.Goals as goal
 
 pub loop-s-preserved : goal.loop-s-preserved

@@ -1,9 +1,9 @@
 use Rattle.std.proofs.Common.{◌∙◌, sym}
-use Rattle.py_uses.specs.Parts.{names_annotations}
+use Rattle.py_name_uses.specs.Parts.{names_annotations}
 use Rattle.py_emission.specs.EmissionFutures.{emission_of_future}
 use Rattle.py_emit.specs.States.{state}
 use Rattle.py_stmt_parts.specs.Futures.{future}
-use Rattle.py_stmt_parts.proofs.Leading.{entered_on, entered_postponed, flag_kept}
+use Rattle.py_stmt_parts.proofs.FutureImportLemmas.{entered_on, entered_postponed, flag_kept}
 use Rattle.py_stmt_parts.proofs.futures.enter_future.Goals as goal
 
 pub returns-then-branch-clause-entered : goal.returns-then-branch-clause-entered

@@ -1,6 +1,6 @@
 use Rattle.std.proofs.Common.{rules, ap, sym, ◌∙◌}
 use Rattle.py_bytecode.specs.View.{object}
-use Rattle.py_steps.specs.Children.{made}
+use Rattle.py_emission_parts.specs.Children.{made}
 use Rattle.py_emit.specs.States.{state}
 use Rattle.py_emit.specs.declared.emitter.Emitter.{Emitter}
 use Rattle.py_emit.proofs.Joined.{goes_as}

@@ -1,5 +1,5 @@
 use Rattle.std.proofs.Common.{sym}
-use Rattle.py_stmt_parts.proofs.Handing.{flag_there}
+use Rattle.py_stmt_parts.proofs.DefaultLemmas.{flag_there}
 use Rattle.py_stmt_parts.proofs.generics.params_flag.Goals as goal
 
 pub returns-in-len1-up : goal.returns-in-len1-up

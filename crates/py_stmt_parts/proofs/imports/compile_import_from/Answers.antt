@@ -3,7 +3,7 @@ use Rattle.std.proofs.Common.{rules, ◌≡◌, true, ◌∙◌, ap, sym}
 use Rattle.py_base.specs.declared.location.LocatedError.{LocatedError}
 use Rattle.py_base.specs.declared.errors.CodegenErrorType.{CodegenErrorType}
 use Rattle.py_base.specs.declared.errors.CodegenErrorType.TheVariants as error
-use Rattle.py_steps.specs.Emitting.{refuse}
+use Rattle.py_emission_parts.specs.Emitting.{refuse}
 use Rattle.py_emission.specs.EmissionImports.{emission_of_from}
 use Rattle.py_emission.specs.Imports.{from_future}
 use Rattle.py_emit.specs.States.{state}

@@ -4,8 +4,8 @@ use Rattle.py_base.specs.declared.location.LocatedError.{LocatedError}
 use Rattle.py_bytecode.specs.declared.instruction.Instruction.TheVariants as op
 use Rattle.py_base.specs.declared.errors.CodegenErrorType.{CodegenErrorType}
 use Rattle.py_base.specs.declared.errors.CodegenErrorType.TheVariants as error
-use Rattle.py_steps.specs.Context.{is_function}
-use Rattle.py_steps.specs.Emitting.{◌▸◌, by_context, emit, refuse}
+use Rattle.py_emission_parts.specs.Context.{is_function}
+use Rattle.py_emission_parts.specs.Emitting.{◌▸◌, by_context, emit, refuse}
 use Rattle.py_emission.specs.EmissionImports.{emission_of_module}
 use Rattle.py_emission.specs.Imports.{asked_all}
 use Rattle.py_emit.specs.States.{state}

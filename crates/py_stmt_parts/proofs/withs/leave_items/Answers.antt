@@ -1,9 +1,9 @@
 use Rattle.std.proofs.Common.{rules, ◌≡◌, ◌∙◌, Err, ap, subst, arith}
-use Rattle.py_steps.specs.Emitting.{Emission}
+use Rattle.py_emission_parts.specs.Emitting.{Emission}
 use Rattle.py_emit.specs.States.{state}
 use Rattle.py_emit.proofs.Joined.{first_refuses, went}
 use Rattle.py_stmt_parts.specs.Managing.{AllOpen, left_all}
-use Rattle.py_stmt_parts.proofs.Managing.{last_open, left_push, others_open}
+use Rattle.py_stmt_parts.proofs.WithItemLemmas.{last_open, left_push, others_open}
 use Rattle.py_stmt_parts.proofs.withs.leave_items.Goals as goal
 
 pub leave_item-requires-clause-open : goal.leave_item-requires-clause-open

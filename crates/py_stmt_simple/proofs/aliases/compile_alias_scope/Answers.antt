@@ -1,7 +1,7 @@
 use Rattle.std.proofs.Common.{◌≡◌, Err, refl, arith}
 use Rattle.py_tree.specs.View.{expr_tree, type_params}
 use Rattle.py_scope.specs.declared.table_type.SymbolTableType.TheVariants as kind
-use Rattle.py_steps.specs.TypeParameters.{generic_alias, hidden_shape}
+use Rattle.py_emission_parts.specs.TypeParameters.{generic_alias, hidden_shape}
 use Rattle.py_emission.specs.Emission.{emission}
 use Rattle.py_emission.specs.EmissionDefs.{emission_of_params}
 use Rattle.py_emit.specs.declared.context.Naming.TheVariants as naming

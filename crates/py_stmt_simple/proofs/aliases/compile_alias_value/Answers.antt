@@ -1,9 +1,9 @@
 use Rattle.std.proofs.Common.{rules, ap}
 use Rattle.py_tree.specs.View.{expr_tree}
-use Rattle.py_steps.specs.Emitting.{Emission}
+use Rattle.py_emission_parts.specs.Emitting.{Emission}
 use Rattle.py_emit.specs.States.{state}
 use Rattle.py_emit.proofs.Joined.{goes_as}
-use Rattle.py_stmt_simple.proofs.Handing.{alias_there}
+use Rattle.py_stmt_simple.proofs.TypeParameterLemmas.{alias_there}
 use Rattle.py_stmt_simple.proofs.aliases.compile_alias_value.Goals as goal
 
 pub returns-in-len1-up : goal.returns-in-len1-up

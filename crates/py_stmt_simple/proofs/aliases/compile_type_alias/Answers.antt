@@ -2,7 +2,7 @@ use Rattle.std.proofs.Common.{rules, List, sym, ap, ◌∙◌}
 use Rattle.py_tree.specs.View.{expr_tree, type_params}
 use Rattle.py_tree.specs.declared.expressions.Expr.{Expr}
 use Rattle.py_tree.specs.declared.statements.TypeParam.{TypeParam}
-use Rattle.py_steps.specs.Emitting.{Emission}
+use Rattle.py_emission_parts.specs.Emitting.{Emission}
 use Rattle.py_emission.specs.EmissionDefs.{emission_of_alias}
 use Rattle.py_emit.specs.States.{state}
 use Rattle.py_emit.proofs.Joined.{goes_as, went}

@@ -1,6 +1,6 @@
 use Rattle.std.proofs.Common.{rules, ◌≡◌, Err, refl, arith}
-use Rattle.py_steps.specs.Children.{made}
-use Rattle.py_steps.specs.Within.{hidden_name}
+use Rattle.py_emission_parts.specs.Children.{made}
+use Rattle.py_emission_parts.specs.Within.{hidden_name}
 use Rattle.py_emit.proofs.Joined.{goes_as, refuses_as}
 use Rattle.py_stmt_simple.proofs.aliases.make_generic.Goals as goal
 

@@ -1,7 +1,7 @@
 use Rattle.std.proofs.Common.{rules, ◌≡◌, ap, ◌∙◌, sym}
 use Rattle.py_tree.specs.View.{expr_tree, opt_box}
-use Rattle.py_counts.specs.Counts.{scopes_in}
-use Rattle.py_steps.specs.EmissionParts.{pass_scopes}
+use Rattle.py_scope_counts.specs.Counts.{scopes_in}
+use Rattle.py_emission_parts.specs.EmissionParts.{pass_scopes}
 use Rattle.py_emission.specs.EmissionStmts.{emission_of_declared}
 use Rattle.py_emit.specs.States.{state}
 use Rattle.py_emit.proofs.Joined.{goes_as}

@@ -1,9 +1,9 @@
 use Rattle.std.proofs.Common.{rules, ◌≡◌, ◌∙◌, Err, refl, ap, sym, arith}
-use Rattle.py_steps.specs.Emitting.{Emission}
+use Rattle.py_emission_parts.specs.Emitting.{Emission}
 use Rattle.py_emit.specs.States.{state}
 use Rattle.py_emit.proofs.Joined.{first_refuses, same_error, went}
 use Rattle.py_expr_parts.proofs.Turns.{refused_shape}
-use Rattle.py_stmt_simple.proofs.Assigning.{assign_at, assign_none, assign_some}
+use Rattle.py_stmt_simple.proofs.AssignmentTargetLemmas.{assign_at, assign_none, assign_some}
 use Rattle.py_stmt_simple.proofs.assignments.compile_targets.Goals as goal
 
 pub returns-then-is_empty : goal.returns-then-is_empty

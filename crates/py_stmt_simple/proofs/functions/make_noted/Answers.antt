@@ -5,11 +5,11 @@ use Rattle.py_tree.specs.View.{arguments, expr_tree, opt_box}
 use Rattle.py_tree.specs.declared.expressions.ArgumentsOf.{ArgumentsOf}
 use Rattle.py_tree.specs.declared.expressions.Expr.{Expr}
 use Rattle.py_emission.specs.EmissionDefs.{notes}
-use Rattle.py_steps.specs.EmissionParts.{built}
-use Rattle.py_steps.specs.Children.{made, some_emitted}
-use Rattle.py_steps.specs.Within.{some_flag}
-use Rattle.py_steps.specs.Context.{qualified}
-use Rattle.py_steps.specs.Emitting.{Emission, by_context, go_on}
+use Rattle.py_emission_parts.specs.EmissionParts.{built}
+use Rattle.py_emission_parts.specs.Children.{made, some_emitted}
+use Rattle.py_emission_parts.specs.Within.{some_flag}
+use Rattle.py_emission_parts.specs.Context.{qualified}
+use Rattle.py_emission_parts.specs.Emitting.{Emission, by_context, go_on}
 use Rattle.py_emit.specs.States.{state}
 use Rattle.py_emit.proofs.Joined.{goes_as, went}
 use Rattle.py_stmt_simple.specs.Functions.{notes_of}

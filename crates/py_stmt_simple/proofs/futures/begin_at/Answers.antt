@@ -3,8 +3,8 @@ use Rattle.std.proofs.lemmas.List.{get_or_default}
 use Rattle.std.proofs.lemmas.Option.{IfSome_then}
 use Rattle.py_tree.specs.declared.statements.Stmt.{Stmt}
 use Rattle.py_stmt_simple.specs.Futures.{Begins}
-use Rattle.py_stmt_parts.proofs.Leading.{none_then}
-use Rattle.py_stmt_simple.proofs.Prompting.{begins_nothing, room}
+use Rattle.py_stmt_parts.proofs.FutureImportLemmas.{none_then}
+use Rattle.py_stmt_simple.proofs.PromptLemmas.{begins_nothing, room}
 use Rattle.py_stmt_simple.proofs.futures.begin_at.Goals as goal
 
 pub returns-clause-none : goal.returns-clause-none

@@ -1,7 +1,7 @@
 use Rattle.std.proofs.Common.{◌≡◌, Err, arith}
 use Rattle.py_emit.specs.States.{rest, state}
-use Rattle.py_stmt_parts.proofs.Leading.{flag_as}
-use Rattle.py_stmt_simple.proofs.Prompting.{prompt_entered, prompt_refused}
+use Rattle.py_stmt_parts.proofs.FutureImportLemmas.{flag_as}
+use Rattle.py_stmt_simple.proofs.PromptLemmas.{prompt_entered, prompt_refused}
 use Rattle.py_stmt_simple.proofs.futures.compile_openings.Goals as goal
 
 pub loop-begin-preserved : goal.loop-begin-preserved

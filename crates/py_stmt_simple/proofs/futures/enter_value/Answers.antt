@@ -3,9 +3,9 @@ use Rattle.py_tree.specs.View.{expr_tree}
 use Rattle.py_tree.specs.declared.expressions.Expr.{Expr}
 use Rattle.py_bytecode.specs.declared.instruction.Instruction.TheVariants as op
 use Rattle.py_emission.specs.Emission.{emission}
-use Rattle.py_steps.specs.Emitting.{◌▸◌, emit}
+use Rattle.py_emission_parts.specs.Emitting.{◌▸◌, emit}
 use Rattle.py_emit.specs.States.{state}
-use Rattle.py_stmt_parts.proofs.Leading.{entered_on, flag_kept}
+use Rattle.py_stmt_parts.proofs.FutureImportLemmas.{entered_on, flag_kept}
 use Rattle.py_stmt_simple.proofs.futures.enter_value.Goals as goal
 
 pub returns-clause-entered : goal.returns-clause-entered

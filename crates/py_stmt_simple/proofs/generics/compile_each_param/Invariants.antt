@@ -1,6 +1,6 @@
 use Rattle.std.proofs.Common.{◌≡◌, drop}
 use Rattle.py_tree.specs.View.{type_params}
-use Rattle.py_steps.specs.EmissionParts.{in_turn}
+use Rattle.py_emission_parts.specs.EmissionParts.{in_turn}
 use Rattle.py_emission.specs.EmissionDefs.{param_emissions}
 use Rattle.py_emit.specs.States.{rest, state}
 use Rattle.py_stmt_simple.proofs.generics.compile_each_param.Given as goal

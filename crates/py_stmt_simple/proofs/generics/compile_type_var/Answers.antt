@@ -4,7 +4,7 @@ use Rattle.std.specs.declared.boxed.Box.{Box}
 use Rattle.py_tree.specs.Tree as tree
 use Rattle.py_tree.specs.declared.expressions.Expr.{Expr}
 use Rattle.py_tree.specs.View.{expr_tree, opt_box}
-use Rattle.py_steps.specs.TypeParameters.{bounded}
+use Rattle.py_emission_parts.specs.TypeParameters.{bounded}
 use Rattle.py_emission.specs.Emission.{emission}
 use Rattle.py_emission.specs.EmissionDefs.{emission_of_param}
 use Rattle.py_emit.specs.States.{state}

@@ -1,11 +1,11 @@
 use Rattle.std.proofs.Common.{rules, ◌≡◌, ◌+◌, Err, ap, ◌∙◌, drop, arith, length, sym}
 use Rattle.py_tree.specs.View.{args, expr_tree, opt_box}
-use Rattle.py_steps.specs.Emitting.{Emission, ◌▸◌}
-use Rattle.py_steps.specs.EmissionParts.{in_turn}
+use Rattle.py_emission_parts.specs.Emitting.{Emission, ◌▸◌}
+use Rattle.py_emission_parts.specs.EmissionParts.{in_turn}
 use Rattle.py_emission.specs.EmissionDefs.{arg_notes, opt_note}
 use Rattle.py_emit.specs.States.{state}
 use Rattle.py_emit.proofs.Joined.{first_refuses, went}
-use Rattle.py_stmt_simple.proofs.Annotating.{note_count, note_turn}
+use Rattle.py_stmt_simple.proofs.AnnotationLemmas.{note_count, note_turn}
 use Rattle.py_stmt_simple.proofs.notes.compile_arg_notes.Goals as goal
 
 pub returns-in_err-sum-clause-emits : goal.returns-in_err-sum-clause-emits

@@ -1,6 +1,6 @@
 use Rattle.std.proofs.Common.{◌≡◌, ◌+◌, ◌≤◌, drop, length}
 use Rattle.py_tree.specs.View.{args, expr_tree}
-use Rattle.py_steps.specs.EmissionParts.{in_turn}
+use Rattle.py_emission_parts.specs.EmissionParts.{in_turn}
 use Rattle.py_emission.specs.EmissionDefs.{arg_notes}
 use Rattle.py_emit.specs.States.{rest, state}
 use Rattle.py_stmt_simple.proofs.notes.compile_arg_notes.Given as goal

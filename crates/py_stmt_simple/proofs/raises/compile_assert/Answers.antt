@@ -1,9 +1,9 @@
 use Rattle.std.specs.Prelude.{nat_eq}
 use Rattle.std.proofs.Common.{◌≡◌, ◌≢◌, ◌+◌, false, ◌∙◌, ap, rules}
-use Rattle.py_counts.specs.Counts.{scopes_in, scopes_in_opt}
+use Rattle.py_scope_counts.specs.Counts.{scopes_in, scopes_in_opt}
 use Rattle.py_tree.specs.View.{expr_tree, opt_box}
-use Rattle.py_steps.specs.Emitting.{Emission}
-use Rattle.py_steps.specs.EmissionParts.{pass_scopes}
+use Rattle.py_emission_parts.specs.Emitting.{Emission}
+use Rattle.py_emission_parts.specs.EmissionParts.{pass_scopes}
 use Rattle.py_emission.specs.Emission.{emission_of_test}
 use Rattle.py_emission.specs.ControlEmissions.{asserted}
 use Rattle.py_emission.specs.EmissionStmts.{emission_of_message}

@@ -3,7 +3,7 @@ use Rattle.std.proofs.Common.{true}
 use Rattle.py_tree.specs.View.{expr_tree, opt_box}
 use Rattle.py_bytecode.specs.declared.instruction.Instruction.TheVariants as op
 use Rattle.py_expr_scopes.proofs.KeptExpressions.{emit_opens, test_opens}
-use Rattle.py_stmt_simple.proofs.Opening.{count_opens, message_opens, name_opens}
+use Rattle.py_stmt_simple.proofs.OpenBlockLemmas.{count_opens, message_opens, name_opens}
 use Rattle.py_stmt_simple.proofs.raises.compile_asserted.Goals as goal
 
 pub switch_to_block-requires : goal.switch_to_block-requires

@@ -1,7 +1,7 @@
 use Rattle.py_tree.specs.View.{expr_tree, opt_box}
 use Rattle.py_bytecode.specs.declared.instruction.Instruction.TheVariants as op
 use Rattle.py_expr_scopes.proofs.KeptExpressions.{expr_opens, jump_opens, moved_opens}
-use Rattle.py_stmt_simple.proofs.Opening.{item_opens}
+use Rattle.py_stmt_simple.proofs.OpenBlockLemmas.{item_opens}
 use Rattle.py_stmt_simple.proofs.withs.enter_item.Goals as goal
 
 pub returns-2-clause-open : goal.returns-2-clause-open

@@ -1,13 +1,13 @@
 use Rattle.std.proofs.Common.{◌≡◌, ◌+◌, ◌∙◌, [], ◌∷◌, ◌++◌, Err, ap, drop, subst, sym, arith}
 use Rattle.std.specs.Prelude.{IfErr}
 use Rattle.py_tree.specs.View.{expr_tree, opt_box, with_items}
-use Rattle.py_steps.specs.Emitting.{Refused, ◌▸◌}
+use Rattle.py_emission_parts.specs.Emitting.{Refused, ◌▸◌}
 use Rattle.py_emission.specs.EmissionStmts.{emission_of_items}
 use Rattle.py_emit.specs.States.{rest, state}
 use Rattle.py_stmt_parts.specs.Managing.{AllOpen, left_all}
 use Rattle.py_stmt_simple.specs.Managing.{IsRefusing}
-use Rattle.py_stmt_simple.proofs.Managing.{entered_more, entered_refused, items_at, opens_push}
-use Rattle.py_stmt_simple.proofs.Opening.{items_entered}
+use Rattle.py_stmt_simple.proofs.WithEntryLemmas.{entered_more, entered_refused, items_at, opens_push}
+use Rattle.py_stmt_simple.proofs.OpenBlockLemmas.{items_entered}
 use Rattle.py_stmt_simple.proofs.withs.enter_items.Goals as goal
 
 pub returns-in_err-end-clause-refused : goal.returns-in_err-end-clause-refused

@@ -1,6 +1,6 @@
 use Rattle.std.proofs.Common.{◌≡◌, drop}
 use Rattle.py_tree.specs.View.{with_items}
-use Rattle.py_steps.specs.Emitting.{Emission, ◌▸◌}
+use Rattle.py_emission_parts.specs.Emitting.{Emission, ◌▸◌}
 use Rattle.py_emission.specs.EmissionStmts.{emission_of_items}
 use Rattle.py_emit.specs.States.{rest, state}
 use Rattle.py_stmt_parts.specs.Managing.{AllOpen, left_all}

@@ -1,9 +1,9 @@
 use Rattle.std.proofs.Common.{refl, ◌∙◌, subst}
 use Rattle.py_bytecode.specs.View.{object}
-use Rattle.py_walks.specs.Known.{Moves}
-use Rattle.py_walks.specs.Shown.{Grows}
+use Rattle.py_dataflow.specs.Known.{Moves}
+use Rattle.py_dataflow.specs.Shown.{Grows}
 use Rattle.py_verify.specs.declared.walk.Progress.{Progress}
-use Rattle.py_verify.proofs.Settling.{working_after}
+use Rattle.py_verify.proofs.SettledUnitLemmas.{working_after}
 use Rattle.py_verify.proofs.walk.advance.Goals as goal
 
 pub loop-unit-preserved : goal.loop-unit-preserved

@@ -1,11 +1,11 @@
 use Rattle.std.proofs.Common.{◌<◌, ◌^◌, refl, sym, ◌∙◌, subst, arith}
 use Rattle.py_bytecode.specs.Objects.{head}
 use Rattle.py_bytecode.specs.View.{object}
-use Rattle.py_units.specs.Reading.{read_of}
-use Rattle.py_walks.specs.Known.{state_of}
+use Rattle.py_decode.specs.Reading.{read_of}
+use Rattle.py_dataflow.specs.Known.{state_of}
 use Rattle.py_verify.specs.Stepping.{HaltsAt}
 use Rattle.py_verify.proofs.Objects.{depth_is}
-use Rattle.py_verify.proofs.Exiting.{operand_outside, exits, fails}
+use Rattle.py_verify.proofs.SuccessorLemmas.{operand_outside, exits, fails}
 use Rattle.py_verify.proofs.walk.exits_of.Goals as goal
 
 pub returns-then-not-operand_fits-clause-halts : goal.returns-then-not-operand_fits-clause-halts

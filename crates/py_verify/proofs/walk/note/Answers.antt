@@ -1,7 +1,7 @@
 use Rattle.std.proofs.Common.{◌≡◌, [], ◌∷◌, sym, inl, inr, ◌∙◌, subst}
-use Rattle.py_walks.specs.declared.known.Change.{Change}
+use Rattle.py_dataflow.specs.declared.known.Change.{Change}
 use Rattle.py_verify.specs.Stepping.{IsListed}
-use Rattle.py_verify.proofs.Listing.{listed_left, listed_last}
+use Rattle.py_verify.proofs.WorklistLemmas.{listed_left, listed_last}
 use Rattle.py_verify.proofs.walk.note.Goals as goal
 
 pub returns-in-Ok : goal.returns-in-Ok

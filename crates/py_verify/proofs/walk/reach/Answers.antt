@@ -3,14 +3,14 @@ use Rattle.std.specs.Vec.{with_items}
 use Rattle.std.proofs.lemmas.List.{with_items_is}
 use Rattle.py_bytecode.specs.Objects.{head}
 use Rattle.py_bytecode.specs.View.{object}
-use Rattle.py_walks.specs.declared.known.Refused.{Refused}
-use Rattle.py_walks.specs.Known.{state_at, state_of, Arrives, Moves, IsUneven, Unfit}
-use Rattle.py_walks.specs.Shown.{Covered}
+use Rattle.py_dataflow.specs.declared.known.Refused.{Refused}
+use Rattle.py_dataflow.specs.Known.{state_at, state_of, Arrives, Moves, IsUneven, Unfit}
+use Rattle.py_dataflow.specs.Shown.{Covered}
 use Rattle.py_verify.specs.declared.walk.Progress.{Progress}
 use Rattle.py_verify.specs.Stepping.{HaltsAt}
 use Rattle.py_verify.proofs.Objects.{depth_is}
 use Rattle.py_verify.proofs.Comings.{leads_outside, comes_high}
-use Rattle.py_verify.proofs.Settling.{steps_to, arrives_known, arrives_noted, arrives_grown, arrives_covered, arrival_halts}
+use Rattle.py_verify.proofs.SettledUnitLemmas.{steps_to, arrives_known, arrives_noted, arrives_grown, arrives_covered, arrival_halts}
 use Rattle.py_verify.proofs.walk.reach.Goals as goal
 
 pub returns-then-not-begins_in-clause-halts : goal.returns-then-not-begins_in-clause-halts

@@ -1,7 +1,7 @@
 use Rattle.std.proofs.Common.{◌≡◌}
 use Rattle.py_bytecode.specs.View.{object}
-use Rattle.py_walks.specs.Known.{missing, unknown}
-use Rattle.py_walks.specs.Shown.{Grows}
+use Rattle.py_dataflow.specs.Known.{missing, unknown}
+use Rattle.py_dataflow.specs.Shown.{Grows}
 use Rattle.py_verify.specs.Stepping.{IsWorking}
 use Rattle.py_verify.proofs.walk.spread.Given as goal
 

@@ -1,5 +1,5 @@
 use Rattle.py_bytecode.specs.View.{object}
-use Rattle.py_verify.proofs.Settling.{settled_all}
+use Rattle.py_verify.proofs.SettledUnitLemmas.{settled_all}
 use Rattle.py_verify.proofs.walk.spread_all.Goals as goal
 
 pub returns-then-not-branch-clause-settled : goal.returns-then-not-branch-clause-settled

@@ -1,6 +1,6 @@
 use Rattle.py_bytecode.specs.View.{object}
-use Rattle.py_walks.specs.Known.{unknown}
-use Rattle.py_walks.specs.Shown.{Grows}
+use Rattle.py_dataflow.specs.Known.{unknown}
+use Rattle.py_dataflow.specs.Shown.{Grows}
 use Rattle.py_verify.specs.Stepping.{IsWorking}
 use Rattle.py_verify.proofs.walk.spread_all.Given as goal
 

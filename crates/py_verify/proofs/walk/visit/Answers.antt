@@ -1,9 +1,9 @@
 use Rattle.std.proofs.Common.{◌≡◌, Some, refl, subst}
 use Rattle.py_bytecode.specs.View.{object}
-use Rattle.py_walks.specs.Known.{state_at, state_of, combined}
+use Rattle.py_dataflow.specs.Known.{state_at, state_of, combined}
 use Rattle.py_verify.specs.Stepping.{Steps}
-use Rattle.py_verify.proofs.Exiting.{falls_come, jumps_come}
-use Rattle.py_verify.proofs.Settling.{steps_combine, settled_here}
+use Rattle.py_verify.proofs.SuccessorLemmas.{falls_come, jumps_come}
+use Rattle.py_verify.proofs.SettledUnitLemmas.{steps_combine, settled_here}
 use Rattle.py_verify.proofs.walk.visit.Goals as goal
 
 pub reach_if-requires-clause-comes : goal.reach_if-requires-clause-comes

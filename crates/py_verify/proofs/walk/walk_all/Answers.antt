@@ -1,10 +1,10 @@
 use Rattle.std.proofs.Common.{[], refl, subst}
 use Rattle.py_bytecode.specs.View.{object}
-use Rattle.py_walks.specs.Walks.{State, state}
-use Rattle.py_walks.specs.Known.{state_at, state_of}
-use Rattle.py_walks.specs.Shown.{Covered}
+use Rattle.py_dataflow.specs.Walks.{State, state}
+use Rattle.py_dataflow.specs.Known.{state_at, state_of}
+use Rattle.py_dataflow.specs.Shown.{Covered}
 use Rattle.py_verify.specs.Stepping.{Begins}
-use Rattle.py_verify.proofs.Sounding.{settled_sound}
+use Rattle.py_verify.proofs.SoundnessLemmas.{settled_sound}
 use Rattle.py_verify.proofs.walk.walk_all.Goals as goal
 
 pub reach-requires-clause-comes : goal.reach-requires-clause-comes

@@ -1,5 +1,5 @@
 use Rattle.std.proofs.Common.{◌∙◌, sym}
-use Rattle.pyc_c.proofs.Handing.{made, no_words}
+use Rattle.pyc_c.proofs.RunWordLemmas.{made, no_words}
 use Rattle.pyc_c.proofs.words.words_of.Goals as goal
 
 pub returns-in-Ok : goal.returns-in-Ok

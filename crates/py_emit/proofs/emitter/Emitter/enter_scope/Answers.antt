@@ -2,11 +2,11 @@ use Rattle.std.proofs.Common.{◌≡◌, suc, Some, sym, subst, arith}
 use Rattle.std.specs.Prelude.{OnOk}
 use Rattle.py_scope.specs.Flat.{typ_at}
 use Rattle.py_scope.specs.declared.table_type.SymbolTableType.{SymbolTableType}
-use Rattle.py_steps.specs.Children.{code_head}
-use Rattle.py_steps.specs.Context.{inside}
-use Rattle.py_steps.specs.Emitting.{begun}
+use Rattle.py_emission_parts.specs.Children.{code_head}
+use Rattle.py_emission_parts.specs.Context.{inside}
+use Rattle.py_emission_parts.specs.Emitting.{begun}
 use Rattle.py_emit.specs.States.{entered_rest, rest, shape_of, state}
-use Rattle.py_emit.proofs.Dropping.{typ_is}
+use Rattle.py_emit.proofs.TableDropLemmas.{typ_is}
 use Rattle.py_emit.proofs.emitter.Emitter.enter_scope.Goals as goal
 
 pub typ-typ-requires : goal.typ-typ-requires

@@ -1,6 +1,6 @@
 use Rattle.std.proofs.Common.{◌≢◌, ◌<◌, List, [], ◌∷◌, ◌++◌, length, refl, sym, ap, ◌∙◌, arith}
 use Rattle.std.specs.Option.{option_to_list}
-use Rattle.py_steps.specs.Sealed.{sealed}
+use Rattle.py_emission_parts.specs.Sealed.{sealed}
 use Rattle.py_emit.specs.States.{head_of, left_rest, rest, source_of, state_of}
 use Rattle.py_emit.specs.declared.scopes.OpenScope.{OpenScope}
 use Rattle.py_emit.proofs.Sealed.{scope_sealed}

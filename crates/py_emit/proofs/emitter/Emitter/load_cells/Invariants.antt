@@ -1,6 +1,6 @@
 use Rattle.std.proofs.Common.{◌≡◌, drop}
-use Rattle.py_steps.specs.Children.{cell_loads}
-use Rattle.py_steps.specs.EmissionParts.{in_turn}
+use Rattle.py_emission_parts.specs.Children.{cell_loads}
+use Rattle.py_emission_parts.specs.EmissionParts.{in_turn}
 use Rattle.py_emit.specs.States.{rest, state}
 use Rattle.py_emit.proofs.emitter.Emitter.load_cells.Given as goal
 

@@ -3,7 +3,7 @@ use Rattle.py_ir.specs.BlockList.{BlockList}
 use Rattle.py_ir.specs.Chain.{plain}
 use Rattle.py_emit.specs.States.{state}
 use Rattle.py_emit.specs.Steps.{IsOpen, steps_in}
-use Rattle.py_emit.proofs.Holding.{new_long, new_open, new_steps}
+use Rattle.py_emit.proofs.BlockStepLemmas.{new_long, new_open, new_steps}
 use Rattle.py_emit.proofs.States.{blocked}
 use Rattle.py_emit.proofs.emitter.Emitter.new_block.Goals as goal
 

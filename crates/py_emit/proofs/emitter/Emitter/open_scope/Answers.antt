@@ -1,5 +1,5 @@
 use Rattle.std.proofs.Common.{◌≡◌, suc, [], ◌∷◌, ◌++◌, ap, ◌∙◌, arith}
-use Rattle.py_steps.specs.Emitting.{begun}
+use Rattle.py_emission_parts.specs.Emitting.{begun}
 use Rattle.py_emit.specs.States.{entered, head_of, rest, shape_of, source_of, state, state_of}
 use Rattle.py_emit.specs.declared.scopes.OpenScope.{OpenScope}
 use Rattle.py_emit.proofs.Within.{head_within}

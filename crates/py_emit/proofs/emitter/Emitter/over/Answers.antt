@@ -1,8 +1,8 @@
 use Rattle.std.proofs.Common.{◌≡◌, [], false, None, refl, ap, ◌∙◌, rules}
 use Rattle.py_scope.specs.declared.table_type.SymbolTableType.TheVariants as kind
-use Rattle.py_steps.specs.Context.{outermost}
-use Rattle.py_steps.specs.Emitting.{begun}
-use Rattle.py_steps.specs.Sealed.{Head}
+use Rattle.py_emission_parts.specs.Context.{outermost}
+use Rattle.py_emission_parts.specs.Emitting.{begun}
+use Rattle.py_emission_parts.specs.Sealed.{Head}
 use Rattle.py_emit.specs.States.{Source, no_context, rest}
 use Rattle.py_emit.specs.declared.scopes.OpenScope.{OpenScope}
 use Rattle.py_emit.proofs.States.{begun_state}

@@ -1,5 +1,5 @@
 use Rattle.std.proofs.Common.{◌∙◌, List, ℕ, ap, sym}
-use Rattle.py_steps.specs.Emitting.{State}
+use Rattle.py_emission_parts.specs.Emitting.{State}
 use Rattle.py_emit.specs.Around.{on_path}
 use Rattle.py_emit.specs.States.{state}
 use Rattle.py_emit.proofs.emitter.Emitter.pop_path.Goals as goal

@@ -3,7 +3,7 @@ use Rattle.py_ir.specs.BlockList.{BlockList}
 use Rattle.py_ir.specs.Chain.{plain}
 use Rattle.py_emit.specs.States.{state}
 use Rattle.py_emit.specs.Steps.{step_of, steps_in}
-use Rattle.py_emit.proofs.Holding.{push_long, push_steps}
+use Rattle.py_emit.proofs.BlockStepLemmas.{push_long, push_steps}
 use Rattle.py_emit.proofs.States.{stepped}
 use Rattle.py_emit.proofs.emitter.Emitter.put.Goals as goal
 

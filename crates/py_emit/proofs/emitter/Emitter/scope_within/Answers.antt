@@ -1,5 +1,5 @@
 use Rattle.std.proofs.Common.{false, refl, ap}
-use Rattle.py_steps.specs.Sealed.{Head}
+use Rattle.py_emission_parts.specs.Sealed.{Head}
 use Rattle.py_emit.specs.States.{source_of, unlooped}
 use Rattle.py_emit.specs.declared.scopes.OpenScope.{OpenScope}
 use Rattle.py_emit.proofs.States.{begun_state}

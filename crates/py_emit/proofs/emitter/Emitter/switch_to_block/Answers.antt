@@ -1,10 +1,10 @@
 use Rattle.std.proofs.Common.{◌≢◌, refl, ap, ◌∙◌, length, map, arith}
 use Rattle.py_ir.specs.BlockList.{BlockList}
 use Rattle.py_ir.specs.Chain.{plain}
-use Rattle.py_steps.specs.Emitting.{Begin}
+use Rattle.py_emission_parts.specs.Emitting.{Begin}
 use Rattle.py_emit.specs.States.{state}
 use Rattle.py_emit.specs.Steps.{steps_in}
-use Rattle.py_emit.proofs.Holding.{is_outside, not_in_chain, place_long, place_steps}
+use Rattle.py_emit.proofs.BlockStepLemmas.{is_outside, not_in_chain, place_long, place_steps}
 use Rattle.py_emit.proofs.States.{stepped}
 use Rattle.py_emit.proofs.emitter.Emitter.switch_to_block.Goals as goal
 

@@ -6,8 +6,8 @@ use Rattle.std.proofs.lemmas.List.{length_push}
 use Rattle.py_ir.specs.BlockList.{BlockList, IsWhole}
 use Rattle.py_ir.specs.Chain.{IsChain, plain}
 use Rattle.py_ir.specs.Spans.{blks_of}
-use Rattle.py_ir.proofs.Spanning.{length-blks}
-use Rattle.py_ir.proofs.Placing.{whole}
+use Rattle.py_ir.proofs.SpanLemmas.{length-blks}
+use Rattle.py_ir.proofs.BlockPlacementLemmas.{whole}
 use Rattle.py_ir.proofs.Listed.{Going, going_first, going_inside, going_fewer, span_ends, span_leads}
 use Rattle.py_ir.proofs.flat.FlatBlocks.chain.Goals as goal
 

@@ -1,7 +1,7 @@
 use Rattle.std.proofs.Common.{◌≡◌, length, ap, ◌∙◌, arith}
 use Rattle.std.proofs.lemmas.Grind.{common_steps}
 use Rattle.py_ir.specs.BlockList.{extended}
-use Rattle.py_ir.proofs.Growing.{extend_done, extend_viewed}
+use Rattle.py_ir.proofs.BlockGrowthLemmas.{extend_done, extend_viewed}
 use Rattle.py_ir.proofs.flat.FlatBlocks.extend_from_slice.Goals as goal
 
 pub invariant_of-self-2 : goal.invariant_of-self-2

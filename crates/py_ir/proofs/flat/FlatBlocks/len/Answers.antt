@@ -1,6 +1,6 @@
 use Rattle.std.proofs.Common.{refl, subst}
 use Rattle.py_ir.specs.BlockList.{IsWhole}
-use Rattle.py_ir.proofs.Placing.{whole}
+use Rattle.py_ir.proofs.BlockPlacementLemmas.{whole}
 use Rattle.py_ir.proofs.flat.FlatBlocks.len.Goals as goal
 
 pub returns-clause-whole : goal.returns-clause-whole

@@ -1,6 +1,6 @@
 use Rattle.std.proofs.Common.{ap, sym, subst, ◌∙◌, [], ◌++◌, ◌∷◌}
 use Rattle.py_ir.specs.Spans.{Follows, unplaced}
-use Rattle.py_ir.proofs.Placing.{one_follows}
+use Rattle.py_ir.proofs.BlockPlacementLemmas.{one_follows}
 use Rattle.py_ir.proofs.flat.FlatBlocks.new.Goals as goal
 
 pub invariant_of-result : goal.invariant_of-result

@@ -2,7 +2,7 @@ use Rattle.std.proofs.Common.{◌≡◌, ◌<◌, length, sym, subst, arith, ref
 use Rattle.py_ir.specs.BlockList.{IsWhole}
 use Rattle.std.proofs.lemmas.Grind.{common_steps}
 use Rattle.py_ir.specs.Spans.{Follows}
-use Rattle.py_ir.proofs.Placing.{new_follows, whole}
+use Rattle.py_ir.proofs.BlockPlacementLemmas.{new_follows, whole}
 use Rattle.py_ir.proofs.flat.FlatBlocks.new_block.Goals as goal
 
 pub invariant_of-self-2 : goal.invariant_of-self-2

@@ -2,8 +2,8 @@ use Rattle.std.proofs.Common.{◌≡◌, length, ap, sym, subst, ◌∙◌, arit
 use Rattle.std.proofs.lemmas.Grind.{common_steps}
 use Rattle.py_ir.specs.BlockList.{IsWhole, IsOutside, placed}
 use Rattle.py_ir.specs.Spans.{block_list_of}
-use Rattle.py_ir.proofs.Spanning.{length-blocks}
-use Rattle.py_ir.proofs.Placing.{place_done, place_viewed, whole}
+use Rattle.py_ir.proofs.SpanLemmas.{length-blocks}
+use Rattle.py_ir.proofs.BlockPlacementLemmas.{place_done, place_viewed, whole}
 use Rattle.py_ir.proofs.flat.FlatBlocks.place.Goals as goal
 
 pub invariant_of-self : goal.invariant_of-self

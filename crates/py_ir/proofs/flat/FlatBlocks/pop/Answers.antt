@@ -2,8 +2,8 @@ use Rattle.std.proofs.Common.{ap, ◌∙◌, arith, refl, subst}
 use Rattle.std.specs.Option.{IsSome}
 use Rattle.std.proofs.lemmas.Grind.{common_steps}
 use Rattle.py_ir.specs.BlockList.{IsWhole, last_item, popped}
-use Rattle.py_ir.proofs.Growing.{is_some, popped_follows, popped_told, popped_viewed}
-use Rattle.py_ir.proofs.Placing.{whole}
+use Rattle.py_ir.proofs.BlockGrowthLemmas.{is_some, popped_follows, popped_told, popped_viewed}
+use Rattle.py_ir.proofs.BlockPlacementLemmas.{whole}
 use Rattle.py_ir.proofs.flat.FlatBlocks.pop.Goals as goal
 
 pub invariant_of-self : goal.invariant_of-self

@@ -1,8 +1,8 @@
 use Rattle.std.proofs.Common.{◌≡◌, length, ap, ◌∙◌, ◌∷◌, [], arith, refl, subst}
-use Rattle.py_ir.proofs.Placing.{whole}
+use Rattle.py_ir.proofs.BlockPlacementLemmas.{whole}
 use Rattle.std.proofs.lemmas.Grind.{common_steps}
 use Rattle.py_ir.specs.BlockList.{IsWhole, pushed}
-use Rattle.py_ir.proofs.Growing.{extend_done, extend_viewed}
+use Rattle.py_ir.proofs.BlockGrowthLemmas.{extend_done, extend_viewed}
 use Rattle.py_ir.proofs.flat.FlatBlocks.push.Goals as goal
 
 pub invariant_of-self-2 : goal.invariant_of-self-2

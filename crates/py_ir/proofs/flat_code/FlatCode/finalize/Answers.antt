@@ -1,7 +1,7 @@
 use Rattle.std.proofs.Common.{map}
 use Rattle.py_ir.specs.Chain.{plain}
 use Rattle.py_ir.specs.FlatCode.{info_of}
-use Rattle.py_ir.proofs.Ending.{few_varnames, finals}
+use Rattle.py_ir.proofs.CodeTableLemmas.{few_varnames, finals}
 use Rattle.py_ir.proofs.Taken.{itself}
 use Rattle.py_ir.proofs.TakenCode.{same_chain, taken_clear, taken_final, taken_refused}
 use Rattle.py_ir.proofs.flat_code.FlatCode.finalize.Goals as goal

@@ -1,5 +1,5 @@
 use Rattle.py_ir.specs.Final.{tables_of}
-use Rattle.py_ir.proofs.Joining.{if_err_then, if_ok_then}
+use Rattle.py_ir.proofs.FlatBlockLemmas.{if_err_then, if_ok_then}
 use Rattle.py_ir.proofs.info.CodeInfo.finalize_code.Goals as goal
 
 pub returns-in-Ok-clause-code : goal.returns-in-Ok-clause-code

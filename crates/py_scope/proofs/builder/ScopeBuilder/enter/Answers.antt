@@ -1,7 +1,7 @@
 use Rattle.std.proofs.Common.{sym, ap, ◌∙◌, subst, ◌++◌, ◌∷◌, [], arith}
 use Rattle.py_scope.specs.Scanned.{IsWithin, Scanned, entered}
 use Rattle.py_scope.specs.InOrder.{IsScanned}
-use Rattle.py_scope.proofs.Scanning.{scanned, scanned_entered, entered_within, after_enter}
+use Rattle.py_scope.proofs.ScanCallLemmas.{scanned, scanned_entered, entered_within, after_enter}
 use Rattle.py_scope.proofs.builder.ScopeBuilder.enter.Goals as goal
 
 pub invariant_of-self-2 : goal.invariant_of-self-2

@@ -4,7 +4,7 @@ use Rattle.py_scope.specs.Scanned.{Scanned, order_of}
 use Rattle.py_scope.specs.Resolved.{resolved, resolved_of, first_fault, first_fault_of}
 use Rattle.py_scope.specs.Laws.{TableFollows}
 use Rattle.py_scope.proofs.Follows.{table_follows}
-use Rattle.py_scope.proofs.Scanning.{scanned, order_within}
+use Rattle.py_scope.proofs.ScanCallLemmas.{scanned, order_within}
 use Rattle.py_scope.proofs.builder.ScopeBuilder.finish.Goals as goal
 
 pub resolve_rows-requires-clause-within : goal.resolve_rows-requires-clause-within

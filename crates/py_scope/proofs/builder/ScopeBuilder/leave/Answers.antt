@@ -1,7 +1,7 @@
 use Rattle.std.proofs.Common.{sym, ap, ◌∙◌, subst, ◌<◌}
 use Rattle.py_scope.specs.Scanned.{Scanned, gone_out}
 use Rattle.py_scope.specs.InOrder.{IsScanned}
-use Rattle.py_scope.proofs.Scanning.{scanned, scanned_left, after_leave}
+use Rattle.py_scope.proofs.ScanCallLemmas.{scanned, scanned_left, after_leave}
 use Rattle.py_scope.proofs.builder.ScopeBuilder.leave.Goals as goal
 
 pub invariant_of-self-2 : goal.invariant_of-self-2

@@ -2,7 +2,7 @@ use Rattle.std.proofs.Common.{◌≡◌, sym, ap, ◌∙◌, subst, refl, length
 use Rattle.std.proofs.lemmas.Option.{slice_get_read}
 use Rattle.py_scope.specs.Scanned.{Scanned, with_use, refused_here, refused_in_row}
 use Rattle.py_scope.specs.InOrder.{IsScanned}
-use Rattle.py_scope.proofs.Scanning.{scanned, scanned_used, after_use}
+use Rattle.py_scope.proofs.ScanCallLemmas.{scanned, scanned_used, after_use}
 use Rattle.py_scope.proofs.builder.ScopeBuilder.register.Goals as goal
 
 pub returns-clause-ok : goal.returns-clause-ok

@@ -1,7 +1,7 @@
 use Rattle.std.proofs.Common.{◌≡◌, ap, sym, ◌∙◌, Some}
 use Rattle.py_scope.specs.Names.{put}
 use Rattle.py_scope.specs.Making.{place_of}
-use Rattle.py_scope.proofs.Putting.{set_at-put}
+use Rattle.py_scope.proofs.NameUpdateLemmas.{set_at-put}
 use Rattle.py_scope.proofs.rows.Entries.put_at.Goals as goal
 
 pub returns-in-Some-clause-ok : goal.returns-in-Some-clause-ok

@@ -2,7 +2,7 @@ use Rattle.std.proofs.Common.{◌≡◌, arith}
 use Rattle.std.proofs.lemmas.Grind.{common_steps}
 use Rattle.py_step_machine.specs.Does.{last_block, seen_last}
 use Rattle.py_step_machine.specs.State.{blocked, state_of}
-use Rattle.py_step_machine.proofs.Seeing.{last_at, last_seen}
+use Rattle.py_step_machine.proofs.PeekLemmas.{last_at, last_seen}
 use Rattle.py_step_machine.proofs.machine.Machine.last_reason.Goals as goal
 
 pub returns-in-Some-FinallyHandler : goal.returns-in-Some-FinallyHandler

@@ -1,8 +1,8 @@
 use Rattle.std.proofs.Common.{◌≡◌, sym, ◌∙◌, arith}
 use Rattle.std.proofs.lemmas.Result.{err_from_is_err_and}
 use Rattle.py_step_machine.specs.State.{state_of}
-use Rattle.py_step_machine.proofs.Failing.{halts_same}
-use Rattle.py_step_machine.proofs.Taking.{all_cells, cells_halt, cells_taken}
+use Rattle.py_step_machine.proofs.ProgramStopLemmas.{halts_same}
+use Rattle.py_step_machine.proofs.TakenValueLemmas.{all_cells, cells_halt, cells_taken}
 use Rattle.py_step_machine.proofs.machine.Machine.pop_cells.Goals as goal
 
 pub returns-in_err-pop_cell_tuple : goal.returns-in_err-pop_cell_tuple

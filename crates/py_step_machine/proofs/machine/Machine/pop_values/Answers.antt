@@ -1,10 +1,10 @@
 use Rattle.std.proofs.Common.{◌≡◌, refl, sym, ◌∙◌, arith}
 use Rattle.std.specs.Prelude.{reverse}
 use Rattle.std.proofs.lemmas.Result.{err_from_is_err_and}
-use Rattle.py_script.specs.Told.{values_of}
+use Rattle.py_answers.specs.Told.{values_of}
 use Rattle.py_step_machine.specs.State.{state_of}
-use Rattle.py_step_machine.proofs.Failing.{halts_same}
-use Rattle.py_step_machine.proofs.Taking.{all_taken, taken, taken_halts, turned}
+use Rattle.py_step_machine.proofs.ProgramStopLemmas.{halts_same}
+use Rattle.py_step_machine.proofs.TakenValueLemmas.{all_taken, taken, taken_halts, turned}
 use Rattle.py_step_machine.proofs.machine.Machine.pop_values.Goals as goal
 
 pub loop-left-init : goal.loop-left-init

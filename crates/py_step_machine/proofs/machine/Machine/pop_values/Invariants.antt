@@ -1,6 +1,6 @@
 use Rattle.std.proofs.Common.{◌≡◌, []}
 use Rattle.std.specs.Prelude.{reverse}
-use Rattle.py_script.specs.Told.{values_of}
+use Rattle.py_answers.specs.Told.{values_of}
 use Rattle.py_step_machine.specs.State.{state_of}
 use Rattle.py_step_machine.specs.Does.{pop_values}
 use Rattle.py_step_machine.proofs.machine.Machine.pop_values.Given as goal

@@ -2,8 +2,8 @@ use Rattle.std.proofs.Common.{◌≡◌, sym, ◌∙◌, arith}
 use Rattle.std.proofs.lemmas.Result.{err_from_is_err_and}
 use Rattle.py_bytecode.specs.View.{object}
 use Rattle.py_step_machine.specs.State.{state_of}
-use Rattle.py_step_machine.proofs.Failing.{fails_same}
-use Rattle.py_step_machine.proofs.Running.{run_ends, run_fails, run_on}
+use Rattle.py_step_machine.proofs.ProgramStopLemmas.{fails_same}
+use Rattle.py_step_machine.proofs.RunViewLemmas.{run_ends, run_fails, run_on}
 use Rattle.py_step_machine.proofs.machine.Machine.run.Goals as goal
 
 pub returns-in_err-place : goal.returns-in_err-place

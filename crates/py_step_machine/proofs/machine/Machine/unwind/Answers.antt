@@ -1,9 +1,9 @@
 use Rattle.std.proofs.Common.{◌≡◌, ℕ, Option, None, Ok, refl, sym, ap, ◌∙◌}
 use Rattle.std.proofs.lemmas.Result.{err_from_is_err_and}
-use Rattle.py_script.specs.Log.{world_of}
+use Rattle.py_answers.specs.Log.{world_of}
 use Rattle.py_step_machine.specs.Held.{reason_of, slot_of}
 use Rattle.py_step_machine.specs.State.{Run, stacked, state_of}
-use Rattle.py_step_machine.proofs.Failing.{fails_same}
+use Rattle.py_step_machine.proofs.ProgramStopLemmas.{fails_same}
 use Rattle.py_step_machine.proofs.BlocksLeft.{block_fails, block_passes, block_takes, fewer_left, none_of, nothing_left, popped_left}
 use Rattle.py_step_machine.proofs.machine.Machine.unwind.Goals as goal
 

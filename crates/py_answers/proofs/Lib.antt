@@ -1,0 +1,4 @@
+pub mod ScriptTextLemmas
+pub mod Cases
+pub mod Events
+pub mod Found

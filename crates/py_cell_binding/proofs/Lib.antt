@@ -1,0 +1,5 @@
+mod EventLemmas
+pub mod Events
+pub mod CellPathLemmas
+pub mod CaptureLemmas
+mod ChainSamples

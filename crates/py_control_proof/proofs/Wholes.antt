@@ -1,0 +1,124 @@
+-- Values, tests, targets and clauses have no instructions that cannot be come to.
+use Rattle.std.proofs.Common.{◌≡◌, ℕ, suc, ◌+◌, List, [], ◌∷◌, ◌++◌, Bool, true, false, Some, None, refl, ap, ◌∙◌, arith}
+use Rattle.py_bytecode.specs.Values.{Operation, Cell, flip}
+use Rattle.py_bytecode.specs.Machine.{Instr}
+use Rattle.py_control.specs.Form.{VForm, VConst, VLoad, VOp, VMake, VShort, VChain, VChoice, VKeep, VSwap, VAt, VForms, VNone, VMore, VMethod, Shorts, OneShort, MoreShort, Links, LastLink, MoreLink, TForm, TTruth, TNot, TAll, Tests, OneTest, MoreTest, Target, GStore, GPut, GUnder, GUnpack, GDrop, Targets, NoTarget, MoreTarget, Clauses, CLast, CEach, Filters, NoFilter, MoreFilter, Interp}
+use Rattle.py_control.specs.Code.{Item, Do, Label, size, labels_v, labels_vs, labels_t, labels_g, labels_bs, cell_codes, closure_code, tail_code, augment_code, augment_two_code, code_v, code_vs, code_ss, code_ls, code_t, code_ts, code_g, code_gs, code_bs, code_c, append_code, drop_code}
+use Rattle.py_control_proof.specs.Live.{stays, live}
+use Rattle.py_control_proof.proofs.Falls.{falls, live-append, falls-append, live_if}
+use Rattle.py_control_proof.proofs.Moves.{size-append}
+
+module _ {K : Type 0} where
+  -- all of it can be come to, and what follows too
+  pub record Whole (is : List (Item K)) : Type 0 where
+    pub lives : live true is ≡ size is
+    pub goes : falls true is ≡ true
+
+  pub live_whole : (a c : List (Item K)) → Whole a → live true (a ++ c) ≡ size a + live true c
+  live_whole a c x = omega (arith, live-append true a c, live_if (falls true a) c x.goes, x.lives)
+
+  pub falls_whole : (a c : List (Item K)) → Whole a → falls true (a ++ c) ≡ falls true c
+  falls_whole a c x = falls-append true a c ∙ ap (λ b. falls b c) x.goes
+
+  pub nothing : Whole []
+  nothing = record { lives = refl; goes = refl }
+
+  pub joined : {a c : List (Item K)} → Whole a → Whole c → Whole (a ++ c)
+  joined {a} {c} x y = record { lives = omega (arith, live_whole a c x, y.lives, size-append a c); goes = falls_whole a c x ∙ y.goes }
+
+  pub moved : {i : Instr K ℕ} {a : List (Item K)} → stays i ≡ true → Whole a → Whole (Do i ∷ a)
+  moved {i} {a} e x = record { lives = ap suc (live_if (stays i) a e ∙ x.lives); goes = ap (λ b. falls b a) e ∙ x.goes }
+
+  pub marked : {l : ℕ} {a : List (Item K)} → Whole a → Whole (Label l ∷ a)
+  marked x = record { lives = x.lives; goes = x.goes }
+
+  -- an instruction just before a label
+  pub jumped : {i : Instr K ℕ} {l : ℕ} {a : List (Item K)} → Whole a → Whole (Do i ∷ Label l ∷ a)
+  jumped x = record { lives = ap suc x.lives; goes = x.goes }
+
+  cells_whole : (cs : List Cell) → Whole (cell_codes cs)
+  cells_whole [] = nothing
+  cells_whole (c ∷ cs) = moved refl (cells_whole cs)
+
+  closure_whole : (cs : List Cell) → Whole (closure_code cs)
+  closure_whole [] = nothing
+  closure_whole (c ∷ cs) = moved refl (joined (cells_whole cs) (moved refl nothing))
+
+  pub tail_whole : (final : Bool) → Whole (tail_code final)
+  tail_whole false = nothing
+  tail_whole true = moved refl (moved refl nothing)
+
+  pub augment_whole : {a b : List (Item K)} (get op put : Operation) → Whole a → Whole b → Whole (augment_code a get b op put)
+  augment_whole get op put x y = joined x (moved refl (moved refl (joined y (moved refl (moved refl (moved refl nothing))))))
+
+  pub augment_two_whole : {a b c : List (Item K)} (get op put : Operation) → Whole a → Whole b → Whole c → Whole (augment_two_code a b get c op put)
+  augment_two_whole get op put x y z = joined x (joined y (moved refl (moved refl (joined z (moved refl (moved refl (moved refl nothing)))))))
+
+module _ {K : Type 0} (i : Interp K) where
+  mutual
+    pub value_whole : (f : VForm) (n : ℕ) → Whole (code_v i f n)
+    value_whole (VConst c) n = moved refl nothing
+    value_whole (VLoad x m) n = moved refl nothing
+    value_whole (VOp o fs) n = joined (values_whole fs n) (moved refl nothing)
+    value_whole (VMake flags a s name b) n =
+        joined (values_whole a n) (joined (values_whole b (n + labels_vs a)) (joined (closure_whole (i.closure s)) (moved refl (moved refl (moved refl nothing)))))
+    value_whole (VShort d ss) n = joined (shorts_whole ss d n (1 + n)) (marked nothing)
+    value_whole (VChain f o g ls) n =
+        joined (value_whole f (2 + n)) (joined (joined (value_whole g (2 + n + labels_v f)) (moved refl (moved refl (moved refl (moved refl (links_whole ls n (2 + n + labels_v f + labels_v g))))))) (jumped (moved refl (moved refl (marked nothing)))))
+    value_whole (VChoice t a b) n =
+        joined (test_whole t false n (2 + n)) (joined (value_whole a (2 + n + labels_t t false)) (jumped (joined (value_whole b (2 + n + labels_t t false + labels_v a)) (marked nothing))))
+    value_whole (VKeep f None t) n = joined (value_whole f n) (moved refl (target_whole t (n + labels_v f)))
+    value_whole (VKeep f (Some o) t) n = joined (value_whole f n) (moved refl (target_whole t (n + labels_v f)))
+    value_whole (VSwap o a b fs) n =
+        joined (value_whole a n) (joined (value_whole b (n + labels_v a)) (moved refl (joined (values_whole fs (n + labels_v a + labels_v b)) (moved refl nothing))))
+    value_whole (VAt p f) n = value_whole f n
+
+    pub values_whole : (fs : VForms) (n : ℕ) → Whole (code_vs i fs n)
+    values_whole VNone n = nothing
+    values_whole (VMore f fs) n = joined (value_whole f n) (values_whole fs (n + labels_v f))
+    values_whole (VMethod o f fs) n = joined (value_whole f n) (moved refl (values_whole fs (n + labels_v f)))
+
+    shorts_whole : (ss : Shorts) (d : Bool) (end n : ℕ) → Whole (code_ss i ss d end n)
+    shorts_whole (OneShort f) d end n = value_whole f n
+    shorts_whole (MoreShort f ss) d end n = joined (value_whole f n) (moved refl (shorts_whole ss d end (n + labels_v f)))
+
+    links_whole : (ls : Links) (out n : ℕ) → Whole (code_ls i ls out n)
+    links_whole (LastLink o f) out n = joined (value_whole f n) (moved refl nothing)
+    links_whole (MoreLink o f ls) out n = joined (value_whole f n) (moved refl (moved refl (moved refl (moved refl (links_whole ls out (n + labels_v f))))))
+
+    pub test_whole : (t : TForm) (c : Bool) (to n : ℕ) → Whole (code_t i t c to n)
+    test_whole (TTruth f) c to n = joined (value_whole f n) (moved refl nothing)
+    test_whole (TNot t) c to n = test_whole t (flip c) to n
+    test_whole (TAll ts) false to n = tests_whole ts false to to n
+    test_whole (TAll ts) true to n = joined (tests_whole ts true to n (1 + n)) (marked nothing)
+
+    tests_whole : (ts : Tests) (c : Bool) (to out n : ℕ) → Whole (code_ts i ts c to out n)
+    tests_whole (OneTest t) c to out n = test_whole t c to n
+    tests_whole (MoreTest t ts) c to out n = joined (test_whole t false out n) (tests_whole ts c to out (n + labels_t t false))
+
+    pub target_whole : (t : Target) (n : ℕ) → Whole (code_g i t n)
+    target_whole (GStore x m) n = moved refl nothing
+    target_whole (GPut o fs) n = joined (values_whole fs n) (moved refl nothing)
+    target_whole (GUnder o f) n = joined (value_whole f n) (moved refl (moved refl nothing))
+    target_whole (GUnpack o ts) n = moved refl (targets_whole ts n)
+    target_whole GDrop n = moved refl nothing
+
+    targets_whole : (ts : Targets) (n : ℕ) → Whole (code_gs i ts n)
+    targets_whole NoTarget n = nothing
+    targets_whole (MoreTarget t ts) n = joined (target_whole t n) (targets_whole ts (n + labels_g t))
+
+  filters_whole : (bs : Filters) (to n : ℕ) → Whole (code_bs i bs to n)
+  filters_whole NoFilter to n = nothing
+  filters_whole (MoreFilter t bs) to n = joined (test_whole t false to n) (filters_whole bs to (n + labels_t t false))
+
+  -- clauses, over what stands within them
+  clauses_whole : (cs : Clauses) (leaf : ℕ → ℕ → List (Item K)) → ((d n : ℕ) → Whole (leaf d n)) → (d n : ℕ) → Whole (code_c i cs leaf d n)
+  clauses_whole CLast leaf h d n = h d n
+  clauses_whole (CEach f t bs cs) leaf h d n =
+      joined (value_whole f (2 + n)) (marked (moved refl (joined (target_whole t (2 + n + labels_v f)) (joined (filters_whole bs n (2 + n + labels_v f + labels_g t)) (joined (clauses_whole cs leaf h (suc d) (2 + n + labels_v f + labels_g t + labels_bs bs)) (jumped nothing))))))
+
+  pub gathers_whole : (cs : Clauses) (o : Operation) (fs : VForms) (n : ℕ) → Whole (code_c i cs (append_code i o fs) 0 n)
+  gathers_whole cs o fs n = clauses_whole cs (append_code i o fs) (λ d m. joined (values_whole fs m) (moved refl nothing)) 0 n
+
+  pub yields_whole : (cs : Clauses) (f : VForm) (n : ℕ) → Whole (code_c i cs (drop_code i f) 0 n)
+  yields_whole cs f n = clauses_whole cs (drop_code i f) (λ d m. joined (value_whole f m) (moved refl nothing)) 0 n

@@ -1,0 +1,5 @@
+use Rattle.py_control_proof.proofs.Laws.{always_ends}
+use Rattle.py_control_proof.proofs.always_ends.Goals as goal
+
+pub returns : goal.returns
+returns c = always_ends

@@ -1,0 +1,5 @@
+use Rattle.py_control_proof.proofs.BlockMachine.{blocks_simulate}
+use Rattle.py_control_proof.proofs.block_simulation.Goals as goal
+
+pub returns : goal.returns
+returns c = blocks_simulate

@@ -1,0 +1,5 @@
+use Rattle.py_control_proof.proofs.Theorem.{compiled_agrees}
+use Rattle.py_control_proof.proofs.compiled_agrees.Goals as goal
+
+pub returns : goal.returns
+returns c = compiled_agrees

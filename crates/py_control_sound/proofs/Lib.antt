@@ -1,0 +1,9 @@
+pub mod Like
+pub mod Moves
+pub mod Steady
+pub mod Seats
+pub mod Refusals
+pub mod CodesAreSound
+pub mod Flat
+pub mod MachineFlowLemmas
+pub mod Blocks

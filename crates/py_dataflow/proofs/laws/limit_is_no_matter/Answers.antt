@@ -1,0 +1,5 @@
+use Rattle.py_dataflow.proofs.Codes.{no_limit}
+use Rattle.py_dataflow.proofs.laws.limit_is_no_matter.Goals as goal
+
+pub returns : goal.returns
+returns c = no_limit

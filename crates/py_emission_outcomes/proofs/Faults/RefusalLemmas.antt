@@ -1,0 +1,319 @@
+-- An emission goes on from some place, or ends as the faults say.
+use Rattle.std.proofs.Common.{◌≡◌, ℕ, ◌^◌, List, [], ◌∷◌, ◌++◌, Bool, true, false, Option, Some, None, refl, sym, ap, ◌∙◌, subst, append-nil, append_assoc}
+use Rattle.std.specs.Prelude.{suc, nat_lt, not, if◌then◌else◌}
+use Rattle.std.specs.List.{list_any}
+use Rattle.py_base.specs.declared.location.SourceLocation.{SourceLocation}
+use Rattle.py_base.specs.declared.operators.CmpOp.{CmpOp}
+use Rattle.py_base.specs.declared.operators.CmpOp.TheVariants as comparison
+use Rattle.py_bytecode.specs.declared.instruction.Instruction.{Instruction}
+use Rattle.py_bytecode.specs.declared.instruction.Instruction.TheVariants as op
+use Rattle.py_bytecode.specs.Objects.{Const, Object}
+use Rattle.py_bytecode.specs.Equality.{const_eq, text_eq}
+use Rattle.py_meaning.specs.ExprFaults.{Fault, fault_at, when, debug_faults}
+use Rattle.py_bytecode.specs.Values.{Usage, Load, Store, Delete, Kind, Unsaid, Fast, ByName, Global, Deref, ClassDeref}
+use Rattle.py_control.specs.Form.{Resolved}
+use Rattle.py_emission_parts.specs.Children.{behind_child, child, code_head, load_cell, on_sealed}
+use Rattle.py_emission_parts.specs.Within.{Shape}
+use Rattle.py_emission_parts.specs.Context.{Context, access_kind, cell_place, is_function, mangled}
+use Rattle.py_emission_parts.specs.Accesses.{access_by, accessed}
+use Rattle.py_emission_parts.specs.TableParts.{is_debug}
+use Rattle.py_base.specs.declared.errors.CodegenErrorType.{CodegenErrorType}
+use Rattle.py_base.specs.declared.errors.CodegenErrorType.TheVariants as error
+use Rattle.py_emission_parts.specs.Emitting.{State, Outcome, Done, TooWide, Refused, Around, Emission, LoopBlocks, ◌▸◌, add_constant, add_varname, begun, go_on, keep, Put, with_step, with_block, with_name, with_varname, with_constant, with_loops, with_postponed, place_in, located, refuse, emit, emit_count, emit_name, emit_varname, emit_mangled, emit_constant, generating, jump, begin, new_block, nothing, move, by_context, by_level, by_loops, in_loop, pass_over, postponing}
+use Rattle.py_emission_parts.specs.EmissionParts.{only_in_function, pass_scopes, unless_debug, emission_of_comparison, emission_of_link}
+use Rattle.py_emission_parts.specs.Sealed.{Head, sealed}
+
+-- and then nothing
+pub kept_on : (o : Outcome) → go_on o keep ≡ o
+kept_on (Done s) = refl
+kept_on TooWide = refl
+kept_on (Refused e at) = refl
+
+-- one after the first two, or after the second
+pub grouped_on : (o : Outcome) (w u : Emission) → go_on o (w ▸ u) ≡ go_on (go_on o w) u
+grouped_on (Done s) w u = refl
+grouped_on TooWide w u = refl
+grouped_on (Refused e at) w u = refl
+
+-- what stands around a whole scope
+abbrev pub outside : Context → Around
+outside k = (nothing k).around
+
+-- the same, in another loop
+abbrev pub looping : LoopBlocks → Around → Around
+looping x c = record c { loops = Some x }
+
+-- the same, where annotations are postponed
+abbrev pub postponed_around : Around → Around
+postponed_around c = record c { context = record c.context { postponed = true } }
+
+-- whether it stands in a function
+abbrev pub in_function : Around → Bool
+in_function c = is_function c.context.typ
+
+-- an operand is too large; or a cell is not there; or it is refused as the first of these faults says; or there are none, and it goes on in this context, from that place
+pub data Ends (c : Around) (fs : List Fault) (q : SourceLocation) (o : Outcome) : Type 0 where
+  Wide : o ≡ TooWide → Ends c fs q o
+  Misses : (at : SourceLocation) → o ≡ Refused error.MissingCell (Some at) → Ends c fs q o
+  Stops : (e : CodegenErrorType) (at : SourceLocation) (rest : List Fault) → o ≡ Refused e (Some at) → fs ≡ fault_at e at ∷ rest → Ends c fs q o
+  GoesOn : (r : State) → r.location ≡ q → r.around ≡ c → o ≡ Done r → fs ≡ [] → Ends c fs q o
+
+-- one emission after another
+ends_then : (c d : Around) (b : Emission) (fs gs : List Fault) (m q : SourceLocation) (o : Outcome) → Ends c fs m o → ((r : State) → r.location ≡ m → r.around ≡ c → Ends d gs q (b r)) → Ends d (fs ++ gs) q (go_on o b)
+ends_then c d b fs gs m q o (Wide e) next = Wide (ap (λ x. go_on x b) e)
+ends_then c d b fs gs m q o (Misses at e) next = Misses at (ap (λ x. go_on x b) e)
+ends_then c d b fs gs m q o (Stops e at rest f g) next = Stops e at (rest ++ gs) (ap (λ x. go_on x b) f) (ap (λ l. l ++ gs) g)
+ends_then c d b fs gs m q o (GoesOn r at z f g) next = subst (λ l. Ends d (l ++ gs) q (go_on o b)) (sym g) (subst (λ x. Ends d gs q (go_on x b)) (sym f) (next r at z))
+
+-- what ends as the faults say from any state at the first place in this context, and goes on from the second
+pub record EndsAs (c : Around) (a : Emission) (p q : SourceLocation) (fs : List Fault) : Type 0 where
+  pub ends : (s : State) → s.location ≡ p → s.around ≡ c → Ends c fs q (a s)
+
+-- what only goes on, from where it stands
+abbrev pub Passes : Around → Emission → SourceLocation → Type 0
+Passes c a p = EndsAs c a p p []
+
+pub then_ends : {c : Around} {a b : Emission} {p m q : SourceLocation} {fs gs : List Fault} → EndsAs c a p m fs → EndsAs c b m q gs → EndsAs c (a ▸ b) p q (fs ++ gs)
+then_ends {c = c} {a = a} {b = b} {m = m} {q = q} {fs = fs} {gs = gs} x y = record { ends = λ s h z. ends_then c c b fs gs m q (a s) (x.ends s h z) y.ends }
+
+pub ends_so : {c : Around} {a : Emission} {p q : SourceLocation} {fs gs : List Fault} → fs ≡ gs → EndsAs c a p q fs → EndsAs c a p q gs
+ends_so {c = c} {a = a} {p = p} {q = q} e x = subst (EndsAs c a p q) e x
+
+pub ends_there : {c : Around} {a : Emission} {p q r : SourceLocation} {fs : List Fault} → q ≡ r → EndsAs c a p q fs → EndsAs c a p r fs
+ends_there {c = c} {a = a} {p = p} {fs = fs} e x = subst (λ q. EndsAs c a p q fs) e x
+
+pub three_end : {c : Around} {a b d : Emission} {p m n q : SourceLocation} {fs gs hs : List Fault} → EndsAs c a p m fs → EndsAs c b m n gs → EndsAs c d n q hs → EndsAs c (a ▸ b ▸ d) p q (fs ++ gs ++ hs)
+three_end {fs = fs} {gs = gs} {hs = hs} x y z = ends_so (sym (append_assoc fs gs hs)) (then_ends x (then_ends y z))
+
+-- and then what only goes on, or nothing more is at fault
+pub last_ends : {c : Around} {a b : Emission} {p q : SourceLocation} {fs : List Fault} → EndsAs c a p q fs → Passes c b q → EndsAs c (a ▸ b) p q fs
+last_ends {fs = fs} x y = ends_so (append-nil fs) (then_ends x y)
+
+pub alone_ends : {c : Around} {a : Emission} {p q : SourceLocation} {fs : List Fault} → EndsAs c a p q fs → EndsAs c a p q (fs ++ [])
+alone_ends {fs = fs} x = ends_so (sym (append-nil fs)) x
+
+-- the same with nothing after it
+pub unkept_ends : {c : Around} {p q : SourceLocation} {fs : List Fault} (a : Emission) → EndsAs c (a ▸ keep) p q fs → EndsAs c a p q fs
+unkept_ends {c = c} {q = q} {fs = fs} a x = record { ends = λ s h z. subst (Ends c fs q) (kept_on (a s)) (x.ends s h z) }
+
+pub nothing_passes : {c : Around} {p : SourceLocation} → Passes c keep p
+nothing_passes = record { ends = λ s h z. GoesOn s h z refl refl }
+
+fits_or : (b : Bool) (c : Around) (s : State) (p : SourceLocation) → s.location ≡ p → s.around ≡ c → Ends c [] p (if b then Done s else TooWide)
+fits_or true c s p h z = GoesOn s h z refl refl
+fits_or false c s p h z = Wide refl
+
+emit_ends : (i : Instruction) (n : ℕ) (c : Around) (s : State) (p : SourceLocation) → s.location ≡ p → s.around ≡ c → Ends c [] p (emit i n s)
+unfolding emit with_step
+emit_ends i n c s p h z = fits_or (nat_lt n (2 ^ 32)) c (with_step (Put i n None s.location) s) p h z
+
+pub emit_passes : {c : Around} {p : SourceLocation} (i : Instruction) (n : ℕ) → Passes c (emit i n) p
+emit_passes {c = c} {p = p} i n = record { ends = λ s h z. emit_ends i n c s p h z }
+
+pub jump_passes : {c : Around} {p : SourceLocation} (i : Instruction) (b : ℕ) → Passes c (jump i b) p
+unfolding jump with_step
+jump_passes i b = record { ends = λ s h z. GoesOn _ h z refl refl }
+
+pub begin_passes : {c : Around} {p : SourceLocation} (b : ℕ) → Passes c (begin b) p
+unfolding begin with_step
+begin_passes b = record { ends = λ s h z. GoesOn _ h z refl refl }
+
+either_ends : (b : Bool) (c : Around) (o : Outcome) (p : SourceLocation) → Ends c [] p o → Ends c [] p (if b then o else TooWide)
+either_ends true c o p h = h
+either_ends false c o p h = Wide refl
+
+pub count_passes : {c : Around} {p : SourceLocation} (i : Instruction) (n : ℕ) → Passes c (emit_count i n) p
+unfolding emit_count
+count_passes {c = c} {p = p} i n = record { ends = λ s h z. either_ends (nat_lt n (2 ^ 30)) c (emit i n s) p (emit_ends i n c s p h z) }
+
+pub name_passes : {c : Around} {p : SourceLocation} (i : Instruction) (x : List ℕ) → Passes c (emit_name i x) p
+unfolding emit_name with_name
+name_passes {c = c} {p = p} i x = record { ends = λ s h z. emit_ends i (place_in text_eq s.names x) c (with_name x s) p h z }
+
+pub varname_passes : {c : Around} {p : SourceLocation} (i : Instruction) (x : List ℕ) → Passes c (emit_varname i x) p
+unfolding emit_varname with_varname
+varname_passes {c = c} {p = p} i x = record { ends = λ s h z. emit_ends i (place_in text_eq s.varnames x) c (with_varname x s) p h z }
+
+pub mangled_passes : {c : Around} {p : SourceLocation} (i : Instruction) (x : List ℕ) → Passes c (emit_mangled i x) p
+unfolding emit_mangled
+mangled_passes i x = record { ends = λ s h z. (name_passes i (mangled s.around.context x)).ends s h z }
+
+pub constant_passes : {c : Around} {p : SourceLocation} (i : Instruction) (d : Const) → Passes c (emit_constant i d) p
+unfolding emit_constant with_constant
+constant_passes {c = c} {p = p} i d = record { ends = λ s h z. emit_ends i (place_in const_eq s.constants d) c (with_constant d s) p h z }
+
+-- a refusal stands where it is made, whatever more is wrong
+pub refusal_ends : {c : Around} {p q : SourceLocation} (e : CodegenErrorType) (rest : List Fault) → EndsAs c (refuse e) p q (fault_at e p ∷ rest)
+unfolding refuse
+refusal_ends e rest = record { ends = λ s h z. Stops e s.location rest refl (ap (λ p. fault_at e p ∷ rest) (sym h)) }
+
+pub moved_ends : {c : Around} {a : Emission} {p q : SourceLocation} {fs : List Fault} (at : SourceLocation) → EndsAs c a at q fs → EndsAs c (move at ▸ a) p q fs
+unfolding move located
+moved_ends at x = record { ends = λ s h z. x.ends (located at s) refl z }
+
+-- a block is made first
+pub new_ends : {c : Around} {p q : SourceLocation} {fs : List Fault} (a : ℕ → Emission) → ((b : ℕ) → EndsAs c (a b) p q fs) → EndsAs c (new_block a) p q fs
+unfolding new_block with_block
+new_ends a x = record { ends = λ s h z. (x s.blocks).ends (with_block s) h z }
+
+-- an access to a name, whatever its scope says of it
+access_passes : {c : Around} {p : SourceLocation} (u : Usage) (k : Kind) (x : List ℕ) (n : ℕ) → Passes c (access_by u k x n) p
+access_passes Load Unsaid x n = name_passes op.LoadNameAny x
+access_passes Load Fast x n = varname_passes op.LoadFast x
+access_passes Load ByName x n = name_passes op.LoadNameAny x
+access_passes Load Global x n = name_passes op.LoadGlobal x
+access_passes Load Deref x n = emit_passes op.LoadDeref n
+access_passes Load ClassDeref x n = emit_passes op.LoadClassDeref n
+access_passes Store Unsaid x n = name_passes op.StoreLocal x
+access_passes Store Fast x n = varname_passes op.StoreFast x
+access_passes Store ByName x n = name_passes op.StoreLocal x
+access_passes Store Global x n = name_passes op.StoreGlobal x
+access_passes Store Deref x n = emit_passes op.StoreDeref n
+access_passes Store ClassDeref x n = emit_passes op.StoreDeref n
+access_passes Delete Unsaid x n = name_passes op.DeleteLocal x
+access_passes Delete Fast x n = varname_passes op.DeleteFast x
+access_passes Delete ByName x n = name_passes op.DeleteLocal x
+access_passes Delete Global x n = name_passes op.DeleteGlobal x
+access_passes Delete Deref x n = emit_passes op.DeleteDeref n
+access_passes Delete ClassDeref x n = emit_passes op.DeleteDeref n
+
+pub accessed_passes : {c : Around} {p : SourceLocation} (u : Usage) (x : List ℕ) → Passes c (accessed u x) p
+unfolding accessed
+accessed_passes u x = record {
+  ends = λ s h z.
+      let k = s.around.context in
+      let y = mangled k x in
+      (access_passes u (access_kind k u Resolved y) y (cell_place k y)).ends s h z;
+}
+
+-- entries of tables that no instruction names, and the mark of a generator
+pub varname_added : {c : Around} {p : SourceLocation} (x : List ℕ) → Passes c (add_varname x) p
+unfolding add_varname with_varname
+varname_added x = record { ends = λ s h z. GoesOn _ h z refl refl }
+
+pub constant_added : {c : Around} {p : SourceLocation} (d : Const) → Passes c (add_constant d) p
+unfolding add_constant with_constant
+constant_added d = record { ends = λ s h z. GoesOn _ h z refl refl }
+
+pub generating_passes : {c : Around} {p : SourceLocation} → Passes c generating p
+unfolding generating
+generating_passes = record { ends = λ s h z. GoesOn _ h z refl refl }
+
+-- a cell, which the scope has or not
+cell_or : (b : Bool) (c : Around) (o : Outcome) (p at : SourceLocation) → Ends c [] p o → Ends c [] p (if b then o else Refused error.MissingCell (Some at))
+cell_or true c o p at h = h
+cell_or false c o p at h = Misses at refl
+
+pub cell_passes : {c : Around} {p : SourceLocation} (x : List ℕ) → Passes c (load_cell x) p
+unfolding load_cell refuse
+cell_passes {c = c} {p = p} x = record {
+  ends = λ s h z. cell_or (list_any (text_eq x) (s.around.context.cells ++ s.around.context.frees)) c (emit op.LoadClosure (cell_place s.around.context x) s) p s.location (emit_ends op.LoadClosure (cell_place s.around.context x) c s p h z);
+}
+
+-- what its own context decides, or its own level
+pub own_context_ends : {c : Around} {p q : SourceLocation} {fs : List Fault} (a : Context → Emission) → EndsAs c (a c.context) p q fs → EndsAs c (by_context a) p q fs
+unfolding by_context
+own_context_ends {c = c} {q = q} {fs = fs} a x = record { ends = λ s h z. subst (λ (d : Around). Ends c fs q (a d.context s)) (sym z) (x.ends s h z) }
+
+pub own_level_ends : {c : Around} {p q : SourceLocation} {fs : List Fault} (a : ℕ → Emission) → EndsAs c (a c.context.level) p q fs → EndsAs c (by_level a) p q fs
+unfolding by_level
+own_level_ends {c = c} {q = q} {fs = fs} a x = record { ends = λ s h z. subst (λ (d : Around). Ends c fs q (a d.context.level s)) (sym z) (x.ends s h z) }
+
+-- what the context decides, in any context, what the level decides, at any level, and what the loops decide
+pub context_ends : {c : Around} {p q : SourceLocation} {fs : List Fault} (a : Context → Emission) → ((k : Context) → EndsAs c (a k) p q fs) → EndsAs c (by_context a) p q fs
+unfolding by_context
+context_ends a x = record { ends = λ s h z. (x s.around.context).ends s h z }
+
+pub level_ends : {c : Around} {p q : SourceLocation} {fs : List Fault} (a : ℕ → Emission) → ((l : ℕ) → EndsAs c (a l) p q fs) → EndsAs c (by_level a) p q fs
+unfolding by_level
+level_ends a x = record { ends = λ s h z. (x s.around.context.level).ends s h z }
+
+pub loops_end : {c : Around} {p q : SourceLocation} {fs : List Fault} (a : Option LoopBlocks → Emission) → EndsAs c (a c.loops) p q fs → EndsAs c (by_loops a) p q fs
+unfolding by_loops
+loops_end {c = c} {q = q} {fs = fs} a x = record { ends = λ s h z. subst (λ (d : Around). Ends c fs q (a d.loops s)) (sym z) (x.ends s h z) }
+
+-- what stands in a loop of its own, after which the context is the one before
+pub loop_ends : {c : Around} {a : Emission} {p q : SourceLocation} {fs : List Fault} (x : LoopBlocks) → EndsAs (looping x c) a p q fs → EndsAs c (in_loop x a) p q fs
+unfolding in_loop with_loops
+loop_ends {c = c} {a = a} {q = q} {fs = fs} x h = record {
+  ends = λ s l z.
+      let inner : State = with_loops (Some x) s in
+      let back : Emission = λ t. Done (with_loops s.around.loops t) in
+      let last : (r : State) → r.location ≡ q → r.around ≡ looping x c → Ends c [] q (back r) = λ r m y. GoesOn (with_loops s.around.loops r) m (ap (λ (u : Around). record u { loops = s.around.loops }) y ∙ ap (λ (u : Around). record c { loops = u.loops }) z) refl refl in
+      subst (λ l. Ends c l q (go_on (a inner) back)) (append-nil fs) (ends_then (looping x c) c back fs [] q q (a inner) (h.ends inner l (ap (looping x) z)) last);
+}
+
+-- what stands where annotations are postponed, after which the context is the one before
+pub postponed_ends : {c : Around} {a : Emission} {p q : SourceLocation} {fs : List Fault} → EndsAs (postponed_around c) a p q fs → EndsAs c (postponing a) p q fs
+unfolding postponing with_postponed
+postponed_ends {c = c} {a = a} {q = q} {fs = fs} h = record {
+  ends = λ s l z.
+      let inner : State = with_postponed true s in
+      let before = s.around.context.postponed in
+      let back : Emission = λ t. Done (with_postponed before t) in
+      let last : (r : State) → r.location ≡ q → r.around ≡ postponed_around c → Ends c [] q (back r) = λ r m y. GoesOn (with_postponed before r) m (ap (λ (u : Around). record u { context = record u.context { postponed = before } }) y ∙ ap (λ (u : Around). record c { context = record c.context { postponed = u.context.postponed } }) z) refl refl in
+      subst (λ l. Ends c l q (go_on (a inner) back)) (append-nil fs) (ends_then (postponed_around c) c back fs [] q q (a inner) (h.ends inner l (ap postponed_around z)) last);
+}
+
+-- one of two
+pub if_ends : {c : Around} {v w : Emission} {p q : SourceLocation} {fs : List Fault} (b : Bool) → EndsAs c v p q fs → EndsAs c w p q fs → EndsAs c (if b then v else w) p q fs
+if_ends true x y = x
+if_ends false x y = y
+
+-- a refusal, where the test holds
+pub guarded_ends : {c : Around} {v : Emission} {p q : SourceLocation} {fs : List Fault} (b : Bool) (e : CodegenErrorType) → EndsAs c v p q fs → EndsAs c (if b then refuse e else v) p q (when b (fault_at e p) ++ fs)
+guarded_ends {fs = fs} true e x = refusal_ends e fs
+guarded_ends false e x = x
+
+pub function_or : {c : Around} {v : Emission} {p q : SourceLocation} {fs : List Fault} (b : Bool) (e : CodegenErrorType) → EndsAs c v p q fs → EndsAs c (if b then v else refuse e) p q (when (not b) (fault_at e p) ++ fs)
+function_or true e x = x
+function_or {fs = fs} false e x = refusal_ends e fs
+
+-- what only a function may hold
+pub function_ends : {c : Around} {v : Emission} {p q : SourceLocation} {fs : List Fault} (e : CodegenErrorType) → EndsAs c v p q fs → EndsAs c (only_in_function e v) p q (when (not (in_function c)) (fault_at e p) ++ fs)
+function_ends {c = c} {v = v} e x = own_context_ends (λ k. if is_function k.typ then v else refuse e) (function_or (in_function c) e x)
+
+-- a change of what has that name
+pub unless_debug_ends : {c : Around} {v : Emission} {p q : SourceLocation} {fs : List Fault} (text name : List ℕ) → EndsAs c v p q fs → EndsAs c (unless_debug text name v) p q (debug_faults text p name ++ fs)
+unless_debug_ends text name x = guarded_ends (is_debug name) (error.SyntaxError text) x
+
+pub unless_debug_last : {c : Around} {v : Emission} {p : SourceLocation} (text name : List ℕ) → Passes c v p → EndsAs c (unless_debug text name v) p p (debug_faults text p name)
+unless_debug_last {p = p} text name x = ends_so (append-nil (debug_faults text p name)) (unless_debug_ends text name x)
+
+pub comparison_passes : {c : Around} {p : SourceLocation} (o : CmpOp) → Passes c (emission_of_comparison o) p
+comparison_passes comparison.Lt = emit_passes op.CompareOperation 0
+comparison_passes comparison.Gt = emit_passes op.CompareOperation 1
+comparison_passes comparison.NotEq = emit_passes op.CompareOperation 2
+comparison_passes comparison.Eq = emit_passes op.CompareOperation 3
+comparison_passes comparison.LtE = emit_passes op.CompareOperation 4
+comparison_passes comparison.GtE = emit_passes op.CompareOperation 5
+comparison_passes comparison.In = emit_passes op.TestOperation 0
+comparison_passes comparison.NotIn = emit_passes op.TestOperation 1
+comparison_passes comparison.Is = emit_passes op.TestOperation 2
+comparison_passes comparison.IsNot = emit_passes op.TestOperation 3
+
+pub link_passes : {c : Around} {p : SourceLocation} (o : CmpOp) (out : ℕ) → Passes c (emission_of_link o out) p
+link_passes o out = then_ends (emit_passes op.Duplicate 0) (then_ends (emit_passes op.Rotate3 0) (then_ends (comparison_passes o) (jump_passes op.JumpIfFalseOrPop out)))
+
+-- the scopes of what is scanned alone are passed over
+pub scopes_passed : {c : Around} {p : SourceLocation} (count : (postponed : Bool) → ℕ) → Passes c (pass_scopes count) p
+unfolding pass_over by_context
+scopes_passed count = record { ends = λ s h z. GoesOn _ h z refl refl }
+
+-- what comes of a scope within, in a context that stands there, and then of what follows, which begins where the scope leaves off
+sealed_ends : (c : Around) (k : Context) (level : ℕ) (h : Head) (s : State) (follow : Object → Emission) (fs gs : List Fault) (m q : SourceLocation) (o : Outcome) → s.around ≡ c → Ends (outside k) fs m o → ((x : Object) → EndsAs c (follow x) m q gs) → Ends c (fs ++ gs) q (on_sealed level h s o follow)
+sealed_ends c k level h s follow fs gs m q o z (Wide e) next = Wide (ap (λ x. on_sealed level h s x follow) e)
+sealed_ends c k level h s follow fs gs m q o z (Misses at e) next = Misses at (ap (λ x. on_sealed level h s x follow) e)
+sealed_ends c k level h s follow fs gs m q o z (Stops e at rest f g) next = Stops e at (rest ++ gs) (ap (λ x. on_sealed level h s x follow) f) (ap (λ l. l ++ gs) g)
+sealed_ends c k level h s follow fs gs m q o z (GoesOn r at y f g) next =
+    subst (λ l. Ends c (l ++ gs) q (on_sealed level h s o follow)) (sym g) (subst (λ x. Ends c gs q (on_sealed level h s x follow)) (sym f) ((next (sealed level h r)).ends (behind_child s r) at z))
+
+-- a scope within
+pub child_ends : {c : Around} {p m q : SourceLocation} {fs gs : List Fault} (within : Context → ℕ → Context) (h : Shape) (body : Emission) (follow : Object → Emission) → ((n : ℕ) → EndsAs (outside (within c.context n)) body p m fs) → ((x : Object) → EndsAs c (follow x) m q gs) → EndsAs c (child within h body follow) p q (fs ++ gs)
+unfolding child
+child_ends {c = c} {p = p} {m = m} {q = q} {fs = fs} {gs = gs} within h body follow x y = record {
+  ends = λ s at z.
+      let k = within s.around.context s.next in
+      let inner = subst (λ (d : Around). EndsAs (outside (within d.context s.next)) body p m fs) (sym z) (x s.next) in
+      sealed_ends c k k.level (code_head k h s.location) s follow fs gs m q (body (begun k s.location (suc s.next))) z (inner.ends (begun k s.location (suc s.next)) at refl) y;
+}

@@ -1,0 +1,62 @@
+-- Worked nodes and parts of nodes: a `break` outside loops is refused as its one fault, a constant has none, and a keyword and a parameter that are named `__debug__` have one each.
+use Rattle.std.proofs.Common.{◌≡◌, refl, [], ◌∷◌, Some, None, false, codes}
+use Rattle.py_tree.specs.Tree as tree
+use Rattle.py_base.specs.Literal as literal
+use Rattle.py_base.specs.declared.errors.CodegenErrorType.TheVariants as error
+use Rattle.py_base.specs.declared.location.SourceLocation.{SourceLocation}
+use Rattle.py_shapes.specs.Valid.{arguments_shapes, keywords_shapes}
+use Rattle.py_scope.specs.declared.table_type.SymbolTableType.TheVariants as kind
+use Rattle.py_emission_parts.specs.Context.{Context}
+use Rattle.py_emission_parts.specs.Emitting.{Refused, State, begun, by_loops, located, move, refuse}
+use Rattle.py_emission_parts.specs.Refused.{no_assignment}
+use Rattle.py_emission.specs.EmissionStmts.{emission_of_stmt}
+use Rattle.py_meaning.specs.ExprFaults.{expr_faults, fault_at}
+use Rattle.py_meaning.specs.Faults.{stmt_faults}
+use Rattle.py_fault_laws.specs.CallParts.{argument_faults, entry_faults}
+use Rattle.py_fault_laws.specs.Nodes.{EndsBy, in_function, in_loop, setting_in}
+use Rattle.py_fault_laws.proofs.Nodes.{statements_end}
+
+abbrev there : SourceLocation
+there = record { row = 2; column = 5 }
+
+abbrev file : Context
+file = record { level = 0; source = []; class = None; path = []; postponed = false; typ = kind.Module; scopes = []; here = 0; cells = []; frees = [] }
+
+abbrev before : State
+before = begun file (record { row = 1; column = 1 }) 1
+
+-- break
+refused : emission_of_stmt (tree.Break there) before ≡ Refused error.InvalidBreak (Some there)
+unfolding move located by_loops refuse
+refused = refl
+
+faulty : stmt_faults (setting_in before) (in_loop before) (tree.Break there) ≡ fault_at error.InvalidBreak there ∷ []
+faulty = refl
+
+-- as the law says
+told : EndsBy before (fault_at error.InvalidBreak there ∷ []) there (emission_of_stmt (tree.Break there) before)
+told = statements_end None (tree.Break there) refl before
+
+-- None
+faultless : expr_faults (in_function before) (tree.Constant there literal.None) ≡ []
+faultless = refl
+
+-- (__debug__=None), whose fault stands where the arguments begin
+abbrev keyword : tree.Keywords
+keyword = tree.more_keywords (Some (codes "__debug__")) (tree.Constant there literal.None) tree.no_keywords
+
+keyword_shaped : keywords_shapes None keyword ≡ []
+keyword_shaped = refl
+
+keyword_faulty : argument_faults false there tree.no_exprs keyword ≡ fault_at (error.SyntaxError no_assignment) there ∷ []
+keyword_faulty = refl
+
+-- (__debug__), whose fault stands where the defaults leave off
+abbrev parameter : tree.Arguments
+parameter = tree.arguments tree.no_args (tree.more_args (tree.arg there (codes "__debug__") tree.no_expr) tree.no_expr tree.no_args) tree.no_arg tree.no_args tree.no_arg
+
+parameter_shaped : arguments_shapes None parameter ≡ []
+parameter_shaped = refl
+
+parameter_faulty : entry_faults false there parameter ≡ fault_at (error.SyntaxError no_assignment) there ∷ []
+parameter_faulty = refl

@@ -1,8 +1,0 @@
-use Rattle.std.specs.Prelude.{Ok, Err}
-use Rattle.py_bytecode.specs.View.{object}
-use Rattle.py_flawless.proofs.Throughout.{flawless}
-use Rattle.py_flawless.proofs.laws.compiled_is_flawless.Goals as goal
-
-pub returns : goal.returns
-returns c (Ok code) t source m l h = flawless c.flawless_is_sound.ensures (object code) h.nested h.units h.sound
-returns c (Err e) t source m l h = tt

@@ -1,0 +1,9 @@
+pub mod ContinuationLemmas
+pub mod Places
+pub mod Turns
+pub mod Closings
+pub mod Chains
+pub mod Stars
+pub mod Otherwise
+pub mod Callings
+pub mod DefaultPlaces

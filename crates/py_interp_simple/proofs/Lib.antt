@@ -1,0 +1,5 @@
+pub mod Endings
+pub mod DecoratorLemmas
+pub mod AnnotationLemmas
+pub mod ClassCalls
+pub mod FunctionDefinitionLemmas

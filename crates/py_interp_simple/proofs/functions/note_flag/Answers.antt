@@ -1,0 +1,9 @@
+use Rattle.std.proofs.Common.{◌∙◌, sym}
+use Rattle.py_interp_exprs.proofs.Closings.{flag_none, flag_some}
+use Rattle.py_interp_simple.proofs.functions.note_flag.Goals as goal
+
+pub returns-then-is_empty : goal.returns-then-is_empty
+returns-then-is_empty c = flag_none 2 c.args.notes.now (sym c.is_empty.ensures ∙ c.if-is_empty.true)
+
+pub returns-else-is_empty : goal.returns-else-is_empty
+returns-else-is_empty c = flag_some 2 c.args.notes.now (sym c.is_empty.ensures ∙ c.if-is_empty.false)

@@ -1,0 +1,81 @@
+//! What is deleted.
+ghost use Rattle.py_tree.specs.View.{attribute_tree, expr_tree, exprs, subscript_tree};
+ghost use Rattle.py_answers.specs.Log.{world_of};
+ghost use Rattle.py_interp.specs.Acting.{remove};
+ghost use Rattle.py_interp.specs.Statements.{delete_walk, deletes_walk};
+ghost use Rattle.py_interp_simple.specs.Ends.{Ends, flow_of, goes_on};
+
+use crate::flow::Flow;
+use py_answers::{Halt, Log, Operand, Operation};
+use py_bytecode::Instruction;
+use py_interp::Around;
+use py_interp_exprs::walk_expression;
+use py_interp_values::operands::{one, two};
+use py_interp_values::operations::{bare, does_none};
+use py_tree::{Expr, ExprAttribute, ExprName, ExprSubscript};
+
+/// Deletes targets, a list or a tuple element by element.
+///
+/// # Errors
+/// What ends the run, or OutOfMemory.
+pub fn walk_delete(log: &mut Log<'_>, around: Around, targets: &[Expr]) -> Result<Flow, Halt>
+    ensures { Ends flow_of result (world_of log.new) (deletes_walk around (exprs expr_tree targets.now) (world_of log.old)) }
+{
+    delete_all(log, around, targets)?;
+    Ok(Flow::Normal)
+}
+
+#[cycle(delete)]
+fn delete_all(log: &mut Log<'_>, around: Around, targets: &[Expr]) -> Result<(), Halt>
+    ensures { Ends goes_on result (world_of log.new) (deletes_walk around (exprs expr_tree targets.now) (world_of log.old)) }
+{
+    for target in targets {
+        delete_target(log, around, target)?;
+    }
+    Ok(())
+}
+
+#[cycle(delete)]
+#[tactic(auto, using(py_tree::proofs::View::trees))]
+fn delete_target(log: &mut Log<'_>, around: Around, target: &Expr) -> Result<(), Halt>
+    ensures { Ends goes_on result (world_of log.new) (delete_walk around (expr_tree target.now) (world_of log.old)) }
+{
+    match target {
+        Expr::Name(e) => delete_name(log, e),
+        Expr::Attribute(e) => delete_attribute(log, around, e),
+        Expr::Subscript(e) => delete_subscript(log, around, e),
+        Expr::List(e) => delete_all(log, around, e.elts.as_slice()),
+        Expr::Tuple(e) => delete_all(log, around, e.elts.as_slice()),
+        _ => Ok(()),
+    }
+}
+
+fn delete_name(log: &mut Log<'_>, e: &ExprName) -> Result<(), Halt>
+    ensures { Ends goes_on result (world_of log.new) (remove e.now.id (world_of log.old)) }
+{
+    log.delete(&e.id)?;
+    Ok(())
+}
+
+fn delete_attribute(log: &mut Log<'_>, around: Around, e: &ExprAttribute) -> Result<(), Halt>
+    ensures { Ends goes_on result (world_of log.new) (delete_walk around (attribute_tree e.now) (world_of log.old)) }
+{
+    let object = walk_expression(log, around, &e.value)?;
+    let operands = one(log.alloc, object)?;
+    let operation = Operation {
+        op: Instruction::DeleteAttr,
+        operand: Operand::Named(&e.attr),
+    };
+    does_none(log, operation, operands)?;
+    Ok(())
+}
+
+fn delete_subscript(log: &mut Log<'_>, around: Around, e: &ExprSubscript) -> Result<(), Halt>
+    ensures { Ends goes_on result (world_of log.new) (delete_walk around (subscript_tree e.now) (world_of log.old)) }
+{
+    let object = walk_expression(log, around, &e.value)?;
+    let index = walk_expression(log, around, &e.slice)?;
+    let operands = two(log.alloc, object, index)?;
+    does_none(log, bare(Instruction::DeleteSubscript), operands)?;
+    Ok(())
+}

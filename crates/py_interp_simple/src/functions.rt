@@ -1,0 +1,137 @@
+//! Functions.
+ghost use Rattle.std.specs.Prelude.{◌≡◌, IfErr, IfOk};
+ghost use Rattle.py_tree.specs.View.{arguments, expr_tree, opt_box, stmt_tree, stmts, type_params};
+ghost use Rattle.py_emission.specs.Texts.{doc_of};
+ghost use Rattle.py_bytecode.specs.Values.{Fine};
+ghost use Rattle.py_answers.specs.Log.{Gets, world_of};
+ghost use Rattle.py_answers.specs.Told.{value_of, values_of};
+ghost use Rattle.py_emission_parts.specs.Within.{some_flag};
+ghost use Rattle.py_interp.specs.Acting.{document, into, make_function, store};
+ghost use Rattle.py_interp.specs.Statements.{define, note_walks};
+ghost use Rattle.py_interp.specs.Walks.{default_walks};
+ghost use Rattle.py_interp_simple.specs.Ends.{Ends, flow_of};
+ghost use Rattle.py_interp_simple.specs.Parts.{function_value};
+
+use crate::bodies::split_doc;
+use crate::decorators::{call_decorators, walk_decorators};
+use crate::flow::Flow;
+use crate::hidden::call_with_defaults;
+use crate::notes::walk_notes;
+use py_answers::{Halt, Log, Operand, Operation, StepValue};
+use py_base::Text;
+use py_bytecode::Instruction;
+use py_interp::Around;
+use py_interp_exprs::functions::fixed_name;
+use py_interp_exprs::making::{append, make};
+use py_interp_exprs::{Defaults, walk_defaults};
+use py_interp_values::constants::text;
+use py_interp_values::names::store;
+use py_interp_values::operands::{copy_value, two};
+use py_interp_values::operations::does_none;
+use py_tree::{StmtFunctionDef, Stmts};
+use std::alloc::Global;
+
+/// Defines a function.
+///
+/// # Errors
+/// What ends the run, or OutOfMemory.
+pub fn walk_function_def(
+    log: &mut Log<'_>,
+    around: Around,
+    s: &StmtFunctionDef,
+) -> Result<Flow, Halt>
+    ensures { Ends flow_of result (world_of log.new) (into (function_value around s.now) (store s.now.name) (world_of log.old)) }
+{
+    let function = walk_function(log, around, s)?;
+    store(log, &s.name, function)?;
+    Ok(Flow::Normal)
+}
+
+/// A function as it is defined, with its decorators.
+///
+/// # Errors
+/// What ends the run, or OutOfMemory.
+#[tactic(auto, using(crate::proofs::DecoratorLemmas::decorated))]
+pub fn walk_function(
+    log: &mut Log<'_>,
+    around: Around,
+    s: &StmtFunctionDef,
+) -> Result<StepValue, Halt>
+    ensures { Gets value_of result (world_of log.new) (function_value around s.now (world_of log.old)) }
+{
+    let decorators = walk_decorators(log, around, s.decorator_list.as_slice())?;
+    let function = define(log, around, s)?;
+    call_decorators(log, decorators, function)
+}
+
+// With type parameters a function is made in a hidden scope.
+fn define(log: &mut Log<'_>, around: Around, s: &StmtFunctionDef) -> Result<StepValue, Halt>
+    ensures { Gets value_of result (world_of log.new) (define around s.now.name (arguments expr_tree s.now.args.value) (stmts stmt_tree s.now.body) (opt_box expr_tree s.now.returns) (type_params s.now.type_params) (world_of log.old)) }
+{
+    if s.type_params.is_empty() {
+        return make_documented(log, around, s);
+    }
+    call_with_defaults(log, around, &s.name, &s.args)
+}
+
+#[tactic(auto, using(crate::proofs::FunctionDefinitionLemmas::documented))]
+fn make_documented(
+    log: &mut Log<'_>,
+    around: Around,
+    s: &StmtFunctionDef,
+) -> Result<StepValue, Halt>
+    ensures { Gets value_of result (world_of log.new) (document (doc_of around.level (stmts stmt_tree s.now.body)) (make_function (default_walks around (arguments expr_tree s.now.args.value)) (note_walks around (arguments expr_tree s.now.args.value) (opt_box expr_tree s.now.returns)) s.now.name) (world_of log.old)) }
+{
+    let function = make_plain(log, around, s)?;
+    let doc = doc_of(log.alloc, around.level, &s.body)?;
+    document(log, &doc, function)
+}
+
+// The docstring of a body, where it is kept.
+fn doc_of(alloc: Global, level: u8, body: &Stmts) -> Result<Option<Text>, Halt>
+    ensures ok { IfOk result (λ doc. doc ≡ doc_of level (stmts stmt_tree body.now)) }
+    ensures err { IfErr result (λ h. h ≡ Halt.OutOfMemory) }
+{
+    let (doc, _) = split_doc(alloc, level, body.as_slice())?;
+    Ok(doc)
+}
+
+// Stores a docstring to a function, where there is one.
+fn document(log: &mut Log<'_>, doc: &Option<Text>, function: StepValue) -> Result<StepValue, Halt>
+    ensures { Gets value_of result (world_of log.new) (document doc.now (λ w. Fine (value_of function) w) (world_of log.old)) }
+{
+    let Some(doc) = doc else {
+        return Ok(function);
+    };
+    let kept = copy_value(log.alloc, &function)?;
+    let name = fixed_name(log.alloc, "__doc__")?;
+    let operation = Operation {
+        op: Instruction::StoreAttr,
+        operand: Operand::Named(&name),
+    };
+    let operands = two(log.alloc, text(log.alloc, doc)?, function)?;
+    does_none(log, operation, operands)?;
+    Ok(kept)
+}
+
+// A function of its defaults and its annotations.
+fn make_plain(log: &mut Log<'_>, around: Around, s: &StmtFunctionDef) -> Result<StepValue, Halt>
+    ensures { Gets value_of result (world_of log.new) (make_function (default_walks around (arguments expr_tree s.now.args.value)) (note_walks around (arguments expr_tree s.now.args.value) (opt_box expr_tree s.now.returns)) s.now.name (world_of log.old)) }
+{
+    let defaults = walk_defaults(log, around, &s.args)?;
+    let notes = walk_notes(log, around, &s.args, &s.returns)?;
+    let flags = defaults.flags() + note_flag(notes.as_slice());
+    let Defaults {
+        positional: mut parts,
+        keyword,
+    } = defaults;
+    append(&mut parts, keyword)?;
+    make(log, flags, parts, notes, &s.name)
+}
+
+// The flag of a function that has annotations.
+fn note_flag(notes: &[StepValue]) -> u32
+    ensures { result ≡ some_flag 2 (values_of notes.now) }
+{
+    if notes.is_empty() { 0 } else { 2 }
+}

@@ -1,0 +1,96 @@
+//! The hidden scopes of type parameters.
+ghost use Rattle.std.specs.Prelude.{[], ◌∷◌, ◌++◌, ◌+◌, ◌≡◌, length, IfErr, IfOk};
+ghost use Rattle.py_bytecode.specs.declared.instruction.Instruction.TheVariants as op;
+ghost use Rattle.py_emission_parts.specs.TableParts.{counted};
+ghost use Rattle.py_tree.specs.View.{arguments, expr_tree};
+ghost use Rattle.py_emission_parts.specs.Within.{hidden_name};
+ghost use Rattle.py_answers.specs.Log.{Gets, world_of};
+ghost use Rattle.py_answers.specs.Told.{value_of, values_of};
+ghost use Rattle.py_interp.specs.Acting.{call_hidden, no_defaults};
+ghost use Rattle.py_interp.specs.Doing.{does, make};
+ghost use Rattle.py_interp.specs.Walks.{default_walks};
+
+use py_answers::{Halt, Log, StepValue};
+use py_base::Text;
+use py_bytecode::Instruction;
+use py_interp::Around;
+use py_interp_exprs::making::{append, make};
+use py_interp_exprs::{Defaults, walk_defaults};
+use py_interp_values::operands::one;
+use py_interp_values::operations::{counted, does, does_one, numbered};
+use py_tree::Arguments;
+use std::alloc::{AllocError, Global};
+
+/// Makes the function of a hidden scope, and calls it with no defaults.
+///
+/// # Errors
+/// What ends the run, or OutOfMemory.
+pub(crate) fn call_bare(log: &mut Log<'_>, name: &Text) -> Result<StepValue, Halt>
+    ensures { Gets value_of result (world_of log.new) (call_hidden name.now no_defaults (world_of log.old)) }
+{
+    let function = make_hidden(log, name)?;
+    let operation = numbered(Instruction::CallFunctionPositional, 0);
+    does_one(log, operation, function)
+}
+
+/// Makes the function of a hidden scope, and calls it with the defaults of parameters.
+///
+/// # Errors
+/// What ends the run, or OutOfMemory.
+pub(crate) fn call_with_defaults(
+    log: &mut Log<'_>,
+    around: Around,
+    name: &Text,
+    params: &Arguments,
+) -> Result<StepValue, Halt>
+    ensures { Gets value_of result (world_of log.new) (call_hidden name.now (default_walks around (arguments expr_tree params.now)) (world_of log.old)) }
+{
+    let function = make_hidden(log, name)?;
+    let defaults = walk_defaults(log, around, params)?;
+    call_with(log, function, defaults)
+}
+
+// Calls a function with defaults.
+fn call_with(log: &mut Log<'_>, function: StepValue, defaults: Defaults) -> Result<StepValue, Halt>
+    ensures { let p = values_of defaults.positional.items in let q = values_of defaults.keyword.items in Gets value_of result (world_of log.new) (does (counted op.CallFunctionPositional (length p + length q)) (value_of function ∷ (p ++ q)) (world_of log.old)) }
+{
+    let Defaults {
+        positional: mut parts,
+        keyword,
+    } = defaults;
+    append(&mut parts, keyword)?;
+    let operation = counted(Instruction::CallFunctionPositional, parts.len())?;
+    let mut operands = one(log.alloc, function)?;
+    append(&mut operands, parts)?;
+    does(log, operation, operands)
+}
+
+// Makes the function of the hidden scope around what has this name.
+fn make_hidden(log: &mut Log<'_>, name: &Text) -> Result<StepValue, Halt>
+    ensures { Gets value_of result (world_of log.new) (make 0 [] [] (hidden_name name.now) (world_of log.old)) }
+{
+    let full = hidden_text(log.alloc, name.as_str())?;
+    make(log, 0, Vec::new(log.alloc), Vec::new(log.alloc), &full)
+}
+
+// The name of the hidden scope around what has this name.
+fn hidden_text(alloc: Global, name: &str) -> Result<Text, Halt>
+    ensures ok { IfOk result (λ full. full ≡ hidden_name name.now) }
+    ensures err { IfErr result (λ h. h ≡ Halt.OutOfMemory) }
+{
+    match hidden_name(alloc, name) {
+        Ok(full) => Ok(full),
+        Err(_) => Err(Halt::OutOfMemory),
+    }
+}
+
+#[tactic(auto, using(crate::proofs::FunctionDefinitionLemmas::name_within))]
+fn hidden_name(alloc: Global, name: &str) -> Result<Text, AllocError>
+    ensures { IfOk result (λ full. full ≡ hidden_name name.now) }
+{
+    let mut full = String::new(alloc);
+    full.push_str("<generic parameters of ")?;
+    full.push_str(name)?;
+    full.push_str(">")?;
+    Ok(Text::from_string(full))
+}

@@ -1,0 +1,25 @@
+-- Statements at a prompt.
+use Rattle.std.specs.Prelude.{Bool, true, false, Option, Some, None}
+use Rattle.py_tree.specs.Tree as tree
+use Rattle.py_bytecode.specs.Values.{World, Ended, then_do}
+use Rattle.py_answers.specs.Told.{Known}
+use Rattle.py_interp.specs.declared.around.Around.{Around}
+use Rattle.py_interp.specs.Acting.{Acting}
+use Rattle.py_interp.specs.Statements.{prompt_walk, single_walk}
+use Rattle.py_interp_simple.specs.declared.flow.Flow.{Flow}
+use Rattle.py_interp_simple.specs.Ends.{flow_of}
+use Rattle.py_interp_stmts.specs.declared.prompts.Prompt.{Prompt}
+
+-- the value of a statement that is nothing else
+abbrev pub value_in : tree.Stmt → Option tree.Expr
+value_in (tree.StmtExpr at value) = Some value
+value_in other = None
+
+-- future imports may stand among them, or not any more
+abbrev pub prompted : (opening : Bool) → Around → tree.Stmts → Acting
+prompted true a ss w = prompt_walk a ss w
+prompted false a ss w = single_walk a ss w
+
+-- others follow a statement
+abbrev pub followed : Prompt → tree.Stmts → Flow → World Known → Ended Known
+followed p ss f w = then_do (flow_of f w) (prompted p.opening p.around ss)

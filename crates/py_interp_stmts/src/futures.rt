@@ -1,0 +1,87 @@
+//! Imports from the future, which stand before all other statements.
+ghost use Rattle.std.specs.Prelude.{◌≡◌, ◌≤◌, ◌<◌, Some, None, drop, get_or, length, IfNone, IfOk, IfSome};
+ghost use Rattle.py_emission.specs.Futures.{future_of};
+ghost use Rattle.py_tree.specs.Tree as tree;
+ghost use Rattle.py_tree.specs.View.{stmt_tree, stmts};
+ghost use Rattle.py_tree.specs.declared.statements.Stmt.{Stmt as Stmt1};
+ghost use Rattle.py_bytecode.specs.Values.{World};
+ghost use Rattle.py_answers.specs.Log.{world_of};
+ghost use Rattle.py_answers.specs.Told.{Known};
+ghost use Rattle.py_interp.specs.declared.around.Around.{Around as Around1};
+ghost use Rattle.py_interp.specs.Acting.{Acting};
+ghost use Rattle.py_interp.specs.Statements.{after_future, behind_futures};
+ghost use Rattle.py_interp_simple.specs.Ends.{Ends};
+ghost use Rattle.py_interp_stmts.specs.Opened.{future, opened};
+
+use py_answers::{Halt, Log};
+use py_interp::Around;
+use py_interp_simple::import_names;
+use py_name_uses::names::{is_future, names_annotations};
+use py_tree::{Stmt, StmtImportFrom};
+
+/// What stands around the statements behind future imports, and how many stand before them.
+#[derive(Clone, Copy)]
+pub struct Opening {
+    pub around: Around,
+    pub count: usize,
+}
+
+/// Walks the future imports that stand before all other statements.
+///
+/// # Errors
+/// What ends the run, or OutOfMemory.
+pub(crate) fn walk_futures(
+    log: &mut Log<'_>,
+    around: Around,
+    body: &[Stmt],
+) -> Result<Opening, Halt>
+    ensures opens { (follow : Around1 → tree.Stmts → Acting) → Ends (opened follow body.now) result (world_of log.new) (behind_futures follow around (stmts stmt_tree body.now) (world_of log.old)) }
+    ensures within { IfOk result (λ o. o.count ≤ length body.now) }
+{
+    let mut around = around;
+    let mut count = 0;
+    while let Some(s) = future_at(body, count) {
+        import_names(log, s)?;
+        around = after_future(around, s);
+        count += 1;
+    }
+    Ok(Opening { around, count })
+}
+
+/// What stands around the statements behind a future import.
+pub(crate) fn after_future(around: Around, s: &StmtImportFrom) -> Around
+    ensures { result ≡ after_future (future s.now) around }
+{
+    if names_annotations(s.names.as_slice()) {
+        return Around {
+            level: around.level,
+            postponed: true,
+        };
+    }
+    around
+}
+
+// The future import at a place.
+fn future_at(body: &[Stmt], place: usize) -> Option<&StmtImportFrom>
+    requires { place ≤ length body.now }
+    ensures none { IfNone result ((follow : Around1 → tree.Stmts → Acting) (around : Around1) (w : World Known) → behind_futures follow around (stmts stmt_tree (drop place body.now)) w ≡ follow around (stmts stmt_tree (drop place body.now)) w) }
+    ensures within { IfSome result (λ s. place < length body.now) }
+    ensures is { IfSome result (λ s. (d : Stmt1) → future_of (stmt_tree (get_or body.now place d)) ≡ Some (future s.now)) }
+{
+    if place == body.len() {
+        return None;
+    }
+    as_future(&body[place])
+}
+
+/// A statement as a future import, where it is one.
+#[tactic(auto, using(py_tree::proofs::View::trees))]
+pub(crate) fn as_future(statement: &Stmt) -> Option<&StmtImportFrom>
+    ensures none { IfNone result (future_of (stmt_tree statement.now) ≡ None) }
+    ensures is { IfSome result (λ s. future_of (stmt_tree statement.now) ≡ Some (future s.now)) }
+{
+    match statement {
+        Stmt::ImportFrom(s) if is_future(&s.module) => Some(s),
+        _ => None,
+    }
+}

@@ -1,0 +1,108 @@
+//! Loops. A turn takes an answer, so there are no more turns than answers are left, and one in which none is.
+ghost use Rattle.std.specs.Prelude.{suc, length};
+ghost use Rattle.py_tree.specs.View.{expr_tree, for_tree, stmt_tree, stmts, while_tree};
+ghost use Rattle.py_bytecode.specs.Values.{Given, next_of};
+ghost use Rattle.py_control.specs.Form.{assigned, rounds};
+ghost use Rattle.py_answers.specs.Log.{Gets, next_given, world_of};
+ghost use Rattle.py_answers.specs.Told.{value_of};
+ghost use Rattle.py_interp.specs.Statements.{stmt_walk, stmts_walk};
+ghost use Rattle.py_interp.specs.Walks.{walk_target};
+ghost use Rattle.py_interp_simple.specs.Ends.{Ends, flow_of, slot_of};
+
+use crate::statements::walk_statements;
+use py_answers::{Halt, Log, StepValue};
+use py_bytecode::Instruction;
+use py_interp::Around;
+use py_interp_exprs::{walk_expression, walk_target, walk_test};
+use py_interp_simple::Flow;
+use py_interp_values::operands::copy_value;
+use py_interp_values::operations::{bare, does_one};
+use py_tree::{StmtFor, StmtWhile};
+
+/// Walks a body while a test holds, and then an else part.
+#[cycle(walk)]
+pub(crate) fn walk_while(
+    log: &mut Log<'_>,
+    around: Around,
+    s: &StmtWhile,
+    slot: Option<u32>,
+) -> Result<Flow, Halt>
+    ensures { Ends flow_of result (world_of log.new) (stmt_walk around (while_tree s.now) (slot_of slot) (world_of log.old)) }
+{
+    let mut left = log.answers.len() + 1;
+    while left > 0 {
+        left -= 1;
+        if !walk_test(log, around, &s.test)? {
+            return walk_statements(log, around, s.orelse.as_slice(), slot);
+        }
+        let flow = walk_statements(log, around, s.body.as_slice(), slot)?;
+        if !flow.goes_again() {
+            return Ok(flow.after_loop());
+        }
+    }
+    Err(Halt::Stopped)
+}
+
+/// Walks a body for each value of an iterator, and then an else part.
+#[cycle(walk)]
+pub(crate) fn walk_for(
+    log: &mut Log<'_>,
+    around: Around,
+    s: &StmtFor,
+    slot: Option<u32>,
+) -> Result<Flow, Halt>
+    ensures { Ends flow_of result (world_of log.new) (stmt_walk around (for_tree s.now) (slot_of slot) (world_of log.old)) }
+{
+    let value = walk_expression(log, around, &s.iter)?;
+    let iterator = does_one(log, bare(Instruction::GetIter), value)?;
+    walk_rounds(log, around, s, &iterator, slot)
+}
+
+// Asks an iterator for one value after the other, and walks a body for each; and then an else part.
+#[cycle(walk)]
+fn walk_rounds(
+    log: &mut Log<'_>,
+    around: Around,
+    s: &StmtFor,
+    iterator: &StepValue,
+    slot: Option<u32>,
+) -> Result<Flow, Halt>
+    ensures { Ends flow_of result (world_of log.new) (rounds (suc (length (world_of log.old).answers)) (value_of iterator.now) (assigned (walk_target around (expr_tree s.now.target.value)) (stmts_walk around (stmts stmt_tree s.now.body) (slot_of slot))) (stmts_walk around (stmts stmt_tree s.now.orelse) (slot_of slot)) (world_of log.old)) }
+{
+    let mut left = log.answers.len() + 1;
+    while left > 0 {
+        left -= 1;
+        let Some(answer) = next(log, iterator)? else {
+            return walk_statements(log, around, s.orelse.as_slice(), slot);
+        };
+        let flow = walk_round(log, around, s, answer, slot)?;
+        if !flow.goes_again() {
+            return Ok(flow.after_loop());
+        }
+    }
+    Err(Halt::Stopped)
+}
+
+// The next value of an iterator, by the number of its answer.
+fn next(log: &mut Log<'_>, iterator: &StepValue) -> Result<Option<u32>, Halt>
+    ensures { Gets next_given result (world_of log.new) (next_of (value_of iterator.now) (world_of log.old)) }
+{
+    let copied = copy_value(log.alloc, iterator)?;
+    log.next(copied)
+}
+
+// A turn: the value is given to the target, and the body is walked.
+#[cycle(walk)]
+fn walk_round(
+    log: &mut Log<'_>,
+    around: Around,
+    s: &StmtFor,
+    answer: u32,
+    slot: Option<u32>,
+) -> Result<Flow, Halt>
+    ensures { Ends flow_of result (world_of log.new) (assigned (walk_target around (expr_tree s.now.target.value)) (stmts_walk around (stmts stmt_tree s.now.body) (slot_of slot)) (Given answer 0) (world_of log.old)) }
+{
+    let value = StepValue::Given { answer, index: 0 };
+    walk_target(log, around, &s.target, value)?;
+    walk_statements(log, around, s.body.as_slice(), slot)
+}

@@ -1,0 +1,110 @@
+//! What is entered at a prompt: each value is printed.
+ghost use Rattle.std.specs.Prelude.{◌≡◌, Some, None, IfNone, IfSome};
+ghost use Rattle.py_emission.specs.Predicates.{none as no_statement};
+ghost use Rattle.py_tree.specs.Tree as tree;
+ghost use Rattle.py_tree.specs.View.{expr_tree, stmt_tree, stmts};
+ghost use Rattle.py_answers.specs.Log.{Gets, world_of};
+ghost use Rattle.py_answers.specs.Told.{value_of};
+ghost use Rattle.py_bytecode.specs.Values.{then_do};
+ghost use Rattle.py_interp.specs.Acting.{Acting};
+ghost use Rattle.py_interp.specs.Statements.{print, printed, prompt_walk};
+ghost use Rattle.py_interp.specs.Walks.{walk_expr};
+ghost use Rattle.py_interp_simple.specs.Ends.{Ends, flow_of};
+ghost use Rattle.py_interp_stmts.specs.Prompted.{followed, prompted, value_in};
+
+use crate::futures::{after_future, as_future};
+use crate::statements::walk_statement;
+use py_answers::{Halt, Log, StepValue};
+use py_bytecode::Instruction;
+use py_interp::Around;
+use py_interp_exprs::walk_expression;
+use py_interp_simple::{Flow, import_names};
+use py_interp_values::constants::none;
+use py_interp_values::operands::{copy_value, one};
+use py_interp_values::operations::{bare, does_none};
+use py_tree::{Expr, Stmt};
+
+/// What stands around the next statement, and whether future imports may still stand there.
+#[derive(Clone, Copy)]
+pub struct Prompt {
+    pub around: Around,
+    pub opening: bool,
+}
+
+/// Walks statements at a prompt. The value of the last is returned, where it is an expression.
+///
+/// # Errors
+/// What ends the run, or OutOfMemory.
+pub(crate) fn walk_prompt(log: &mut Log<'_>, around: Around, body: &[Stmt]) -> Result<Flow, Halt>
+    ensures { Ends flow_of result (world_of log.new) (prompt_walk around (stmts stmt_tree body.now) (world_of log.old)) }
+{
+    let mut prompt = Prompt {
+        around,
+        opening: true,
+    };
+    let mut left = body;
+    while let Some((statement, rest)) = left.split_first() {
+        let flow = walk_entered(log, &mut prompt, statement, rest.is_empty())?;
+        if !flow.is_normal() {
+            return Ok(flow);
+        }
+        left = rest;
+    }
+    Ok(Flow::Return(none()))
+}
+
+// Walks a statement at a prompt, which may be the last.
+fn walk_entered(
+    log: &mut Log<'_>,
+    prompt: &mut Prompt,
+    statement: &Stmt,
+    last: bool,
+) -> Result<Flow, Halt>
+    ensures { (ss : tree.Stmts) → no_statement ss ≡ last → Ends (followed prompt.new ss) result (world_of log.new) (prompted prompt.old.opening prompt.old.around (tree.more_stmts (stmt_tree statement.now) ss) (world_of log.old)) }
+{
+    if let Some(value) = value_in(statement) {
+        return walk_printed(log, prompt.around, value, last);
+    }
+    if prompt.opening {
+        if let Some(s) = as_future(statement) {
+            import_names(log, s)?;
+            prompt.around = after_future(prompt.around, s);
+            return Ok(Flow::Normal);
+        }
+    }
+    prompt.opening = false;
+    walk_statement(log, prompt.around, statement, None)
+}
+
+// The value of a statement that is nothing else.
+#[tactic(auto, using(py_tree::proofs::View::trees))]
+fn value_in(statement: &Stmt) -> Option<&Expr>
+    ensures none { IfNone result (value_in (stmt_tree statement.now) ≡ None) }
+    ensures is { IfSome result (λ e. value_in (stmt_tree statement.now) ≡ Some (expr_tree e.now)) }
+{
+    match statement {
+        Stmt::Expr(s) => Some(&s.value),
+        _ => None,
+    }
+}
+
+// Prints a value, and returns the last.
+fn walk_printed(log: &mut Log<'_>, around: Around, value: &Expr, last: bool) -> Result<Flow, Halt>
+    ensures { (rest : Acting) → Ends (λ f w. then_do (flow_of f w) rest) result (world_of log.new) (printed last (walk_expr around (expr_tree value.now)) rest (world_of log.old)) }
+{
+    let value = walk_expression(log, around, value)?;
+    if !last {
+        print(log, value)?;
+        return Ok(Flow::Normal);
+    }
+    let kept = copy_value(log.alloc, &value)?;
+    print(log, value)?;
+    Ok(Flow::Return(kept))
+}
+
+fn print(log: &mut Log<'_>, value: StepValue) -> Result<(), Halt>
+    ensures { Gets (λ u. u) result (world_of log.new) (print (value_of value) (world_of log.old)) }
+{
+    let operands = one(log.alloc, value)?;
+    does_none(log, bare(Instruction::PrintExpr), operands)
+}

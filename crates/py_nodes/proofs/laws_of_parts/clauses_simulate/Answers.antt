@@ -1,5 +1,0 @@
-use Rattle.py_nodes.proofs.Parts.{gathers_simulate, yields_simulate}
-use Rattle.py_nodes.proofs.laws_of_parts.clauses_simulate.Goals as goal
-
-pub returns : goal.returns
-returns c = record { gathering = gathers_simulate; yielding = yields_simulate }

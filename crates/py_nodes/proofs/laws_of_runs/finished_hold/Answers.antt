@@ -1,5 +1,0 @@
-use Rattle.py_nodes.proofs.Calls.{finished_hold}
-use Rattle.py_nodes.proofs.laws_of_runs.finished_hold.Goals as goal
-
-pub returns : goal.returns
-returns c = finished_hold

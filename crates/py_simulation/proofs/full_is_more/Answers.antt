@@ -1,5 +1,0 @@
-use Rattle.py_simulation.proofs.CodeObjects.{full_is_more}
-use Rattle.py_simulation.proofs.full_is_more.Goals as goal
-
-pub returns : goal.returns
-returns c = full_is_more

@@ -1,9 +1,0 @@
-pub mod Like
-pub mod Moves
-pub mod Steady
-pub mod Seats
-pub mod Refusals
-pub mod CodesAreSound
-pub mod Flat
-pub mod Standing
-pub mod Blocks

@@ -1,0 +1,4 @@
+pub mod Firsts
+pub mod Preorder
+pub mod ScopeOrderLemmas
+pub mod EnteredScopeLemmas

@@ -1,6 +1,0 @@
-use Rattle.std.proofs.Common.{◌≡◌, Option, None, replicate}
-use Rattle.py_units.specs.declared.reading.UnitRead.{UnitRead}
-use Rattle.py_units.proofs.reading.nothing_read.Given as goal
-
-abbrev pub invariant-loop : goal.invariant-loop
-invariant-loop l = let none : Option UnitRead = None in l.reads.items ≡ replicate l.counter none

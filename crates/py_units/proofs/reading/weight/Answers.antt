@@ -1,6 +1,0 @@
-use Rattle.std.proofs.Common.{sym}
-use Rattle.py_units.proofs.Prefixes.{four_more}
-use Rattle.py_units.proofs.reading.weight.Goals as goal
-
-pub returns-then-count-ge4-clause-counts : goal.returns-then-count-ge4-clause-counts
-returns-then-count-ge4-clause-counts c = sym (four_more c.args.count c.if-count-ge4.true)

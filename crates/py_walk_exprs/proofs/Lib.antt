@@ -1,9 +1,0 @@
-pub mod Following
-pub mod Places
-pub mod Turns
-pub mod Closings
-pub mod Chains
-pub mod Stars
-pub mod Otherwise
-pub mod Callings
-pub mod DefaultPlaces

@@ -1,7 +1,0 @@
-use Rattle.std.proofs.Common.{ap, ◌∙◌}
-use Rattle.py_script.specs.Told.{values_of}
-use Rattle.py_walk_values.proofs.Lengths.{behind}
-use Rattle.py_walk_exprs.proofs.making.append.Goals as goal
-
-pub returns-in-Ok-clause-ok : goal.returns-in-Ok-clause-ok
-returns-in-Ok-clause-ok c = ap values_of c.in-Ok.ensures.items ∙ behind c.args.values.now.items c.args.others.items

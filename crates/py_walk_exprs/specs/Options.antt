@@ -1,9 +1,0 @@
--- A value that may be missing, as it is told.
-use Rattle.std.specs.Prelude.{Option, Some, None}
-use Rattle.py_bytecode.specs.Values.{Value}
-use Rattle.py_script.specs.declared.trace.StepValue.{StepValue}
-use Rattle.py_script.specs.Told.{Known, value_of}
-
-abbrev pub told_option : Option StepValue → Option (Value Known)
-told_option None = None
-told_option (Some x) = Some (value_of x)

@@ -1,7 +1,0 @@
-use Rattle.std.proofs.Common.{◌≡◌, drop}
-use Rattle.py_script.specs.Log.{world_of}
-use Rattle.py_walk.specs.Acting.{import_all}
-use Rattle.py_walk_simple.proofs.imports.import_all.Given as goal
-
-abbrev pub invariant-loop-alias : goal.invariant-loop-alias
-invariant-loop-alias l = import_all l.names (world_of l.initial.log) ≡ import_all (drop l.alias-index l.names) (world_of l.log)

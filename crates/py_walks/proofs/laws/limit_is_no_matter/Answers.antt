@@ -1,5 +1,0 @@
-use Rattle.py_walks.proofs.Codes.{no_limit}
-use Rattle.py_walks.proofs.laws.limit_is_no_matter.Goals as goal
-
-pub returns : goal.returns
-returns c = no_limit

@@ -1,6 +1,0 @@
-use Rattle.std.proofs.Common.{drop}
-use Rattle.py_walks.specs.Known.{Torn}
-use Rattle.py_walks.proofs.shape.is_torn.Given as goal
-
-abbrev pub invariant-loop-mark : goal.invariant-loop-mark
-invariant-loop-mark l = record { there : Torn l.shape → Torn (drop l.mark-index l.shape); back : Torn (drop l.mark-index l.shape) → Torn l.shape }
