@@ -1,0 +1,4 @@
+pub mod Among
+pub mod Dues
+pub mod Runs
+pub mod Words
