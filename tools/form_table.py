@@ -1,0 +1,108 @@
+"""Writes the table of files of code and their faults of form crates/py_well_formed_vectors/src/table.rt.
+
+usage: form_table.py
+
+The text on standard output is the file, before `rt fmt`. Each code is put together here field by field, and what is said
+of it is written by hand: the places among constants that lead to the code, the unit, and the kind.
+"""
+import argparse
+import pathlib
+import sys
+
+sys.path.insert(0, str(pathlib.Path(__file__).resolve().parent / "model"))
+import code_files
+import instr
+
+OPCODES = {row[0]: number for number, row in enumerate(instr._ROWS)}
+
+
+def code(flags=33, counts=(0, 0, 0), units="", constants=(), varnames="", cells="", free="", cell2arg=None, locations=None):
+    """A code; units are words, as `LoadFast 0`, and names are letters."""
+    words = units.split()
+    made = [(OPCODES[op], int(arg)) for op, arg in zip(words[::2], words[1::2])]
+    return dict(
+        flags=flags, counts=counts, path="m.py", line=1, name="f", depth=9, units=made,
+        locations=[(1, 1)] * (len(made) if locations is None else locations), constants=list(constants), names=[],
+        varnames=list(varnames), cellvars=list(cells), freevars=list(free), cell2arg=cell2arg,
+    )
+
+
+MAKING = "LoadClosure 0 BuildTuple 1 ExtendedArg 0 LoadConst 0 LoadConst 1 MakeFunction {} StoreFast 1 LoadFast 1 ReturnValue 0"
+LOAD_FREE = "LoadDeref 0 ReturnValue 0"
+
+
+def inner(**fields):
+    """The code of `def g(): return a`, where `a` is free."""
+    return code(**{"units": LOAD_FREE, "free": "a", **fields})
+
+
+def outer(made=None, making=1, **fields):
+    """The code of `def f(a): def g(): return a` with `return g`."""
+    constants = [inner() if made is None else made, "f.<locals>.g"]
+    plain = dict(counts=(0, 1, 0), units=MAKING.format(making), constants=constants, varnames="ag", cells="a", cell2arg=[0])
+    return code(**{**plain, **fields})
+
+
+def module(function, **fields):
+    """The code of a file that holds one function."""
+    return code(**{"flags": 1, "units": "LoadConst 0 LoadConst 1 MakeFunction 0 Pop 0 ReturnConst 2", "constants": [function, "f", None], **fields})
+
+
+ROWS = [
+    # well formed
+    (module(outer()), "None"),
+    (module(outer(flags=35)), "None"),
+    (module(inner(free="", units="ReturnConst 0", constants=[None])), "None"),
+    (module(outer(flags=43, varnames="agr", counts=(1, 1, 1))), "None"),
+    (module(outer(cell2arg=[-1])), "None"),
+    (module(outer(cell2arg=None)), "None"),
+    (module(code(flags=35, units="LoadConst 0 YieldValue 0 ReturnValue 0", constants=[None])), "None"),
+    # of parameters and locations
+    (module(outer(counts=(0, 7, 0))), "0:-:FewLocals"),
+    (module(outer(counts=(0, 1, 1), flags=41)), "0:-:FewLocals"),
+    (module(outer(counts=(2, 1, 0))), "0:-:PositionalOnly"),
+    (module(outer(), locations=0), ":-:Locations"),
+    (module(outer(inner(locations=3))), "00:-:Locations"),
+    # of cells and free names
+    (module(outer(cell2arg=[99])), "0:-:CellEntry"),
+    (module(outer(cell2arg=[-2])), "0:-:CellEntry"),
+    (module(outer(cell2arg=[1])), "0:-:CellEntry"),
+    (module(outer(cell2arg=[0, 1, 1])), "0:-:CellEntries"),
+    (module(outer(cells="bab", cell2arg=None)), "0:-:RepeatedCell"),
+    (module(inner(free="aba")), ":2:NoClosure"),
+    (inner(free="aba"), ":-:RepeatedFree"),
+    (module(outer(cells="ba", free="a", cell2arg=None)), ":2:NoClosure"),
+    (outer(cells="ba", free="a", cell2arg=None), ":-:CellIsFree"),
+    # of units
+    (module(outer(flags=0)), "0:6:QuickLocal"),
+    (module(outer(inner(flags=0))), "None"),
+    (module(code(units="LoadConst 0 YieldValue 0 ReturnValue 0", constants=[None])), "0:1:Yield"),
+    (module(code(units="LoadConst 0 LoadConst 0 YieldFrom 0 ReturnValue 0", constants=[None])), "0:2:Yield"),
+    (module(5), ":2:MadeOfNoCode"),
+    (module(outer(), units="LoadConst 0 LoadConst 2 MakeFunction 0 Pop 0 ReturnConst 2"), ":2:MadeOfNoCode"),
+    (module(outer(), units="MakeFunction 0"), ":0:MadeOfNoCode"),
+    (module(outer(inner(free=["a", "zz"]))), "0:5:Closure"),
+    (module(outer(making=0)), "0:5:NoClosure"),
+    (module(outer(making=2)), "0:5:NoClosure"),
+    (module(outer(units=MAKING.format(1).replace("LoadClosure 0", "LoadClosure 1"))), "0:5:Closure"),
+    (module(outer(units=MAKING.format(1).replace("LoadClosure", "LoadFast"))), "0:5:Closure"),
+    (module(outer(units=MAKING.format(1)[len("LoadClosure 0 "):])), "0:4:Closure"),
+    (module(outer(units=MAKING.format(1).replace("BuildTuple", "BuildList"))), "0:5:Closure"),
+    # the first of several
+    (module(outer(inner(flags=0, counts=(0, 1, 0)), flags=0)), "0:6:QuickLocal"),
+    (module(outer(counts=(2, 1, 9))), "0:-:PositionalOnly"),
+]
+
+
+def main():
+    argparse.ArgumentParser(description=__doc__, formatter_class=argparse.RawDescriptionHelpFormatter).parse_args()
+    print("//! Files of code, and the first fault of form in each. The file is made by tools/form_table.py.\n")
+    print("/// For each file its bytes, and what is the first fault: the places among constants, the unit, and the kind.")
+    print('pub const FILES: &str = "\\')
+    for made, said in ROWS:
+        print(f"    {(code_files.MAGIC + code_files.code(made)).hex()} {said}\\n\\")
+    print('    ";')
+
+
+if __name__ == "__main__":
+    main()
