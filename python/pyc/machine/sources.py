@@ -16,6 +16,7 @@ from .. import codefile, listing, program, rows
 from ..code_object import Code
 from ..errors import INPUT, READ, Error, Failed, Refused
 from ..refusals import refusal
+from ..verified import verified_code
 from . import bodies, literals, mains, translation
 from .kept import Kept
 
@@ -54,9 +55,7 @@ class Compiler:
         """The code of a file of code, which the program verifies first."""
         if self.program is None:
             raise Failed("%s: a file of code is verified by the program, which --model does without\n" % name, READ)
-        status, _, said = program.call(self.program, ["unpack"], data, subprocess.DEVNULL)
-        program.check(status, said, name, b"", None, False)
-        return codefile.read(data)
+        return verified_code(data, name, self.program)
 
     def compiled(self, data: bytes, path: str, mode: str, name: str) -> Code:
         """The code object of the bytes of a source."""
