@@ -23,7 +23,7 @@ FILE = re.compile(r"`((?:crates|docs|tools|python|bindings|conformance|examples)
 PAGE = re.compile(r"`([A-Z_]+\.md)`")
 LEMMA = re.compile(r"^### .*\n\n`(crates/[^`]+)`\n\n((?:    .*\n|\n)+)", re.M)
 # What is there once something was built or run, and a name that stands for any.
-MADE = re.compile(r"/out/|^docs/RELEASE\.md$|/NAME\b")
+MADE = re.compile(r"/out\b|^docs/RELEASE\.md$|/NAME\b")
 
 
 def write(folder, name, text):
