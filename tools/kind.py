@@ -15,9 +15,11 @@ from typing import Dict, Iterator, List
 
 import build
 
-SELF = pathlib.Path(__file__).resolve()
-TOP = SELF.parent.parent
+TOP = pathlib.Path(__file__).resolve().parent.parent
 FOLDERS = ("src", "specs", "proofs")
+
+# What names kinds as examples.
+EXAMPLES = ("tools/kind.py", "tools/test_documents.py", "docs/ARCHITECTURE.md")
 
 # What is left out of a source of Rattle and of a file of definitions or proofs: imports and comments.
 LEFT_OUT = {
@@ -47,7 +49,8 @@ def arms(kind: str, crate: pathlib.Path) -> Iterator[pathlib.Path]:
 def beside(kind: str, top: pathlib.Path) -> List[pathlib.Path]:
     """The files outside of crates/ that name a kind."""
     found = [*top.glob("python/**/*.py"), *top.glob("tools/**/*.py"), *top.glob("tools/cargo/**/*.rs"), *top.glob("docs/*.md")]
-    return sorted(path for path in found if path != SELF and names(kind, path.read_text(encoding="utf-8")))
+    places = [path for path in found if path.relative_to(top).as_posix() not in EXAMPLES]
+    return sorted(path for path in places if names(kind, path.read_text(encoding="utf-8")))
 
 
 def lines(kind: str, top: pathlib.Path) -> Iterator[str]:
