@@ -1,11 +1,12 @@
 #!/usr/bin/env python3
-"""Prints the files that have an arm for a kind of node, so the places where a new kind like it goes.
+"""Prints the files that have an arm for a kind of node or for an instruction, so the places where a new one like it goes.
 
 usage: kind.py KIND
 
-KIND is the name of a kind, as IfExp, While or TypeAlias. A file of crates/ has an arm for it where its text names the kind,
-or the struct of its fields, outside of imports and comments. Crates stand in the order of crates.txt. Behind them come the
-files of Python, of the Cargo workspace and of the documents that name the kind, and in the end how many there are of each.
+KIND is the name of a kind of node, as IfExp, While or TypeAlias, or of an instruction, as GetIter. A file of crates/ has an
+arm for it where its text names the kind, or the struct of its fields, outside of imports and comments. Crates stand in the
+order of crates.txt. Behind them come the files of Python, of the Cargo workspace and of the documents that name the kind,
+and in the end how many there are of each.
 """
 import argparse
 import pathlib
@@ -35,7 +36,8 @@ def names(kind: str, text: str) -> bool:
 
 def has_arm(kind: str, path: pathlib.Path) -> bool:
     """Whether a file of Rattle, of definitions or of proofs names a kind outside of imports and comments."""
-    return names(kind, LEFT_OUT[path.suffix].sub("", path.read_text(encoding="utf-8")))
+    text = path.read_text(encoding="utf-8")
+    return kind in text and names(kind, LEFT_OUT[path.suffix].sub("", text))
 
 
 def arms(kind: str, crate: pathlib.Path) -> Iterator[pathlib.Path]:
@@ -69,7 +71,7 @@ def lines(kind: str, top: pathlib.Path) -> Iterator[str]:
 
 def main() -> None:
     parser = argparse.ArgumentParser(prog="kind.py", description=" ".join(__doc__.partition("\n\n")[0].split()))
-    parser.add_argument("kind", metavar="KIND", help="the name of a kind, as IfExp")
+    parser.add_argument("kind", metavar="KIND", help="the name of a kind of node or of an instruction, as IfExp")
     kind = parser.parse_args().kind
     told = list(lines(kind, TOP))
     if not told:
