@@ -10,6 +10,7 @@ import argparse
 import pathlib
 import re
 import sys
+from typing import Iterator, List, Optional, Tuple
 
 TOP = pathlib.Path(__file__).resolve().parent.parent
 # What a definition begins with; one within `mutual` is indented, as the fields of a record are.
@@ -17,15 +18,16 @@ BEGINS = re.compile(r"^( *)(?:(?:abbrev|unfoldable) )?pub (?:(data|record) )?(\S
 WHOLE = re.compile(r"^(?:abbrev |unfoldable )?mutual\b")
 
 
-def first_sentence(lines):
+def first_sentence(lines: List[str]) -> str:
     """The first sentence of the lines of a comment."""
     text = " ".join(line.strip()[2:].strip() for line in lines)
     return re.split(r"(?<=\.) ", text)[0].rstrip(".")
 
 
-def definitions(text):
+def definitions(text: str) -> Iterator[Tuple[str, Optional[str]]]:
     """The public definitions of a file, each with the first sentence of its comment, or None."""
-    comment, in_mutual, in_record = [], False, False
+    comment: List[str] = []
+    in_mutual, in_record = False, False
     for line in text.split("\n"):
         if line.strip().startswith("--"):
             comment.append(line)
@@ -39,7 +41,7 @@ def definitions(text):
         comment = []
 
 
-def rows(path):
+def rows(path: pathlib.Path) -> List[str]:
     """The lines of the part of a file, or none where it defines nothing."""
     found = list(definitions(path.read_text(encoding="utf-8")))
     if not found:
@@ -56,14 +58,14 @@ def rows(path):
     return lines
 
 
-def page(crate, top):
+def page(crate: str, top: pathlib.Path) -> List[str]:
     """The lines of a crate, or none where it defines nothing."""
     paths = sorted((top / "crates" / crate / "specs").glob("**/*.antt"))
     parts = [line for path in paths if path.name != "Lib.antt" for line in rows(path)]
     return ["## %s" % crate, "", *parts] if parts else []
 
 
-def main():
+def main() -> None:
     parser = argparse.ArgumentParser(prog="definitions_index.py", description=__doc__.split("\n")[0])
     parser.add_argument("name", nargs="+", metavar="NAME", help="a crate, as py_scope")
     for crate in parser.parse_args().name:

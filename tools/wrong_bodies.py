@@ -11,6 +11,7 @@ import argparse
 import collections
 import pathlib
 import sys
+from typing import Dict, List, NoReturn, Tuple
 
 TOP = pathlib.Path(__file__).resolve().parent.parent
 DOCUMENT = TOP / "docs" / "WRONG_BODIES.md"
@@ -24,21 +25,21 @@ A wrong body is an edit of the program that the proofs must refuse: `crates/*/mu
 """
 
 
-def stop(text):
+def stop(text: str) -> NoReturn:
     sys.exit("wrong_bodies.py: " + text)
 
 
-def changed_file(edit):
+def changed_file(edit: pathlib.Path) -> str:
     """The file that an edit changes, as it names it."""
     for line in edit.read_text(encoding="utf-8").splitlines():
         if line.startswith("file: "):
             return line[len("file: ") :].strip()
-    return stop("%s names no file" % edit.relative_to(TOP))
+    stop("%s names no file" % edit.relative_to(TOP))
 
 
-def page(top):
+def page(top: pathlib.Path) -> str:
     """The whole document."""
-    names = collections.defaultdict(list)
+    names: Dict[Tuple[str, str], List[str]] = collections.defaultdict(list)
     tried, on_demand = sorted(top.glob("crates/*/must-fail/*.edit")), sorted(top.glob("crates/*/must-fail/*.md"))
     for edit in sorted(tried + on_demand):
         crate = edit.parent.parent.name + ("" if edit.suffix == ".edit" else " *")
@@ -48,7 +49,7 @@ def page(top):
     return "\n".join([head, "| Crate | File | Wrong bodies |", "|---|---|---|", *rows]) + "\n"
 
 
-def main():
+def main() -> None:
     parser = argparse.ArgumentParser(prog="wrong_bodies.py", description=" ".join(__doc__.partition("\n\n")[0].split()))
     way = parser.add_mutually_exclusive_group(required=True)
     way.add_argument("--write", action="store_true", help="write the page")
