@@ -34,7 +34,8 @@ pub use error::Error;
 pub use names::{Finding, report, report_lines};
 pub use py_base::{CodegenErrorType, SourceLocation};
 pub use py_bytecode::{
-    CodeFlags, CodeObject, Constant, Elements, Instruction, MakeFunctionFlags, Operation, OperandKind, Unit,
+    CodeFlags, CodeObject, CodeUnit, Constant, ConstantData, Elements, Instruction, MakeFunctionFlags, Operation,
+    OperandKind, Unit,
 };
 pub use py_names::NameKind;
 pub use py_answers::{Detail, Event, Outcome, StepValue, Trace};
