@@ -13,6 +13,8 @@ it is there, and else, for the builds of --all, that with stand-ins.
 """
 from __future__ import annotations
 
+import collections
+import concurrent.futures
 import contextlib
 import functools
 import io
@@ -52,6 +54,9 @@ CARGO = (
     'mkdir -p "$CARGO_TARGET_DIR/release"; echo built >>"$CARGO_TARGET_DIR/../count"; '
     'p="$CARGO_TARGET_DIR/release/pyc"; : >"$p"; chmod +x "$p"'
 )
+
+# It stands for rustc.
+RUSTC = "echo 'rustc 1.90.0 (abcdef123 2025-09-14)'"
 
 WANTS_CARGO = unittest.skipUnless(quick_build.has_cargo(), "there is no cargo")
 WANTS_ALL = unittest.skipUnless(ALL, "only with --all")
@@ -285,8 +290,8 @@ class Quick(unittest.TestCase):
     def put_cargo(self, line: str) -> None:
         tools = self.folder / "bin"
         tools.mkdir(exist_ok=True)
-        for name in "cargo", "rustc":
-            (tools / name).write_text("#!/bin/sh\n" + line + "\n")
+        for name, text in ("cargo", line), ("rustc", RUSTC):
+            (tools / name).write_text("#!/bin/sh\n" + text + "\n")
             (tools / name).chmod(0o755)
         patch = mock.patch.dict(os.environ, {"PATH": f"{tools}:/usr/bin:/bin"})
         patch.start()
@@ -315,6 +320,7 @@ class Quick(unittest.TestCase):
         os.utime(str(self.source), (1, 1))
         quick_build.program(self.said.append, self.build)
         self.assertEqual(self.builds(), 1)
+        self.assertEqual(quick.read_record(str(self.folder / "out"))["rustc"], "rustc 1.90.0")
 
     def test_a_build_that_fails_is_told_and_tried_again(self) -> None:
         self.put_cargo("echo 'error: no'; exit 1")
@@ -385,8 +391,8 @@ class Starting(unittest.TestCase):
         (self.bin / "python3").symlink_to(sys.executable)
         (self.folder / "program").write_text(PROGRAM)
         (self.folder / "m.py").write_text("a\n")
-        for name in "cargo", "rustc":
-            self.put(self.bin / name, "#!/bin/sh\n" + STARTING + "\n")
+        for name, text in ("cargo", STARTING), ("rustc", RUSTC):
+            self.put(self.bin / name, "#!/bin/sh\n" + text + "\n")
 
     def put(self, file: pathlib.Path, text: str) -> None:
         """Writes a file that can be run."""
@@ -415,7 +421,7 @@ class Starting(unittest.TestCase):
     def test_the_version_says_which_program_answers(self) -> None:
         self.assertIn("the program is not built", self.pyc("--version")[1])
         self.pyc("m.py")
-        self.assertRegex(self.pyc("--version")[1], r"^pyc [0-9.]+, not proved: built by cargo of these sources\n$")
+        self.assertRegex(self.pyc("--version")[1], r"^pyc [0-9.]+, not proved: built by cargo of these sources \(rustc 1\.90\.0\)\n$")
         self.put(self.root / "crates" / "pyc" / "out" / "pyc", PROGRAM.replace("WHICH", "other"))
         self.assertNotIn("cargo", self.pyc("--version")[1])
 
@@ -492,14 +498,23 @@ def library_files() -> List[pathlib.Path]:
     return files
 
 
+def rows_of(file: pathlib.Path) -> Optional[bytes]:
+    """The rows of a file; None where it has none."""
+    try:
+        return rows.rows_text(file.read_bytes()).encode("utf-8")
+    except Exception:
+        return None
+
+
 @functools.lru_cache(maxsize=None)
 def inputs_of_library(count: int) -> List[bytes]:
     """The rows of so many files of the library. In the place of one that has no rows the next is taken."""
+    files = library_files()
     found: List[bytes] = []
-    for file in library_files():
-        if len(found) < count:
-            with contextlib.suppress(Exception):
-                found.append(rows.rows_text(file.read_bytes()).encode("utf-8"))
+    with concurrent.futures.ProcessPoolExecutor() as pool:
+        while files and len(found) < count:
+            part, files = files[:count - len(found)], files[count - len(found):]
+            found += [it for it in pool.map(rows_of, part) if it is not None]
     return found
 
 
@@ -507,6 +522,19 @@ def ended(program: pathlib.Path, words: Sequence[str], data: bytes) -> Tuple[int
     """How a run ends, and what it writes."""
     said = subprocess.run([str(program), *words], input=data, stdout=subprocess.PIPE, stderr=subprocess.PIPE, check=False)
     return said.returncode, said.stdout, said.stderr
+
+
+def compared(program: pathlib.Path, other: pathlib.Path, number: int, data: bytes) -> Tuple[int, str]:
+    """The status of the other program over the rows of a file, and how this one differs there: its listing, names and file,
+    and what comes of that; empty where it does not."""
+    level = "012"[number % 3]
+    for words in ["exec", level, "m.py"], ["names", "m.py"], ["pack", "exec", level, "m.py"]:
+        wanted = ended(other, words, data)
+        if ended(program, words, data) != wanted:
+            return wanted[0], f"{words} of file {number} differs"
+    if wanted[0] == 0 and ended(program, ["unpack"], wanted[1]) != ended(other, ["unpack"], wanted[1]):
+        return 0, f"unpack of file {number} differs"
+    return wanted[0], ""
 
 
 class Built(unittest.TestCase):
@@ -569,28 +597,30 @@ class Built(unittest.TestCase):
                 self.assertEqual(got, (0, file.read_bytes(), b""))
 
     def check_library(self, count: int) -> None:
-        """Listings, files, names and what comes of files, beside the other build."""
+        """Holds this build against the other over files of the library."""
         other = self.other()
         if other is None:
             self.skipTest("there is no other build")
-        statuses: Dict[int, int] = {}
         inputs = inputs_of_library(count)
-        for number, data in enumerate(inputs):
-            level = "012"[number % 3]
-            for words in ["exec", level, "m.py"], ["names", "m.py"], ["pack", "exec", level, "m.py"]:
-                wanted = ended(other, words, data)
-                self.assertTrue(ended(self.program(), words, data) == wanted, f"{words} of file {number} differs")
-            if wanted[0] == 0:
-                self.assertTrue(ended(self.program(), ["unpack"], wanted[1]) == ended(other, ["unpack"], wanted[1]), number)
-            statuses[wanted[0]] = statuses.get(wanted[0], 0) + 1
-        print(f"{self.title}: {len(inputs)} files of the library do as by {other}, with the statuses {statuses}")
+        with concurrent.futures.ThreadPoolExecutor(os.cpu_count()) as pool:
+            told = list(pool.map(lambda it: compared(self.program(), other, *it), enumerate(inputs)))
+        self.assertEqual([it for _, it in told if it], [])
+        statuses = sorted(collections.Counter(status for status, _ in told).items())
+        shown = ", ".join(f"{number} with {status}" for status, number in statuses)
+        print(f"{self.title}: {len(told)} files of the library end as by {other}: {shown}")
+
+    def hostile(self, command: str) -> List[str]:
+        """The lines of a command of hostile.py."""
+        words = [sys.executable, "-B", str(TOOLS / "hostile.py"), command, "--program", str(self.program())]
+        said = subprocess.run(words, cwd=str(ROOT), stdout=subprocess.PIPE, universal_newlines=True, check=False)
+        return said.stdout.splitlines()
 
     def check_hostile(self) -> None:
         """What hostile.py wants, but for ends that are closed: Rust's std opens these as /dev/null before `main` begins."""
-        for command in "words", "devices", "files", "rows":
-            words = [sys.executable, "-B", str(TOOLS / "hostile.py"), command, "--program", str(self.program())]
-            said = subprocess.run(words, cwd=str(ROOT), stdout=subprocess.PIPE, universal_newlines=True, check=False)
-            lines = said.stdout.splitlines()
+        commands = ["words", "devices", "files", "rows"]
+        with concurrent.futures.ThreadPoolExecutor(len(commands)) as pool:
+            told = list(pool.map(self.hostile, commands))
+        for command, lines in zip(commands, told):
             differ = [it for it in lines if it.startswith(command + ": ")]
             with self.subTest(command):
                 self.assertRegex(lines[-1], r"^%s: \d+ runs, " % command)
@@ -743,6 +773,9 @@ class Real(Built):
 
     def test_docs_and_libraries(self) -> None:
         self.cargo("test", *packages(OWN))
+
+    def test_the_formats_of_serde(self) -> None:
+        self.cargo("test", "-p", "pyc", "--features", "serde")
 
     def test_hostile_inputs(self) -> None:
         self.check_hostile()
