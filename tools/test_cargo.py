@@ -4,7 +4,7 @@
 usage: test_cargo.py [--all] [TEST..]
 
 The workspace is built in out/test_cargo with stand-ins for libraries, and the adapters also over those of Debian, where they
-are (librust-serde-json-dev, librust-itoa-dev, librust-hex-dev, librust-thiserror-dev). Tests that want cargo are passed over
+are (librust-NAME-dev for serde-json, itoa, hex, thiserror, indexmap and bitflags). Tests that want cargo are passed over
 where there is none. --all builds both wholly, once also with overflow checks and debug assertions, runs hostile.py, 1,000
 files of the library, and the shim by miri or valgrind where these are there; that takes some twenty minutes.
 
@@ -45,8 +45,9 @@ SEEN = os.environ.get("PYC_TEST_CARGO") or str(ROOT / "out" / "test_cargo")
 FOLDER = pathlib.Path(SEEN)
 REGISTRY = pathlib.Path("/usr/share/cargo/registry")
 VECTORS = ["codegen_vectors", "names_vectors", "py_rows_vectors", "scan_vectors", "step_tree_vectors", "step_vectors"]
-ADAPTERS = ["rshim_serde_json", "rshim_hex", "rshim_itoa"]
-OWN = [*ADAPTERS, "rshim", "rshim_indexmap", "rshim_bitflags", "py_base", "py_bytecode", "py_tree", "pyc"]
+ADAPTERS = ["rshim_serde_json", "rshim_hex", "rshim_itoa", "rshim_indexmap", "rshim_bitflags"]
+LIBRARIES = ["serde_json", "itoa", "hex", "thiserror", "indexmap", "bitflags"]
+OWN = [*ADAPTERS, "rshim", "py_base", "py_bytecode", "py_tree", "pyc"]
 PROVED = ROOT / "crates" / "pyc" / "out" / "pyc"
 
 # It stands for cargo: it notes that it was called, and makes a program.
@@ -154,6 +155,10 @@ class Rewriting(unittest.TestCase):
             ("impl Drop for A {\n    fn drop(self) {\n        g();\n        let A { a: _a } = self;\n    }\n}\n", "made.rt:1: a drop that is more than a pattern"),
             ("fn f(a: &dyn Drop) {}\n", "made.rt:1: Drop in another place than a bound"),
             ("fn f() {\n    Box::leak(a, b);\n}\n", "made.rt:2: Box::leak"),
+            ("fn f() {\n    unsafe { g() }\n}\n", "made.rt:2: the word 'unsafe'"),
+            ("fn f() {\n    g().await\n}\n", "made.rt:2: the word 'await'"),
+            ("fn f() {}\nunsafe impl A for B {}\n", "made.rt:2: the item 'unsafe'"),
+            ("async fn f() {}\n", "made.rt:1: the item 'async'"),
             ("mod a {\n    fn f() {}\n}\n", "made.rt:1: a module in a file of another"),
             ("use a::*;\n", "made.rt:1: a use of another form"),
             ("/* a */\n", "made.rt:1: a comment in /* */"),
@@ -729,7 +734,7 @@ def check_by_valgrind(folder: pathlib.Path, env: Dict[str, str]) -> None:
     print("the shim and the refusals were run by valgrind; there is no miri")
 
 
-HAS_REGISTRY = all(list(REGISTRY.glob(f"{name}-[0-9]*")) for name in ("serde_json", "itoa", "hex", "thiserror"))
+HAS_REGISTRY = all(list(REGISTRY.glob(f"{name}-[0-9]*")) for name in LIBRARIES)
 
 
 @WANTS_CARGO

@@ -43,5 +43,10 @@ pub use py_tree::{Mod, Mode};
 pub use rshim::reserve::Reserving;
 pub use run::{Run, step};
 
+/// The program of the README of the workspace, as a test.
+#[cfg(doctest)]
+#[doc = include_str!("../../README.md")]
+struct Readme;
+
 /// What this build is, in one line.
 pub const NOTE: &str = "What is proved is the Rattle source of pyc; this build of it is tested and not proved.";
