@@ -109,6 +109,8 @@ class Import(NamedTuple):
 
 def macro_names(name: str, text: str) -> Iterator[str]:
     """The macros that a source declares."""
+    if "macro_rules" not in text:
+        return
     tokens = Tokens(name, text).all()
     for at, token in enumerate(tokens[:-2]):
         if token.text == "macro_rules" and tokens[at + 1].text == "!":
