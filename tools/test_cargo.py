@@ -692,7 +692,7 @@ class Offline(Built):
 
     @WANTS_ALL
     def test_rustdoc_warns_of_nothing(self) -> None:
-        self.cargo("doc", "--no-deps", "--workspace")
+        self.cargo("doc", "--no-deps", *packages(OWN))
 
     @WANTS_ALL
     def test_hostile_inputs(self) -> None:
