@@ -685,7 +685,7 @@ class Offline(Built):
             (folder / "src" / "main.rs").write_text(code, encoding="utf-8")
             (folder / "Cargo.toml").write_text('[package]\nname = "made"\nversion = "0.1.0"\nedition = "2024"\n\n'
                                                f'[dependencies]\npyc = {{ path = "{self.folder}/pyc" }}\n')  # fmt: skip
-            said = call(["cargo", "run", "--release", "--offline", "--quiet"], folder, self.env())
+            said = call(["cargo", "run", "--offline", "--quiet"], folder, self.env(CARGO_PROFILE_DEV_DEBUG="0"))
         wanted = subprocess.run([sys.executable, "-B", str(TOOLS / "model" / "compile_rows.py"), "exec", "0", "made.py"],
                                 input=rows.rows_text("print(6 * 7)").encode("utf-8"), stdout=subprocess.PIPE, check=True)  # fmt: skip
         self.assertEqual(said, "1 of 7 units call\n" + wanted.stdout.decode("utf-8"))
