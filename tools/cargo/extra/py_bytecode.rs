@@ -17,7 +17,7 @@ pub enum Constant<'a> {
     Bytes(&'a [u8]),
     /// A whole number.
     Integer(i128),
-    /// A tuple, whose elements [`Constant::elements`] gives.
+    /// A tuple.
     Tuple(Elements<'a>),
     /// `...`.
     Ellipsis,
