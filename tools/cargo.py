@@ -72,6 +72,33 @@ ALLOCATOR = """
 static ALLOCATOR: rshim::reserve::Reserving = rshim::reserve::Reserving::over(std::alloc::System);
 """
 
+# What the crate on top has where the libraries are there.
+SERDE = """
+[dev-dependencies]
+serde_json = "1"
+
+[dependencies.serde]
+version = "1"
+default-features = false
+features = ["std"]
+optional = true
+
+[features]
+# Codes and findings in the formats of serde.
+serde = ["dep:serde"]
+"""
+
+WITH_SERDE = (
+    "With the feature `serde`, which is off by default, a `Code` is written as the bytes of its file and verified where it is "
+    "read, and a `Finding` is written as a record."
+)
+WITHOUT_SERDE = "Without `--offline` there is a feature `serde`, which is off by default."
+
+SERIALIZED = """
+#[cfg(feature = "serde")]
+mod serialized;
+"""
+
 FORMAT = """edition = "2024"
 style_edition = "2024"
 max_width = 100
@@ -221,24 +248,26 @@ class Workspace:
 
     def _libraries(self) -> None:
         """The adapters: what lies in the folder of each, and over it what is there of the libraries or in their place."""
-        way = "offline" if self.wanted.offline else "real"
         for folder in sorted(it for it in PARTS.iterdir() if it.is_dir() and it.name not in ("pyc", "extra")):
             if folder.name in PLAIN_LIBRARIES and not self.wanted.offline:
                 continue
-            name = "libraries/" + folder.name
-            for part in (folder, folder / way):
-                for file in sorted(part.rglob("*")):
-                    inner = file.relative_to(part)
-                    if file.is_file() and inner.parts[0] in ("src", "tests", "Cargo.toml"):
-                        self.files[f"{name}/{inner}"] = file.read_text(encoding="utf-8")
-            self.members.append(name)
+            self._parts(folder, "libraries/" + folder.name)
+            self.members.append("libraries/" + folder.name)
+
+    def _parts(self, folder: pathlib.Path, name: str) -> None:
+        """The files of a folder, and over them those that are for the libraries or for what stands in their place."""
+        for part in (folder, folder / ("offline" if self.wanted.offline else "real")):
+            for file in sorted(part.rglob("*")):
+                inner = file.relative_to(part)
+                if file.is_file() and inner.parts[0] in ("src", "tests", "Cargo.toml"):
+                    self.files[f"{name}/{inner}"] = file.read_text(encoding="utf-8")
 
     def _top(self, program: Dict[str, str]) -> None:
         """The crate on top, whose program is that of this repository."""
-        folder = PARTS / "pyc"
-        for file in sorted(folder.rglob("*")):
-            if file.is_file():
-                self.files["pyc/" + str(file.relative_to(folder))] = file.read_text(encoding="utf-8")
+        self._parts(PARTS / "pyc", "pyc")
+        if not self.wanted.offline:
+            self.files["pyc/Cargo.toml"] += SERDE
+            self.files["pyc/src/lib.rs"] += SERIALIZED
         program["main.rs"] += ALLOCATOR
         for name, text in program.items():
             self.files["pyc/src/" + name] = behind_docs(text, "#![forbid(unsafe_code)]\n")
@@ -258,9 +287,11 @@ class Workspace:
 
     def _readme(self) -> str:
         readme = (PARTS / "README.md").read_text(encoding="utf-8")
-        return NOTE + "\n\n" + readme.replace("COMMIT", commit_of(self.root)).replace(
-            "LIBRARIES", "stand-ins of its own" if self.wanted.offline else "the libraries of the ecosystem"
-        )
+        libraries = "stand-ins of its own" if self.wanted.offline else "the libraries of the ecosystem"
+        serde = WITHOUT_SERDE if self.wanted.offline else WITH_SERDE
+        for word, text in ("COMMIT", commit_of(self.root)), ("LIBRARIES", libraries), ("SERDE", serde):
+            readme = readme.replace(word, text)
+        return NOTE + "\n\n" + readme
 
 
 def manifest_of(name: str, description: str, dependencies: Sequence[str]) -> str:

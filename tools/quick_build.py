@@ -21,7 +21,7 @@ import signal
 import subprocess
 import sys
 import time
-from typing import Callable, Iterator, Optional, Sequence
+from typing import Callable, Dict, Iterator, Optional, Sequence
 
 TOOLS = pathlib.Path(__file__).resolve().parent
 sys.path[:0] = [str(TOOLS), str(TOOLS.parent / "python")]
@@ -40,6 +40,12 @@ class NotBuilt(Exception):
 def has_cargo() -> bool:
     """Whether cargo and rustc are on the path."""
     return shutil.which("cargo") is not None and shutil.which("rustc") is not None
+
+
+def rustc_version() -> str:
+    """The name and the number of the compiler, as `rustc 1.95.0`; empty where it tells none."""
+    said = subprocess.run(["rustc", "--version"], stdin=subprocess.DEVNULL, stdout=subprocess.PIPE, stderr=subprocess.DEVNULL, check=False)
+    return " ".join(said.stdout.decode("utf-8", "replace").split()[:2])
 
 
 def say_on_stderr(line: str) -> None:
@@ -66,12 +72,12 @@ class Build:
             return True
         if record.get("stamp") != stamp_of(self.root):
             return False
-        self._write_record(record["stamp"], seen)
+        self._write_record(dict(record, seen=seen))
         return True
 
-    def _write_record(self, stamp: str, seen: str) -> None:
+    def _write_record(self, record: Dict[str, str]) -> None:
         beside = self.folder / "built.json.new"
-        beside.write_text(json.dumps({"stamp": stamp, "seen": seen}), encoding="utf-8")
+        beside.write_text(json.dumps(record), encoding="utf-8")
         os.replace(str(beside), str(self.folder / "built.json"))
 
     def build(self, say: Say) -> None:
@@ -86,7 +92,7 @@ class Build:
             raise NotBuilt(str(fault)) from None
         cargo.put(self.folder / "workspace", made.files)
         self._call_cargo()
-        self._write_record(stamp, seen)
+        self._write_record({"stamp": stamp, "seen": seen, "rustc": rustc_version()})
         say(f"built in {time.monotonic() - start:.0f} seconds")
 
     def _call_cargo(self) -> None:

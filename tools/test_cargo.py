@@ -4,16 +4,23 @@
 usage: test_cargo.py [--all] [TEST..]
 
 The workspace is built in out/test_cargo with stand-ins for libraries, and the adapters also over those of Debian, where they
-are (librust-serde-json-dev, librust-itoa-dev, librust-hex-dev, librust-thiserror-dev). Tests that want cargo are passed over
+are (librust-NAME-dev for serde-json, itoa, hex, thiserror, indexmap and bitflags). Tests that want cargo are passed over
 where there is none. --all builds both wholly, once also with overflow checks and debug assertions, runs hostile.py, 1,000
-files of the library, and the shim by miri or valgrind where these are there; that takes some ten minutes.
+files of the library, and the shim by miri or valgrind where these are there; that takes some twenty minutes.
+
+What comes of files of the library is held against another build: that which PYC_OTHER names, else the proved program, where
+it is there, and else, for the builds of --all, that with stand-ins.
 """
 from __future__ import annotations
 
+import collections
+import concurrent.futures
 import contextlib
+import functools
 import io
 import os
 import pathlib
+import random
 import re
 import shutil
 import subprocess
@@ -38,15 +45,19 @@ SEEN = os.environ.get("PYC_TEST_CARGO") or str(ROOT / "out" / "test_cargo")
 FOLDER = pathlib.Path(SEEN)
 REGISTRY = pathlib.Path("/usr/share/cargo/registry")
 VECTORS = ["codegen_vectors", "names_vectors", "py_rows_vectors", "scan_vectors", "step_tree_vectors", "step_vectors"]
-ADAPTERS = ["rshim_serde_json", "rshim_hex", "rshim_itoa"]
-OWN = [*ADAPTERS, "rshim", "rshim_indexmap", "rshim_bitflags", "pyc"]
-OTHER = ROOT / "crates" / "pyc" / "out" / "pyc"
+ADAPTERS = ["rshim_serde_json", "rshim_hex", "rshim_itoa", "rshim_indexmap", "rshim_bitflags"]
+LIBRARIES = ["serde_json", "itoa", "hex", "thiserror", "indexmap", "bitflags"]
+OWN = [*ADAPTERS, "rshim", "py_base", "py_bytecode", "py_tree", "pyc"]
+PROVED = ROOT / "crates" / "pyc" / "out" / "pyc"
 
 # It stands for cargo: it notes that it was called, and makes a program.
 CARGO = (
     'mkdir -p "$CARGO_TARGET_DIR/release"; echo built >>"$CARGO_TARGET_DIR/../count"; '
     'p="$CARGO_TARGET_DIR/release/pyc"; : >"$p"; chmod +x "$p"'
 )
+
+# It stands for rustc.
+RUSTC = "echo 'rustc 1.90.0 (abcdef123 2025-09-14)'"
 
 WANTS_CARGO = unittest.skipUnless(quick_build.has_cargo(), "there is no cargo")
 WANTS_ALL = unittest.skipUnless(ALL, "only with --all")
@@ -144,6 +155,10 @@ class Rewriting(unittest.TestCase):
             ("impl Drop for A {\n    fn drop(self) {\n        g();\n        let A { a: _a } = self;\n    }\n}\n", "made.rt:1: a drop that is more than a pattern"),
             ("fn f(a: &dyn Drop) {}\n", "made.rt:1: Drop in another place than a bound"),
             ("fn f() {\n    Box::leak(a, b);\n}\n", "made.rt:2: Box::leak"),
+            ("fn f() {\n    unsafe { g() }\n}\n", "made.rt:2: the word 'unsafe'"),
+            ("fn f() {\n    g().await\n}\n", "made.rt:2: the word 'await'"),
+            ("fn f() {}\nunsafe impl A for B {}\n", "made.rt:2: the item 'unsafe'"),
+            ("async fn f() {}\n", "made.rt:1: the item 'async'"),
             ("mod a {\n    fn f() {}\n}\n", "made.rt:1: a module in a file of another"),
             ("use a::*;\n", "made.rt:1: a use of another form"),
             ("/* a */\n", "made.rt:1: a comment in /* */"),
@@ -229,6 +244,38 @@ class Writing(unittest.TestCase):
         self.assertEqual([it.name for it in to.iterdir()], ["mine"])
 
 
+class Sources(unittest.TestCase):
+    """The sources of this repository, and what of them is written in Rust."""
+
+    def test_unsafe_code_stands_in_the_shim_alone(self) -> None:
+        """The roots of the crates of this repository are forbidden it by the tool (`Writing`)."""
+        for file in sorted((TOOLS / "cargo").rglob("*.rs")):
+            name = str(file.relative_to(TOOLS / "cargo"))
+            text = file.read_text(encoding="utf-8")
+            with self.subTest(name):
+                if file.name == "lib.rs" and not name.startswith("rshim/"):
+                    self.assertIn("\n#![forbid(unsafe_code)]\n", text)
+                if not name.startswith("rshim/") and name != "pyc/tests/refusals.rs":
+                    self.assertIsNone(re.search(r"\bunsafe\b", text))
+
+    def test_each_public_call_has_an_example(self) -> None:
+        files = [*(TOOLS / "cargo" / "pyc" / "src").glob("*.rs"), *(TOOLS / "cargo" / "extra").glob("*.rs")]
+        count = 0
+        for file in sorted(files):
+            text = file.read_text(encoding="utf-8")
+            for found in re.finditer(r"((?:^ *(?://|#).*\n)*)^ *pub (?:const )?fn (\w+)", text, re.MULTILINE):
+                with self.subTest(f"{file.name}: {found.group(2)}"):
+                    self.assertEqual(found.group(1).count("/// ```"), 2)
+                count += 1
+        self.assertGreater(count, 30)
+
+    @unittest.skipUnless((ROOT / ".git").exists() and shutil.which("git"), "this is no checkout")
+    def test_nothing_that_is_written_is_kept_in_the_repository(self) -> None:
+        words = ["git", "-C", str(ROOT), "ls-files", "*.rs", "*Cargo.toml", "*Cargo.lock"]
+        names = subprocess.run(words, stdout=subprocess.PIPE, universal_newlines=True, check=True).stdout.split("\n")
+        self.assertEqual([it for it in names if it and not it.startswith("tools/cargo/")], [])
+
+
 class Quick(unittest.TestCase):
     """quick_build.py, with a small cargo in the place of cargo."""
 
@@ -248,8 +295,8 @@ class Quick(unittest.TestCase):
     def put_cargo(self, line: str) -> None:
         tools = self.folder / "bin"
         tools.mkdir(exist_ok=True)
-        for name in "cargo", "rustc":
-            (tools / name).write_text("#!/bin/sh\n" + line + "\n")
+        for name, text in ("cargo", line), ("rustc", RUSTC):
+            (tools / name).write_text("#!/bin/sh\n" + text + "\n")
             (tools / name).chmod(0o755)
         patch = mock.patch.dict(os.environ, {"PATH": f"{tools}:/usr/bin:/bin"})
         patch.start()
@@ -278,6 +325,7 @@ class Quick(unittest.TestCase):
         os.utime(str(self.source), (1, 1))
         quick_build.program(self.said.append, self.build)
         self.assertEqual(self.builds(), 1)
+        self.assertEqual(quick.read_record(str(self.folder / "out"))["rustc"], "rustc 1.90.0")
 
     def test_a_build_that_fails_is_told_and_tried_again(self) -> None:
         self.put_cargo("echo 'error: no'; exit 1")
@@ -348,8 +396,8 @@ class Starting(unittest.TestCase):
         (self.bin / "python3").symlink_to(sys.executable)
         (self.folder / "program").write_text(PROGRAM)
         (self.folder / "m.py").write_text("a\n")
-        for name in "cargo", "rustc":
-            self.put(self.bin / name, "#!/bin/sh\n" + STARTING + "\n")
+        for name, text in ("cargo", STARTING), ("rustc", RUSTC):
+            self.put(self.bin / name, "#!/bin/sh\n" + text + "\n")
 
     def put(self, file: pathlib.Path, text: str) -> None:
         """Writes a file that can be run."""
@@ -378,7 +426,7 @@ class Starting(unittest.TestCase):
     def test_the_version_says_which_program_answers(self) -> None:
         self.assertIn("the program is not built", self.pyc("--version")[1])
         self.pyc("m.py")
-        self.assertRegex(self.pyc("--version")[1], r"^pyc [0-9.]+, not proved: built by cargo of these sources\n$")
+        self.assertRegex(self.pyc("--version")[1], r"^pyc [0-9.]+, not proved: built by cargo of these sources \(rustc 1\.90\.0\)\n$")
         self.put(self.root / "crates" / "pyc" / "out" / "pyc", PROGRAM.replace("WHICH", "other"))
         self.assertNotIn("cargo", self.pyc("--version")[1])
 
@@ -447,20 +495,31 @@ def packages(names: Sequence[str]) -> List[str]:
     return [word for name in names for word in ("-p", name)]
 
 
-def library_files(count: int) -> List[pathlib.Path]:
-    """So many files of the library of this Python, spread over it, the same in each run."""
+def library_files() -> List[pathlib.Path]:
+    """The files of the library of this Python, in an order that is the same in each run."""
     folder = pathlib.Path(os.__file__).parent
     files = sorted(it for it in folder.rglob("*.py") if "site-packages" not in it.parts and "lib2to3" not in it.parts)
-    step = max(1, len(files) // count)
-    return files[::step][:count]
+    random.Random(0).shuffle(files)
+    return files
 
 
+def rows_of(file: pathlib.Path) -> Optional[bytes]:
+    """The rows of a file; None where it has none."""
+    try:
+        return rows.rows_text(file.read_bytes()).encode("utf-8")
+    except Exception:
+        return None
+
+
+@functools.lru_cache(maxsize=None)
 def inputs_of_library(count: int) -> List[bytes]:
-    """The rows of these files that have rows."""
-    found = []
-    for file in library_files(count):
-        with contextlib.suppress(Exception):
-            found.append(rows.rows_text(file.read_bytes()).encode("utf-8"))
+    """The rows of so many files of the library. In the place of one that has no rows the next is taken."""
+    files = library_files()
+    found: List[bytes] = []
+    with concurrent.futures.ProcessPoolExecutor() as pool:
+        while files and len(found) < count:
+            part, files = files[:count - len(found)], files[count - len(found):]
+            found += [it for it in pool.map(rows_of, part) if it is not None]
     return found
 
 
@@ -470,10 +529,23 @@ def ended(program: pathlib.Path, words: Sequence[str], data: bytes) -> Tuple[int
     return said.returncode, said.stdout, said.stderr
 
 
+def compared(program: pathlib.Path, other: pathlib.Path, number: int, data: bytes) -> Tuple[int, str]:
+    """The status of the other program over the rows of a file, and how this one differs there: its listing, names and file,
+    and what comes of that; empty where it does not."""
+    level = "012"[number % 3]
+    for words in ["exec", level, "m.py"], ["names", "m.py"], ["pack", "exec", level, "m.py"]:
+        wanted = ended(other, words, data)
+        if ended(program, words, data) != wanted:
+            return wanted[0], f"{words} of file {number} differs"
+    if wanted[0] == 0 and ended(program, ["unpack"], wanted[1]) != ended(other, ["unpack"], wanted[1]):
+        return 0, f"unpack of file {number} differs"
+    return wanted[0], ""
+
+
 class Built(unittest.TestCase):
     """What is checked of a workspace that was built. Those below say which."""
 
-    way = "offline"
+    title = ""
     folder = FOLDER / "offline"
     wanted = cargo.Wanted(offline=True)
     settings: Dict[str, str] = {}
@@ -481,6 +553,8 @@ class Built(unittest.TestCase):
 
     @classmethod
     def setUpClass(cls) -> None:
+        if cls.__dict__.get("said"):
+            return
         made = cargo.workspace(["pyc", *VECTORS, "alloc_calls"], cls.wanted)
         cargo.check_folder(cls.folder)
         cargo.put(cls.folder, made.files)
@@ -493,6 +567,23 @@ class Built(unittest.TestCase):
     @classmethod
     def program(cls, name: str = "pyc") -> pathlib.Path:
         return cls.folder / "target" / "release" / name
+
+    @classmethod
+    def other(cls) -> Optional[pathlib.Path]:
+        """The program of another build: that which is named, else the proved one, else that with stand-ins."""
+        named = os.environ.get("PYC_OTHER")
+        if named or PROVED.exists():
+            return pathlib.Path(named or PROVED)
+        if cls is Offline:
+            return None
+        Offline.setUpClass()
+        return Offline.program()
+
+    def cargo(self, *words: str) -> str:
+        """What cargo says of these words, which has to end with 0 and to warn of nothing."""
+        said = call(["cargo", words[0], "--release", "--offline", *words[1:]], self.folder, self.env())
+        self.assertNotIn("warning", said)
+        return said
 
     def check_vectors(self) -> None:
         for name in VECTORS:
@@ -511,41 +602,64 @@ class Built(unittest.TestCase):
                 self.assertEqual(got, (0, file.read_bytes(), b""))
 
     def check_library(self, count: int) -> None:
-        """Listings, files, names and what comes of files, beside the other build."""
-        if not OTHER.exists():
+        """Holds this build against the other over files of the library."""
+        other = self.other()
+        if other is None:
             self.skipTest("there is no other build")
-        for number, data in enumerate(inputs_of_library(count)):
-            level = "012"[number % 3]
-            for words in ["exec", level, "m.py"], ["names", "m.py"], ["pack", "exec", level, "m.py"]:
-                wanted = ended(OTHER, words, data)
-                self.assertTrue(ended(self.program(), words, data) == wanted, f"{words} of file {number} differs")
-            if wanted[0] == 0:
-                self.assertTrue(ended(self.program(), ["unpack"], wanted[1]) == ended(OTHER, ["unpack"], wanted[1]), number)
+        inputs = inputs_of_library(count)
+        with concurrent.futures.ThreadPoolExecutor(os.cpu_count()) as pool:
+            told = list(pool.map(lambda it: compared(self.program(), other, *it), enumerate(inputs)))
+        self.assertEqual([it for _, it in told if it], [])
+        statuses = sorted(collections.Counter(status for status, _ in told).items())
+        shown = ", ".join(f"{number} with {status}" for status, number in statuses)
+        print(f"{self.title}: {len(told)} files of the library end as by {other}: {shown}")
 
+    def hostile(self, command: str) -> List[str]:
+        """The lines of a command of hostile.py."""
+        words = [sys.executable, "-B", str(TOOLS / "hostile.py"), command, "--program", str(self.program())]
+        said = subprocess.run(words, cwd=str(ROOT), stdout=subprocess.PIPE, universal_newlines=True, check=False)
+        return said.stdout.splitlines()
 
     def check_hostile(self) -> None:
         """What hostile.py wants, but for ends that are closed: Rust's std opens these as /dev/null before `main` begins."""
-        for command in "words", "devices", "files", "rows":
-            words = [sys.executable, "-B", str(TOOLS / "hostile.py"), command, "--program", str(self.program())]
-            said = subprocess.run(words, cwd=str(ROOT), stdout=subprocess.PIPE, universal_newlines=True, check=False)
-            lines = said.stdout.splitlines()
+        commands = ["words", "devices", "files", "rows"]
+        with concurrent.futures.ThreadPoolExecutor(len(commands)) as pool:
+            told = list(pool.map(self.hostile, commands))
+        for command, lines in zip(commands, told):
             differ = [it for it in lines if it.startswith(command + ": ")]
             with self.subTest(command):
                 self.assertRegex(lines[-1], r"^%s: \d+ runs, " % command)
                 self.assertEqual([it for it in differ[:-1] if not re.search(r" (is|are) closed", it)], [])
+            print(f"{self.title}: hostile.py {lines[-1]}")
+
+    def check_refusals(self) -> None:
+        """Refuses each allocation of a module as people write them."""
+        with tempfile.TemporaryDirectory() as name:
+            file = pathlib.Path(name) / "rows"
+            file.write_text(rows.rows_text(hostile.MODULE), encoding="utf-8")
+            said = call(["cargo", "test", "--release", "--offline", "-p", "pyc", "--test", "refusals", "--", "--nocapture"],
+                        self.folder, self.env(PYC_ROWS=str(file)))  # fmt: skip
+        told = re.search(r"\d+ allocations were refused.*", said)
+        assert told is not None, said
+        print(f"{self.title}: {told.group()}")
 
 
 @WANTS_CARGO
 class Offline(Built):
     """The workspace with stand-ins."""
 
+    title = "with stand-ins"
+
     def test_rustc_warns_of_nothing(self) -> None:
         self.assertNotIn("warning", self.said)
 
     @unittest.skipUnless(shutil.which("cargo-clippy"), "there is no clippy")
     def test_clippy_warns_of_nothing(self) -> None:
-        said = call(["cargo", "clippy", "--release", "--offline", "--workspace"], self.folder, self.env())
-        self.assertNotIn("warning", said)
+        self.cargo("clippy", "--workspace")
+
+    @unittest.skipUnless(shutil.which("cargo-fmt"), "there is no rustfmt")
+    def test_it_is_laid_out_by_rustfmt(self) -> None:
+        call(["cargo", "fmt", "--all", "--check"], self.folder, self.env())
 
     def test_stored_cases(self) -> None:
         self.check_vectors()
@@ -557,7 +671,7 @@ class Offline(Built):
         self.check_library(1000 if ALL else 30)
 
     def test_docs_and_libraries(self) -> None:
-        call(["cargo", "test", "--release", "--offline", *packages(OWN)], self.folder, self.env())
+        self.cargo("test", *packages(OWN))
 
     def test_the_program_of_calling(self) -> None:
         """The program of docs/CALLING.md, outside of the repository: its listing is the model's, of the same source."""
@@ -571,10 +685,14 @@ class Offline(Built):
             (folder / "src" / "main.rs").write_text(code, encoding="utf-8")
             (folder / "Cargo.toml").write_text('[package]\nname = "made"\nversion = "0.1.0"\nedition = "2024"\n\n'
                                                f'[dependencies]\npyc = {{ path = "{self.folder}/pyc" }}\n')  # fmt: skip
-            said = call(["cargo", "run", "--release", "--offline", "--quiet"], folder, self.env())
+            said = call(["cargo", "run", "--offline", "--quiet"], folder, self.env(CARGO_PROFILE_DEV_DEBUG="0"))
         wanted = subprocess.run([sys.executable, "-B", str(TOOLS / "model" / "compile_rows.py"), "exec", "0", "made.py"],
                                 input=rows.rows_text("print(6 * 7)").encode("utf-8"), stdout=subprocess.PIPE, check=True)  # fmt: skip
         self.assertEqual(said, "1 of 7 units call\n" + wanted.stdout.decode("utf-8"))
+
+    @WANTS_ALL
+    def test_rustdoc_warns_of_nothing(self) -> None:
+        self.cargo("doc", "--no-deps", *packages(OWN))
 
     @WANTS_ALL
     def test_hostile_inputs(self) -> None:
@@ -582,40 +700,41 @@ class Offline(Built):
 
     @WANTS_ALL
     def test_refused_memory(self) -> None:
-        """Each allocation of a module as people write them."""
-        check_refusals(self.folder, self.env())
+        self.check_refusals()
 
     @WANTS_ALL
     def test_the_shim_under_a_checker(self) -> None:
-        tried = subprocess.run(["cargo", "+nightly", "miri", "--version"], stdout=subprocess.DEVNULL, stderr=subprocess.DEVNULL, check=False)
-        if tried.returncode == 0:
-            call(["cargo", "+nightly", "miri", "test", "--offline", "-p", "rshim"], self.folder, environment(self.folder / "miri"))
+        miri = miri_of_cargo()
+        if miri is not None:
+            call([*miri, "test", "--offline", "-p", "rshim"], self.folder, environment(self.folder / "miri"))
         elif shutil.which("valgrind"):
             check_by_valgrind(self.folder, self.env())
         else:
             self.skipTest("there is neither miri nor valgrind")
 
 
-def check_refusals(folder: pathlib.Path, env: Dict[str, str]) -> None:
-    """Refuses each allocation of a module as people write them."""
-    with tempfile.TemporaryDirectory() as name:
-        file = pathlib.Path(name) / "rows"
-        file.write_text(rows.rows_text(hostile.MODULE), encoding="utf-8")
-        said = call(["cargo", "test", "--release", "--offline", "-p", "pyc", "--test", "refusals", "--", "--nocapture"],
-                    folder, dict(env, PYC_ROWS=str(file)))  # fmt: skip
-    print(re.search(r"\d+ allocations were refused.*", said).group())  # type: ignore[union-attr]
+def miri_of_cargo() -> Optional[List[str]]:
+    """The words that call miri, where it is there. Nothing is installed for it."""
+    env = dict(os.environ, RUSTUP_AUTO_INSTALL="0")
+    for words in ["cargo", "miri"], ["cargo", "+nightly", "miri"]:
+        said = subprocess.run([*words, "--version"], env=env, stdout=subprocess.DEVNULL, stderr=subprocess.DEVNULL, check=False)
+        if said.returncode == 0:
+            return words
+    return None
 
 
 def check_by_valgrind(folder: pathlib.Path, env: Dict[str, str]) -> None:
     """The tests of the shim and of refusals by valgrind."""
     said = call(["cargo", "test", "--release", "--offline", "--no-run", "-p", "rshim", "-p", "pyc"], folder, env)
-    for program in re.findall(r"Executable .*\((.*)\)", said):
-        if "/rshim-" in program or "/refusals-" in program:
-            call(["valgrind", "-q", "--error-exitcode=9", program, "--test-threads=1"], folder, env)
+    programs = [it for it in re.findall(r"Executable .*\((.*)\)", said) if "/rshim-" in it or "/refusals-" in it]
+    if len(programs) != 2:
+        raise AssertionError(f"there are other tests than are wanted:\n{said}")
+    for program in programs:
+        call(["valgrind", "-q", "--error-exitcode=9", program, "--test-threads=1"], folder, env)
     print("the shim and the refusals were run by valgrind; there is no miri")
 
 
-HAS_REGISTRY = all(list(REGISTRY.glob(f"{name}-[0-9]*")) for name in ("serde_json", "itoa", "hex", "thiserror"))
+HAS_REGISTRY = all(list(REGISTRY.glob(f"{name}-[0-9]*")) for name in LIBRARIES)
 
 
 @WANTS_CARGO
@@ -637,17 +756,37 @@ class Adapters(unittest.TestCase):
 class Real(Built):
     """The workspace over the libraries of the ecosystem."""
 
+    title = "with the libraries"
     folder = FOLDER / "real"
     wanted = cargo.Wanted(registry=REGISTRY)
 
-    def test_it_does_the_same(self) -> None:
+    def test_rustc_warns_of_nothing(self) -> None:
         self.assertNotIn("warning", self.said)
+
+    @unittest.skipUnless(shutil.which("cargo-clippy"), "there is no clippy")
+    def test_clippy_warns_of_nothing(self) -> None:
+        self.cargo("clippy", "--workspace")
+
+    def test_stored_cases(self) -> None:
         self.check_vectors()
+
+    def test_examples(self) -> None:
         self.check_examples()
+
+    def test_library(self) -> None:
         self.check_library(1000)
-        call(["cargo", "test", "--release", *packages(OWN)], self.folder, self.env())
-        check_refusals(self.folder, self.env())
+
+    def test_docs_and_libraries(self) -> None:
+        self.cargo("test", *packages(OWN))
+
+    def test_the_formats_of_serde(self) -> None:
+        self.cargo("test", "-p", "pyc", "--features", "serde")
+
+    def test_hostile_inputs(self) -> None:
         self.check_hostile()
+
+    def test_refused_memory(self) -> None:
+        self.check_refusals()
 
 
 @WANTS_CARGO
@@ -655,12 +794,17 @@ class Real(Built):
 class Checked(Built):
     """The workspace with overflow checks and debug assertions: nothing overflows."""
 
+    title = "with overflow checks"
     folder = FOLDER / "checked"
     settings = {"CARGO_PROFILE_RELEASE_OVERFLOW_CHECKS": "true", "CARGO_PROFILE_RELEASE_DEBUG_ASSERTIONS": "true"}
 
-    def test_it_does_the_same(self) -> None:
+    def test_stored_cases(self) -> None:
         self.check_vectors()
+
+    def test_examples(self) -> None:
         self.check_examples()
+
+    def test_library(self) -> None:
         self.check_library(300)
 
 

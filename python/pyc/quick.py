@@ -68,6 +68,11 @@ def read_record(folder: str) -> Dict[str, str]:
     return found if isinstance(found, dict) else {}
 
 
+def kit() -> str:
+    """The compiler of Rust by which the program was built, as `rustc 1.95.0`; empty where that is not known."""
+    return read_record(FOLDER).get("rustc", "")
+
+
 def found() -> Optional[str]:
     """The program, where it is built of the sources as they stand."""
     if _built is not None:

@@ -39,14 +39,14 @@ def text() -> str:
     except NoProgram:
         return "pyc %s%s, the program is not built" % (number(), in_brackets(commit()))
     if path == quick.found():
-        return "pyc %s%s, not proved: built by cargo of these sources" % (number(), in_brackets(commit()))
+        return "pyc %s%s, not proved: built by cargo of these sources%s" % (number(), in_brackets(commit()), in_brackets(quick.kit()))
     found = stamp.read(path)
     known = commit() or (found.commit if found else None)
     return "pyc %s%s, %s" % (number(), in_brackets(known), proof(found, path))
 
 
 def in_brackets(known: Optional[str]) -> str:
-    """A commit behind a number, where one is known."""
+    """A commit, or what a program was built by, in brackets, where it is known."""
     return " (%s)" % known if known else ""
 
 

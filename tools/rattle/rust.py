@@ -45,6 +45,9 @@ STD_PATHS: Dict[str, str] = {
 # Names that every file of Rattle sees, and a file of Rust has to import from rshim.
 SHIM_NAMES = frozenset({"AllocGlobal", "HostRuntime", "String", "Vec"})
 
+# Words of Rust that Rattle has no meaning for.
+UNKNOWN_WORDS = frozenset({"async", "await", "dyn", "unsafe", "yield"})
+
 # Methods that take an allocator, the names under which rshim has them, and the traits that they are of.
 SHIM_METHODS = {"collect": ("collect_in", "CollectIn"), "to_vec": ("copied_in", "CopyIn")}
 
@@ -106,6 +109,8 @@ class Import(NamedTuple):
 
 def macro_names(name: str, text: str) -> Iterator[str]:
     """The macros that a source declares."""
+    if "macro_rules" not in text:
+        return
     tokens = Tokens(name, text).all()
     for at, token in enumerate(tokens[:-2]):
         if token.text == "macro_rules" and tokens[at + 1].text == "!":
@@ -468,6 +473,8 @@ class Rewriter:
             token = self.tokens[it]
             if token.kind in (Kind.CLAUSE, Kind.GHOST):
                 raise self._unknown(it, "a clause or a ghost item within a body")
+            if token.text in UNKNOWN_WORDS:
+                raise self._unknown(it, f"the word {token.text!r}")
             if self._is(it, "#") and self._is(it + 1, "[") and not self._is(it - 1, "$"):
                 self._attribute(it, it + 1)
             elif token.kind is Kind.WORD and self._is(it + 1, "!") and not self._is(it + 2, "=") and self._is_macro(it):

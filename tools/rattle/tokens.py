@@ -8,7 +8,7 @@ from __future__ import annotations
 import bisect
 import enum
 import re
-from typing import List, NamedTuple, Optional
+from typing import List, NamedTuple
 
 
 class Unknown(Exception):
@@ -39,14 +39,24 @@ class Token(NamedTuple):
 
 SPACE = re.compile(r"\s+")
 WORD = re.compile(r"[A-Za-z_][A-Za-z0-9_]*")
-NUMBER = re.compile(r"[0-9](?:[0-9A-Za-z_]|\.(?=[0-9]))*")
-LIFETIME = re.compile(r"'[A-Za-z_][A-Za-z0-9_]*(?!')")
-CHARACTER = re.compile(r"b?'(?:\\u\{[0-9a-fA-F_]+\}|\\x[0-9a-fA-F]{2}|\\.|[^\\'])'")
-STRING = re.compile(r'b?"(?:\\.|[^"\\])*"', re.DOTALL)
-RAW_STRING = re.compile(r'b?r(#*)"')
-MARK = re.compile(r"::|->|=>|\.\.=|\.\.\.|\.\.|[-+*/%^!&|=<>@.,;:#$?~()\[\]{}]")
 ANTT_PART = re.compile(r'"[^"]*"|--[^\n]*|[{}]')
-LITERALS = (STRING, CHARACTER, NUMBER)
+
+# A token, by the first of these forms that it has.
+TOKEN = re.compile(
+    r"""
+      (?P<comment> //[^\n]* )
+    | (?P<block> /\* )
+    | (?P<raw> b?r\#*" )
+    | (?P<literal> b?"(?:\\.|[^"\\])*"
+                 | b?'(?:\\u\{[0-9a-fA-F_]+\}|\\x[0-9a-fA-F]{2}|\\[^\n]|[^\\'])'
+                 | [0-9](?:[0-9A-Za-z_]|\.(?=[0-9]))* )
+    | (?P<lifetime> '[A-Za-z_][A-Za-z0-9_]*(?!') )
+    | (?P<word> [A-Za-z_][A-Za-z0-9_]* )
+    | (?P<mark> ::|->|=>|\.\.=|\.\.\.|\.\.|[-+*/%^!&|=<>@.,;:\#$?~()\[\]{}] )
+    """,
+    re.DOTALL | re.VERBOSE,
+)
+KINDS = {"literal": Kind.LITERAL, "lifetime": Kind.LIFETIME, "word": Kind.WORD, "mark": Kind.MARK}
 
 
 class Tokens:
@@ -80,44 +90,29 @@ class Tokens:
         return space.end() if space else place
 
     def _token(self, place: int) -> Token:
-        if self.text.startswith("//", place):
-            return self._comment(place)
-        if self.text.startswith("/*", place):
-            raise self.unknown(place, "a comment in /* */")
-        literal = self._literal(place)
-        if literal is not None:
-            return literal
-        for kind, form in ((Kind.LIFETIME, LIFETIME), (Kind.WORD, WORD), (Kind.MARK, MARK)):
-            found = form.match(self.text, place)
-            if found:
-                break
-        else:
+        found = TOKEN.match(self.text, place)
+        if found is None:
             raise self.unknown(place, f"the character {self.text[place]!r}")
-        if found.group() in ("requires", "ensures"):
-            return self._clause(place, found.end())
-        if found.group() == "ghost":
-            return self._ghost(place, found.end())
-        return Token(kind, found.group(), place, found.end())
+        form, text, end = found.lastgroup, found.group(), found.end()
+        if form == "comment":
+            is_doc = text.startswith("//!") or (text.startswith("///") and not text.startswith("////"))
+            return Token(Kind.DOC if is_doc else Kind.COMMENT, text, place, end)
+        if form == "block":
+            raise self.unknown(place, "a comment in /* */")
+        if form == "raw":
+            return self._raw_string(place, text, end)
+        if text in ("requires", "ensures"):
+            return self._clause(place, end)
+        if text == "ghost":
+            return self._ghost(place, end)
+        return Token(KINDS[form or ""], text, place, end)
 
-    def _comment(self, place: int) -> Token:
-        end = self.text.find("\n", place)
-        text = self.text[place:] if end < 0 else self.text[place:end]
-        is_doc = text.startswith("//!") or (text.startswith("///") and not text.startswith("////"))
-        return Token(Kind.DOC if is_doc else Kind.COMMENT, text, place, place + len(text))
-
-    def _literal(self, place: int) -> Optional[Token]:
-        raw = RAW_STRING.match(self.text, place)
-        if raw:
-            close = '"' + raw.group(1)
-            at = self.text.find(close, raw.end())
-            if at < 0:
-                raise self.unknown(place, "a string without an end")
-            return self._of(Kind.LITERAL, place, at + len(close))
-        for form in LITERALS:
-            found = form.match(self.text, place)
-            if found:
-                return self._of(Kind.LITERAL, place, found.end())
-        return None
+    def _raw_string(self, place: int, opening: str, end: int) -> Token:
+        close = '"' + "#" * opening.count("#")
+        at = self.text.find(close, end)
+        if at < 0:
+            raise self.unknown(place, "a string without an end")
+        return self._of(Kind.LITERAL, place, at + len(close))
 
     def _of(self, kind: Kind, start: int, end: int) -> Token:
         return Token(kind, self.text[start:end], start, end)

@@ -63,6 +63,10 @@ impl<'a, T> IntoIterator for &'a List<T> {
 
 impl SourceLocation {
     /// A row and a column, each counted from 1; 0 is told as 1.
+    ///
+    /// ```
+    /// assert_eq!(py_base::SourceLocation::at(3, 5).to_string(), "3:5");
+    /// ```
     pub fn at(row: u32, column: u32) -> SourceLocation {
         SourceLocation {
             row: OneIndexed::new(row).unwrap_or(OneIndexed::MIN),

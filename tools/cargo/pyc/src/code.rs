@@ -121,6 +121,14 @@ impl Code {
     }
 
     /// The code object alone, which can be changed and is no longer known to be sound.
+    ///
+    /// ```
+    /// let code = pyc::compile(br#"[["Module",[]]]"#, "m.py", pyc::Mode::Exec, 0)?;
+    /// let mut object = code.into_inner();
+    /// object.max_stackdepth += 1;
+    /// assert_eq!(object.depth(), 1);
+    /// # Ok::<(), pyc::Error>(())
+    /// ```
     pub fn into_inner(self) -> CodeObject {
         self.object
     }

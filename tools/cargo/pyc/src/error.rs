@@ -53,6 +53,11 @@ impl Error {
     }
 
     /// The status that the program ends with: 1 refused, 2 wrong words, 3 wrong input, 6 no memory.
+    ///
+    /// ```
+    /// let error = pyc::compile(b"no rows", "m.py", pyc::Mode::Exec, 0).unwrap_err();
+    /// assert_eq!(error.status(), 3);
+    /// ```
     pub fn status(&self) -> u8 {
         match self {
             Error::Refused { .. } => 1,

@@ -34,13 +34,19 @@ pub use error::Error;
 pub use names::{Finding, report, report_lines};
 pub use py_base::{CodegenErrorType, SourceLocation};
 pub use py_bytecode::{
-    CodeFlags, CodeObject, Constant, Elements, Instruction, MakeFunctionFlags, Operation, OperandKind, Unit,
+    CodeFlags, CodeObject, CodeUnit, Constant, ConstantData, Elements, Instruction, MakeFunctionFlags, Operation,
+    OperandKind, Unit,
 };
 pub use py_names::NameKind;
 pub use py_answers::{Detail, Event, Outcome, StepValue, Trace};
 pub use py_tree::{Mod, Mode};
 pub use rshim::reserve::Reserving;
 pub use run::{Run, step};
+
+/// The program of the README of the workspace, as a test.
+#[cfg(doctest)]
+#[doc = include_str!("../../README.md")]
+struct Readme;
 
 /// What this build is, in one line.
 pub const NOTE: &str = "What is proved is the Rattle source of pyc; this build of it is tested and not proved.";

@@ -14,21 +14,53 @@ pub struct Run {
 
 impl Run {
     /// What the code does.
+    ///
+    /// ```
+    /// let tree = pyc::read(br#"[["Name",1,1,"f"],["Expr",1,1,0],["Module",[1]]]"#)?;
+    /// let code = pyc::compile_tree(&tree, "m.py", pyc::Mode::Exec, 0)?;
+    /// let run = pyc::step(&code, &tree, pyc::Mode::Exec, 0, "r")?;
+    /// assert_eq!(run.code().events.len(), 1);
+    /// # Ok::<(), pyc::Error>(())
+    /// ```
     pub fn code(&self) -> &Trace {
         &self.report.code
     }
 
     /// What the tree does.
+    ///
+    /// ```
+    /// let tree = pyc::read(br#"[["Name",1,1,"f"],["Expr",1,1,0],["Module",[1]]]"#)?;
+    /// let code = pyc::compile_tree(&tree, "m.py", pyc::Mode::Exec, 0)?;
+    /// let run = pyc::step(&code, &tree, pyc::Mode::Exec, 0, "r")?;
+    /// assert!(matches!(run.tree().outcome, pyc::Outcome::Raised(_)));
+    /// # Ok::<(), pyc::Error>(())
+    /// ```
     pub fn tree(&self) -> &Trace {
         &self.report.tree
     }
 
     /// Whether both do the same.
+    ///
+    /// ```
+    /// let tree = pyc::read(br#"[["Name",1,1,"f"],["Expr",1,1,0],["Module",[1]]]"#)?;
+    /// let code = pyc::compile_tree(&tree, "m.py", pyc::Mode::Exec, 0)?;
+    /// let run = pyc::step(&code, &tree, pyc::Mode::Exec, 0, "g1")?;
+    /// assert!(run.agrees());
+    /// # Ok::<(), pyc::Error>(())
+    /// ```
     pub fn agrees(&self) -> bool {
         self.report.code == self.report.tree
     }
 
     /// The lines that the program writes.
+    ///
+    /// ```
+    /// let tree = pyc::read(br#"[["Name",1,1,"f"],["Expr",1,1,0],["Module",[1]]]"#)?;
+    /// let code = pyc::compile_tree(&tree, "m.py", pyc::Mode::Exec, 0)?;
+    /// let run = pyc::step(&code, &tree, pyc::Mode::Exec, 0, "r")?;
+    /// assert_eq!(run.lines()?, "code\nload 'f'\nraised #0.0\ntree\nload 'f'\nraised #0.0\n");
+    /// # Ok::<(), pyc::Error>(())
+    /// ```
     ///
     /// # Errors
     /// There is no memory for them.

@@ -17,6 +17,11 @@ pub struct Reserving<A = System>(A);
 
 impl<A> Reserving<A> {
     /// The allocator over another.
+    ///
+    /// ```
+    /// #[global_allocator]
+    /// static ALLOCATOR: rshim::reserve::Reserving = rshim::reserve::Reserving::over(std::alloc::System);
+    /// ```
     pub const fn over(allocator: A) -> Reserving<A> {
         Reserving(allocator)
     }
