@@ -1,36 +1,33 @@
 #!/usr/bin/env python3
-"""Writes docs/INDEX.md: every public definition of crates/*/specs/*.antt, with the first sentence of the comment above it.
+"""Prints the public definitions of a crate, each with the first sentence of the comment above it.
 
-usage: definitions_index.py [--check]
+usage: definitions_index.py NAME..
 
-A crate has a part, and each of its files a table: the name, and what the comment says. Names without a comment stand
-behind the table. With --check nothing is written, and the status is 1 where the document is another.
+NAME is a crate. Each of its files in specs/ has a table: the name of a definition, and what the comment above it says.
+Names without a comment stand behind the table.
 """
 import argparse
 import pathlib
 import re
 import sys
+from typing import Iterator, List, Optional, Tuple
 
 TOP = pathlib.Path(__file__).resolve().parent.parent
-DOCUMENT = TOP / "docs" / "INDEX.md"
-HEAD = """# Index of definitions
-
-Every public definition of `specs/`, with the first sentence of the comment above it: `python3 tools/definitions_index.py` writes this page. A name without a comment is told by its file. `DEFINITIONS.md` says what has to be believed.
-"""
 # What a definition begins with; one within `mutual` is indented, as the fields of a record are.
 BEGINS = re.compile(r"^( *)(?:(?:abbrev|unfoldable) )?pub (?:(data|record) )?(\S+)")
 WHOLE = re.compile(r"^(?:abbrev |unfoldable )?mutual\b")
 
 
-def first_sentence(lines):
+def first_sentence(lines: List[str]) -> str:
     """The first sentence of the lines of a comment."""
     text = " ".join(line.strip()[2:].strip() for line in lines)
     return re.split(r"(?<=\.) ", text)[0].rstrip(".")
 
 
-def definitions(text):
+def definitions(text: str) -> Iterator[Tuple[str, Optional[str]]]:
     """The public definitions of a file, each with the first sentence of its comment, or None."""
-    comment, in_mutual, in_record = [], False, False
+    comment: List[str] = []
+    in_mutual, in_record = False, False
     for line in text.split("\n"):
         if line.strip().startswith("--"):
             comment.append(line)
@@ -44,7 +41,7 @@ def definitions(text):
         comment = []
 
 
-def rows(path):
+def rows(path: pathlib.Path) -> List[str]:
     """The lines of the part of a file, or none where it defines nothing."""
     found = list(definitions(path.read_text(encoding="utf-8")))
     if not found:
@@ -61,25 +58,21 @@ def rows(path):
     return lines
 
 
-def page():
-    """The whole document."""
-    lines = [HEAD]
-    for crate in sorted(TOP.glob("crates/*/specs")):
-        parts = [line for path in sorted(crate.glob("**/*.antt")) if path.name != "Lib.antt" for line in rows(path)]
-        if parts:
-            lines += ["## %s" % crate.parent.name, "", *parts]
-    return "\n".join(lines).rstrip("\n") + "\n"
+def page(crate: str, top: pathlib.Path) -> List[str]:
+    """The lines of a crate, or none where it defines nothing."""
+    paths = sorted((top / "crates" / crate / "specs").glob("**/*.antt"))
+    parts = [line for path in paths if path.name != "Lib.antt" for line in rows(path)]
+    return ["## %s" % crate, "", *parts] if parts else []
 
 
-def main():
+def main() -> None:
     parser = argparse.ArgumentParser(prog="definitions_index.py", description=__doc__.split("\n")[0])
-    parser.add_argument("--check", action="store_true", help="write nothing, and fail where the page is not that of the files")
-    words = parser.parse_args()
-    new = page()
-    if not words.check:
-        DOCUMENT.write_text(new, encoding="utf-8")
-    elif not DOCUMENT.exists() or DOCUMENT.read_text(encoding="utf-8") != new:
-        sys.exit("definitions_index.py: docs/INDEX.md is not that of the files: run tools/definitions_index.py")
+    parser.add_argument("name", nargs="+", metavar="NAME", help="a crate, as py_scope")
+    for crate in parser.parse_args().name:
+        lines = page(crate, TOP)
+        if not lines:
+            sys.exit("definitions_index.py: no definition stands in a crate %r" % crate)
+        print("\n".join(lines))
 
 
 if __name__ == "__main__":
