@@ -25,7 +25,7 @@ fn bytes_that_are_no_code_are_told() -> Result<(), Box<dyn Error>> {
     let code = pyc::compile(br#"[["Module",[]]]"#, "m.py", Mode::Exec, 0)?;
     let mut object = code.into_inner();
     object.instructions = [pyc::CodeUnit { op: pyc::Instruction::ReturnValue, arg: 0 }].into();
-    let file = py_codefile::write_code(rshim::alloc::Global, &object)?.into_std();
+    let file: Vec<u8> = py_codefile::write_code(rshim::alloc::Global, &object)?.into();
     let error = serde_json::from_str::<Code>(&serde_json::to_string(&file)?).unwrap_err();
     assert!(error.to_string().starts_with("the code does not verify: "), "{error}");
     Ok(())
