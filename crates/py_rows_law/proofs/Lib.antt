@@ -1,4 +1,4 @@
 mod NodeLemmas
 mod StepLemmas
 mod EndLemmas
-mod FormatLemmas
+pub mod FormatLemmas
