@@ -50,8 +50,8 @@ use Rattle.py_rows_format_proof.proofs.CheckLemmas.{AreAlike, deepest_alike, kin
 use Rattle.py_rows_format_proof.proofs.FieldLemmas.{Filled, Says, all_filled}
 use Rattle.py_rows_format_proof.proofs.FillingLemmas.{Datas, filled}
 use Rattle.py_rows_format_proof.proofs.FormLemmas.{Behind, are_read, both_true, forms_alike, is_read, parts_in}
-use Rattle.py_rows_format_proof.proofs.GrowthLemmas.{grown_program, grown_ties, more, rows_node, with_row}
-use Rattle.py_rows_law.proofs.NodeLemmas.{Placed, add, entries, index_for, kind_made, made, with_node}
+use Rattle.py_rows_format_proof.proofs.GrowthLemmas.{grown_program, grown_ties, index_for, more, rows_node, with_node, with_row}
+use Rattle.py_rows_law.proofs.NodeLemmas.{Placed, add, entries, kind_made, made}
 use Rattle.py_rows_format_proof.proofs.NumeralLemmas.{bytes_as, integer_as}
 use Rattle.py_rows_format_proof.proofs.TieLemmas.{Ties, behind}
 use Rattle.py_rows_format_proof.proofs.TableLemmas.{row, same_kind, same_row, sort_as}
