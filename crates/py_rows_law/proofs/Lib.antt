@@ -1,0 +1,4 @@
+mod NodeLemmas
+mod StepLemmas
+mod EndLemmas
+pub mod FormatLemmas
