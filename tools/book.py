@@ -32,6 +32,7 @@ body { font: 16px/1.5 sans-serif; margin: 0 auto; max-width: 72em; padding: 1em;
 pre { background: #f6f6f4; padding: .6em .8em; overflow-x: auto; font: 13px/1.45 monospace; margin: .3em 0; border-left: 3px solid #ccd; }
 pre a { color: #124a8a; text-decoration: none; } pre a:hover { text-decoration: underline; }
 pre .c { color: #60705c; } pre .n { font-weight: bold; }
+[id] { scroll-margin-top: 3.5em; }
 :target { background: #fff3c4; }
 details { font-size: 14px; margin: 0 0 1em 0; color: #555; } summary { cursor: pointer; }
 nav { position: sticky; top: 0; background: #fff; border-bottom: 1px solid #ccc; padding: .4em 0; z-index: 1; }
