@@ -3,7 +3,7 @@
 
 They are the files of specs/ that the contract of `run` imports, those that these import, and so on. A reader of what is
 proved has to believe that they say what is meant; the proofs and the code need no belief. With no option the list is
-printed, with how many files and lines it has.
+printed, with how many files and lines it has. The files behind the words of the headline alone have a mark.
 """
 import argparse
 import os
@@ -15,6 +15,15 @@ PAGE = "docs/TRUSTED.md"
 BEGIN, END = "<!-- files begin -->", "<!-- files end -->"
 IMPORT = re.compile(r"\bRattle\.([a-z_0-9]+)\.specs\.([A-Za-z_0-9.]+)")
 RUN = re.compile(r"^pub fn run<", re.M)
+# The words of the headline, each with the file that defines it.
+HEADLINE = {
+    "rows_tree": "crates/py_rows/specs/Rows.antt",
+    "scopes_of": "crates/py_meaning/specs/Scanned.antt",
+    "body": "crates/py_meaning/specs/Meaning.antt",
+    "Agree": "crates/py_control/specs/Agreement.antt",
+    "object": "crates/py_bytecode/specs/View.antt",
+    "listing": "crates/py_listing/specs/Listing.antt",
+}
 
 
 def read(path):
@@ -50,8 +59,21 @@ def imported(text):
 
 
 def trusted():
-    """The paths of all files that are imported, near or far, in order."""
-    seen, left = set(), [start()]
+    """The paths of all files that the source of `run` imports, near or far, in order."""
+    return behind([start()])
+
+
+def headline():
+    """The paths of the files that define the words of the headline, and of all that these import, near or far."""
+    for word, path in HEADLINE.items():
+        if not re.search(rf"^ *(abbrev )?pub {word} :", read(path), re.M):
+            sys.exit(f"{path} does not define {word}")
+    return set(HEADLINE.values()) | set(behind(HEADLINE.values()))
+
+
+def behind(paths):
+    """The paths of all files that these import, near or far, in order."""
+    seen, left = set(), list(paths)
     while left:
         for path in imported(read(left.pop())):
             if path not in seen:
@@ -73,14 +95,18 @@ def first_line(path):
 
 
 def rows(paths):
-    """The table of files, with what each says of itself."""
+    """The table of files, with what each says of itself, and a mark where the words of the headline rest on it."""
     lines = [(path, read(path).count("\n"), first_line(path).replace("|", "\\|")) for path in paths]
-    yield f"{len(lines)} files, {sum(count for _, count, _ in lines):,} lines:"
+    marked = headline()
+    if marked - set(paths):
+        sys.exit(f"the contract of `run` does not rest on {' '.join(sorted(marked - set(paths)))}")
+    few = [count for path, count, _ in lines if path in marked]
+    yield f"{len(lines)} files, {sum(count for _, count, _ in lines):,} lines. {len(few)} of them have a mark, with {sum(few):,} lines:"
     yield ""
-    yield "| File | Lines | What it says |"
-    yield "|---|---|---|"
+    yield "| File | Lines | Headline | What it says |"
+    yield "|---|---|---|---|"
     for path, count, said in lines:
-        yield f"| `{path[len('crates/'):]}` | {count} | {said} |"
+        yield f"| `{path[len('crates/'):]}` | {count} | {'*' if path in marked else ''} | {said} |"
 
 
 def main():
