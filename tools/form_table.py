@@ -9,21 +9,20 @@ import argparse
 import pathlib
 import sys
 
-sys.path.insert(0, str(pathlib.Path(__file__).resolve().parent / "model"))
-import code_files
-import instr
-
-OPCODES = {row[0]: number for number, row in enumerate(instr._ROWS)}
+sys.path.insert(0, str(pathlib.Path(__file__).resolve().parent.parent / "python"))
+from pyc.code_object import Code
 
 
 def code(flags=33, counts=(0, 0, 0), units="", constants=(), varnames="", cells="", free="", cell2arg=None, locations=None):
     """A code; units are words, as `LoadFast 0`, and names are letters."""
     words = units.split()
-    made = [(OPCODES[op], int(arg)) for op, arg in zip(words[::2], words[1::2])]
-    return dict(
-        flags=flags, counts=counts, path="m.py", line=1, name="f", depth=9, units=made,
-        locations=[(1, 1)] * (len(made) if locations is None else locations), constants=list(constants), names=[],
-        varnames=list(varnames), cellvars=list(cells), freevars=list(free), cell2arg=cell2arg,
+    made = tuple((name, int(byte)) for name, byte in zip(words[::2], words[1::2]))
+    positional_only, positional, keyword_only = counts
+    return Code(
+        flags=flags, posonlyarg_count=positional_only, arg_count=positional, kwonlyarg_count=keyword_only, source_path="m.py",
+        first_line_number=1, obj_name="f", max_stackdepth=9, instructions=made,
+        locations=((1, 1),) * (len(made) if locations is None else locations), constants=tuple(constants), names=(),
+        varnames=tuple(varnames), cellvars=tuple(cells), freevars=tuple(free), cell2arg=cell2arg and tuple(cell2arg),
     )
 
 
@@ -100,7 +99,7 @@ def main():
     print("/// For each file its bytes, and what is the first fault: the places among constants, the unit, and the kind.")
     print('pub const FILES: &str = "\\')
     for made, said in ROWS:
-        print(f"    {(code_files.MAGIC + code_files.code(made)).hex()} {said}\\n\\")
+        print(f"    {made.to_bytes().hex()} {said}\\n\\")
     print('    ";')
 
 
