@@ -1,14 +1,9 @@
-"""Writes crates/py_codefile_vectors/src/files.rt: files of code, and what reading answers of others that are made of
-them by an edit: 200 that are refused, 40 that are read, and one for each count and length, which is made as high as
-can be.
+"""Files of code, and what reading answers of others that are made of them by an edit: 200 that are refused, 40 that are
+read, and one for each count and length, which is made as high as can be. `code_cases.py` writes them as cases.
 
-usage: code_files.py
-
-The text on standard output is the file. The grammar is read and written by `pyc.codefile`, in Python, from
-its description in crates/py_codefile/README.md and not from the program. The edits are drawn by chance from a
-fixed seed, so that each run writes the same file.
+The grammar is read and written by `pyc.codefile`, in Python, from its description in crates/py_codefile/README.md and not
+from the program. The edits are drawn by chance from a fixed seed, so that they are the same in each run.
 """
-import argparse
 import pathlib
 import random
 import sys
@@ -75,7 +70,7 @@ def edited(edit):
     return data[:at] + put + data[at + taken:]
 
 
-def cases():
+def drawn_edits():
     """Edits with their answers, so many of each cause, none twice."""
     draw = random.Random(2048)
     left = dict(WANTED)
@@ -107,40 +102,20 @@ def highest_counts():
     return rows
 
 
-def constant_text(about, name, parts):
-    """A text as a constant, in parts that follow one another in the file."""
-    lines = "".join(f"    {part}\\\n" for part in parts)
-    return f"{about}\npub const {name}: &str = \"\\\n{lines}    \";\n"
+# Edits of the file `one`: its last byte is missing, one more follows, and its instruction is none and is another.
+BY_HAND = [("one", 105, 1, b""), ("one", 106, 0, b"\x00"), ("one", 54, 1, b"\x5c"), ("one", 54, 1, b"\x20")]
 
 
-def file_text(name, data):
-    digits = [data[i:i + 40].hex() for i in range(0, len(data), 40)]
-    return constant_text(f"/// The {len(data)} bytes of the file `{name}`, as hexadecimal digits.", name.upper(), digits)
+def error_text(said):
+    """The error that reading answers, as the program shows it; `Ok` as it is."""
+    return " { at: ".join(said.split(" ")) + " }" if " " in said else said
 
 
-def table_text(about, name, rows):
-    lines = [f"{file} {at} {taken} {put.hex() or '-'} {want}\\n" for (file, at, taken, put), want in rows]
-    return constant_text(about, name, lines)
-
-
-def main():
-    argparse.ArgumentParser(prog="code_files.py", description="Writes crates/py_codefile_vectors/src/files.rt on standard output.").parse_args()
-    rows = cases()
-    refused = [row for row in rows if row[1] != "Ok"]
-    taken = [row for row in rows if row[1] == "Ok"]
-    about = f"""\
-/// {len(refused)} edits after which a file is refused: the file that is edited, the offset, how many bytes are taken out
-/// there, the bytes put in, and the error with its offset."""
-    texts = [
-        "//! Files of code, and what reading answers of them once they are edited. The file is made by\n"
-        "//! tools/code_files.py.\n",
-        *[file_text(name, data) for name, data in FILES.items()],
-        table_text(about, "REFUSED", refused),
-        table_text(f"/// {len(taken)} edits after which a file is read.", "TAKEN", taken),
-        table_text("/// Each count and length of the files made 2^32 - 1.", "COUNTS", highest_counts()),
-    ]
-    print("\n".join(texts), end="")
-
-
-if __name__ == "__main__":
-    main()
+def cases():
+    """Lines that ask whether an edited file is read, each behind a line that tells the edit, and their answers."""
+    by_hand = [(edit, answer(edited(edit))) for edit in BY_HAND]
+    for edit, said in by_hand + drawn_edits() + highest_counts():
+        name, at, taken, put = edit
+        told = f"# `{name}`, from byte {at} on {taken} out and in {put.hex() or 'nothing'}"
+        yield told, told
+        yield "read " + edited(edit).hex(), error_text(said)

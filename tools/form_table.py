@@ -1,29 +1,26 @@
-"""Writes the table of files of code and their faults of form crates/py_well_formed_vectors/src/table.rt.
+"""Codes and their faults of form, which `code_cases.py` writes as cases.
 
-usage: form_table.py
-
-The text on standard output is the file, before `rt fmt`. Each code is put together here field by field, and what is said
-of it is written by hand: the places among constants that lead to the code, the unit, and the kind.
+Each code is put together here field by field, and what is said of it is written by hand: the places among constants that
+lead to the code, a digit each, the unit, and the kind.
 """
-import argparse
 import pathlib
 import sys
 
-sys.path.insert(0, str(pathlib.Path(__file__).resolve().parent / "model"))
-import code_files
-import instr
-
-OPCODES = {row[0]: number for number, row in enumerate(instr._ROWS)}
+sys.path.insert(0, str(pathlib.Path(__file__).resolve().parent.parent / "python"))
+from pyc import codefile
+from pyc.code_object import Code
 
 
 def code(flags=33, counts=(0, 0, 0), units="", constants=(), varnames="", cells="", free="", cell2arg=None, locations=None):
     """A code; units are words, as `LoadFast 0`, and names are letters."""
     words = units.split()
-    made = [(OPCODES[op], int(arg)) for op, arg in zip(words[::2], words[1::2])]
-    return dict(
-        flags=flags, counts=counts, path="m.py", line=1, name="f", depth=9, units=made,
-        locations=[(1, 1)] * (len(made) if locations is None else locations), constants=list(constants), names=[],
-        varnames=list(varnames), cellvars=list(cells), freevars=list(free), cell2arg=cell2arg,
+    made = tuple((op, int(arg)) for op, arg in zip(words[::2], words[1::2]))
+    posonly, positional, kwonly = counts
+    return Code(
+        flags=flags, posonlyarg_count=posonly, arg_count=positional, kwonlyarg_count=kwonly, source_path="m.py", first_line_number=1,
+        obj_name="f", max_stackdepth=9, instructions=made, locations=((1, 1),) * (len(made) if locations is None else locations),
+        constants=tuple(constants), names=(), varnames=tuple(varnames), cellvars=tuple(cells), freevars=tuple(free),
+        cell2arg=None if cell2arg is None else tuple(cell2arg),
     )
 
 
@@ -94,15 +91,18 @@ ROWS = [
 ]
 
 
-def main():
-    argparse.ArgumentParser(description=__doc__, formatter_class=argparse.RawDescriptionHelpFormatter).parse_args()
-    print("//! Files of code, and the first fault of form in each. The file is made by tools/form_table.py.\n")
-    print("/// For each file its bytes, and what is the first fault: the places among constants, the unit, and the kind.")
-    print('pub const FILES: &str = "\\')
+def fault_text(said):
+    """A fault as the program shows it."""
+    if said == "None":
+        return said
+    path, unit, kind = said.split(":")
+    place = "None" if unit == "-" else "Some(%s)" % unit
+    return "Some(FormFault { path: %s, unit: %s, kind: %s })" % (list(map(int, path)), place, kind)
+
+
+def cases():
+    """Lines that ask for faults of form, and the answers."""
+    told = "# faults of form"
+    yield told, told
     for made, said in ROWS:
-        print(f"    {(code_files.MAGIC + code_files.code(made)).hex()} {said}\\n\\")
-    print('    ";')
-
-
-if __name__ == "__main__":
-    main()
+        yield "form " + codefile.write(made).hex(), fault_text(said)

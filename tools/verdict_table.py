@@ -1,24 +1,25 @@
-"""Writes the table of codes and verdicts crates/py_verify_vectors/src/table.rt.
+"""Codes and what is wrong with them, which `code_cases.py` writes as cases.
 
-usage: verdict_table.py
-
-The text on standard output is the file, before `rt fmt`. It runs under a Python of 3.12 or later, which reads type parameters.
-Each source below is compiled by tools/model, which also finds the flaws (`sound.py`). Each code of it stands in the table, and then
-codes that differ from one of these in a unit, an operand, the depth or a table.
+It wants a Python of 3.12 or later, which reads type parameters. Each source below is compiled by tools/model, which also
+finds the flaws (`sound.py`). Each code of it is a case, and then codes that differ from one of these in a unit, an operand,
+the depth or a table.
 A line has the depth, how many constants, names, varnames, cellvars and freevars there are, the units, each as the number of
-its instruction and its byte, and `Yes` or each flaw that the model finds.
+its instruction and its byte, and `Yes` or each flaw that the model finds. The code of a case has as many entries in its
+tables, whatever they are.
 """
-import argparse
 import pathlib
 import random
 import sys
 from dataclasses import replace
 
+sys.path.insert(0, str(pathlib.Path(__file__).resolve().parent.parent / "python"))
 sys.path.insert(0, str(pathlib.Path(__file__).resolve().parent / "model"))
 import instr
 import compile_rows
 import sound
 from py2rows import rows_text
+from pyc import codefile
+from pyc.code_object import Code
 
 SOURCES = [
     "f(a + 1)",
@@ -117,22 +118,89 @@ def lines():
     return found
 
 
-def main():
-    argparse.ArgumentParser(prog="verdict_table.py", description=__doc__.split("\n")[0]).parse_args()
-    found = lines()
-    print("//! Codes and what is wrong with them. The file is made by tools/verdict_table.py.\n")
-    print("use py_bytecode::Instruction;\n")
-    print("/// The instructions by number.")
-    print(f"pub const INSTRUCTIONS: [Instruction; {len(NAMES)}] = [")
-    for name in NAMES:
-        print(f"    Instruction::{name},")
-    print("];\n")
-    print(f"/// {len(found)} codes, a line each: the depth, the lengths of five tables, the units, and `Yes` or each flaw.")
-    print('pub const CODES: &str = "\\')
-    for one in found:
-        print(f"    {one}\\n\\")
-    print('    ";')
+# The code of `f(a + 1)`, and two that differ from it in the depth and in an operand.
+CALLS = [
+    "3 2 2 0 0 0 0500050119001c00260120001a01 Yes",
+    "2 2 2 0 0 0 0500050119001c00260120001a01 HeightOutside:2",
+    "3 2 2 0 0 0 0500050119001c00260120001a02 OperandOutside:6",
+]
+
+# No unit, prefixes alone, no end, jumps to a last prefix and to the end, a prefix before a jump, jumps behind a prefix,
+# two heights at a unit, too few values, no block, three, four and five prefixes, and a chain of jumps that go back.
+BY_HAND = [
+    "0 0 0 0 0 0  PlaceOutside:0",
+    "0 0 0 0 0 0 4e00 PlaceOutside:0",
+    "0 0 0 0 0 0 44004400 PlaceOutside:1",
+    "0 1 0 0 0 0 54021a004e00 PlaceOutside:0",
+    "0 1 0 0 0 0 54021a00 OperandOutside:0",
+    "0 1 0 0 0 0 4e0154021a00 OperandOutside:0",
+    "0 0 0 0 0 0 54024e015400 Yes",
+    "0 1 0 0 0 0 54024e054e001a00 Yes",
+    "1 1 0 0 0 0 1900500319001a00 UnevenHeights:3",
+    "0 1 0 0 0 0 20001a00 HeightOutside:0",
+    "0 1 0 0 0 0 46001a00 BlockMismatch:0",
+    "0 1 0 0 0 0 4e014e004e001a00 OperandOutside:0",
+    "0 1 0 0 0 0 4e014e004e004e001a00 Yes",
+    "0 1 0 0 0 0 4e014e004e004e004e001a00 Yes",
+    "0 1 0 0 0 0 54041a00540154025403 Yes",
+]
 
 
-if __name__ == "__main__":
-    main()
+def code_of(line):
+    """The code of a line, and what the line says of it."""
+    *numbers, digits, said = line.split(" ")
+    depth, constants, names, varnames, cellvars, freevars = map(int, numbers)
+    units = bytes.fromhex(digits)
+    code = Code(
+        flags=1, posonlyarg_count=0, arg_count=0, kwonlyarg_count=0, source_path="m.py", first_line_number=None, obj_name="<module>",
+        max_stackdepth=depth, instructions=tuple((NAMES[op], byte) for op, byte in zip(units[::2], units[1::2])), locations=(),
+        constants=(None,) * constants, names=("x",) * names, varnames=("x",) * varnames, cellvars=("x",) * cellvars,
+        freevars=("x",) * freevars, cell2arg=None,
+    )
+    return code, said
+
+
+def verdict_text(said, path=()):
+    """A verdict as the program shows it."""
+    if said == "Yes":
+        return said
+    kind, unit = said.split(":")
+    return "No(Flaw { path: %s, unit: %s, kind: %s })" % (list(path), unit, kind)
+
+
+def case(line):
+    code, said = code_of(line)
+    file = codefile.write(code).hex()
+    if "," in said:
+        return f"flaw-among {said} {file}", "one of them"
+    return "verify " + file, verdict_text(said)
+
+
+def around(inner):
+    """A code that returns None, with another code as its third constant."""
+    return replace(code_of("0 2 0 0 0 0 1a01 Yes")[0], constants=(None, None, inner))
+
+
+def nested():
+    """A flaw three codes within, codes that nest as deep as may be, and one deeper."""
+    flawed, said = code_of("0 0 0 0 0 0 4400 PlaceOutside:0")
+    yield "verify " + codefile.write(around(around(around(flawed)))).hex(), verdict_text(said, (2, 2, 2))
+    alone, hole = code_of("0 1 0 0 0 0 1a00 Yes")[0], 0x5ca1ab1e
+    front, back = codefile.write(replace(alone, constants=(hole,))).split(codefile.constant(hole))
+    magic, front = front[: len(codefile.MAGIC)].hex(), front[len(codefile.MAGIC):].hex()
+    within = codefile.constant(alone)[:1].hex()
+    deepest = f"{magic} {front}{within}*2046 {front}{codefile.constant(None).hex()} {back.hex()}*2047"
+    yield "verify " + deepest, "Yes"
+    yield "verify within-code " + deepest, verdict_text("TooDeep:0", (0,) * 2047)
+
+
+def cases():
+    """Lines that ask for verdicts, and the answers."""
+    for told, made in [
+        ("`f(a + 1)`, and the same with another depth and with another operand", map(case, CALLS)),
+        ("codes by hand", map(case, BY_HAND)),
+        ("codes as they are compiled, and others that differ from one of them", map(case, lines())),
+        ("codes within codes", nested()),
+    ]:
+        yield "# " + told, "# " + told
+        yield from made
