@@ -143,7 +143,7 @@ LINES = [
 ]
 
 # Rows, the status of their run, and the line that says what is wrong.
-ROWS = [
+WRONG_ROWS = [
     ('{}', "Input", 'input: not rows\n'),
     ('[]', "Input", 'input: not rows\n'),
     ('[["Pass",1,1],["Module",[2]]]', "Input", 'input: row 1: later row\n'),
@@ -324,7 +324,7 @@ def minus_rows(count: int) -> str:
 
 def wrong_rows() -> Iterator[Case]:
     """Inputs that are no rows, trees that are refused, and what is as deep or as long as may be."""
-    for rows, status, line in ROWS:
+    for rows, status, line in WRONG_ROWS:
         out = model("exec 0 m.py", rows)[1] if status == "Done" else ""
         yield clean("exec 0 m.py", rows, status, out, line)
     yield clean("exec 0 m.py", PEOPLE.split("ClassDef")[0], "Input", "", "input: not JSON\n")

@@ -78,7 +78,12 @@ fn place(words: &str) -> Result<SourceLocation, Failure> {
 /// An instruction with its operand, its target where it has one, and its place.
 fn info_text(alloc: Global, info: InstructionInfo) -> Result<String, AllocError> {
     let place = place_text(alloc, info.location)?;
-    let InstructionInfo { instr, arg, target, .. } = info;
+    let InstructionInfo {
+        instr,
+        arg,
+        target,
+        ..
+    } = info;
     if target == BlockIdx::NULL {
         return format!(in alloc; "{instr:?} {} at {place}", arg.0);
     }

@@ -164,8 +164,9 @@ pub fn names(alloc: Global, rest: &str) -> Result<String, Failure> {
 pub fn flags(alloc: Global, rest: &str) -> Result<String, Failure> {
     let (code, makes) = pair(rest)?;
     let code = CodeFlags::from_bits_retain(code.parse::<u16>().map_err(|_| Failure::Line)?);
-    let mut makes =
-        MakeFunctionFlags::from_bits_retain(makes.parse::<u32>().map_err(|_| Failure::Line)?);
+    let mut makes = MakeFunctionFlags::from_bits_retain(
+        makes.parse::<u32>().map_err(|_| Failure::Line)?,
+    );
     makes.remove(MakeFunctionFlags::CLOSURE);
     Ok(format!(in alloc;
         "{} {} {}, {makes:?}",

@@ -13,11 +13,13 @@ use std::alloc::{AllocError, Global};
 /// What comes of the case of a line: its lines, each ended.
 pub fn answer(alloc: Global, line: &str) -> Result<String, AllocError> {
     match Case::of_line(line) {
-        Some(Case::Run {
-            devices,
-            words,
-            input,
-        }) => {
+        Some(
+            Case::Run {
+                devices,
+                words,
+                input,
+            },
+        ) => {
             let words = words_of(alloc, words)?;
             match bytes_of(alloc, input)? {
                 Some(input) => ran(alloc, devices, &words, input),

@@ -13,7 +13,10 @@ pub struct Piecewise {
 #[derive(Clone, Copy)]
 pub enum Devices {
     /// None fails, and the sinks have so much room.
-    Clean { out: u32, err: u32 },
+    Clean {
+        out: u32,
+        err: u32,
+    },
     /// The input is read, and the text is written, by pieces.
     Pieces {
         read: Piecewise,
@@ -32,9 +35,15 @@ pub enum Case<'a> {
         input: &'a str,
     },
     /// What a source answers over a reader of std whose first calls fail so.
-    Read { kind: ErrorKind, calls: u32 },
+    Read {
+        kind: ErrorKind,
+        calls: u32,
+    },
     /// What a sink answers over a writer of std whose first calls fail so.
-    Write { kind: ErrorKind, calls: u32 },
+    Write {
+        kind: ErrorKind,
+        calls: u32,
+    },
 }
 
 impl<'a> Case<'a> {
