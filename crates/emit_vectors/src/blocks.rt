@@ -85,7 +85,9 @@ fn parse_blocks(alloc: Global, text: &str) -> Result<Blocks, Failure> {
         } else {
             BlockIdx::NULL
         };
-        blocks.push(parse_block(alloc, part, next)?)?;
+        if blocks.push(parse_block(alloc, part, next)?).is_err() {
+            return Err(Failure::OutOfMemory);
+        }
     }
     Ok(blocks)
 }
@@ -183,9 +185,9 @@ fn entries_text(alloc: Global, info: &CodeInfo) -> Result<String, AllocError> {
     if info.cellvar_cache.len() != 1 || info.freevar_cache.len() != 1 {
         return String::from_str(alloc, "not one each");
     }
+    let is_none = matches!(info.get_constant(0), ConstantData::None);
     format!(in alloc;
-        "{:?} {} {} {} {}",
-        info.get_constant(0),
+        "{is_none} {} {} {} {}",
         info.get_name(0),
         info.get_varname(0),
         info.get_cell_name(0),

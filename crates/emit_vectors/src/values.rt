@@ -8,31 +8,35 @@ use py_base::{List, SourceLocation};
 use py_bytecode::{CodeFlags, CodeObject, CodeUnit, ConstantData, Instruction, MakeFunctionFlags};
 use py_ir::{ConstantSet, NameSet};
 use std::alloc::{AllocError, Global};
-use std::collections::HashSet;
 use std::hash::{DefaultHasher, Hash, Hasher};
 
-/// How two texts compare: whether a copy of the first equals it and is found beside it, whether it equals the second, is
-/// below it, and is found beside it, and the texts.
+fn hash_of<T: Hash>(value: &T) -> u64 {
+    let mut state = DefaultHasher::new();
+    value.hash(&mut state);
+    state.finish()
+}
+
+/// How two texts compare: whether a copy of the first equals it and has its hash, whether it equals the second and is below
+/// it, and the texts.
 pub fn texts(alloc: Global, rest: &str) -> Result<String, Failure> {
     let (first, second) = pair(rest)?;
     let first = text(alloc, first)?;
     let second = text(alloc, second)?;
     let copy = first.try_clone(alloc)?;
     let is_same = copy == first;
+    let is_hashed_alike = hash_of(&copy) == hash_of(&first);
     let compared = format!(in alloc; "{} {} {first:?}", first == second, first < second)?;
-    let mut seen = HashSet::new(alloc);
-    seen.insert(first)?;
-    let is_found = seen.contains(&copy);
-    let is_other_found = seen.contains(&second);
     let second = second.into_string();
-    Ok(format!(in alloc; "{is_same} {is_found}, {compared}, {is_other_found} {second}")?)
+    Ok(format!(in alloc; "{is_same} {is_hashed_alike}, {compared} {second}")?)
 }
 
 /// A list before and after a number is taken out, and the first place of a source.
 pub fn lists(alloc: Global, rest: &str) -> Result<String, Failure> {
     let number = rest.parse::<i32>().map_err(|_| Failure::Line)?;
     let mut numbers = List::new(alloc);
-    numbers.push(number)?;
+    if numbers.push(number).is_err() {
+        return Err(Failure::OutOfMemory);
+    }
     let count = numbers.len();
     let shown = format!(in alloc; "{numbers:?}")?;
     let taken = numbers.pop();
@@ -92,12 +96,6 @@ pub fn code_of(alloc: Global, free: &str) -> Result<CodeObject, AllocError> {
         freevars: List::from_vec(freevars),
         cell2arg: Some(List::new(alloc)),
     })
-}
-
-fn hash_of(constant: &ConstantData) -> u64 {
-    let mut state = DefaultHasher::new();
-    constant.hash(&mut state);
-    state.finish()
 }
 
 /// Whether two constants hash alike where they are equal.
@@ -165,7 +163,7 @@ pub fn flags(alloc: Global, rest: &str) -> Result<String, Failure> {
     let (code, makes) = pair(rest)?;
     let code = CodeFlags::from_bits_retain(code.parse::<u16>().map_err(|_| Failure::Line)?);
     let mut makes = MakeFunctionFlags::from_bits_retain(
-        makes.parse::<u32>().map_err(|_| Failure::Line)?,
+        makes.parse::<u8>().map_err(|_| Failure::Line)?,
     );
     makes.remove(MakeFunctionFlags::CLOSURE);
     Ok(format!(in alloc;

@@ -1,8 +1,8 @@
 //! Trees that nest too deep, which no rows give.
 
-use crate::answers::{path, refusal_line};
 use codegen::CompileOpts;
 use codegen::compile::compile_top;
+use py_base::{CodegenErrorType, TreeLimit};
 use py_tree::{
     Expr, ExprCall, ExprName, List, Mod, ModExpression, ModModule, Mode, SourceLocation, Stmt,
     StmtPass, StmtWith, Text, WithItem,
@@ -73,11 +73,12 @@ fn compiles(
 ) -> Result<(), Fail> {
     let alloc = rt.alloc();
     let opts = CompileOpts { optimize: 0 };
-    match compile_top(alloc, tree, path(alloc)?, mode, opts) {
+    let path = Text::from_string(String::from_str(alloc, "m.py")?);
+    match compile_top(alloc, tree, path, mode, opts) {
         Ok(_) => assert!(rt; is_compiled),
         Err(error) => {
-            let line = refusal_line(alloc, &error)?;
-            assert_eq!(rt; line.as_str(), "-:- tree is too large: nesting\n");
+            let is_nesting = matches!(&error.error, CodegenErrorType::TooLarge(TreeLimit::Depth));
+            assert!(rt; is_nesting && error.location.is_none());
             assert!(rt; !is_compiled);
         }
     }

@@ -1,6 +1,6 @@
 //! Each call once, on `f(a + 1)` or on a single instruction.
 
-use crate::{
+use examples::{
     Ended, code_of_file, has_right_scopes, laid_out, may_run, run_in_memory, safe_code,
     text_of_runs,
 };
