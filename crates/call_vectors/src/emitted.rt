@@ -116,12 +116,7 @@ fn call_on_stmts(em: &mut Emitter, call: Call, body: &Stmts) -> Result<(), Failu
 }
 
 /// Makes the call on the program.
-fn call(
-    alloc: Global,
-    em: &mut Emitter,
-    call: Call,
-    program: &Mod,
-) -> Result<String, Failure>
+fn call(alloc: Global, em: &mut Emitter, call: Call, program: &Mod) -> Result<String, Failure>
     requires { AreMade (rest em.old).context.loop_blocks }
 {
     match program {

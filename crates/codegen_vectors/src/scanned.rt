@@ -31,7 +31,10 @@ fn names_of(alloc: Global, table: &SymbolTable) -> Result<String, AllocError> {
         let place = names.get_index_of(&symbol.name);
         let name = symbol.name.as_str();
         let is_found = table.lookup(name).is_some();
-        line.push_str(format!(in alloc; " {name} {:?} {place:?} {is_found}", symbol.scope)?.as_str())?;
+        line.push_str(format!(in alloc;
+            " {name} {:?} {place:?} {is_found}",
+            symbol.scope
+        )?.as_str())?;
     }
     line.push_str("\n")?;
     Ok(line)

@@ -55,5 +55,9 @@ pub fn found(alloc: Global, table: &SymbolTable) -> Result<String, AllocError> {
     let outer = format!(in alloc; "{:?} {:?}", scope_of(table, "f"), scope_of(table, "x"))?;
     let inner = format!(in alloc; "{:?} {:?}", scope_of(function, "x"), scope_of(lambda, "x"))?;
     let name = copy.name.as_str();
-    format!(in alloc; "{outer} {inner} {name} {:?} {}", copy.scope, copy.flags.bits())
+    format!(in alloc;
+        "{outer} {inner} {name} {:?} {}",
+        copy.scope,
+        copy.flags.bits()
+    )
 }
