@@ -39,8 +39,8 @@ TICKS = os.sysconf("SC_CLK_TCK")
 # What a process of a run may do, in the order of the table's columns.
 PROOF, TESTS, EDITS, CODE = KINDS = ("proof", "tests", "edits", "code")
 
-# Seconds from one look to the next, and from one line of a running process to its next.
-LOOK, WRITE = 1.0, 20.0
+# Seconds from one look to the next, from one line of a running process to its next, and until a run has begun.
+LOOK, WRITE, PATIENCE = 1.0, 20.0, 600.0
 
 
 class Taken(NamedTuple):
@@ -133,10 +133,12 @@ def machine(folder: pathlib.Path, began: float) -> Dict[str, object]:
     }
 
 
-def watch(record: IO[str], folder: pathlib.Path) -> None:
-    """Writes what the run in a checkout takes, from now to its end; waits for it to begin."""
-    gate = gate_at(folder)
+def watch(record: IO[str], folder: pathlib.Path, patience: float) -> None:
+    """Writes what the run in a checkout takes, from now to its end; waits for it to begin, so many seconds at most."""
+    gate, until = gate_at(folder), time.time() + patience
     while gate is None:
+        if time.time() >= until:
+            return
         time.sleep(LOOK)
         gate = gate_at(folder)
     booted = time.time() - float((PROC / "uptime").read_text().split()[0])
@@ -268,7 +270,7 @@ def main() -> int:
     args = parser.parse_args()
     if args.watch:
         with args.record.open("w", encoding="utf-8") as record:
-            watch(record, args.at.resolve())
+            watch(record, args.at.resolve(), PATIENCE)
         return 0
     with args.record.open(encoding="utf-8") as lines:
         head, taken = read(lines)
