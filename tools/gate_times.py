@@ -13,7 +13,8 @@ Without --watch the table is written to standard output: a row for each crate, w
 of its tests, of its wrong bodies and of what the two compilers make of it, and the minutes on the clock from the first
 of its processes to the end of the last. Crates of less than MINUTES (0 where none is named) are one row. The chain is the
 longest on the clock of those whose crates each use the one before. With LOG, what the run printed, the crates are named
-whose proofs it took from an earlier run; those that the record lacks are named in any case.
+whose proofs it took from an earlier run, and those that it did not prove; others that the record lacks are named in any
+case.
 
 RECORD has a JSON object a line. The first says where and of what: machine, processors, memory_gb, commit, kit and began.
 Each other one says what a process has taken so far, and the last one of a process counts: pid and began tell which process
@@ -235,7 +236,20 @@ def line_of(name: str, rows: Sequence[Row], clock: str) -> str:
     return "| %s |" % " | ".join(cells)
 
 
-def table(head: Dict[str, object], taken: Sequence[Taken], uses: Dict[str, List[str]], kept: Sequence[str], least: float) -> List[str]:
+class Told(NamedTuple):
+    """What a run printed of crates: those whose proofs it took from an earlier run, and those that it did not prove."""
+
+    kept: List[str] = []
+    failed: List[str] = []
+
+
+def told_by(log: str) -> Told:
+    kept = re.findall(r"^rt: (\w+) is kept: ", log, re.M)
+    failed = re.findall(r"^rt: (\w+)(?:: its tests are)? NOT PROVED", log, re.M)
+    return Told(sorted(set(kept)), sorted(set(failed)))
+
+
+def table(head: Dict[str, object], taken: Sequence[Taken], uses: Dict[str, List[str]], told: Told, least: float) -> List[str]:
     """The lines of the table, and those that say what it is of."""
     rows = rows_of(taken)
     chain = chain_of(proved_in(taken), uses)
@@ -252,11 +266,10 @@ def table(head: Dict[str, object], taken: Sequence[Taken], uses: Dict[str, List[
     lines += ["", "Chain: %s." % ", ".join(chain)]
     day = time.strftime("%Y-%m-%d", time.gmtime(float(str(head.get("began", 0)))))
     lines.append("Minutes of %s; %s, %s processors, %s GB, commit %s, %s." % (day, *(head.get(it, "?") for it in ("machine", "processors", "memory_gb", "commit", "kit"))))
-    lacking = sorted(set(uses) - {it.crate for it in rows} - set(kept))
-    if kept:
-        lines.append("Kept from an earlier run: %s." % ", ".join(sorted(kept)))
-    if lacking:
-        lines.append("Not measured: %s." % ", ".join(lacking))
+    lacking = sorted(set(uses) - {it.crate for it in rows} - set(told.kept) - set(told.failed))
+    for what, crates in (("Kept from an earlier run", told.kept), ("Not proved", told.failed), ("Not measured", lacking)):
+        if crates:
+            lines.append("%s: %s." % (what, ", ".join(crates)))
     return lines
 
 
@@ -275,8 +288,8 @@ def main() -> int:
     with args.record.open(encoding="utf-8") as lines:
         head, taken = read(lines)
     uses = build.read_crates((ROOT / "crates.txt").read_text(encoding="utf-8"))
-    kept = re.findall(r"^rt: (\w+) is kept: ", args.log.read_text(encoding="utf-8", errors="replace"), re.M) if args.log else []
-    print("\n".join(table(head, taken, uses, kept, args.least)))
+    told = told_by(args.log.read_text(encoding="utf-8", errors="replace")) if args.log else Told()
+    print("\n".join(table(head, taken, uses, told, args.least)))
     return 0
 
 

@@ -10,7 +10,7 @@ import unittest
 import unittest.mock
 
 import gate_times
-from gate_times import CODE, EDITS, PROOF, TESTS, Taken
+from gate_times import CODE, EDITS, PROOF, TESTS, Taken, Told
 
 # Of a run that was watched: a crate whose last line counts, one with tests, one with two wrong bodies, and a program.
 RECORD = """\
@@ -103,9 +103,13 @@ class Tables(unittest.TestCase):
     def test_the_chain_is_the_longest_on_the_clock(self):
         self.assertEqual(gate_times.chain_of(gate_times.proved_in(self.taken), USES), ["low", "high"])
 
+    def test_a_log_tells_what_was_kept_and_what_failed(self):
+        log = "rt: low is kept: an earlier run\nrt: high: its tests are NOT PROVED\nrt: far NOT PROVED: its library high failed\nrt: x proved\n"
+        self.assertEqual(gate_times.told_by(log), Told(["low"], ["far", "high"]))
+
     def test_the_table(self):
         self.assertEqual(
-            gate_times.table(self.head, self.taken, USES, ["kept"], 0.2),
+            gate_times.table(self.head, self.taken, USES, Told(["kept"], ["high"]), 0.2),
             [
                 "| Crate | Proof | Tests | Wrong bodies | Code | All | Clock |",
                 "|---|---|---|---|---|---|---|",
@@ -118,6 +122,7 @@ class Tables(unittest.TestCase):
                 "Chain: low, high.",
                 "Minutes of 2026-12-01; Some Processor, 4 processors, 25 GB, commit 0123abcd, rattle-kit-13f.",
                 "Kept from an earlier run: kept.",
+                "Not proved: high.",
                 "Not measured: lost.",
             ],
         )

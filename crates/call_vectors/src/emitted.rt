@@ -21,8 +21,8 @@ use std::mem;
 /// The scopes of a program.
 fn table_of(alloc: Global, program: &Mod) -> Result<SymbolTable, Failure> {
     match program {
-        Mod::Module(m) => Ok(SymbolTable::scan_program(alloc, &m.body)?),
-        Mod::Expression(m) => Ok(SymbolTable::scan_expr(alloc, &m.body)?),
+        Mod::Module(m) => Ok(<SymbolTable as Scan>::scan_program(alloc, &m.body)?),
+        Mod::Expression(m) => Ok(<SymbolTable as Scan>::scan_expr(alloc, &m.body)?),
         _ => Err(Failure::Line),
     }
 }

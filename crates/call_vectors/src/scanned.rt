@@ -17,7 +17,7 @@ fn shown(
         Ok(table) => format!(in alloc; "{table:?}"),
         Err(error) => {
             let path = Text::from_string(String::from_str(alloc, "m.py")?);
-            let error = error.into_codegen_error(path);
+            let error = IntoCodegenError::into_codegen_error(error, path);
             let row = error.location.map_or(0, |at| at.row.get());
             format!(in alloc; "{row} {} {}", error.source_path.as_str(), error.error)
         }
@@ -27,8 +27,8 @@ fn shown(
 /// What the scan of any tree answers.
 fn scanned(alloc: Global, program: &Mod) -> Result<String, Failure> {
     let table = match program {
-        Mod::Module(m) => SymbolTable::scan_program(alloc, &m.body),
-        Mod::Expression(m) => SymbolTable::scan_expr(alloc, &m.body),
+        Mod::Module(m) => <SymbolTable as Scan>::scan_program(alloc, &m.body),
+        Mod::Expression(m) => <SymbolTable as Scan>::scan_expr(alloc, &m.body),
         _ => return Err(Failure::Line),
     };
     Ok(shown(alloc, table)?)
@@ -37,8 +37,8 @@ fn scanned(alloc: Global, program: &Mod) -> Result<String, Failure> {
 /// What the scan of a tree answers whose nesting, size and shapes are right.
 fn scanned_alone(alloc: Global, program: &Mod) -> Result<String, Failure> {
     let table = match program {
-        Mod::Module(m) => SymbolTable::scan_body(alloc, &m.body),
-        Mod::Expression(m) => SymbolTable::scan_value(alloc, &m.body),
+        Mod::Module(m) => <SymbolTable as Scan>::scan_body(alloc, &m.body),
+        Mod::Expression(m) => <SymbolTable as Scan>::scan_value(alloc, &m.body),
         _ => return Err(Failure::Line),
     };
     Ok(shown(alloc, table)?)
@@ -76,7 +76,7 @@ fn kinds(table: &SymbolTable) -> [Option<SymbolScope>; 3] {
 /// The table of a file.
 fn table_of(alloc: Global, program: &Mod) -> Result<SymbolTable, Failure> {
     match program {
-        Mod::Module(m) => Ok(SymbolTable::scan_program(alloc, &m.body)?),
+        Mod::Module(m) => Ok(<SymbolTable as Scan>::scan_program(alloc, &m.body)?),
         _ => Err(Failure::Line),
     }
 }

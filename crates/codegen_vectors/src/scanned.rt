@@ -11,9 +11,12 @@ pub fn scanned(alloc: Global, tree: &Mod) -> Result<String, AllocError> {
     let Mod::Module(program) = tree else {
         return String::from_str(alloc, "no file\n");
     };
-    match SymbolTable::scan_program(alloc, &program.body) {
+    match <SymbolTable as Scan>::scan_program(alloc, &program.body) {
         Ok(table) => names_of(alloc, &table),
-        Err(error) => refusal_line(alloc, &error.into_codegen_error(path(alloc)?)),
+        Err(error) => {
+            let error = IntoCodegenError::into_codegen_error(error, path(alloc)?);
+            refusal_line(alloc, &error)
+        }
     }
 }
 
