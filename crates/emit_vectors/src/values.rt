@@ -103,31 +103,40 @@ fn agree(one: &ConstantData, other: &ConstantData) -> bool {
     one != other || hash_of(one) == hash_of(other)
 }
 
-/// The place of each constant that is entered into one set, how many there are, and where the last is found.
+/// The place of each constant that is entered into one set, how many there are, and where the one behind `?` is found and
+/// whether it stands there.
 pub fn constants(alloc: Global, rest: &str) -> Result<String, Failure> {
+    let (words, asked) = rest.split_once(" ? ").ok_or(Failure::Line)?;
+    let asked = constant(alloc, asked)?;
     let mut set = ConstantSet::new(alloc);
     let mut places = String::new(alloc);
-    let mut last = ConstantData::None;
     let mut is_alike = true;
-    for word in rest.split(' ') {
+    for word in words.split(' ') {
         let value = constant(alloc, word)?;
+        is_alike = is_alike && agree(&value, &asked);
         let Ok(place) = set.insert_full(value) else {
             return Err(Failure::OutOfMemory);
         };
         places.push_str(format!(in alloc; "{place} ")?.as_str())?;
-        let again = constant(alloc, word)?;
-        is_alike = is_alike && agree(&again, &last);
-        if let Some(held) = set.get_index(place) {
-            is_alike = is_alike && agree(held, &again);
-        }
-        last = again;
     }
+    let found = set.get_index_of(&asked);
+    let is_held = stands_at(&set, found, &asked);
     let is_past = set.get_index(set.len()).is_none();
     Ok(format!(in alloc;
-        "{places}of {}, last {:?}, past {is_past}, alike {is_alike}",
-        set.len(),
-        set.get_index_of(&last)
+        "{places}of {}, {found:?} {is_held}, past {is_past}, alike {is_alike}",
+        set.len()
     )?)
+}
+
+/// Whether the constant stands at this place.
+fn stands_at(set: &ConstantSet, place: Option<usize>, constant: &ConstantData) -> bool {
+    let Some(place) = place else {
+        return false;
+    };
+    match set.get_index(place) {
+        Some(held) => held == constant,
+        None => false,
+    }
 }
 
 /// Enters a name, and answers its place.
