@@ -143,7 +143,10 @@ fn run_in_pieces(
 fn size_of(pieces: Piecewise) -> usize
     ensures { 1 ≤ result }
 {
-    (pieces.size as usize).max(1)
+    if pieces.size == 0 {
+        return 1;
+    }
+    pieces.size as usize
 }
 
 /// The call that fails.
