@@ -12,7 +12,7 @@ use Rattle.py_base.specs.Messages.{message}
 use Rattle.py_listing.specs.Listing.{listing}
 use Rattle.py_rows_fields.specs.declared.error.RowsError.{RowsError}
 use Rattle.py_rows_fields.specs.declared.error.RowsError.TheVariants.{NotJson, NotRows, WrongRow, WideInteger, LaterRow, WrongKind, NamedTwice, TooDeep, NoMod, NotNamed, OutOfMemory}
-use Rattle.py_rows.specs.Rows.{rows_tree}
+use Rattle.py_rows_format.specs.Rows.{rows_tree}
 use Rattle.py_codefile.specs.declared.error.ReadCodeError.{ReadCodeError}
 use Rattle.py_codefile.specs.declared.error.ReadCodeError.TheVariants as bad
 use Rattle.py_codefile.specs.Grammar.{Spells}
