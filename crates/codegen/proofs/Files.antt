@@ -6,6 +6,7 @@ use Rattle.py_bytecode.specs.declared.instruction.Instruction.TheVariants as op
 use Rattle.py_emission.specs.Predicates.{annotated}
 use Rattle.py_emission.specs.Texts.{after_doc, doc_of}
 use Rattle.py_emission_parts.specs.Emitting.{Done, Emission, State, ◌▸◌, by_level, emit_constant}
+use Rattle.py_emission_parts.specs.Running.{run}
 use Rattle.py_emission.specs.EmissionStmts.{emission_of_stmts}
 use Rattle.py_emission.specs.EmissionDefs.{emission_of_setup}
 use Rattle.py_emission.specs.EmissionFutures.{emission_behind}
@@ -17,8 +18,8 @@ abbrev pub returning : tree.Stmts → Emission
 returning after = emission_behind emission_of_stmts after ▸ emit_constant op.ReturnConst none
 
 -- what is left of a file behind its docstring
-pub behind_doc : (body after : tree.Stmts) (b : Bool) (s r : State) → by_level (λ l. emission_of_doc (doc_of l body)) s ≡ Done r → after ≡ after_doc body → b ≡ annotated after → emission_of_program body s ≡ (emission_of_setup b ▸ returning after) r
+pub behind_doc : (body after : tree.Stmts) (b : Bool) (s r : State) → run (by_level (λ l. emission_of_doc (doc_of l body))) s ≡ Done r → after ≡ after_doc body → b ≡ annotated after → run (emission_of_program body) s ≡ run (emission_of_setup b ▸ returning after) r
 behind_doc body after b s r doc is any =
-    went _ (emission_of_setup (annotated (after_doc body)) ▸ returning (after_doc body)) r doc
-    ∙ ap (λ a. (emission_of_setup (annotated a) ▸ returning a) r) (sym is)
-    ∙ ap (λ c. (emission_of_setup c ▸ returning after) r) (sym any)
+    went _ (run (emission_of_setup (annotated (after_doc body)) ▸ returning (after_doc body))) r doc
+    ∙ ap (λ a. run (emission_of_setup (annotated a) ▸ returning a) r) (sym is)
+    ∙ ap (λ c. run (emission_of_setup c ▸ returning after) r) (sym any)

@@ -9,6 +9,7 @@ use Rattle.py_ir.specs.Final.{IsFinal}
 use Rattle.py_scope.specs.declared.flat.ScopeEntry.{ScopeEntry}
 use Rattle.py_emission_parts.specs.Context.{Context, outermost}
 use Rattle.py_emission_parts.specs.Emitting.{Done, State, nothing}
+use Rattle.py_emission_parts.specs.Running.{run}
 use Rattle.py_emission.specs.EmissionMods.{emission_of_mod, emitted}
 use Rattle.py_base.specs.declared.errors.CodegenErrorType.{CodegenErrorType}
 use Rattle.py_emit.specs.Emitted.{IsEmitted, Holds}
@@ -26,11 +27,11 @@ module _ (t : tree.Mod) (m : Mode) (opts : CompileOpts) (path : List ℕ) (scope
   abbrev around : Context
   around = outermost opts.optimize path scopes
 
-  pub goes_first : {A : Type 0} (x : Result A (LocatedError CodegenErrorType)) (after : State) → Goes x after (emission_of_mod t m (state first)) → Goes x after (emitted t m around)
-  goes_first x after h = subst (λ q. Goes x after (emission_of_mod t m q)) s h
+  pub goes_first : {A : Type 0} (x : Result A (LocatedError CodegenErrorType)) (after : State) → Goes x after (run (emission_of_mod t m) (state first)) → Goes x after (emitted t m around)
+  goes_first x after h = subst (λ q. Goes x after (run (emission_of_mod t m) q)) s h
 
   -- so it is over no scopes, where these are none
-  pub goes_without : scopes ≡ [] → {A : Type 0} (x : Result A (LocatedError CodegenErrorType)) (after : State) → Goes x after (emission_of_mod t m (state first)) → Goes x after (emitted t m (outermost opts.optimize path []))
+  pub goes_without : scopes ≡ [] → {A : Type 0} (x : Result A (LocatedError CodegenErrorType)) (after : State) → Goes x after (run (emission_of_mod t m) (state first)) → Goes x after (emitted t m (outermost opts.optimize path []))
   goes_without none x after h = subst (λ q. Goes x after (emitted t m (outermost opts.optimize path q))) none (goes_first x after h)
 
   module _ (last : Emitter) (same : rest last ≡ rest first) (is : emitted t m around ≡ Done (state last)) where

@@ -10,7 +10,8 @@ use Rattle.py_emission.specs.Texts.{after_doc, doc_of}
 use Rattle.py_emission_parts.specs.Accesses.{emission_of_stored}
 use Rattle.py_emission_parts.specs.Children.{decorated}
 use Rattle.py_emission_parts.specs.Context.{Context}
-use Rattle.py_emission_parts.specs.Emitting.{Emission, Outcome, Refused, ◌▸◌, by_level, emit, emit_constant, emit_name, keep, move, nothing}
+use Rattle.py_emission_parts.specs.Running.{run}
+use Rattle.py_emission_parts.specs.Emitting.{Emission, Faults, Outcome, ◌▸◌, by_level, emit, emit_constant, emit_name, keep, move, nothing}
 use Rattle.py_emission_parts.specs.EmissionParts.{values}
 use Rattle.py_emission.specs.Emission.{all_emissions, emission, emission_of_return}
 use Rattle.py_emission.specs.EmissionDefs.{emission_of_built, emission_of_end, emission_of_function, emission_of_setup}
@@ -75,7 +76,7 @@ emission_of_interactive other ss = emission_behind emission_of_block ss
 
 -- a type of a function, which is no tree of a program in any mode, is at fault as a whole
 abbrev pub unsupported_tree : Emission
-unsupported_tree s = Refused error.NotImplementedYet None
+unsupported_tree = Faults error.NotImplementedYet
 
 -- what is emitted of a tree in a mode
 abbrev pub emission_of_mod : tree.Mod → Mode → Emission
@@ -86,4 +87,4 @@ emission_of_mod other m = unsupported_tree
 
 -- where this is the context of the outermost scope
 abbrev pub emitted : tree.Mod → Mode → Context → Outcome
-emitted t m c = emission_of_mod t m (nothing c)
+emitted t m c = run (emission_of_mod t m) (nothing c)

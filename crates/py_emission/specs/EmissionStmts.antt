@@ -20,7 +20,7 @@ use Rattle.py_emission.specs.EmissionDefs.{emission_of_alias, emission_of_built,
 use Rattle.py_emission.specs.EmissionImports.{emission_of_from, emission_of_import}
 use Rattle.py_emission.specs.Predicates.{but_doc, itemless, message_count, none}
 use Rattle.py_emission_parts.specs.Children.{decorated}
-use Rattle.py_emission_parts.specs.Emitting.{Emission, LoopBlocks, ◌▸◌, begin, by_context, by_level, by_loops, emit, emit_constant, emit_mangled, emit_name, in_loop, jump, keep, move, new_block, refuse}
+use Rattle.py_emission_parts.specs.Emitting.{Emission, LoopBlocks, ◌▸◌, by_context, by_level, by_loops, emit, emit_constant, emit_mangled, emit_name, in_loop, jump, keep, move, refuse, three_blocks}
 use Rattle.py_emission_parts.specs.Accesses.{emission_of_name, emission_of_stored}
 use Rattle.py_emission_parts.specs.Context.{is_function, mangled}
 use Rattle.py_emission_parts.specs.EmissionParts.{choice, only, only_in_function, pass_scopes, unless_debug, values}
@@ -120,9 +120,9 @@ abbrev mutual
   emission_of_stmt (tree.If at t body orelse) =
       move at ▸ (if none orelse then only (emission_of_test t) (emission_of_stmts body) else choice (emission_of_test t) (emission_of_stmts body) (emission_of_stmts orelse))
   emission_of_stmt (tree.While at t body orelse) =
-      move at ▸ new_block (λ start. new_block (λ other. new_block (λ end.
-      emit op.SetupLoop 0 ▸ begin start ▸ emission_of_test t false other ▸ in_loop (record { on_break = end; on_continue = start }) (emission_of_stmts body) ▸ jump op.Jump start
-      ▸ begin other ▸ emit op.PopBlock 0 ▸ emission_of_stmts orelse ▸ begin end)))
+      move at ▸ three_blocks (λ start other end. emit op.SetupLoop 0)
+      (λ start other end. emission_of_test t false other ▸ in_loop (record { on_break = end; on_continue = start }) (emission_of_stmts body) ▸ jump op.Jump start)
+      (λ start other end. emit op.PopBlock 0 ▸ emission_of_stmts orelse) (λ start other end. keep)
   emission_of_stmt (tree.For at target iter body orelse) = move at ▸ for_each (emission iter) (emission_of_store target) (emission_of_stmts body) (emission_of_stmts orelse)
   emission_of_stmt (tree.With at items body) =
       move at ▸ (if itemless items then refuse error.EmptyWithItems else emission_of_items at items (if none body then refuse error.EmptyWithBody else emission_of_stmts body))

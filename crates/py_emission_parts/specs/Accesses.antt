@@ -5,7 +5,7 @@ use Rattle.py_bytecode.specs.Values.{Usage, Load, Store, Delete, Kind, Unsaid, F
 use Rattle.py_control.specs.Form.{Resolved}
 use Rattle.py_emission_parts.specs.TableParts.{debug_constant, is_debug}
 use Rattle.py_emission_parts.specs.Context.{Context, access_kind, cell_place, mangled}
-use Rattle.py_emission_parts.specs.Emitting.{Emission, by_level, emit, emit_constant, emit_name, emit_varname}
+use Rattle.py_emission_parts.specs.Emitting.{Emission, by_context, by_level, emit, emit_constant, emit_name, emit_varname}
 use Rattle.py_emission_parts.specs.EmissionParts.{unless_debug}
 use Rattle.py_emission_parts.specs.Refused.{no_assignment, no_deletion}
 
@@ -48,7 +48,7 @@ accessed_in c u x = access_by u (access_kind c u Resolved x) x (cell_place c x)
 
 -- a name as the innermost class writes it
 unfoldable pub accessed : Usage → List ℕ → Emission
-accessed u x s = accessed_in s.around.context u (mangled s.around.context x) s
+accessed u x = by_context (λ c. accessed_in c u (mangled c x))
 
 -- `__debug__` is a constant, which nothing changes
 abbrev pub emission_of_name : List ℕ → Emission

@@ -1,54 +1,24 @@
 -- What is emitted of a scope within: it begins where its parent stands, its code object is a constant of the parent, and the parent goes on where it leaves off.
-use Rattle.std.specs.Prelude.{ℕ, suc, ◌+◌, List, [], ◌∷◌, ◌++◌, Option, Some, None, codes, if◌then◌else◌}
+use Rattle.std.specs.Prelude.{ℕ, ◌+◌, List, [], ◌∷◌, ◌++◌, Option, Some, None, codes, if◌then◌else◌}
 use Rattle.std.specs.List.{list_any}
 use Rattle.py_base.specs.declared.errors.CodegenErrorType.TheVariants as error
-use Rattle.py_base.specs.declared.location.SourceLocation.{SourceLocation}
 use Rattle.py_bytecode.specs.declared.instruction.Instruction.TheVariants as op
 use Rattle.py_bytecode.specs.Equality.{text_eq}
 use Rattle.py_bytecode.specs.Objects as const
 use Rattle.py_bytecode.specs.Objects.{Object}
 use Rattle.py_emission_parts.specs.Context.{Context, cell_place, mangled, qualified}
-use Rattle.py_emission_parts.specs.Emitting.{Emission, Outcome, State, ◌▸◌, Done, TooWide, Refused, add_constant, add_varname, begun, by_context, emit, emit_constant, emit_count, emit_name, keep, refuse}
+use Rattle.py_emission_parts.specs.Emitting.{Emission, Within, ◌▸◌, add_constant, add_varname, by_context, emit, emit_constant, emit_count, emit_name, keep, refuse}
 use Rattle.py_emission_parts.specs.EmissionParts.{built, in_turn, map_of, unless_debug}
 use Rattle.py_emission_parts.specs.Refused.{no_assignment}
-use Rattle.py_emission_parts.specs.Sealed.{Head, sealed}
 use Rattle.py_emission_parts.specs.Within.{Shape, some_flag}
-
--- the head of a scope's code object, whose first line is that of the place where it begins
-abbrev pub code_head : Context → Shape → SourceLocation → Head
-code_head c h at = record {
-  flags = h.flags;
-  posonlyarg_count = h.posonlyarg_count;
-  arg_count = h.arg_count;
-  kwonlyarg_count = h.kwonlyarg_count;
-  source_path = c.source;
-  first_line_number = at.row;
-  obj_name = h.obj_name;
-  cellvars = c.cells;
-  freevars = c.frees;
-}
-
--- a parent goes on where its child leaves off
-abbrev pub behind_child : (parent child : State) → State
-behind_child s t = record s { location = t.location; next = t.next }
-
--- what a child comes to is sealed, and what follows goes on with its code object
-abbrev pub on_sealed : (level : ℕ) → Head → (parent : State) → Outcome → (Object → Emission) → Outcome
-on_sealed level h s (Done t) k = k (sealed level h t) (behind_child s t)
-on_sealed level h s TooWide k = TooWide
-on_sealed level h s (Refused e at) k = Refused e at
 
 -- a child within, which the present context and the number of the next scope tell
 unfoldable pub child : (within : Context → (number : ℕ) → Context) → Shape → (body : Emission) → (Object → Emission) → Emission
-child within h body k s =
-    let c = within s.around.context s.next in
-    on_sealed c.level (code_head c h s.location) s (body (begun c s.location (suc s.next))) k
+child within h body k = Within within h body k
 
 -- a cell that a function is made of, which is one of the present scope's or comes to it from outside; where it is not there, that is refused
 unfoldable pub load_cell : List ℕ → Emission
-load_cell x s =
-    if list_any (text_eq x) (s.around.context.cells ++ s.around.context.frees) then emit op.LoadClosure (cell_place s.around.context x) s
-    else refuse error.MissingCell s
+load_cell x = by_context (λ c. if list_any (text_eq x) (c.cells ++ c.frees) then emit op.LoadClosure (cell_place c x) else refuse error.MissingCell)
 
 abbrev pub cell_loads : List (List ℕ) → List Emission
 cell_loads [] = []

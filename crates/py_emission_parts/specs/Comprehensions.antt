@@ -7,9 +7,8 @@ use Rattle.py_bytecode.specs.Objects as const
 use Rattle.py_base.specs.declared.errors.CodegenErrorType.TheVariants as error
 use Rattle.py_emission_parts.specs.Children.{child, made}
 use Rattle.py_emission_parts.specs.Within.{Shape, comprehension_inside}
-use Rattle.py_emission_parts.specs.Emitting.{Emission, Outcome, ◌▸◌, Done, TooWide, Refused, begin, emit, emit_constant, emit_count, emit_varname, generating, jump, keep, new_block, refuse}
+use Rattle.py_emission_parts.specs.Emitting.{Emission, Retold, ◌▸◌, emit, emit_constant, emit_count, emit_varname, generating, jump, keep, refuse, two_blocks}
 use Rattle.py_emission_parts.specs.EmissionParts.{Emissions}
-use Rattle.py_emission_parts.specs.Refused.{retold}
 
 -- a comprehension takes the first iterator; it has names of its own, and quick locals
 abbrev pub comprehension_shape : (name : List ℕ) → Shape
@@ -33,7 +32,7 @@ conditions (e ∷ es) start = e.test false start ▸ conditions es start
 -- a clause over an iterator, around what is within
 abbrev pub clause : (iterator : Emission) → ClauseEmissions → (within : Emission) → Emission
 clause iterator c within =
-    new_block (λ start. new_block (λ end. iterator ▸ begin start ▸ jump op.ForIter end ▸ c.target ▸ conditions c.conditions start ▸ within ▸ jump op.Jump start ▸ begin end))
+    two_blocks (λ start end. iterator) (λ start end. jump op.ForIter end ▸ c.target ▸ conditions c.conditions start ▸ within ▸ jump op.Jump start) (λ start end. keep)
 
 -- clauses that have iterables of their own
 abbrev pub further_clauses : List ClauseEmissions → (within : Emission) → Emission
@@ -45,13 +44,8 @@ abbrev pub clauses : List ClauseEmissions → (within : Emission) → Emission
 clauses [] within = within
 clauses (c ∷ cs) within = clause handed_iterator c (further_clauses cs within)
 
-abbrev pub retold_in : Outcome → Outcome
-retold_in (Done s) = Done s
-retold_in TooWide = TooWide
-retold_in (Refused e at) = Refused (retold e) at
-
 unfoldable pub as_element : Emission → Emission
-as_element a s = retold_in (a s)
+as_element a = Retold a
 
 -- the scope of a comprehension that adds each element to a collection
 abbrev pub gathered : (build append : Instruction) → List ClauseEmissions → (element : Emission) → Emission

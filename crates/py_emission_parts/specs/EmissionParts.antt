@@ -17,7 +17,7 @@ use Rattle.py_base.specs.declared.errors.CodegenErrorType.TheVariants as error
 use Rattle.py_emission_parts.specs.Context.{is_function}
 use Rattle.py_emission_parts.specs.Elements.{Element, Single, Spread, Callee, Function, Method, starred, bare, stars, before_star, after_star, groups, front, behind, pairs, sides}
 use Rattle.py_emission_parts.specs.TableParts.{unary_case, deciding, is_debug, any}
-use Rattle.py_emission_parts.specs.Emitting.{Emission, ◌▸◌, begin, by_context, emit, emit_constant, emit_count, emit_mangled, jump, keep, move, new_block, pass_over, refuse}
+use Rattle.py_emission_parts.specs.Emitting.{Emission, ◌▸◌, by_context, emit, emit_constant, emit_count, emit_mangled, jump, keep, move, one_block, pass_over, refuse, two_blocks}
 use Rattle.py_emission_parts.specs.Refused.{few_aside, no_assignment}
 
 -- the jump that keeps a value where its truth is this
@@ -195,7 +195,7 @@ only_in_function e v = by_context (λ c. if is_function c.typ then v else refuse
 
 -- the scopes of parts that are scanned and not compiled, which annotations that are postponed have none of
 abbrev pub pass_scopes : ((postponed : Bool) → ℕ) → Emission
-pass_scopes count = by_context (λ c. pass_over (λ n. n + count c.postponed))
+pass_scopes count = by_context (λ c. pass_over (count c.postponed))
 
 -- values, where all but the last are followed by a jump to the end
 abbrev pub shorts : BoolOp → (end : ℕ) → List Emissions → Emission
@@ -204,7 +204,7 @@ shorts o end (e ∷ []) = e.value
 shorts o end (e ∷ f ∷ fs) = e.value ▸ jump (keeping_jump (deciding o)) end ▸ shorts o end (f ∷ fs)
 
 abbrev pub some_values : BoolOp → List Emissions → Emission
-some_values o es = new_block (λ end. shorts o end es ▸ begin end)
+some_values o es = one_block (λ end. shorts o end es) (λ end. keep)
 
 abbrev pub bool_value : BoolOp → List Emissions → Emission
 bool_value o es = if nat_eq (length es) 0 then refuse (error.MalformedTree shape.NoOperand) else some_values o es
@@ -217,7 +217,7 @@ tests stop out c to (e ∷ f ∷ fs) = e.test stop out ▸ tests stop out c to (
 
 -- a value that decides jumps past the others
 abbrev pub past_tests : (deciding truth : Bool) → List Emissions → (block : ℕ) → Emission
-past_tests stop c es to = new_block (λ end. tests stop end c to es ▸ begin end)
+past_tests stop c es to = one_block (λ end. tests stop end c to es) (λ end. keep)
 
 -- where the deciding truth is the one that jumps, all jump there; else a value that decides goes past the others
 abbrev pub some_test : (deciding truth : Bool) → List Emissions → (block : ℕ) → Emission
@@ -254,7 +254,7 @@ links out (o ∷ p ∷ ops) (e ∷ es) = e.value ▸ emission_of_link o out ▸ 
 
 -- a chain of comparisons, where what a false one leaves lies above a value that goes
 abbrev pub chain : Emission → List CmpOp → List Emissions → Emission
-chain left ops es = new_block (λ out. new_block (λ end. left ▸ links out ops es ▸ jump op.Jump end ▸ begin out ▸ emit op.Rotate2 0 ▸ emit op.Pop 0 ▸ begin end))
+chain left ops es = two_blocks (λ out end. left ▸ links out ops es ▸ jump op.Jump end) (λ out end. emit op.Rotate2 0 ▸ emit op.Pop 0) (λ out end. keep)
 
 abbrev pub first_comparison : List CmpOp → Emission
 first_comparison [] = keep
@@ -271,11 +271,11 @@ emission_of_compare left ops es =
 
 -- one body, where the test holds
 abbrev pub only : ((truth : Bool) → (block : ℕ) → Emission) → (body : Emission) → Emission
-only test body = new_block (λ end. test false end ▸ body ▸ begin end)
+only test body = one_block (λ end. test false end ▸ body) (λ end. keep)
 
 -- one of two bodies
 abbrev pub choice : ((truth : Bool) → (block : ℕ) → Emission) → (body orelse : Emission) → Emission
-choice test body orelse = new_block (λ other. new_block (λ end. test false other ▸ body ▸ jump op.Jump end ▸ begin other ▸ orelse ▸ begin end))
+choice test body orelse = two_blocks (λ other end. test false other ▸ body ▸ jump op.Jump end) (λ other end. orelse) (λ other end. keep)
 
 -- one star, with few targets on each side
 abbrev pub unpack_starred : SourceLocation → List (Element Emission Emission) → Emission

@@ -1,5 +1,5 @@
 -- What stands around the nodes of a scope within, and what the form of such a scope and its emission have in common: names, flags, and parts in order.
-use Rattle.std.specs.Prelude.{ℕ, List, [], ◌∷◌, Bool, true, false, Option, Some, None, if◌then◌else◌, ◌+◌, ◌++◌, codes}
+use Rattle.std.specs.Prelude.{ℕ, List, [], ◌∷◌, Bool, true, false, Option, Some, None, if◌then◌else◌, ◌++◌, codes}
 use Rattle.py_scope.specs.declared.table_type.SymbolTableType.TheVariants as kind
 use Rattle.py_emission_parts.specs.Context.{Context, function_path, inside, with_path, mangled, qualified, scope_of, within_class}
 use Rattle.py_bytecode.specs.Objects as const

@@ -10,7 +10,8 @@ use Rattle.py_ir.specs.declared.blocks.Block.{Block}
 use Rattle.py_ir.specs.Chain.{Blk, blk, plain}
 use Rattle.py_ir.specs.BlockList.{BlockList, IsOutside, IsWhole, block_at, current_block, empty_block, leading_to, placed, pushed, with_items, with_new_block}
 use Rattle.py_emission_parts.specs.Emitting.{Step, Begin, State}
-use Rattle.py_emit.specs.Steps.{step_of, onwards, steps_from, steps_in, Begun, IsOpen}
+use Rattle.py_emission_parts.specs.Listed.{Begun}
+use Rattle.py_emit.specs.Steps.{step_of, onwards, steps_from, steps_in, IsOpen}
 use Rattle.py_emit.proofs.Chains.{Leads, chain_leads, chain_short, short_list}
 
 -- the steps of a block and of those that come after it

@@ -6,6 +6,7 @@ use Rattle.py_ir.specs.Chain.{plain}
 use Rattle.py_ir.specs.FlatCode.{info_of}
 use Rattle.py_emission_parts.specs.Context.{Context}
 use Rattle.py_emission_parts.specs.Emitting.{Done, Step, State, begun, refuse, with_block, with_step}
+use Rattle.py_emission_parts.specs.Running.{run}
 use Rattle.py_emission_parts.specs.Sealed.{Head}
 use Rattle.py_base.specs.declared.errors.CodegenErrorType.{CodegenErrorType}
 use Rattle.py_emit.specs.States.{IsFirst, IsUnrefused, Source, context_of, flagged, head_of, info, loop_blocks, rest, source_of, state, state_of}
@@ -41,7 +42,7 @@ unfolding rest info
 unrefused e h = h
 
 -- nothing is emitted after a refusal
-pub never_refused : (e : CodegenErrorType) (s o : State) → refuse e s ≡ Done o → ⊥
+pub never_refused : (e : CodegenErrorType) (s o : State) → run (refuse e) s ≡ Done o → ⊥
 unfolding refuse
 never_refused e s o h = absurd cc
 

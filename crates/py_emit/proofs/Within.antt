@@ -6,7 +6,8 @@ use Rattle.py_bytecode.specs.View.{object}
 use Rattle.py_bytecode.specs.declared.code.CodeObject.{CodeObject}
 use Rattle.py_scope.specs.declared.table_type.SymbolTableType.{SymbolTableType}
 use Rattle.py_scope.specs.declared.table_type.SymbolTableType.TheVariants as kind
-use Rattle.py_emission_parts.specs.Children.{behind_child, child, code_head, on_sealed}
+use Rattle.py_emission_parts.specs.Children.{child}
+use Rattle.py_emission_parts.specs.Running.{behind_child, code_head, on_sealed, run}
 use Rattle.py_emission_parts.specs.Within.{Shape}
 use Rattle.py_emission_parts.specs.Context.{cells_among, frees_among, inside, outermost, symbols_in, with_path, within_class}
 use Rattle.py_emission_parts.specs.Emitting.{Done, Emission, State, begun}
@@ -93,9 +94,9 @@ module _ (typ : SymbolTableType) (n : Naming) (h : Shape) (first : Emitter) (ent
     sealed_so o e = e ∙ ap (λ (r : Rest). sealed r.opts.optimize r.head (state last)) waits ∙ ap (λ l. sealed l head (state last)) (sym (level_within typ n (state first)))
 
     -- what is emitted of it and after it
-    pub child_goes : (body : Emission) (k : Object → Emission) (code : CodeObject) (s : State) → state entry ≡ begun (entered typ n (state first)) (state first).location (suc (state first).next) → body (state entry) ≡ Done (state last) → object code ≡ sealed (rest last).opts.optimize (rest last).head (state last) → s ≡ left (rest last) first.scope (state last) → child (λ c m. inside typ m (named_in n c)) h body k (state first) ≡ k (object code) s
+    pub child_goes : (body : Emission) (k : Object → Emission) (code : CodeObject) (s : State) → state entry ≡ begun (entered typ n (state first)) (state first).location (suc (state first).next) → run body (state entry) ≡ Done (state last) → object code ≡ sealed (rest last).opts.optimize (rest last).head (state last) → s ≡ left (rest last) first.scope (state last) → run (child (λ c m. inside typ m (named_in n c)) h body k) (state first) ≡ run (k (object code)) s
     unfolding child
     child_goes body k code s begins done is after =
-        ap (λ q. on_sealed (entered typ n (state first)).level head (state first) (body q) k) (sym begins)
-        ∙ ap (λ o. on_sealed (entered typ n (state first)).level head (state first) o k) done
-        ∙ (λ i. k (sym (sealed_so (object code) is) i) (sym (left_state s after) i))
+        ap (λ q. on_sealed (entered typ n (state first)).level head (state first) (run body q) (λ x. run (k x))) (sym begins)
+        ∙ ap (λ o. on_sealed (entered typ n (state first)).level head (state first) o (λ x. run (k x))) done
+        ∙ (λ i. run (k (sym (sealed_so (object code) is) i)) (sym (left_state s after) i))

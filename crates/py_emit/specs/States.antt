@@ -19,7 +19,7 @@ use Rattle.py_scope.specs.declared.symbols.Symbol.{Symbol}
 use Rattle.py_emission_parts.specs.Context.{Context, cells_among, frees_among, inside, outermost, with_path, within_class}
 use Rattle.py_emission_parts.specs.Emitting.{Around, Emission, State, LoopBlocks, Outcome, Done, Refused}
 use Rattle.py_emission_parts.specs.Sealed.{Head, flags_of}
-use Rattle.py_emission_parts.specs.Children.{code_head}
+use Rattle.py_emission_parts.specs.Running.{Action, code_head, run}
 use Rattle.py_emission_parts.specs.Within.{Shape}
 use Rattle.py_base.specs.declared.errors.CodegenErrorType.{CodegenErrorType}
 use Rattle.py_base.specs.declared.errors.CodegenErrorType.TheVariants as error
@@ -185,6 +185,11 @@ Same (Err e) after before = IsTold e before.path
 -- a call emits this: where it is Ok, it has come from the state before to the one after, and the rest is as it was; where it is not, the
 -- emission is refused so, and the error names the path, unless memory is wanting
 pub record Emits {A : Type 0} (r : Result A (LocatedError CodegenErrorType)) (a : Emission) (before after : Emitter) : Type 0 where
+  pub goes : Goes r (state after) (run a (state before))
+  pub same : Same r (rest after) (rest before)
+
+-- a call does this, as one emits: what it does may begin a block that was made before
+pub record Does {A : Type 0} (r : Result A (LocatedError CodegenErrorType)) (a : Action) (before after : Emitter) : Type 0 where
   pub goes : Goes r (state after) (a (state before))
   pub same : Same r (rest after) (rest before)
 

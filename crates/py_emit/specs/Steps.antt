@@ -1,10 +1,11 @@
 -- Blocks as the steps of an emission.
-use Rattle.std.specs.Prelude.{◌≡◌, ◌≢◌, ◌⊎◌, ◌<◌, ℕ, zero, suc, List, [], ◌∷◌, ◌++◌, length, map, Option, Some, None}
+use Rattle.std.specs.Prelude.{◌≢◌, ◌<◌, ℕ, zero, suc, List, [], ◌∷◌, ◌++◌, length, map, Option, Some, None}
 use Rattle.py_base.specs.declared.location.SourceLocation.{SourceLocation}
 use Rattle.py_bytecode.specs.declared.instruction.Instruction.TheVariants as op
 use Rattle.py_dataflow.specs.declared.info.InstructionInfo.{InstructionInfo}
 use Rattle.py_ir.specs.Chain.{Blk, blk, block_number}
 use Rattle.py_emission_parts.specs.Emitting.{Step, Put, Begin, State}
+use Rattle.py_emission_parts.specs.Listed.{Begun}
 
 abbrev pub step_of : InstructionInfo → Step
 step_of x = Put x.instr x.arg.0 (block_number x.target.0) x.location
@@ -20,12 +21,6 @@ steps_from bs (suc n) b = map step_of (blk bs b).items ++ onwards (blk bs b).nex
 
 abbrev pub steps_in : List Blk → List Step
 steps_in bs = steps_from bs (length bs) 0
-
--- the block begins in these steps
-abbrev pub Begun : ℕ → List Step → Type 0
-Begun b [] = ⊥
-Begun b (Put i n to at ∷ xs) = Begun b xs
-Begun b (Begin c ∷ xs) = (b ≡ c) ⊎ Begun b xs
 
 -- the block is made and has not begun; block 0 has from the start
 pub record IsOpen (b : ℕ) (s : State) : Type 0 where

@@ -22,7 +22,7 @@ impl Emitter {
     /// # Errors
     /// MissingCell where the name is no cell of the scope and does not come to it from outside, at the present location,
     /// or OutOfMemory.
-    #[tactic(auto, unfolding(py_emission_parts::specs::Children::load_cell, py_emission_parts::specs::Emitting::refuse), using(crate::proofs::CellPlaces::any_within, crate::proofs::CellPlaces::none_within))]
+    #[tactic(auto, unfolding(py_emission_parts::specs::Children::load_cell, py_emission_parts::specs::Emitting::by_context, py_emission_parts::specs::Emitting::refuse), using(crate::proofs::CellPlaces::any_within, crate::proofs::CellPlaces::none_within))]
     pub fn load_cell(&mut self, name: &str) -> Result<(), CodegenError>
         ensures emits { Emits result (cell_load name.now) self.old self.new }
         ensures missing { list_any (text_eq name.now) ((state self.old).around.context.cells ++ (state self.old).around.context.frees) ≡ false → result ≡ Err (placed_error CodegenErrorType.MissingCell (state self.old).location (rest self.old).path) }

@@ -1,6 +1,6 @@
 //! Scopes that are entered and dropped in the order of the tables, each by one counted step.
 ghost use Rattle.std.specs.Prelude.{◌≡◌, ◌+◌, ℕ, suc, IfErr, OnOk};
-ghost use Rattle.py_emission_parts.specs.Children.{code_head};
+ghost use Rattle.py_emission_parts.specs.Running.{code_head};
 ghost use Rattle.py_emission_parts.specs.Emitting.{begun};
 ghost use Rattle.py_emit.specs.States.{IsStarved, entered_rest, rest, shape_of, state};
 ghost use Rattle.py_emit.specs.Tables.{AreLeft, Stand, behind, next_within};

@@ -5,7 +5,7 @@ ghost use Rattle.py_ir.specs.Chain.{block_number};
 ghost use Rattle.py_ir.specs.Final.{IsFinal};
 ghost use Rattle.py_base.specs.declared.location.SourceLocation.{SourceLocation as Location};
 ghost use Rattle.py_scope.specs.Flat.{flat_table};
-ghost use Rattle.py_emission_parts.specs.Children.{code_head};
+ghost use Rattle.py_emission_parts.specs.Running.{code_head, run};
 ghost use Rattle.py_emission_parts.specs.Context.{inside, outermost, symbols_in};
 ghost use Rattle.py_emission_parts.specs.Emitting.{Begin, Done, Put, begun, emit as emission_of, emit_count, generating, jump as jumping, located, nothing, with_block, with_loops, with_postponed, with_step};
 ghost use Rattle.py_emission_parts.specs.Sealed.{sealed};
@@ -216,7 +216,7 @@ impl Emitter {
     ///
     /// # Errors
     /// OutOfMemory alone.
-    #[tactic(auto, unfolding(py_emission_parts::specs::Emitting::emit))]
+    #[tactic(auto, unfolding(py_emission_parts::specs::Emitting::emit, py_emission_parts::specs::Running::put))]
     pub fn emit_arg(&mut self, instr: Instruction, arg: u32) -> Result<(), CodegenError>
         ensures { Emits result (emission_of instr arg) self.old self.new }
     {
@@ -228,7 +228,7 @@ impl Emitter {
     ///
     /// # Errors
     /// OutOfMemory alone.
-    #[tactic(auto, unfolding(py_emission_parts::specs::Emitting::emit_count))]
+    #[tactic(auto, unfolding(py_emission_parts::specs::Emitting::emit_count, py_emission_parts::specs::Emitting::emit))]
     pub fn emit_count(&mut self, instr: Instruction, count: usize) -> Result<(), CodegenError>
         ensures { Emits result (emit_count instr count) self.old self.new }
     {
@@ -357,7 +357,7 @@ impl Emitter {
     /// The scope's code is a generator.
     #[tactic(auto, unfolding(py_emission_parts::specs::Emitting::generating, crate::specs::States::rest))]
     pub fn mark_generator(&mut self)
-        ensures goes { generating (state self.old) ≡ Done (state self.new) }
+        ensures goes { run generating (state self.old) ≡ Done (state self.new) }
         ensures rest { rest self.new ≡ rest self.old }
     {
         self.scope.generator = true;

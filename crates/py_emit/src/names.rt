@@ -11,6 +11,7 @@ ghost use Rattle.py_emission_parts.specs.Accesses.{accessed, accessed_in, delete
 ghost use Rattle.py_emission_parts.specs.Context.{access_kind, cell_place, deref_kind, is_function, kind_by, mangled as mangled_here, scope_of, symbols_in};
 ghost use Rattle.py_emission_parts.specs.EmissionParts.{unless_debug};
 ghost use Rattle.py_emission_parts.specs.Emitting.{Refused, emit as emission_of_arg, emit_mangled as emission_mangled, refuse};
+ghost use Rattle.py_emission_parts.specs.Running.{run};
 ghost use Rattle.py_emission_parts.specs.TableParts.{debug_constant as constant_debug, is_debug as named_debug};
 ghost use Rattle.py_emit.specs.Access.{emission_of_access, kind_of, usage_of};
 ghost use Rattle.py_emit.specs.States.{Emits, IsStarved, IsTold, rest, state};
@@ -140,7 +141,7 @@ impl Emitter {
     ///
     /// # Errors
     /// OutOfMemory alone.
-    #[tactic(auto, unfolding(py_emission_parts::specs::Accesses::accessed))]
+    #[tactic(auto, unfolding(py_emission_parts::specs::Accesses::accessed, py_emission_parts::specs::Emitting::by_context))]
     pub fn access(&mut self, usage: NameUsage, name: &str) -> Result<(), CodegenError>
         ensures { Emits result (accessed (usage_of usage) name.now) self.old self.new }
     {
@@ -309,7 +310,7 @@ impl Emitter {
     /// The SyntaxError with a text, or want of memory for it.
     #[tactic(auto, unfolding(py_emission_parts::specs::Emitting::refuse))]
     pub fn syntax_error(&mut self, text: &str) -> CodegenError
-        ensures goes { result.error ≢ CodegenErrorType.OutOfMemory → refuse (CodegenErrorType.SyntaxError text.now) (state self.old) ≡ Refused result.error result.location }
+        ensures goes { result.error ≢ CodegenErrorType.OutOfMemory → run (refuse (CodegenErrorType.SyntaxError text.now)) (state self.old) ≡ Refused result.error result.location }
         ensures told { IsTold result (rest self.old).path }
     {
         match self.text(text) {

@@ -120,7 +120,7 @@ impl Emitter {
     ///
     /// # Errors
     /// OutOfMemory alone.
-    #[tactic(auto, unfolding(py_emission_parts::specs::Emitting::emit_varname))]
+    #[tactic(auto, unfolding(py_emission_parts::specs::Emitting::emit_varname, py_emission_parts::specs::Emitting::emit))]
     pub fn emit_varname(&mut self, instr: Instruction, name: &str) -> Result<(), CodegenError>
         ensures { Emits result (emission_of_varname instr name.now) self.old self.new }
     {
@@ -176,7 +176,7 @@ impl Emitter {
     ///
     /// # Errors
     /// OutOfMemory alone.
-    #[tactic(auto, unfolding(py_emission_parts::specs::Emitting::emit_constant))]
+    #[tactic(auto, unfolding(py_emission_parts::specs::Emitting::emit_constant, py_emission_parts::specs::Emitting::emit))]
     pub fn load_const(&mut self, constant: ConstantData) -> Result<(), CodegenError>
         ensures { Emits result (emit_constant Instruction.LoadConst (constant_of constant)) self.old self.new }
     {
@@ -188,7 +188,7 @@ impl Emitter {
     ///
     /// # Errors
     /// OutOfMemory alone.
-    #[tactic(auto, unfolding(py_emission_parts::specs::Emitting::emit_constant))]
+    #[tactic(auto, unfolding(py_emission_parts::specs::Emitting::emit_constant, py_emission_parts::specs::Emitting::emit))]
     pub fn return_const(&mut self, constant: ConstantData) -> Result<(), CodegenError>
         ensures { Emits result (emit_constant Instruction.ReturnConst (constant_of constant)) self.old self.new }
     {
@@ -200,7 +200,7 @@ impl Emitter {
     ///
     /// # Errors
     /// OutOfMemory alone.
-    #[tactic(auto, unfolding(py_emission_parts::specs::Emitting::emit_name))]
+    #[tactic(auto, unfolding(py_emission_parts::specs::Emitting::emit_name, py_emission_parts::specs::Emitting::emit))]
     pub fn emit_name(&mut self, instr: Instruction, name: &str) -> Result<(), CodegenError>
         ensures { Emits result (emission_of_name instr name.now) self.old self.new }
     {

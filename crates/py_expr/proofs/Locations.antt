@@ -1,10 +1,11 @@
 -- An expression and its return begin with the move to its location: it does not matter who moves there first.
 use Rattle.std.proofs.Common.{◌≡◌, refl}
 use Rattle.py_tree.specs.Tree as tree
+use Rattle.py_emission_parts.specs.Running.{run}
 use Rattle.py_emission_parts.specs.Emitting.{State, located, move}
 use Rattle.py_emission.specs.Emission.{emission, emission_of_return}
 
-pub entering : (e : tree.Expr) (s : State) → emission e s ≡ emission e (located (tree.expr_location e) s)
+pub entering : (e : tree.Expr) (s : State) → run (emission e) s ≡ run (emission e) (located (tree.expr_location e) s)
 unfolding move located
 entering (tree.BoolOp at op values) s = refl
 entering (tree.NamedExpr at target value) s = refl
@@ -34,7 +35,7 @@ entering (tree.List at elts) s = refl
 entering (tree.Tuple at elts) s = refl
 entering (tree.Slice at lower upper step) s = refl
 
-pub entering_return : (e : tree.Expr) (s : State) → emission_of_return e s ≡ emission_of_return e (located (tree.expr_location e) s)
+pub entering_return : (e : tree.Expr) (s : State) → run (emission_of_return e) s ≡ run (emission_of_return e) (located (tree.expr_location e) s)
 unfolding move located
 entering_return (tree.BoolOp at op values) s = refl
 entering_return (tree.NamedExpr at target value) s = refl

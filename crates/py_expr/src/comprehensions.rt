@@ -5,6 +5,7 @@ ghost use Rattle.py_emission_parts.specs.Children.{child, made};
 ghost use Rattle.py_emission_parts.specs.Comprehensions.{as_element, called_at_once, clauses, comprehension_shape};
 ghost use Rattle.py_emission_parts.specs.Within.{comprehension_inside};
 ghost use Rattle.py_emission_parts.specs.Emitting.{◌▸◌};
+ghost use Rattle.py_emission_parts.specs.Running.{run};
 ghost use Rattle.py_emission.specs.Emission.{clause_emissions, emission};
 ghost use Rattle.py_emit.specs.States.{Emits, Same, rest, state};
 ghost use Rattle.py_expr_scopes.specs.Comprehensions.{added, comprehension_of, element_of, first_iterable, name_of, scope_of, turn};
@@ -131,7 +132,7 @@ fn compile_comprehension_scope(
     element: &ComprehensionElement<'_>,
     name: Text,
 ) -> Result<CodeObject, CodegenError>
-    ensures goes { Gives result (state em.new) (λ k. child comprehension_inside (comprehension_shape name) (scope_of (clause_emissions (clause_trees expr_tree generators.now)) element.now) k (state em.old)) }
+    ensures goes { Gives result (state em.new) (λ k. run (child comprehension_inside (comprehension_shape name) (scope_of (clause_emissions (clause_trees expr_tree generators.now)) element.now) k) (state em.old)) }
     ensures same { Same result (rest em.new) (rest em.old) }
 {
     enter_comprehension(em, name)?;

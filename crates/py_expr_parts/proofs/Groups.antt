@@ -10,6 +10,7 @@ use Rattle.py_bytecode.specs.declared.instruction.Instruction.{Instruction}
 use Rattle.py_bytecode.specs.declared.instruction.Instruction.TheVariants as op
 use Rattle.py_emission_parts.specs.Elements.{Element, Single, Spread, bare, grouped, groups, starred}
 use Rattle.py_emission_parts.specs.Emitting.{Emission, ◌▸◌, emit_count}
+use Rattle.py_emission_parts.specs.Running.{Action, ◌▹◌, run}
 use Rattle.py_emission_parts.specs.EmissionParts.{built, display, elements, in_turn, values}
 use Rattle.py_emission.specs.Emission.{all_emissions, emissions}
 use Rattle.py_emit.proofs.Joined.{joined, keep_last, turn_append}
@@ -19,43 +20,43 @@ use Rattle.py_expr_parts.specs.Turns.{closed, group_count, group_rest, groups_by
 one_more : (i : ℕ) → suc i ≡ i + 1
 one_more i = omega arith
 
-longer : (run : List Emission) (v : Emission) → length (run ++ v ∷ []) ≡ length run + 1
-longer run v = length-append run (v ∷ [])
+longer : (vs : List Emission) (v : Emission) → length (vs ++ v ∷ []) ≡ length vs + 1
+longer vs v = length-append vs (v ∷ [])
 
-spread_rest : (run rest : List Emission) (v after : Emission) → in_turn rest ≡ after → in_turn (grouped (built op.BuildTuple) run ++ v ∷ rest) ≡ in_turn run ▸ closed (length run) ▸ v ▸ after
-spread_rest [] rest v after e = ap (λ w. v ▸ w) e
-spread_rest (x ∷ run) rest v after e =
-    joined (in_turn (x ∷ run)) (emit_count op.BuildTuple (length (x ∷ run))) (v ▸ in_turn rest)
-    ∙ ap (λ w. in_turn (x ∷ run) ▸ emit_count op.BuildTuple (length (x ∷ run)) ▸ v ▸ w) e
+spread_rest : (vs rest : List Emission) (v after : Emission) → run (in_turn rest) ≡ run after → run (in_turn (grouped (built op.BuildTuple) vs ++ v ∷ rest)) ≡ run (in_turn vs ▸ closed (length vs) ▸ v ▸ after)
+spread_rest [] rest v after e = ap (λ (w : Action). run v ▹ w) e
+spread_rest (x ∷ vs) rest v after e =
+    joined (in_turn (x ∷ vs)) (emit_count op.BuildTuple (length (x ∷ vs))) (v ▸ in_turn rest)
+    ∙ ap (λ (w : Action). run (in_turn (x ∷ vs)) ▹ run (emit_count op.BuildTuple (length (x ∷ vs))) ▹ run v ▹ w) e
 
-last_rest : (run : List Emission) → in_turn (grouped (built op.BuildTuple) run) ≡ in_turn run ▸ closed (length run)
+last_rest : (vs : List Emission) → run (in_turn (grouped (built op.BuildTuple) vs)) ≡ run (in_turn vs ▸ closed (length vs))
 last_rest [] = refl
-last_rest (x ∷ run) = keep_last (built op.BuildTuple (x ∷ run))
+last_rest (x ∷ vs) = keep_last (built op.BuildTuple (x ∷ vs))
 
 -- one element more in the run
-run_more : (run : List Emission) (v rest : Emission) → in_turn (run ++ v ∷ []) ▸ rest ≡ in_turn run ▸ v ▸ rest
-run_more run v rest =
-    ap (λ w. w ▸ rest) (turn_append run (v ∷ []) ∙ ap (λ w. in_turn run ▸ w) (keep_last v))
-    ∙ joined (in_turn run) v rest
+run_more : (vs : List Emission) (v rest : Emission) → run (in_turn (vs ++ v ∷ []) ▸ rest) ≡ run (in_turn vs ▸ v ▸ rest)
+run_more vs v rest =
+    ap (λ (w : Action). w ▹ run rest) (turn_append vs (v ∷ []) ∙ ap (λ (w : Action). run (in_turn vs) ▹ w) (keep_last v))
+    ∙ joined (in_turn vs) v rest
 
 -- groups that begin with a run are the run, and what is left behind it
-pub groups_rest : (run : List Emission) (es : List (Element Emission Emission)) → in_turn (groups (built op.BuildTuple) run es) ≡ in_turn run ▸ group_rest (length run) es
-groups_rest run [] = last_rest run
-groups_rest run (Single v ∷ es) =
-    groups_rest (run ++ v ∷ []) es
-    ∙ run_more run v (group_rest (length (run ++ v ∷ [])) es)
-    ∙ ap (λ n. in_turn run ▸ v ▸ group_rest n es) (longer run v)
-groups_rest run (Spread v ∷ es) =
-    spread_rest run (groups (built op.BuildTuple) [] es) v (group_rest 0 es) (groups_rest [] es)
-    ∙ ap (λ w. in_turn run ▸ w) (sym (joined (closed (length run)) v (group_rest 0 es)))
+pub groups_rest : (vs : List Emission) (es : List (Element Emission Emission)) → run (in_turn (groups (built op.BuildTuple) vs es)) ≡ run (in_turn vs ▸ group_rest (length vs) es)
+groups_rest vs [] = last_rest vs
+groups_rest vs (Single v ∷ es) =
+    groups_rest (vs ++ v ∷ []) es
+    ∙ run_more vs v (group_rest (length (vs ++ v ∷ [])) es)
+    ∙ ap (λ n. run (in_turn vs ▸ v ▸ group_rest n es)) (longer vs v)
+groups_rest vs (Spread v ∷ es) =
+    spread_rest vs (groups (built op.BuildTuple) [] es) v (group_rest 0 es) (groups_rest [] es)
+    ∙ ap (λ (w : Action). run (in_turn vs) ▹ w) (sym (joined (closed (length vs)) v (group_rest 0 es)))
 
-spread_count : (run rest : List Emission) (v : Emission) (n : ℕ) → length rest ≡ n → length (grouped (built op.BuildTuple) run ++ v ∷ rest) ≡ runs (length run) + 1 + n
+spread_count : (vs rest : List Emission) (v : Emission) (n : ℕ) → length rest ≡ n → length (grouped (built op.BuildTuple) vs ++ v ∷ rest) ≡ runs (length vs) + 1 + n
 spread_count [] rest v n e = omega (arith, e)
-spread_count (x ∷ run) rest v n e = omega (arith, e)
+spread_count (x ∷ vs) rest v n e = omega (arith, e)
 
-last_count : (run : List Emission) → length (grouped (built op.BuildTuple) run) ≡ runs (length run)
+last_count : (vs : List Emission) → length (grouped (built op.BuildTuple) vs) ≡ runs (length vs)
 last_count [] = refl
-last_count (x ∷ run) = refl
+last_count (x ∷ vs) = refl
 
 module _ {B A : Type 0} where
   pub plain_behind : (n : ℕ) (e : Element B A) → is_spread e ≡ false → n + 1 ≡ run_behind n e
@@ -66,10 +67,10 @@ pub none_more : (n : ℕ) → n ≡ 0 + n
 none_more n = omega arith
 
 -- how many there are
-pub groups_count : (run : List Emission) (es : List (Element Emission Emission)) → length (groups (built op.BuildTuple) run es) ≡ group_count (length run) es
-groups_count run [] = last_count run
-groups_count run (Single v ∷ es) = groups_count (run ++ v ∷ []) es ∙ ap (λ n. group_count n es) (longer run v) ∙ none_more (group_count (length run + 1) es)
-groups_count run (Spread v ∷ es) = spread_count run (groups (built op.BuildTuple) [] es) v (group_count 0 es) (groups_count [] es)
+pub groups_count : (vs : List Emission) (es : List (Element Emission Emission)) → length (groups (built op.BuildTuple) vs es) ≡ group_count (length vs) es
+groups_count vs [] = last_count vs
+groups_count vs (Single v ∷ es) = groups_count (vs ++ v ∷ []) es ∙ ap (λ n. group_count n es) (longer vs v) ∙ none_more (group_count (length vs + 1) es)
+groups_count vs (Spread v ∷ es) = spread_count vs (groups (built op.BuildTuple) [] es) v (group_count 0 es) (groups_count [] es)
 
 pub few_runs : (n : ℕ) → runs n ≤ n
 few_runs zero = omega arith

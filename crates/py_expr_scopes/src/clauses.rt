@@ -1,6 +1,6 @@
 //! The blocks of the clauses of a comprehension, and what closes the clauses.
 ghost use Rattle.std.specs.Prelude.{◌≡◌, ◌++◌, ◌∷◌, [], IfErr, OnOk};
-ghost use Rattle.py_emit.specs.States.{Emits, IsStarved, rest, state};
+ghost use Rattle.py_emit.specs.States.{Does, IsStarved, rest, state};
 ghost use Rattle.py_expr_scopes.specs.Clauses.{AllOpen, IsOpenClause, closed, closing};
 
 use py_base::{CodegenError, CodegenErrorType};
@@ -43,7 +43,7 @@ pub fn keep_blocks(
 /// OutOfMemory alone.
 pub fn close_clauses(em: &mut Emitter, blocks: List<ClauseBlocks>) -> Result<(), CodegenError>
     requires open { AllOpen blocks (state em.old) }
-    ensures { Emits result (closed blocks) em.old em.new }
+    ensures { Does result (closed blocks) em.old em.new }
 {
     let mut blocks = blocks;
     while let Some(clause) = blocks.pop() {
@@ -53,10 +53,9 @@ pub fn close_clauses(em: &mut Emitter, blocks: List<ClauseBlocks>) -> Result<(),
 }
 
 /// Emits what closes a clause: the jump to its next turn, and what follows the last one.
-#[tactic(auto, using(crate::proofs::OpenClauses::begin_goes))]
 fn close_clause(em: &mut Emitter, blocks: &ClauseBlocks) -> Result<(), CodegenError>
     requires open { IsOpenClause blocks.now (state em.old) }
-    ensures { Emits result (closing blocks.now) em.old em.new }
+    ensures { Does result (closing blocks.now) em.old em.new }
 {
     emit!(em, Instruction::Jump => blocks.start);
     em.switch_to_block(blocks.end);

@@ -2,7 +2,8 @@
 ghost use Rattle.std.specs.Prelude.{◌≡◌, ◌≢◌, suc, None, IfErr, OnOk};
 ghost use Rattle.py_tree.specs.View.{expr_tree, generators as clause_trees};
 ghost use Rattle.py_bytecode.specs.View.{object};
-ghost use Rattle.py_emission_parts.specs.Children.{code_head, made};
+ghost use Rattle.py_emission_parts.specs.Children.{made};
+ghost use Rattle.py_emission_parts.specs.Running.{code_head};
 ghost use Rattle.py_emission_parts.specs.Comprehensions.{comprehension_shape};
 ghost use Rattle.py_emission_parts.specs.Refused.{retold};
 ghost use Rattle.py_emission_parts.specs.Emitting.{◌▸◌, begun, emit as emitting, generating};

@@ -5,7 +5,8 @@ ghost use Rattle.py_scope_counts.specs.Counts.{IsSum, scopes_in_annotations as a
 ghost use Rattle.py_tree.specs.View.{arguments, expr_tree};
 ghost use Rattle.py_bytecode.specs.Objects as object;
 ghost use Rattle.py_bytecode.specs.View.{object as code_object};
-ghost use Rattle.py_emission_parts.specs.Children.{code_head, enter_parameters, made};
+ghost use Rattle.py_emission_parts.specs.Children.{enter_parameters, made};
+ghost use Rattle.py_emission_parts.specs.Running.{code_head, run};
 ghost use Rattle.py_emission_parts.specs.Emitting.{◌▸◌, add_constant, begun, emit_constant};
 ghost use Rattle.py_emission_parts.specs.EmissionParts.{pass_scopes};
 ghost use Rattle.py_emission.specs.Parameters.{function_shape, parameters};
@@ -98,7 +99,7 @@ pub fn pass_annotations(em: &mut Emitter, params: &Arguments) -> Result<(), Code
 /// OutOfMemory alone.
 #[tactic(auto, unfolding(py_emission_parts::specs::Emitting::by_context, py_emission_parts::specs::Emitting::pass_over))]
 pub fn pass_counted(em: &mut Emitter, next: Option<usize>) -> Result<(), CodegenError>
-    ensures goes { (count : (postponed : Bool) → ℕ) → IsSum next ((state em.old).next + count (state em.old).around.context.postponed) → Goes result (state em.new) (pass_scopes count (state em.old)) }
+    ensures goes { (count : (postponed : Bool) → ℕ) → IsSum next ((state em.old).next + count (state em.old).around.context.postponed) → Goes result (state em.new) (run (pass_scopes count) (state em.old)) }
     ensures same { Same result (rest em.new) (rest em.old) }
 {
     let Some(number) = next else {

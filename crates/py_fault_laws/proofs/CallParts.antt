@@ -12,10 +12,11 @@ use Rattle.py_bytecode.specs.declared.instruction.Instruction.TheVariants as op
 use Rattle.py_bytecode.specs.Objects as const
 use Rattle.py_emission_parts.specs.Children.{emission_of_defaults, enter_parameters}
 use Rattle.py_emission_parts.specs.Elements.{Single, Spread, groups, starred}
-use Rattle.py_emission_parts.specs.Emitting.{Around, Done, Emission, Outcome, Refused, State, TooWide, ◌▸◌, add_constant, begun, go_on, located, move}
+use Rattle.py_emission_parts.specs.Emitting.{Around, Done, Emission, Outcome, Refused, State, TooWide, ◌▸◌, add_constant, begun, located, move}
 use Rattle.py_emission_parts.specs.EmissionParts.{checked, elements, in_turn, joined_map, map_of, name_values, names_in, values_in}
 use Rattle.py_emission_parts.specs.Refused.{no_assignment}
 use Rattle.py_emission_parts.specs.Within.{lambda_inside}
+use Rattle.py_emission_parts.specs.Running.{Action, on_done, run}
 use Rattle.py_emit.specs.States.{state}
 use Rattle.py_emission.specs.Emission.{all_emissions, default_emissions, emissions, keyword_emissions}
 use Rattle.py_emission.specs.EmissionFutures.{check_features}
@@ -48,7 +49,7 @@ use Rattle.py_fault_laws.proofs.Nodes.{ends_by}
 use Rattle.py_fault_laws.proofs.Nodes as node_proof
 
 -- a comprehension ends as the expression does that stands at the same place
-comprehension_ends : (class : Option (List ℕ)) (gs : tree.Generators) (e : ComprehensionElement) (s : State) → expr_shapes class (comprehension_at s.location gs e) ≡ [] → EndsBy s (expr_faults (node.in_function s) (comprehension_at s.location gs e)) (expr_end (comprehension_at s.location gs e)) (comprehension_of gs e s)
+comprehension_ends : (class : Option (List ℕ)) (gs : tree.Generators) (e : ComprehensionElement) (s : State) → expr_shapes class (comprehension_at s.location gs e) ≡ [] → EndsBy s (expr_faults (node.in_function s) (comprehension_at s.location gs e)) (expr_end (comprehension_at s.location gs e)) (run (comprehension_of gs e) s)
 unfolding move located
 comprehension_ends class gs (element.List e) s h = node_proof.exprs_end class (tree.ListComp s.location (expr_tree e.now) gs) h s
 comprehension_ends class gs (element.Set e) s h = node_proof.exprs_end class (tree.SetComp s.location (expr_tree e.now) gs) h s
@@ -81,13 +82,13 @@ module _ (c : Around) where
   values_end p (tree.more_keywords (Some name) e ks) x = then_ends (x.0.value p) (values_end (expr_end e) ks x.1)
 
   -- a run of named values, and the keywords after it
-  groups_end : (p m : SourceLocation) (fs : List Fault) (run : List (List ℕ × Emission)) (ks : tree.Keywords) → EndsAs c (in_turn (name_values run)) p m fs → KeywordsEnding c ks → EndsAs c (in_turn (groups map_of run (keyword_emissions ks))) p (last_of m (keyword_ends ks)) (fs ++ in_order (keyword_values (in_function c) ks))
-  groups_end p m fs run tree.no_keywords x y = ends_so (sym (append-nil fs)) (last_grouped c (maps c) run x)
-  groups_end p m fs run (tree.more_keywords None e ks) x y =
-      group_step c (maps c) (faults_in (in_function c) e).value (Spread (emissions e).value) run (keyword_emissions ks) x (y.0.value m) (λ longer r gs z. groups_end r (expr_end e) gs longer ks z y.1)
-  groups_end p m fs run (tree.more_keywords (Some name) e ks) x y =
+  groups_end : (p m : SourceLocation) (fs : List Fault) (held : List (List ℕ × Emission)) (ks : tree.Keywords) → EndsAs c (in_turn (name_values held)) p m fs → KeywordsEnding c ks → EndsAs c (in_turn (groups map_of held (keyword_emissions ks))) p (last_of m (keyword_ends ks)) (fs ++ in_order (keyword_values (in_function c) ks))
+  groups_end p m fs held tree.no_keywords x y = ends_so (sym (append-nil fs)) (last_grouped c (maps c) held x)
+  groups_end p m fs held (tree.more_keywords None e ks) x y =
+      group_step c (maps c) (faults_in (in_function c) e).value (Spread (emissions e).value) held (keyword_emissions ks) x (y.0.value m) (λ longer r gs z. groups_end r (expr_end e) gs longer ks z y.1)
+  groups_end p m fs held (tree.more_keywords (Some name) e ks) x y =
       let named = then_ends (constant_passes op.LoadConst (const.str name)) (y.0.value m) in
-      group_step c (maps c) (faults_in (in_function c) e).value (Single (name, (emissions e).value)) run (keyword_emissions ks) x named (λ longer r gs z. groups_end r (expr_end e) gs longer ks z y.1)
+      group_step c (maps c) (faults_in (in_function c) e).value (Single (name, (emissions e).value)) held (keyword_emissions ks) x named (λ longer r gs z. groups_end r (expr_end e) gs longer ks z y.1)
 
   -- a tuple of arguments behind so many values, and a map
   tuple_ends : (n : ℕ) (p : SourceLocation) (es : tree.Exprs) (ks : tree.Keywords) → AllEnding c es → EndsAs c (argument_tuple n (elements (all_emissions es)) (keyword_emissions ks)) p (last_of p (ends_of es)) (in_order (fault.elements (all_faults (in_function c) es)) ++ keyword_faults (last_of p (ends_of es)) ks)
@@ -136,11 +137,11 @@ tells_by c fs q o (Stops x at rest f g) = subst (Tells fs) (sym f) (λ n. (rest,
 tells_by c fs q o (GoesOn r at around f g) = subst (Tells fs) (sym f) g
 
 -- in another scope, which begins where this one leaves off
-tells_then : (c : Around) (fs gs : List Fault) (m : SourceLocation) (o : Outcome) (b : Emission) → Ends c fs m o → ((r : State) → r.location ≡ m → Tells gs (b r)) → Tells (fs ++ gs) (go_on o b)
-tells_then c fs gs m o b (Wide e) next = subst (λ x. Tells (fs ++ gs) (go_on x b)) (sym e) tt
-tells_then c fs gs m o b (Misses at e) next = subst (λ x. Tells (fs ++ gs) (go_on x b)) (sym e) (λ n. absurd (n refl))
-tells_then c fs gs m o b (Stops x at rest f g) next = subst (λ x. Tells (fs ++ gs) (go_on x b)) (sym f) (λ n. (rest ++ gs, ap (λ l. l ++ gs) g))
-tells_then c fs gs m o b (GoesOn r at around f g) next = subst (λ l. Tells (l ++ gs) (go_on o b)) (sym g) (subst (λ x. Tells gs (go_on x b)) (sym f) (next r at))
+tells_then : (c : Around) (fs gs : List Fault) (m : SourceLocation) (o : Outcome) (b : Action) → Ends c fs m o → ((r : State) → r.location ≡ m → Tells gs (b r)) → Tells (fs ++ gs) (on_done o b)
+tells_then c fs gs m o b (Wide e) next = subst (λ x. Tells (fs ++ gs) (on_done x b)) (sym e) tt
+tells_then c fs gs m o b (Misses at e) next = subst (λ x. Tells (fs ++ gs) (on_done x b)) (sym e) (λ n. absurd (n refl))
+tells_then c fs gs m o b (Stops x at rest f g) next = subst (λ x. Tells (fs ++ gs) (on_done x b)) (sym f) (λ n. (rest ++ gs, ap (λ l. l ++ gs) g))
+tells_then c fs gs m o b (GoesOn r at around f g) next = subst (λ l. Tells (l ++ gs) (on_done o b)) (sym g) (subst (λ x. Tells gs (on_done x b)) (sym f) (next r at))
 
 parameters_end : {c : Around} {p : SourceLocation} (xs : List (List ℕ)) → EndsAs c (enter_parameters xs) p p (parameter_faults p xs)
 parameters_end [] = nothing_passes
@@ -156,11 +157,11 @@ entry_tells : (class : Option (List ℕ)) (params : tree.Arguments) → argument
 entry_tells class params h s =
     let c = s.around in
     let m = last_of s.location (default_ends params) in
-    tells_then c _ _ m (emission_of_defaults (default_emissions params) s) (opening params) ((defaults_end c s.location params (defaults_ending class c params h)).ends s refl refl) (opening_tells params m)
+    tells_then c _ _ m (run (emission_of_defaults (default_emissions params)) s) (opening params) ((defaults_end c s.location params (defaults_ending class c params h)).ends s refl refl) (opening_tells params m)
 
 pub entering_calls : EnteringCalls
 entering_calls (Ok flags) class params name before after entered refused shapes =
-    subst (Tells (entry_faults (node.in_function (state before)) (state before).location params)) (ap (λ o. go_on o (opening params)) entered.defaults ∙ entered.opened) (entry_tells class params shapes (state before))
+    subst (Tells (entry_faults (node.in_function (state before)) (state before).location params)) (ap (λ o. on_done o (opening params)) entered.defaults ∙ entered.opened) (entry_tells class params shapes (state before))
 entering_calls (Err e) class params name before after entered refused shapes =
     λ n. subst (Tells (entry_faults (node.in_function (state before)) (state before).location params)) (refused n) (entry_tells class params shapes (state before))
 

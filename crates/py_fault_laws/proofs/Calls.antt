@@ -8,6 +8,7 @@ use Rattle.py_base.specs.declared.location.LocatedError.{LocatedError}
 use Rattle.py_base.specs.declared.location.SourceLocation.{SourceLocation}
 use Rattle.py_emit.specs.States.{Goes, state}
 use Rattle.py_emission_parts.specs.Emitting.{Outcome, State}
+use Rattle.py_emission_parts.specs.Running.{run}
 use Rattle.py_emission.specs.Emission.{emission_of_delete}
 use Rattle.py_meaning.specs.Ends.{delete_end}
 use Rattle.py_meaning.specs.ExprFaults.{Fault, delete_faults}
@@ -31,7 +32,7 @@ pub store_calls : StoreCalls
 store_calls answer class e before after h shapes = tells answer (state before) (state after) _ _ _ h.goes (targets_end class e shapes (state before))
 
 -- one target is the only one of its deletions
-deletion_ends : (class : Option (List ℕ)) (e : tree.Expr) → expr_shapes class e ≡ [] → (s : State) → EndsBy s (delete_faults (in_function s) s.location e) (delete_end s.location e) (emission_of_delete e s)
+deletion_ends : (class : Option (List ℕ)) (e : tree.Expr) → expr_shapes class e ≡ [] → (s : State) → EndsBy s (delete_faults (in_function s) s.location e) (delete_end s.location e) (run (emission_of_delete e) s)
 deletion_ends class e h s =
     let alone = tree.more_exprs e tree.no_exprs in
     let one = ends_so (append-nil (delete_faults (in_function s) s.location e)) (deletions_end class s.around s.location alone (ap (λ l. l ++ []) h)) in

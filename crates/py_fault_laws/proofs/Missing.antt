@@ -12,8 +12,9 @@ use Rattle.py_bytecode.specs.Objects as const
 use Rattle.py_bytecode.specs.Objects.{Const, codes_in}
 use Rattle.py_control.specs.Agree.{AllOf, kids, kids_v}
 use Rattle.py_control.specs.Form.{Scope}
-use Rattle.py_emission_parts.specs.Emitting.{Around, Outcome, State, go_on, keep, located, move}
+use Rattle.py_emission_parts.specs.Emitting.{Around, Outcome, State, keep, located, move}
 use Rattle.py_emission_parts.specs.Everywhere.{Everywhere}
+use Rattle.py_emission_parts.specs.Running.{go_on, run}
 use Rattle.py_emit.specs.States.{Goes, state}
 use Rattle.py_emission.specs.Emission.{emission, emission_of_delete}
 use Rattle.py_emission.specs.EmissionStmts.{emission_of_stmt}
@@ -67,20 +68,20 @@ module _ (s : State) (within : List Scope) (w : ℕ) (p : IsPlaced s within w) w
   room = p.room
 
 -- an expression and a statement that stand there
-expression_fits : (s : State) (e : tree.Expr) → IsPlaced s (kids_v (expr_form (told s) s.next e)) (64 * expr_size e) → FitsIn s.around (s.next + scopes_in s.around.context.postponed e) (taken s + 64 * expr_size e) (emission e s)
+expression_fits : (s : State) (e : tree.Expr) → IsPlaced s (kids_v (expr_form (told s) s.next e)) (64 * expr_size e) → FitsIn s.around (s.next + scopes_in s.around.context.postponed e) (taken s + 64 * expr_size e) (run (emission e) s)
 expression_fits s e p =
     let ws = kids_v (expr_form (told s) s.next e) in
     let n = 64 * expr_size e in
     (expr_fits s.around (ready s ws n p) s.next e (here s ws n p)).value.fits s (stands s ws n p) (room s ws n p)
 
-statement_fits : (s : State) (t : tree.Stmt) → IsPlaced s (kids (stmt_form (told s) s.next t)) (192 * stmt_size t) → FitsIn s.around (s.next + scopes_in_stmt s.around.context.postponed t) (taken s + 192 * stmt_size t) (emission_of_stmt t s)
+statement_fits : (s : State) (t : tree.Stmt) → IsPlaced s (kids (stmt_form (told s) s.next t)) (192 * stmt_size t) → FitsIn s.around (s.next + scopes_in_stmt s.around.context.postponed t) (taken s + 192 * stmt_size t) (run (emission_of_stmt t) s)
 statement_fits s t p =
     let ws = kids (stmt_form (told s) s.next t) in
     let n = 192 * stmt_size t in
     (stmt_fits t s.around (ready s ws n p) s.next (here s ws n p)).fits s (stands s ws n p) (room s ws n p)
 
 pub expressions_find : ExpressionsFindCells
-expressions_find answer e before after h p = finds answer (state after) _ _ _ (emission e (state before)) h.goes (expression_fits (state before) e p)
+expressions_find answer e before after h p = finds answer (state after) _ _ _ (run (emission e) (state before)) h.goes (expression_fits (state before) e p)
 
 pub tests_find : TestsFindCells
 tests_find answer e truth block before after h p =
@@ -93,7 +94,7 @@ stores_find answer e before after h p =
     finds answer (state after) _ _ _ _ h.goes ((stores_fit s.around (ready s _ _ p) s.next e (here s _ _ p)).alone.fits s (stands s _ _ p) (room s _ _ p))
 
 pub statements_find : StatementsFindCells
-statements_find answer t before after h p = finds answer (state after) _ _ _ (emission_of_stmt t (state before)) h.goes (statement_fits (state before) t p)
+statements_find answer t before after h p = finds answer (state after) _ _ _ (run (emission_of_stmt t) (state before)) h.goes (statement_fits (state before) t p)
 
 pub bodies_find : BodiesFindCells
 bodies_find answer ts before after h p =
@@ -106,14 +107,14 @@ unkept (Ok a) after o g = ap (λ x. go_on x keep) g
 unkept (Err e) after o g = λ n. ap (λ x. go_on x keep) (g n)
 
 -- one target is the only one of its statement
-deleted_alone : (s : State) (e : tree.Expr) → emission_of_stmt (deletion_at s.location e) s ≡ go_on (emission_of_delete e s) keep
+deleted_alone : (s : State) (e : tree.Expr) → run (emission_of_stmt (deletion_at s.location e)) s ≡ go_on (run (emission_of_delete e) s) keep
 unfolding move located
 deleted_alone s e = refl
 
 pub deletions_find : DeletionsFindCells
 deletions_find answer e before after h p =
     let s = state before in
-    finds answer (state after) _ _ _ (go_on (emission_of_delete e s) keep) (unkept answer (state after) (emission_of_delete e s) h.goes) (subst (FitsIn s.around _ _) (deleted_alone s e) (statement_fits s (deletion_at s.location e) p))
+    finds answer (state after) _ _ _ (go_on (run (emission_of_delete e) s) keep) (unkept answer (state after) (run (emission_of_delete e) s) h.goes) (subst (FitsIn s.around _ _) (deleted_alone s e) (statement_fits s (deletion_at s.location e) p))
 
 pub comprehensions_find : ComprehensionsFindCells
 unfolding move located

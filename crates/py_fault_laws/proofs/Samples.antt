@@ -9,6 +9,7 @@ use Rattle.py_scope.specs.declared.table_type.SymbolTableType.TheVariants as kin
 use Rattle.py_emission_parts.specs.Context.{Context}
 use Rattle.py_emission_parts.specs.Emitting.{Refused, State, begun, by_loops, located, move, refuse}
 use Rattle.py_emission_parts.specs.Refused.{no_assignment}
+use Rattle.py_emission_parts.specs.Running.{run}
 use Rattle.py_emission.specs.EmissionStmts.{emission_of_stmt}
 use Rattle.py_meaning.specs.ExprFaults.{expr_faults, fault_at}
 use Rattle.py_meaning.specs.Faults.{stmt_faults}
@@ -26,7 +27,7 @@ abbrev before : State
 before = begun file (record { row = 1; column = 1 }) 1
 
 -- break
-refused : emission_of_stmt (tree.Break there) before ≡ Refused error.InvalidBreak (Some there)
+refused : run (emission_of_stmt (tree.Break there)) before ≡ Refused error.InvalidBreak (Some there)
 unfolding move located by_loops refuse
 refused = refl
 
@@ -34,7 +35,7 @@ faulty : stmt_faults (setting_in before) (in_loop before) (tree.Break there) ≡
 faulty = refl
 
 -- as the law says
-told : EndsBy before (fault_at error.InvalidBreak there ∷ []) there (emission_of_stmt (tree.Break there) before)
+told : EndsBy before (fault_at error.InvalidBreak there ∷ []) there (run (emission_of_stmt (tree.Break there)) before)
 told = statements_end None (tree.Break there) refl before
 
 -- None

@@ -14,7 +14,8 @@ use Rattle.py_emission_parts.specs.Accesses.{accessed}
 use Rattle.py_emission_parts.specs.Children.{child, load_cell}
 use Rattle.py_emission_parts.specs.Comprehensions.{as_element, called_at_once}
 use Rattle.py_emission_parts.specs.Context.{inside, outermost, with_path, within_class}
-use Rattle.py_emission_parts.specs.Emitting.{Refused, with_step, with_block, with_name, with_varname, with_constant, with_loops, located, refuse, emit, jump, begin, new_block, emit_count, emit_name, emit_varname, emit_mangled, add_varname, add_constant, emit_constant, move, generating, pass_over, by_context, by_level, by_loops, in_loop}
+use Rattle.py_emission_parts.specs.Emitting.{Refused, with_step, with_block, with_name, with_varname, with_constant, with_loops, located, refuse, emit, jump, emit_count, emit_name, emit_varname, emit_mangled, add_varname, add_constant, emit_constant, move, generating, pass_over, by_context, by_level, by_loops, in_loop, one_block, two_blocks, three_blocks}
+use Rattle.py_emission_parts.specs.Running.{put}
 use Rattle.py_emission_parts.specs.Sealed.{sealed}
 use Rattle.py_emission.specs.Emission.{lambda_value}
 use Rattle.py_emission.specs.EmissionDefs.{emission_of_class, emission_of_def}
@@ -41,7 +42,7 @@ abbrev handed_on_object : Object
 handed_on_object = (sealed_as 2 None 1 0 0 0 1 (codes "<module>") ((unit op.LoadConst 0) ∷ (unit op.LoadConst 1) ∷ (unit op.MakeFunction 0) ∷ (unit op.StoreLocal 0) ∷ (unit op.ReturnConst 2) ∷ []) ((at 6 20) ∷ (at 6 20) ∷ (at 6 20) ∷ (at 6 20) ∷ (at 6 20) ∷ []) ((codes "f") ∷ []) [] [] [] ((const.code (sealed_as 4 (Some ((pos 0) ∷ [])) 33 0 1 0 1 (codes "f") ((unit op.LoadBuildClass 0) ∷ (unit op.LoadClosure 0) ∷ (unit op.BuildTuple 1) ∷ (unit op.LoadConst 1) ∷ (unit op.LoadConst 2) ∷ (unit op.MakeFunction 1) ∷ (unit op.LoadConst 2) ∷ (unit op.CallFunctionPositional 2) ∷ (unit op.StoreFast 1) ∷ (unit op.ReturnConst 0) ∷ []) ((at 2 5) ∷ (at 6 20) ∷ (at 6 20) ∷ (at 6 20) ∷ (at 6 20) ∷ (at 6 20) ∷ (at 6 20) ∷ (at 6 20) ∷ (at 6 20) ∷ (at 6 20) ∷ []) [] ((codes "y") ∷ (codes "A") ∷ []) ((codes "y") ∷ []) [] (const.none ∷ (const.code (sealed_as 3 None 0 0 0 0 2 (codes "A") ((unit op.LoadGlobal 0) ∷ (unit op.StoreLocal 1) ∷ (unit op.LoadConst 0) ∷ (unit op.StoreLocal 2) ∷ (unit op.LoadConst 1) ∷ (unit op.StoreLocal 3) ∷ (unit op.LoadConst 2) ∷ (unit op.StoreLocal 4) ∷ (unit op.LoadClosure 0) ∷ (unit op.LoadClosure 1) ∷ (unit op.BuildTuple 2) ∷ (unit op.LoadConst 3) ∷ (unit op.LoadConst 4) ∷ (unit op.MakeFunction 1) ∷ (unit op.StoreLocal 5) ∷ (unit op.LoadClosure 0) ∷ (unit op.Duplicate 0) ∷ (unit op.StoreLocal 6) ∷ (unit op.ReturnValue 0) ∷ []) ((at 2 5) ∷ (at 2 5) ∷ (at 2 5) ∷ (at 2 5) ∷ (at 2 5) ∷ (at 2 5) ∷ (at 3 13) ∷ (at 3 13) ∷ (at 6 20) ∷ (at 6 20) ∷ (at 6 20) ∷ (at 6 20) ∷ (at 6 20) ∷ (at 6 20) ∷ (at 6 20) ∷ (at 6 20) ∷ (at 6 20) ∷ (at 6 20) ∷ (at 6 20) ∷ []) ((codes "__name__") ∷ (codes "__module__") ∷ (codes "__qualname__") ∷ (codes "__doc__") ∷ (codes "y") ∷ (codes "g") ∷ (codes "__classcell__") ∷ []) [] ((codes "__class__") ∷ []) ((codes "y") ∷ []) ((const.str (codes "f.<locals>.A")) ∷ const.none ∷ (const.integer (pos 1)) ∷ (const.code (sealed_as 1 None 33 0 1 0 4 (codes "g") ((unit op.LoadGlobal 0) ∷ (unit op.CallFunctionPositional 0) ∷ (unit op.Pop 0) ∷ (unit op.LoadDeref 1) ∷ (unit op.ReturnValue 0) ∷ []) ((at 5 13) ∷ (at 5 13) ∷ (at 5 13) ∷ (at 6 20) ∷ (at 6 20) ∷ []) ((codes "super") ∷ []) ((codes "self") ∷ []) [] ((codes "__class__") ∷ (codes "y") ∷ []) (const.none ∷ []))) ∷ (const.str (codes "f.<locals>.A.g")) ∷ []))) ∷ (const.str (codes "A")) ∷ []))) ∷ (const.str (codes "f")) ∷ const.none ∷ []))
 
 handed_on_emitted : object_emitted handed_on_scopes handed_on 0 ≡ Some (handed_on_object, length handed_on_scopes)
-unfolding with_step with_block with_name with_varname with_constant with_loops located refuse emit jump begin new_block emit_count emit_name emit_varname emit_mangled add_varname add_constant emit_constant move generating pass_over by_context by_level by_loops in_loop accessed inside with_path within_class child lambda_value emission_of_def emission_of_class load_cell sealed as_element called_at_once
+unfolding with_step with_block with_name with_varname with_constant with_loops located refuse emit jump one_block two_blocks three_blocks put emit_count emit_name emit_varname emit_mangled add_varname add_constant emit_constant move generating pass_over by_context by_level by_loops in_loop accessed inside with_path within_class child lambda_value emission_of_def emission_of_class load_cell sealed as_element called_at_once
 handed_on_emitted = refl
 
 handed_on_forms : codes_of_object 9 handed_on_object ≡ codes_of_scope 9 (body handed_on_scopes handed_on Exec 0)
@@ -66,7 +67,7 @@ abbrev documented_class_object : Object
 documented_class_object = (sealed_as 3 None 1 0 0 0 1 (codes "<module>") ((unit op.LoadBuildClass 0) ∷ (unit op.LoadConst 0) ∷ (unit op.LoadConst 1) ∷ (unit op.MakeFunction 0) ∷ (unit op.LoadConst 1) ∷ (unit op.CallFunctionPositional 2) ∷ (unit op.StoreLocal 0) ∷ (unit op.ReturnConst 2) ∷ []) ((at 1 1) ∷ (at 4 11) ∷ (at 4 11) ∷ (at 4 11) ∷ (at 4 11) ∷ (at 4 11) ∷ (at 4 11) ∷ (at 4 11) ∷ []) ((codes "A") ∷ []) [] [] [] ((const.code (sealed_as 3 None 0 0 0 0 1 (codes "A") ((unit op.LoadGlobal 0) ∷ (unit op.StoreLocal 1) ∷ (unit op.LoadConst 0) ∷ (unit op.StoreLocal 2) ∷ (unit op.LoadConst 1) ∷ (unit op.StoreLocal 3) ∷ (unit op.LoadBuildClass 0) ∷ (unit op.LoadConst 2) ∷ (unit op.LoadConst 3) ∷ (unit op.MakeFunction 0) ∷ (unit op.LoadConst 3) ∷ (unit op.CallFunctionPositional 2) ∷ (unit op.StoreLocal 4) ∷ (unit op.LoadNameAny 4) ∷ (unit op.StoreLocal 5) ∷ (unit op.ReturnConst 4) ∷ []) ((at 1 1) ∷ (at 1 1) ∷ (at 1 1) ∷ (at 1 1) ∷ (at 1 1) ∷ (at 1 1) ∷ (at 3 5) ∷ (at 3 16) ∷ (at 3 16) ∷ (at 3 16) ∷ (at 3 16) ∷ (at 3 16) ∷ (at 3 16) ∷ (at 4 11) ∷ (at 4 11) ∷ (at 4 11) ∷ []) ((codes "__name__") ∷ (codes "__module__") ∷ (codes "__qualname__") ∷ (codes "__doc__") ∷ (codes "_A__B") ∷ (codes "_A__x") ∷ []) [] [] [] ((const.str (codes "A")) ∷ (const.str (codes "doc")) ∷ (const.code (sealed_as 1 None 0 0 0 0 3 (codes "__B") ((unit op.LoadGlobal 0) ∷ (unit op.StoreLocal 1) ∷ (unit op.LoadConst 0) ∷ (unit op.StoreLocal 2) ∷ (unit op.LoadConst 1) ∷ (unit op.StoreLocal 3) ∷ (unit op.ReturnConst 1) ∷ []) ((at 3 5) ∷ (at 3 5) ∷ (at 3 5) ∷ (at 3 5) ∷ (at 3 5) ∷ (at 3 5) ∷ (at 3 16) ∷ []) ((codes "__name__") ∷ (codes "__module__") ∷ (codes "__qualname__") ∷ (codes "__doc__") ∷ []) [] [] [] ((const.str (codes "A.__B")) ∷ const.none ∷ []))) ∷ (const.str (codes "__B")) ∷ const.none ∷ []))) ∷ (const.str (codes "A")) ∷ const.none ∷ []))
 
 documented_class_emitted : object_emitted documented_class_scopes documented_class 0 ≡ Some (documented_class_object, length documented_class_scopes)
-unfolding with_step with_block with_name with_varname with_constant with_loops located refuse emit jump begin new_block emit_count emit_name emit_varname emit_mangled add_varname add_constant emit_constant move generating pass_over by_context by_level by_loops in_loop accessed inside with_path within_class child lambda_value emission_of_def emission_of_class load_cell sealed as_element called_at_once
+unfolding with_step with_block with_name with_varname with_constant with_loops located refuse emit jump one_block two_blocks three_blocks put emit_count emit_name emit_varname emit_mangled add_varname add_constant emit_constant move generating pass_over by_context by_level by_loops in_loop accessed inside with_path within_class child lambda_value emission_of_def emission_of_class load_cell sealed as_element called_at_once
 documented_class_emitted = refl
 
 documented_class_forms : codes_of_object 9 documented_class_object ≡ codes_of_scope 9 (body documented_class_scopes documented_class Exec 0)
@@ -92,7 +93,7 @@ abbrev undocumented_class_object : Object
 undocumented_class_object = (sealed_as 3 None 1 0 0 0 1 (codes "<module>") ((unit op.LoadBuildClass 0) ∷ (unit op.LoadConst 0) ∷ (unit op.LoadConst 1) ∷ (unit op.MakeFunction 0) ∷ (unit op.LoadConst 1) ∷ (unit op.CallFunctionPositional 2) ∷ (unit op.StoreLocal 0) ∷ (unit op.ReturnConst 2) ∷ []) ((at 1 1) ∷ (at 4 5) ∷ (at 4 5) ∷ (at 4 5) ∷ (at 4 5) ∷ (at 4 5) ∷ (at 4 5) ∷ (at 4 5) ∷ []) ((codes "A") ∷ []) [] [] [] ((const.code (sealed_as 2 None 0 0 0 0 1 (codes "A") ((unit op.LoadGlobal 0) ∷ (unit op.StoreLocal 1) ∷ (unit op.LoadConst 0) ∷ (unit op.StoreLocal 2) ∷ (unit op.LoadConst 1) ∷ (unit op.StoreLocal 3) ∷ (unit op.LoadConst 2) ∷ (unit op.LoadConst 3) ∷ (unit op.MakeFunction 0) ∷ (unit op.StoreLocal 4) ∷ (unit op.ReturnConst 1) ∷ []) ((at 1 1) ∷ (at 1 1) ∷ (at 1 1) ∷ (at 1 1) ∷ (at 1 1) ∷ (at 1 1) ∷ (at 4 5) ∷ (at 4 5) ∷ (at 4 5) ∷ (at 4 5) ∷ (at 4 5) ∷ []) ((codes "__name__") ∷ (codes "__module__") ∷ (codes "__qualname__") ∷ (codes "__doc__") ∷ (codes "f") ∷ []) [] [] [] ((const.str (codes "A")) ∷ const.none ∷ (const.code (sealed_as 0 None 33 0 1 0 4 (codes "f") ((unit op.ReturnConst 0) ∷ []) ((at 4 5) ∷ []) [] ((codes "self") ∷ []) [] [] (const.none ∷ []))) ∷ (const.str (codes "A.f")) ∷ []))) ∷ (const.str (codes "A")) ∷ const.none ∷ []))
 
 undocumented_class_emitted : object_emitted undocumented_class_scopes undocumented_class 2 ≡ Some (undocumented_class_object, length undocumented_class_scopes)
-unfolding with_step with_block with_name with_varname with_constant with_loops located refuse emit jump begin new_block emit_count emit_name emit_varname emit_mangled add_varname add_constant emit_constant move generating pass_over by_context by_level by_loops in_loop accessed inside with_path within_class child lambda_value emission_of_def emission_of_class load_cell sealed as_element called_at_once
+unfolding with_step with_block with_name with_varname with_constant with_loops located refuse emit jump one_block two_blocks three_blocks put emit_count emit_name emit_varname emit_mangled add_varname add_constant emit_constant move generating pass_over by_context by_level by_loops in_loop accessed inside with_path within_class child lambda_value emission_of_def emission_of_class load_cell sealed as_element called_at_once
 undocumented_class_emitted = refl
 
 undocumented_class_forms : codes_of_object 9 undocumented_class_object ≡ codes_of_scope 9 (body undocumented_class_scopes undocumented_class Exec 2)
@@ -118,7 +119,7 @@ abbrev annotated_class_object : Object
 annotated_class_object = (sealed_as 3 None 1 0 0 0 1 (codes "<module>") ((unit op.LoadBuildClass 0) ∷ (unit op.LoadConst 0) ∷ (unit op.LoadConst 1) ∷ (unit op.MakeFunction 0) ∷ (unit op.LoadConst 1) ∷ (unit op.CallFunctionPositional 2) ∷ (unit op.StoreLocal 0) ∷ (unit op.ReturnConst 2) ∷ []) ((at 1 1) ∷ (at 5 12) ∷ (at 5 12) ∷ (at 5 12) ∷ (at 5 12) ∷ (at 5 12) ∷ (at 5 12) ∷ (at 5 12) ∷ []) ((codes "A") ∷ []) [] [] [] ((const.code (sealed_as 3 None 0 0 0 0 1 (codes "A") ((unit op.LoadGlobal 0) ∷ (unit op.StoreLocal 1) ∷ (unit op.LoadConst 0) ∷ (unit op.StoreLocal 2) ∷ (unit op.LoadConst 1) ∷ (unit op.StoreLocal 3) ∷ (unit op.SetupAnnotation 0) ∷ (unit op.LoadNameAny 4) ∷ (unit op.LoadNameAny 5) ∷ (unit op.LoadConst 2) ∷ (unit op.StoreSubscript 0) ∷ (unit op.LoadNameAny 6) ∷ (unit op.JumpIfFalse 20) ∷ (unit op.LoadConst 3) ∷ (unit op.StoreLocal 7) ∷ (unit op.LoadNameAny 8) ∷ (unit op.LoadAttr 9) ∷ (unit op.LoadNameAny 5) ∷ (unit op.LoadConst 4) ∷ (unit op.StoreSubscript 0) ∷ (unit op.LoadNameAny 10) ∷ (unit op.LoadNameAny 6) ∷ (unit op.CallFunctionPositional 1) ∷ (unit op.LoadNameAny 5) ∷ (unit op.LoadConst 5) ∷ (unit op.StoreSubscript 0) ∷ (unit op.ReturnConst 1) ∷ []) ((at 1 1) ∷ (at 1 1) ∷ (at 1 1) ∷ (at 1 1) ∷ (at 1 1) ∷ (at 1 1) ∷ (at 1 1) ∷ (at 2 8) ∷ (at 2 8) ∷ (at 2 8) ∷ (at 2 8) ∷ (at 3 8) ∷ (at 3 8) ∷ (at 4 20) ∷ (at 4 20) ∷ (at 4 14) ∷ (at 4 14) ∷ (at 4 14) ∷ (at 4 14) ∷ (at 4 14) ∷ (at 5 10) ∷ (at 5 12) ∷ (at 5 12) ∷ (at 5 12) ∷ (at 5 12) ∷ (at 5 12) ∷ (at 5 12) ∷ []) ((codes "__name__") ∷ (codes "__module__") ∷ (codes "__qualname__") ∷ (codes "__doc__") ∷ (codes "int") ∷ (codes "__annotations__") ∷ (codes "x") ∷ (codes "_A__y") ∷ (codes "A") ∷ (codes "b") ∷ (codes "f") ∷ []) [] [] [] ((const.str (codes "A")) ∷ const.none ∷ (const.str (codes "x")) ∷ (const.integer (pos 1)) ∷ (const.str (codes "_A__y")) ∷ (const.str (codes "z")) ∷ []))) ∷ (const.str (codes "A")) ∷ const.none ∷ []))
 
 annotated_class_emitted : object_emitted annotated_class_scopes annotated_class 0 ≡ Some (annotated_class_object, length annotated_class_scopes)
-unfolding with_step with_block with_name with_varname with_constant with_loops located refuse emit jump begin new_block emit_count emit_name emit_varname emit_mangled add_varname add_constant emit_constant move generating pass_over by_context by_level by_loops in_loop accessed inside with_path within_class child lambda_value emission_of_def emission_of_class load_cell sealed as_element called_at_once
+unfolding with_step with_block with_name with_varname with_constant with_loops located refuse emit jump one_block two_blocks three_blocks put emit_count emit_name emit_varname emit_mangled add_varname add_constant emit_constant move generating pass_over by_context by_level by_loops in_loop accessed inside with_path within_class child lambda_value emission_of_def emission_of_class load_cell sealed as_element called_at_once
 annotated_class_emitted = refl
 
 annotated_class_forms : codes_of_object 9 annotated_class_object ≡ codes_of_scope 9 (body annotated_class_scopes annotated_class Exec 0)
@@ -146,7 +147,7 @@ abbrev not_annotated_object : Object
 not_annotated_object = (sealed_as 3 None 1 0 0 0 1 (codes "<module>") ((unit op.LoadBuildClass 0) ∷ (unit op.LoadConst 0) ∷ (unit op.LoadConst 1) ∷ (unit op.MakeFunction 0) ∷ (unit op.LoadConst 1) ∷ (unit op.CallFunctionPositional 2) ∷ (unit op.StoreLocal 0) ∷ (unit op.ReturnConst 2) ∷ []) ((at 1 1) ∷ (at 7 18) ∷ (at 7 18) ∷ (at 7 18) ∷ (at 7 18) ∷ (at 7 18) ∷ (at 7 18) ∷ (at 7 18) ∷ []) ((codes "A") ∷ []) [] [] [] ((const.code (sealed_as 3 None 0 0 0 0 1 (codes "A") ((unit op.LoadGlobal 0) ∷ (unit op.StoreLocal 1) ∷ (unit op.LoadConst 0) ∷ (unit op.StoreLocal 2) ∷ (unit op.LoadConst 1) ∷ (unit op.StoreLocal 3) ∷ (unit op.LoadBuildClass 0) ∷ (unit op.LoadConst 2) ∷ (unit op.LoadConst 3) ∷ (unit op.MakeFunction 0) ∷ (unit op.LoadConst 3) ∷ (unit op.CallFunctionPositional 2) ∷ (unit op.StoreLocal 4) ∷ (unit op.LoadConst 4) ∷ (unit op.LoadConst 5) ∷ (unit op.MakeFunction 0) ∷ (unit op.StoreLocal 5) ∷ (unit op.SetupExcept 20) ∷ (unit op.PopBlock 0) ∷ (unit op.Jump 32) ∷ (unit op.Duplicate 0) ∷ (unit op.LoadNameAny 6) ∷ (unit op.TestOperation 4) ∷ (unit op.JumpIfFalse 31) ∷ (unit op.Pop 0) ∷ (unit op.LoadNameAny 7) ∷ (unit op.LoadNameAny 8) ∷ (unit op.LoadConst 6) ∷ (unit op.StoreSubscript 0) ∷ (unit op.PopException 0) ∷ (unit op.Jump 32) ∷ (unit op.Raise 2) ∷ (unit op.ReturnConst 1) ∷ []) ((at 1 1) ∷ (at 1 1) ∷ (at 1 1) ∷ (at 1 1) ∷ (at 1 1) ∷ (at 1 1) ∷ (at 2 5) ∷ (at 3 12) ∷ (at 3 12) ∷ (at 3 12) ∷ (at 3 12) ∷ (at 3 12) ∷ (at 3 12) ∷ (at 5 18) ∷ (at 5 18) ∷ (at 5 18) ∷ (at 5 18) ∷ (at 6 5) ∷ (at 6 10) ∷ (at 6 10) ∷ (at 6 10) ∷ (at 7 12) ∷ (at 7 12) ∷ (at 7 12) ∷ (at 7 12) ∷ (at 7 18) ∷ (at 7 18) ∷ (at 7 18) ∷ (at 7 18) ∷ (at 7 18) ∷ (at 7 18) ∷ (at 7 18) ∷ (at 7 18) ∷ []) ((codes "__name__") ∷ (codes "__module__") ∷ (codes "__qualname__") ∷ (codes "__doc__") ∷ (codes "B") ∷ (codes "f") ∷ (codes "e") ∷ (codes "int") ∷ (codes "__annotations__") ∷ []) [] [] [] ((const.str (codes "A")) ∷ const.none ∷ (const.code (sealed_as 3 None 0 0 0 0 2 (codes "B") ((unit op.LoadGlobal 0) ∷ (unit op.StoreLocal 1) ∷ (unit op.LoadConst 0) ∷ (unit op.StoreLocal 2) ∷ (unit op.LoadConst 1) ∷ (unit op.StoreLocal 3) ∷ (unit op.SetupAnnotation 0) ∷ (unit op.LoadNameAny 4) ∷ (unit op.LoadNameAny 5) ∷ (unit op.LoadConst 2) ∷ (unit op.StoreSubscript 0) ∷ (unit op.ReturnConst 1) ∷ []) ((at 2 5) ∷ (at 2 5) ∷ (at 2 5) ∷ (at 2 5) ∷ (at 2 5) ∷ (at 2 5) ∷ (at 2 5) ∷ (at 3 12) ∷ (at 3 12) ∷ (at 3 12) ∷ (at 3 12) ∷ (at 3 12) ∷ []) ((codes "__name__") ∷ (codes "__module__") ∷ (codes "__qualname__") ∷ (codes "__doc__") ∷ (codes "int") ∷ (codes "__annotations__") ∷ []) [] [] [] ((const.str (codes "A.B")) ∷ const.none ∷ (const.str (codes "x")) ∷ []))) ∷ (const.str (codes "B")) ∷ (const.code (sealed_as 1 None 33 0 1 0 4 (codes "f") ((unit op.LoadConst 1) ∷ (unit op.StoreFast 1) ∷ (unit op.ReturnConst 0) ∷ []) ((at 5 18) ∷ (at 5 18) ∷ (at 5 18) ∷ []) [] ((codes "self") ∷ (codes "y") ∷ []) [] [] (const.none ∷ (const.integer (pos 1)) ∷ []))) ∷ (const.str (codes "A.f")) ∷ (const.str (codes "z")) ∷ []))) ∷ (const.str (codes "A")) ∷ const.none ∷ []))
 
 not_annotated_emitted : object_emitted not_annotated_scopes not_annotated 0 ≡ Some (not_annotated_object, length not_annotated_scopes)
-unfolding with_step with_block with_name with_varname with_constant with_loops located refuse emit jump begin new_block emit_count emit_name emit_varname emit_mangled add_varname add_constant emit_constant move generating pass_over by_context by_level by_loops in_loop accessed inside with_path within_class child lambda_value emission_of_def emission_of_class load_cell sealed as_element called_at_once
+unfolding with_step with_block with_name with_varname with_constant with_loops located refuse emit jump one_block two_blocks three_blocks put emit_count emit_name emit_varname emit_mangled add_varname add_constant emit_constant move generating pass_over by_context by_level by_loops in_loop accessed inside with_path within_class child lambda_value emission_of_def emission_of_class load_cell sealed as_element called_at_once
 not_annotated_emitted = refl
 
 not_annotated_forms : codes_of_object 9 not_annotated_object ≡ codes_of_scope 9 (body not_annotated_scopes not_annotated Exec 0)
@@ -169,7 +170,7 @@ abbrev built_with_object : Object
 built_with_object = (sealed_as 8 None 1 0 0 0 1 (codes "<module>") ((unit op.LoadBuildClass 0) ∷ (unit op.LoadConst 0) ∷ (unit op.LoadConst 1) ∷ (unit op.MakeFunction 0) ∷ (unit op.LoadConst 1) ∷ (unit op.LoadNameAny 0) ∷ (unit op.LoadConst 2) ∷ (unit op.LoadConst 3) ∷ (unit op.MakeFunction 0) ∷ (unit op.LoadNameAny 1) ∷ (unit op.LoadConst 4) ∷ (unit op.LoadConst 5) ∷ (unit op.MakeFunction 0) ∷ (unit op.LoadNameAny 2) ∷ (unit op.GetIter 0) ∷ (unit op.CallFunctionPositional 1) ∷ (unit op.LoadConst 6) ∷ (unit op.CallFunctionKeyword 6) ∷ (unit op.StoreLocal 3) ∷ (unit op.ReturnConst 7) ∷ []) ((at 1 1) ∷ (at 2 17) ∷ (at 2 17) ∷ (at 2 17) ∷ (at 2 17) ∷ (at 1 9) ∷ (at 1 20) ∷ (at 1 20) ∷ (at 1 20) ∷ (at 1 33) ∷ (at 1 39) ∷ (at 1 39) ∷ (at 1 39) ∷ (at 1 50) ∷ (at 1 50) ∷ (at 1 50) ∷ (at 1 50) ∷ (at 1 50) ∷ (at 1 50) ∷ (at 1 50) ∷ []) ((codes "B") ∷ (codes "M") ∷ (codes "d") ∷ (codes "A") ∷ []) [] [] [] ((const.code (sealed_as 2 None 0 0 0 0 1 (codes "A") ((unit op.LoadGlobal 0) ∷ (unit op.StoreLocal 1) ∷ (unit op.LoadConst 0) ∷ (unit op.StoreLocal 2) ∷ (unit op.LoadConst 1) ∷ (unit op.StoreLocal 3) ∷ (unit op.LoadConst 2) ∷ (unit op.LoadConst 3) ∷ (unit op.MakeFunction 0) ∷ (unit op.StoreLocal 4) ∷ (unit op.ReturnConst 1) ∷ []) ((at 1 1) ∷ (at 1 1) ∷ (at 1 1) ∷ (at 1 1) ∷ (at 1 1) ∷ (at 1 1) ∷ (at 2 17) ∷ (at 2 17) ∷ (at 2 17) ∷ (at 2 17) ∷ (at 2 17) ∷ []) ((codes "__name__") ∷ (codes "__module__") ∷ (codes "__qualname__") ∷ (codes "__doc__") ∷ (codes "y") ∷ []) [] [] [] ((const.str (codes "A")) ∷ const.none ∷ (const.code (sealed_as 1 None 33 0 0 0 2 (codes "<lambda>") ((unit op.LoadGlobal 0) ∷ (unit op.ReturnValue 0) ∷ []) ((at 2 17) ∷ (at 2 17) ∷ []) ((codes "z") ∷ []) [] [] [] (const.none ∷ []))) ∷ (const.str (codes "<lambda>")) ∷ []))) ∷ (const.str (codes "A")) ∷ (const.code (sealed_as 1 None 33 0 0 0 1 (codes "<lambda>") ((unit op.LoadGlobal 0) ∷ (unit op.ReturnValue 0) ∷ []) ((at 1 20) ∷ (at 1 20) ∷ []) ((codes "x") ∷ []) [] [] [] (const.none ∷ []))) ∷ (const.str (codes "<lambda>")) ∷ (const.code (sealed_as 3 None 33 1 1 0 1 (codes "<listcomp>") ((unit op.BuildList 0) ∷ (unit op.LoadFast 0) ∷ (unit op.ForIter 7) ∷ (unit op.StoreFast 1) ∷ (unit op.LoadFast 1) ∷ (unit op.ListAppend 1) ∷ (unit op.Jump 2) ∷ (unit op.ReturnValue 0) ∷ []) ((at 1 38) ∷ (at 1 38) ∷ (at 1 38) ∷ (at 1 38) ∷ (at 1 39) ∷ (at 1 39) ∷ (at 1 39) ∷ (at 1 39) ∷ []) [] ((codes ".0") ∷ (codes "c") ∷ []) [] [] [])) ∷ (const.str (codes "<listcomp>")) ∷ (const.tuple (const.more_consts (const.str (codes "metaclass")) (const.more_consts (const.str (codes "k")) const.no_consts))) ∷ const.none ∷ []))
 
 built_with_emitted : object_emitted built_with_scopes built_with 0 ≡ Some (built_with_object, length built_with_scopes)
-unfolding with_step with_block with_name with_varname with_constant with_loops located refuse emit jump begin new_block emit_count emit_name emit_varname emit_mangled add_varname add_constant emit_constant move generating pass_over by_context by_level by_loops in_loop accessed inside with_path within_class child lambda_value emission_of_def emission_of_class load_cell sealed as_element called_at_once
+unfolding with_step with_block with_name with_varname with_constant with_loops located refuse emit jump one_block two_blocks three_blocks put emit_count emit_name emit_varname emit_mangled add_varname add_constant emit_constant move generating pass_over by_context by_level by_loops in_loop accessed inside with_path within_class child lambda_value emission_of_def emission_of_class load_cell sealed as_element called_at_once
 built_with_emitted = refl
 
 built_with_forms : codes_of_object 9 built_with_object ≡ codes_of_scope 9 (body built_with_scopes built_with Exec 0)
@@ -192,7 +193,7 @@ abbrev built_starred_object : Object
 built_starred_object = (sealed_as 5 None 1 0 0 0 1 (codes "<module>") ((unit op.LoadBuildClass 0) ∷ (unit op.LoadConst 0) ∷ (unit op.LoadConst 1) ∷ (unit op.MakeFunction 0) ∷ (unit op.LoadConst 1) ∷ (unit op.BuildTuple 2) ∷ (unit op.LoadNameAny 0) ∷ (unit op.BuildTuple 1) ∷ (unit op.LoadNameAny 1) ∷ (unit op.LoadNameAny 2) ∷ (unit op.BuildTuple 1) ∷ (unit op.BuildTupleUnpack 4) ∷ (unit op.LoadConst 2) ∷ (unit op.LoadConst 3) ∷ (unit op.BuildMap 1) ∷ (unit op.LoadNameAny 3) ∷ (unit op.BuildMapForCall 2) ∷ (unit op.CallFunctionEx 1) ∷ (unit op.StoreLocal 4) ∷ (unit op.LoadBuildClass 0) ∷ (unit op.LoadConst 4) ∷ (unit op.LoadConst 5) ∷ (unit op.MakeFunction 0) ∷ (unit op.LoadConst 5) ∷ (unit op.BuildTuple 2) ∷ (unit op.LoadNameAny 5) ∷ (unit op.CallFunctionEx 1) ∷ (unit op.StoreLocal 6) ∷ (unit op.ReturnConst 6) ∷ []) ((at 1 1) ∷ (at 1 30) ∷ (at 1 30) ∷ (at 1 30) ∷ (at 1 30) ∷ (at 1 30) ∷ (at 1 9) ∷ (at 1 9) ∷ (at 1 13) ∷ (at 1 16) ∷ (at 1 16) ∷ (at 1 16) ∷ (at 1 16) ∷ (at 1 21) ∷ (at 1 21) ∷ (at 1 26) ∷ (at 1 26) ∷ (at 1 26) ∷ (at 1 26) ∷ (at 2 1) ∷ (at 2 15) ∷ (at 2 15) ∷ (at 2 15) ∷ (at 2 15) ∷ (at 2 15) ∷ (at 2 11) ∷ (at 2 11) ∷ (at 2 11) ∷ (at 2 11) ∷ []) ((codes "B") ∷ (codes "C") ∷ (codes "D") ∷ (codes "E") ∷ (codes "A") ∷ (codes "G") ∷ (codes "F") ∷ []) [] [] [] ((const.code (sealed_as 1 None 0 0 0 0 1 (codes "A") ((unit op.LoadGlobal 0) ∷ (unit op.StoreLocal 1) ∷ (unit op.LoadConst 0) ∷ (unit op.StoreLocal 2) ∷ (unit op.LoadConst 1) ∷ (unit op.StoreLocal 3) ∷ (unit op.ReturnConst 1) ∷ []) ((at 1 1) ∷ (at 1 1) ∷ (at 1 1) ∷ (at 1 1) ∷ (at 1 1) ∷ (at 1 1) ∷ (at 1 30) ∷ []) ((codes "__name__") ∷ (codes "__module__") ∷ (codes "__qualname__") ∷ (codes "__doc__") ∷ []) [] [] [] ((const.str (codes "A")) ∷ const.none ∷ []))) ∷ (const.str (codes "A")) ∷ (const.str (codes "k")) ∷ (const.integer (pos 1)) ∷ (const.code (sealed_as 1 None 0 0 0 0 2 (codes "F") ((unit op.LoadGlobal 0) ∷ (unit op.StoreLocal 1) ∷ (unit op.LoadConst 0) ∷ (unit op.StoreLocal 2) ∷ (unit op.LoadConst 1) ∷ (unit op.StoreLocal 3) ∷ (unit op.ReturnConst 1) ∷ []) ((at 2 1) ∷ (at 2 1) ∷ (at 2 1) ∷ (at 2 1) ∷ (at 2 1) ∷ (at 2 1) ∷ (at 2 15) ∷ []) ((codes "__name__") ∷ (codes "__module__") ∷ (codes "__qualname__") ∷ (codes "__doc__") ∷ []) [] [] [] ((const.str (codes "F")) ∷ const.none ∷ []))) ∷ (const.str (codes "F")) ∷ const.none ∷ []))
 
 built_starred_emitted : object_emitted built_starred_scopes built_starred 0 ≡ Some (built_starred_object, length built_starred_scopes)
-unfolding with_step with_block with_name with_varname with_constant with_loops located refuse emit jump begin new_block emit_count emit_name emit_varname emit_mangled add_varname add_constant emit_constant move generating pass_over by_context by_level by_loops in_loop accessed inside with_path within_class child lambda_value emission_of_def emission_of_class load_cell sealed as_element called_at_once
+unfolding with_step with_block with_name with_varname with_constant with_loops located refuse emit jump one_block two_blocks three_blocks put emit_count emit_name emit_varname emit_mangled add_varname add_constant emit_constant move generating pass_over by_context by_level by_loops in_loop accessed inside with_path within_class child lambda_value emission_of_def emission_of_class load_cell sealed as_element called_at_once
 built_starred_emitted = refl
 
 built_starred_forms : codes_of_object 9 built_starred_object ≡ codes_of_scope 9 (body built_starred_scopes built_starred Exec 0)
@@ -218,7 +219,7 @@ abbrev decorated_class_object : Object
 decorated_class_object = (sealed_as 6 None 1 0 0 0 1 (codes "<module>") ((unit op.LoadNameAny 0) ∷ (unit op.LoadNameAny 1) ∷ (unit op.LoadConst 0) ∷ (unit op.LoadConst 1) ∷ (unit op.MakeFunction 0) ∷ (unit op.CallFunctionPositional 1) ∷ (unit op.LoadBuildClass 0) ∷ (unit op.LoadConst 2) ∷ (unit op.LoadConst 3) ∷ (unit op.MakeFunction 0) ∷ (unit op.LoadConst 3) ∷ (unit op.LoadNameAny 2) ∷ (unit op.CallFunctionPositional 3) ∷ (unit op.CallFunctionPositional 1) ∷ (unit op.CallFunctionPositional 1) ∷ (unit op.StoreLocal 3) ∷ (unit op.ReturnConst 4) ∷ []) ((at 1 2) ∷ (at 2 2) ∷ (at 2 12) ∷ (at 2 12) ∷ (at 2 12) ∷ (at 2 12) ∷ (at 2 12) ∷ (at 5 14) ∷ (at 5 14) ∷ (at 5 14) ∷ (at 5 14) ∷ (at 3 9) ∷ (at 3 9) ∷ (at 3 9) ∷ (at 3 9) ∷ (at 3 9) ∷ (at 3 9) ∷ []) ((codes "d") ∷ (codes "e") ∷ (codes "B") ∷ (codes "A") ∷ []) [] [] [] ((const.code (sealed_as 0 None 33 0 0 0 2 (codes "<lambda>") ((unit op.ReturnConst 1) ∷ []) ((at 2 12) ∷ []) [] [] [] [] (const.none ∷ (const.integer (pos 1)) ∷ []))) ∷ (const.str (codes "<lambda>")) ∷ (const.code (sealed_as 3 None 0 0 0 0 2 (codes "A") ((unit op.LoadGlobal 0) ∷ (unit op.StoreLocal 1) ∷ (unit op.LoadConst 0) ∷ (unit op.StoreLocal 2) ∷ (unit op.LoadConst 1) ∷ (unit op.StoreLocal 3) ∷ (unit op.LoadNameAny 4) ∷ (unit op.LoadAttr 5) ∷ (unit op.LoadConst 2) ∷ (unit op.LoadConst 3) ∷ (unit op.MakeFunction 0) ∷ (unit op.CallFunctionPositional 1) ∷ (unit op.StoreLocal 6) ∷ (unit op.ReturnConst 1) ∷ []) ((at 2 12) ∷ (at 2 12) ∷ (at 2 12) ∷ (at 2 12) ∷ (at 2 12) ∷ (at 2 12) ∷ (at 4 6) ∷ (at 4 6) ∷ (at 5 14) ∷ (at 5 14) ∷ (at 5 14) ∷ (at 5 14) ∷ (at 5 14) ∷ (at 5 14) ∷ []) ((codes "__name__") ∷ (codes "__module__") ∷ (codes "__qualname__") ∷ (codes "__doc__") ∷ (codes "A") ∷ (codes "f") ∷ (codes "g") ∷ []) [] [] [] ((const.str (codes "A")) ∷ const.none ∷ (const.code (sealed_as 0 None 33 0 0 0 4 (codes "g") ((unit op.ReturnConst 0) ∷ []) ((at 5 14) ∷ []) [] [] [] [] (const.none ∷ []))) ∷ (const.str (codes "A.g")) ∷ []))) ∷ (const.str (codes "A")) ∷ const.none ∷ []))
 
 decorated_class_emitted : object_emitted decorated_class_scopes decorated_class 0 ≡ Some (decorated_class_object, length decorated_class_scopes)
-unfolding with_step with_block with_name with_varname with_constant with_loops located refuse emit jump begin new_block emit_count emit_name emit_varname emit_mangled add_varname add_constant emit_constant move generating pass_over by_context by_level by_loops in_loop accessed inside with_path within_class child lambda_value emission_of_def emission_of_class load_cell sealed as_element called_at_once
+unfolding with_step with_block with_name with_varname with_constant with_loops located refuse emit jump one_block two_blocks three_blocks put emit_count emit_name emit_varname emit_mangled add_varname add_constant emit_constant move generating pass_over by_context by_level by_loops in_loop accessed inside with_path within_class child lambda_value emission_of_def emission_of_class load_cell sealed as_element called_at_once
 decorated_class_emitted = refl
 
 decorated_class_forms : codes_of_object 9 decorated_class_object ≡ codes_of_scope 9 (body decorated_class_scopes decorated_class Exec 0)
@@ -246,7 +247,7 @@ abbrev passed_through_object : Object
 passed_through_object = (sealed_as 2 None 1 0 0 0 1 (codes "<module>") ((unit op.LoadConst 0) ∷ (unit op.LoadConst 1) ∷ (unit op.MakeFunction 0) ∷ (unit op.StoreLocal 0) ∷ (unit op.ReturnConst 2) ∷ []) ((at 7 17) ∷ (at 7 17) ∷ (at 7 17) ∷ (at 7 17) ∷ (at 7 17) ∷ []) ((codes "f") ∷ []) [] [] [] ((const.code (sealed_as 4 (Some ((pos 0) ∷ [])) 33 0 1 0 1 (codes "f") ((unit op.LoadBuildClass 0) ∷ (unit op.LoadClosure 0) ∷ (unit op.BuildTuple 1) ∷ (unit op.LoadConst 1) ∷ (unit op.LoadConst 2) ∷ (unit op.MakeFunction 1) ∷ (unit op.LoadConst 2) ∷ (unit op.CallFunctionPositional 2) ∷ (unit op.StoreFast 1) ∷ (unit op.ReturnConst 0) ∷ []) ((at 2 5) ∷ (at 7 17) ∷ (at 7 17) ∷ (at 7 17) ∷ (at 7 17) ∷ (at 7 17) ∷ (at 7 17) ∷ (at 7 17) ∷ (at 7 17) ∷ (at 7 17) ∷ []) [] ((codes "x") ∷ (codes "A") ∷ []) ((codes "x") ∷ []) [] (const.none ∷ (const.code (sealed_as 4 None 0 0 0 0 2 (codes "A") ((unit op.LoadGlobal 0) ∷ (unit op.StoreLocal 1) ∷ (unit op.LoadConst 0) ∷ (unit op.StoreLocal 2) ∷ (unit op.LoadConst 1) ∷ (unit op.StoreLocal 3) ∷ (unit op.LoadNameAny 4) ∷ (unit op.StoreLocal 4) ∷ (unit op.LoadClosure 0) ∷ (unit op.BuildTuple 1) ∷ (unit op.LoadConst 2) ∷ (unit op.LoadConst 3) ∷ (unit op.MakeFunction 1) ∷ (unit op.StoreLocal 5) ∷ (unit op.LoadBuildClass 0) ∷ (unit op.LoadClosure 0) ∷ (unit op.BuildTuple 1) ∷ (unit op.LoadConst 4) ∷ (unit op.LoadConst 5) ∷ (unit op.MakeFunction 1) ∷ (unit op.LoadConst 5) ∷ (unit op.CallFunctionPositional 2) ∷ (unit op.StoreLocal 6) ∷ (unit op.ReturnConst 1) ∷ []) ((at 2 5) ∷ (at 2 5) ∷ (at 2 5) ∷ (at 2 5) ∷ (at 2 5) ∷ (at 2 5) ∷ (at 3 13) ∷ (at 3 13) ∷ (at 5 20) ∷ (at 5 20) ∷ (at 5 20) ∷ (at 5 20) ∷ (at 5 20) ∷ (at 5 20) ∷ (at 6 9) ∷ (at 7 17) ∷ (at 7 17) ∷ (at 7 17) ∷ (at 7 17) ∷ (at 7 17) ∷ (at 7 17) ∷ (at 7 17) ∷ (at 7 17) ∷ (at 7 17) ∷ []) ((codes "__name__") ∷ (codes "__module__") ∷ (codes "__qualname__") ∷ (codes "__doc__") ∷ (codes "x") ∷ (codes "g") ∷ (codes "B") ∷ []) [] [] ((codes "x") ∷ []) ((const.str (codes "f.<locals>.A")) ∷ const.none ∷ (const.code (sealed_as 1 None 33 0 1 0 4 (codes "g") ((unit op.LoadDeref 0) ∷ (unit op.ReturnValue 0) ∷ []) ((at 5 20) ∷ (at 5 20) ∷ []) [] ((codes "self") ∷ []) [] ((codes "x") ∷ []) (const.none ∷ []))) ∷ (const.str (codes "f.<locals>.A.g")) ∷ (const.code (sealed_as 1 None 0 0 0 0 6 (codes "B") ((unit op.LoadGlobal 0) ∷ (unit op.StoreLocal 1) ∷ (unit op.LoadConst 0) ∷ (unit op.StoreLocal 2) ∷ (unit op.LoadConst 1) ∷ (unit op.StoreLocal 3) ∷ (unit op.LoadClassDeref 0) ∷ (unit op.StoreLocal 4) ∷ (unit op.ReturnConst 1) ∷ []) ((at 6 9) ∷ (at 6 9) ∷ (at 6 9) ∷ (at 6 9) ∷ (at 6 9) ∷ (at 6 9) ∷ (at 7 17) ∷ (at 7 17) ∷ (at 7 17) ∷ []) ((codes "__name__") ∷ (codes "__module__") ∷ (codes "__qualname__") ∷ (codes "__doc__") ∷ (codes "z") ∷ []) [] [] ((codes "x") ∷ []) ((const.str (codes "f.<locals>.A.B")) ∷ const.none ∷ []))) ∷ (const.str (codes "B")) ∷ []))) ∷ (const.str (codes "A")) ∷ []))) ∷ (const.str (codes "f")) ∷ const.none ∷ []))
 
 passed_through_emitted : object_emitted passed_through_scopes passed_through 0 ≡ Some (passed_through_object, length passed_through_scopes)
-unfolding with_step with_block with_name with_varname with_constant with_loops located refuse emit jump begin new_block emit_count emit_name emit_varname emit_mangled add_varname add_constant emit_constant move generating pass_over by_context by_level by_loops in_loop accessed inside with_path within_class child lambda_value emission_of_def emission_of_class load_cell sealed as_element called_at_once
+unfolding with_step with_block with_name with_varname with_constant with_loops located refuse emit jump one_block two_blocks three_blocks put emit_count emit_name emit_varname emit_mangled add_varname add_constant emit_constant move generating pass_over by_context by_level by_loops in_loop accessed inside with_path within_class child lambda_value emission_of_def emission_of_class load_cell sealed as_element called_at_once
 passed_through_emitted = refl
 
 passed_through_forms : codes_of_object 9 passed_through_object ≡ codes_of_scope 9 (body passed_through_scopes passed_through Exec 0)
@@ -273,7 +274,7 @@ abbrev begins_anew_object : Object
 begins_anew_object = (sealed_as 2 None 1 0 0 0 1 (codes "<module>") ((unit op.LoadConst 0) ∷ (unit op.LoadConst 1) ∷ (unit op.MakeFunction 0) ∷ (unit op.StoreLocal 0) ∷ (unit op.ReturnConst 2) ∷ []) ((at 6 14) ∷ (at 6 14) ∷ (at 6 14) ∷ (at 6 14) ∷ (at 6 14) ∷ []) ((codes "f") ∷ []) [] [] [] ((const.code (sealed_as 3 None 33 0 0 0 1 (codes "f") ((unit op.LoadBuildClass 0) ∷ (unit op.LoadConst 1) ∷ (unit op.LoadConst 2) ∷ (unit op.MakeFunction 0) ∷ (unit op.LoadConst 2) ∷ (unit op.CallFunctionPositional 2) ∷ (unit op.StoreGlobal 0) ∷ (unit op.LoadConst 3) ∷ (unit op.LoadConst 4) ∷ (unit op.MakeFunction 0) ∷ (unit op.StoreGlobal 1) ∷ (unit op.ReturnConst 0) ∷ []) ((at 3 5) ∷ (at 5 22) ∷ (at 5 22) ∷ (at 5 22) ∷ (at 5 22) ∷ (at 5 22) ∷ (at 5 22) ∷ (at 6 14) ∷ (at 6 14) ∷ (at 6 14) ∷ (at 6 14) ∷ (at 6 14) ∷ []) ((codes "A") ∷ (codes "g") ∷ []) [] [] [] (const.none ∷ (const.code (sealed_as 3 None 0 0 0 0 3 (codes "A") ((unit op.LoadGlobal 0) ∷ (unit op.StoreLocal 1) ∷ (unit op.LoadConst 0) ∷ (unit op.StoreLocal 2) ∷ (unit op.LoadConst 1) ∷ (unit op.StoreLocal 3) ∷ (unit op.LoadBuildClass 0) ∷ (unit op.LoadConst 2) ∷ (unit op.LoadConst 3) ∷ (unit op.MakeFunction 0) ∷ (unit op.LoadConst 3) ∷ (unit op.CallFunctionPositional 2) ∷ (unit op.StoreLocal 4) ∷ (unit op.LoadConst 4) ∷ (unit op.LoadConst 5) ∷ (unit op.MakeFunction 0) ∷ (unit op.StoreLocal 5) ∷ (unit op.ReturnConst 1) ∷ []) ((at 3 5) ∷ (at 3 5) ∷ (at 3 5) ∷ (at 3 5) ∷ (at 3 5) ∷ (at 3 5) ∷ (at 4 9) ∷ (at 4 18) ∷ (at 4 18) ∷ (at 4 18) ∷ (at 4 18) ∷ (at 4 18) ∷ (at 4 18) ∷ (at 5 22) ∷ (at 5 22) ∷ (at 5 22) ∷ (at 5 22) ∷ (at 5 22) ∷ []) ((codes "__name__") ∷ (codes "__module__") ∷ (codes "__qualname__") ∷ (codes "__doc__") ∷ (codes "B") ∷ (codes "g") ∷ []) [] [] [] ((const.str (codes "A")) ∷ const.none ∷ (const.code (sealed_as 1 None 0 0 0 0 4 (codes "B") ((unit op.LoadGlobal 0) ∷ (unit op.StoreLocal 1) ∷ (unit op.LoadConst 0) ∷ (unit op.StoreLocal 2) ∷ (unit op.LoadConst 1) ∷ (unit op.StoreLocal 3) ∷ (unit op.ReturnConst 1) ∷ []) ((at 4 9) ∷ (at 4 9) ∷ (at 4 9) ∷ (at 4 9) ∷ (at 4 9) ∷ (at 4 9) ∷ (at 4 18) ∷ []) ((codes "__name__") ∷ (codes "__module__") ∷ (codes "__qualname__") ∷ (codes "__doc__") ∷ []) [] [] [] ((const.str (codes "A.B")) ∷ const.none ∷ []))) ∷ (const.str (codes "B")) ∷ (const.code (sealed_as 0 None 33 0 1 0 5 (codes "g") ((unit op.ReturnConst 0) ∷ []) ((at 5 22) ∷ []) [] ((codes "self") ∷ []) [] [] (const.none ∷ []))) ∷ (const.str (codes "A.g")) ∷ []))) ∷ (const.str (codes "A")) ∷ (const.code (sealed_as 0 None 33 0 0 0 6 (codes "g") ((unit op.ReturnConst 0) ∷ []) ((at 6 14) ∷ []) [] [] [] [] (const.none ∷ []))) ∷ (const.str (codes "f.<locals>.g")) ∷ []))) ∷ (const.str (codes "f")) ∷ const.none ∷ []))
 
 begins_anew_emitted : object_emitted begins_anew_scopes begins_anew 0 ≡ Some (begins_anew_object, length begins_anew_scopes)
-unfolding with_step with_block with_name with_varname with_constant with_loops located refuse emit jump begin new_block emit_count emit_name emit_varname emit_mangled add_varname add_constant emit_constant move generating pass_over by_context by_level by_loops in_loop accessed inside with_path within_class child lambda_value emission_of_def emission_of_class load_cell sealed as_element called_at_once
+unfolding with_step with_block with_name with_varname with_constant with_loops located refuse emit jump one_block two_blocks three_blocks put emit_count emit_name emit_varname emit_mangled add_varname add_constant emit_constant move generating pass_over by_context by_level by_loops in_loop accessed inside with_path within_class child lambda_value emission_of_def emission_of_class load_cell sealed as_element called_at_once
 begins_anew_emitted = refl
 
 begins_anew_forms : codes_of_object 9 begins_anew_object ≡ codes_of_scope 9 (body begins_anew_scopes begins_anew Exec 0)
@@ -301,7 +302,7 @@ abbrev private_names_object : Object
 private_names_object = (sealed_as 3 None 1 0 0 0 1 (codes "<module>") ((unit op.LoadBuildClass 0) ∷ (unit op.LoadConst 0) ∷ (unit op.LoadConst 1) ∷ (unit op.MakeFunction 0) ∷ (unit op.LoadConst 1) ∷ (unit op.CallFunctionPositional 2) ∷ (unit op.StoreLocal 0) ∷ (unit op.ReturnConst 2) ∷ []) ((at 1 1) ∷ (at 7 32) ∷ (at 7 32) ∷ (at 7 32) ∷ (at 7 32) ∷ (at 7 32) ∷ (at 7 32) ∷ (at 7 32) ∷ []) ((codes "_A") ∷ []) [] [] [] ((const.code (sealed_as 3 None 0 0 0 0 1 (codes "_A") ((unit op.LoadGlobal 0) ∷ (unit op.StoreLocal 1) ∷ (unit op.LoadConst 0) ∷ (unit op.StoreLocal 2) ∷ (unit op.LoadConst 1) ∷ (unit op.StoreLocal 3) ∷ (unit op.LoadConst 2) ∷ (unit op.LoadConst 1) ∷ (unit op.ImportName 4) ∷ (unit op.StoreLocal 4) ∷ (unit op.LoadConst 3) ∷ (unit op.LoadConst 4) ∷ (unit op.BuildMap 1) ∷ (unit op.LoadConst 5) ∷ (unit op.LoadConst 6) ∷ (unit op.MakeFunction 4) ∷ (unit op.StoreLocal 5) ∷ (unit op.ReturnConst 1) ∷ []) ((at 1 1) ∷ (at 1 1) ∷ (at 1 1) ∷ (at 1 1) ∷ (at 1 1) ∷ (at 1 1) ∷ (at 2 5) ∷ (at 2 5) ∷ (at 2 5) ∷ (at 2 5) ∷ (at 3 5) ∷ (at 3 34) ∷ (at 3 34) ∷ (at 7 32) ∷ (at 7 32) ∷ (at 7 32) ∷ (at 7 32) ∷ (at 7 32) ∷ []) ((codes "__name__") ∷ (codes "__module__") ∷ (codes "__qualname__") ∷ (codes "__doc__") ∷ (codes "_A__b") ∷ (codes "_A__f") ∷ []) [] [] [] ((const.str (codes "_A")) ∷ const.none ∷ (const.integer (pos 0)) ∷ (const.str (codes "__z")) ∷ (const.integer (pos 1)) ∷ (const.code (sealed_as 3 (Some ((pos 2) ∷ [])) 41 0 2 1 3 (codes "__f") ((unit op.LoadFast 1) ∷ (unit op.LoadAttr 0) ∷ (unit op.LoadAttr 1) ∷ (unit op.LoadFast 0) ∷ (unit op.StoreAttr 2) ∷ (unit op.LoadFast 0) ∷ (unit op.DeleteAttr 3) ∷ (unit op.LoadFast 1) ∷ (unit op.LoadFast 3) ∷ (unit op.LoadConst 1) ∷ (unit op.CallFunctionKeyword 1) ∷ (unit op.Pop 0) ∷ (unit op.LoadClosure 0) ∷ (unit op.BuildTuple 1) ∷ (unit op.LoadConst 2) ∷ (unit op.LoadConst 3) ∷ (unit op.MakeFunction 1) ∷ (unit op.ReturnValue 0) ∷ []) ((at 4 20) ∷ (at 4 20) ∷ (at 4 20) ∷ (at 4 9) ∷ (at 4 9) ∷ (at 5 13) ∷ (at 5 13) ∷ (at 6 9) ∷ (at 6 17) ∷ (at 6 17) ∷ (at 6 17) ∷ (at 6 17) ∷ (at 7 32) ∷ (at 7 32) ∷ (at 7 32) ∷ (at 7 32) ∷ (at 7 32) ∷ (at 7 32) ∷ []) ((codes "_A__y") ∷ (codes "__z__") ∷ (codes "_A__x") ∷ (codes "_A__c") ∷ []) ((codes "self") ∷ (codes "_A__x") ∷ (codes "_A__z") ∷ (codes "_A__y") ∷ []) ((codes "_A__z") ∷ []) [] (const.none ∷ (const.tuple (const.more_consts (const.str (codes "__k")) const.no_consts)) ∷ (const.code (sealed_as 2 None 33 0 1 0 7 (codes "<lambda>") ((unit op.LoadFast 0) ∷ (unit op.LoadDeref 0) ∷ (unit op.Subscript 0) ∷ (unit op.ReturnValue 0) ∷ []) ((at 7 28) ∷ (at 7 32) ∷ (at 7 32) ∷ (at 7 32) ∷ []) [] ((codes "_A__w") ∷ []) [] ((codes "_A__z") ∷ []) (const.none ∷ []))) ∷ (const.str (codes "<lambda>")) ∷ []))) ∷ (const.str (codes "_A.__f")) ∷ []))) ∷ (const.str (codes "_A")) ∷ const.none ∷ []))
 
 private_names_emitted : object_emitted private_names_scopes private_names 0 ≡ Some (private_names_object, length private_names_scopes)
-unfolding with_step with_block with_name with_varname with_constant with_loops located refuse emit jump begin new_block emit_count emit_name emit_varname emit_mangled add_varname add_constant emit_constant move generating pass_over by_context by_level by_loops in_loop accessed inside with_path within_class child lambda_value emission_of_def emission_of_class load_cell sealed as_element called_at_once
+unfolding with_step with_block with_name with_varname with_constant with_loops located refuse emit jump one_block two_blocks three_blocks put emit_count emit_name emit_varname emit_mangled add_varname add_constant emit_constant move generating pass_over by_context by_level by_loops in_loop accessed inside with_path within_class child lambda_value emission_of_def emission_of_class load_cell sealed as_element called_at_once
 private_names_emitted = refl
 
 private_names_forms : codes_of_object 9 private_names_object ≡ codes_of_scope 9 (body private_names_scopes private_names Exec 0)
@@ -327,7 +328,7 @@ abbrev class_cell_object : Object
 class_cell_object = (sealed_as 3 None 1 0 0 0 1 (codes "<module>") ((unit op.LoadBuildClass 0) ∷ (unit op.LoadConst 0) ∷ (unit op.LoadConst 1) ∷ (unit op.MakeFunction 0) ∷ (unit op.LoadConst 1) ∷ (unit op.CallFunctionPositional 2) ∷ (unit op.StoreLocal 0) ∷ (unit op.ReturnConst 2) ∷ []) ((at 1 1) ∷ (at 5 13) ∷ (at 5 13) ∷ (at 5 13) ∷ (at 5 13) ∷ (at 5 13) ∷ (at 5 13) ∷ (at 5 13) ∷ []) ((codes "A") ∷ []) [] [] [] ((const.code (sealed_as 3 None 0 0 0 0 1 (codes "A") ((unit op.LoadGlobal 0) ∷ (unit op.StoreLocal 1) ∷ (unit op.LoadConst 0) ∷ (unit op.StoreLocal 2) ∷ (unit op.LoadConst 1) ∷ (unit op.StoreLocal 3) ∷ (unit op.LoadClosure 0) ∷ (unit op.BuildTuple 1) ∷ (unit op.LoadConst 2) ∷ (unit op.LoadConst 3) ∷ (unit op.MakeFunction 1) ∷ (unit op.StoreLocal 4) ∷ (unit op.LoadBuildClass 0) ∷ (unit op.LoadConst 4) ∷ (unit op.LoadConst 5) ∷ (unit op.MakeFunction 0) ∷ (unit op.LoadConst 5) ∷ (unit op.CallFunctionPositional 2) ∷ (unit op.StoreLocal 5) ∷ (unit op.LoadClosure 0) ∷ (unit op.Duplicate 0) ∷ (unit op.StoreLocal 6) ∷ (unit op.ReturnValue 0) ∷ []) ((at 1 1) ∷ (at 1 1) ∷ (at 1 1) ∷ (at 1 1) ∷ (at 1 1) ∷ (at 1 1) ∷ (at 3 24) ∷ (at 3 24) ∷ (at 3 24) ∷ (at 3 24) ∷ (at 3 24) ∷ (at 3 24) ∷ (at 4 5) ∷ (at 5 13) ∷ (at 5 13) ∷ (at 5 13) ∷ (at 5 13) ∷ (at 5 13) ∷ (at 5 13) ∷ (at 5 13) ∷ (at 5 13) ∷ (at 5 13) ∷ (at 5 13) ∷ []) ((codes "__name__") ∷ (codes "__module__") ∷ (codes "__qualname__") ∷ (codes "__doc__") ∷ (codes "f") ∷ (codes "B") ∷ (codes "__classcell__") ∷ []) [] ((codes "__class__") ∷ []) [] ((const.str (codes "A")) ∷ const.none ∷ (const.code (sealed_as 3 None 33 0 1 0 2 (codes "f") ((unit op.LoadClosure 0) ∷ (unit op.BuildTuple 1) ∷ (unit op.LoadConst 1) ∷ (unit op.LoadConst 2) ∷ (unit op.MakeFunction 1) ∷ (unit op.ReturnValue 0) ∷ []) ((at 3 24) ∷ (at 3 24) ∷ (at 3 24) ∷ (at 3 24) ∷ (at 3 24) ∷ (at 3 24) ∷ []) [] ((codes "self") ∷ []) [] ((codes "__class__") ∷ []) (const.none ∷ (const.code (sealed_as 1 None 33 0 0 0 3 (codes "<lambda>") ((unit op.LoadDeref 0) ∷ (unit op.ReturnValue 0) ∷ []) ((at 3 24) ∷ (at 3 24) ∷ []) [] [] [] ((codes "__class__") ∷ []) (const.none ∷ []))) ∷ (const.str (codes "<lambda>")) ∷ []))) ∷ (const.str (codes "A.f")) ∷ (const.code (sealed_as 1 None 0 0 0 0 4 (codes "B") ((unit op.LoadGlobal 0) ∷ (unit op.StoreLocal 1) ∷ (unit op.LoadConst 0) ∷ (unit op.StoreLocal 2) ∷ (unit op.LoadConst 1) ∷ (unit op.StoreLocal 3) ∷ (unit op.LoadNameAny 4) ∷ (unit op.StoreLocal 5) ∷ (unit op.ReturnConst 1) ∷ []) ((at 4 5) ∷ (at 4 5) ∷ (at 4 5) ∷ (at 4 5) ∷ (at 4 5) ∷ (at 4 5) ∷ (at 5 13) ∷ (at 5 13) ∷ (at 5 13) ∷ []) ((codes "__name__") ∷ (codes "__module__") ∷ (codes "__qualname__") ∷ (codes "__doc__") ∷ (codes "__class__") ∷ (codes "x") ∷ []) [] [] [] ((const.str (codes "A.B")) ∷ const.none ∷ []))) ∷ (const.str (codes "B")) ∷ []))) ∷ (const.str (codes "A")) ∷ const.none ∷ []))
 
 class_cell_emitted : object_emitted class_cell_scopes class_cell 0 ≡ Some (class_cell_object, length class_cell_scopes)
-unfolding with_step with_block with_name with_varname with_constant with_loops located refuse emit jump begin new_block emit_count emit_name emit_varname emit_mangled add_varname add_constant emit_constant move generating pass_over by_context by_level by_loops in_loop accessed inside with_path within_class child lambda_value emission_of_def emission_of_class load_cell sealed as_element called_at_once
+unfolding with_step with_block with_name with_varname with_constant with_loops located refuse emit jump one_block two_blocks three_blocks put emit_count emit_name emit_varname emit_mangled add_varname add_constant emit_constant move generating pass_over by_context by_level by_loops in_loop accessed inside with_path within_class child lambda_value emission_of_def emission_of_class load_cell sealed as_element called_at_once
 class_cell_emitted = refl
 
 class_cell_forms : codes_of_object 9 class_cell_object ≡ codes_of_scope 9 (body class_cell_scopes class_cell Exec 0)
@@ -351,7 +352,7 @@ abbrev returning_scopes : List ScopeEntry
 returning_scopes = ((entry kinds.Module ((symbol (codes "f") symbols.Local 2) ∷ []) 5) ∷ (entry kinds.Function ((symbol (codes "A") symbols.Local 2) ∷ (symbol (codes "x") symbols.GlobalImplicit 1) ∷ (symbol (codes "B") symbols.Local 2) ∷ []) 5) ∷ (entry kinds.Class ((symbol (codes "__module__") symbols.Local 2) ∷ (symbol (codes "__qualname__") symbols.Local 2) ∷ (symbol (codes "__doc__") symbols.Local 2) ∷ (symbol (codes "__class__") symbols.Local 2) ∷ (symbol (codes "x") symbols.GlobalImplicit 1) ∷ []) 3) ∷ (entry kinds.Function [] 4) ∷ (entry kinds.Class ((symbol (codes "__module__") symbols.Local 2) ∷ (symbol (codes "__qualname__") symbols.Local 2) ∷ (symbol (codes "__doc__") symbols.Local 2) ∷ (symbol (codes "__class__") symbols.Local 2) ∷ []) 5) ∷ [])
 
 returning_refused : emitted returning Exec (outermost 0 (codes "m.py") returning_scopes) ≡ Refused error.InvalidReturn (Some (at 3 9))
-unfolding with_step with_block with_name with_varname with_constant with_loops located refuse emit jump begin new_block emit_count emit_name emit_varname emit_mangled add_varname add_constant emit_constant move generating pass_over by_context by_level by_loops in_loop accessed inside with_path within_class child lambda_value emission_of_def emission_of_class load_cell sealed as_element called_at_once
+unfolding with_step with_block with_name with_varname with_constant with_loops located refuse emit jump one_block two_blocks three_blocks put emit_count emit_name emit_varname emit_mangled add_varname add_constant emit_constant move generating pass_over by_context by_level by_loops in_loop accessed inside with_path within_class child lambda_value emission_of_def emission_of_class load_cell sealed as_element called_at_once
 returning_refused = refl
 
 returning_faults : told (compile_faults Exec 0 returning) ≡ (((codes "'return' outside function"), Some (at 3 9)) ∷ ((codes "'yield' outside function"), Some (at 4 9)) ∷ ((codes "'break' outside loop"), Some (at 6 18)) ∷ [])
@@ -368,7 +369,7 @@ abbrev keyword_debug_scopes : List ScopeEntry
 keyword_debug_scopes = ((entry kinds.Module ((symbol (codes "d") symbols.Unknown 1) ∷ (symbol (codes "x") symbols.Unknown 1) ∷ (symbol (codes "B") symbols.Unknown 1) ∷ (symbol (codes "f") symbols.Unknown 1) ∷ (symbol (codes "c") symbols.Unknown 1) ∷ (symbol (codes "A") symbols.Local 2) ∷ []) 2) ∷ (entry kinds.Class ((symbol (codes "__module__") symbols.Local 2) ∷ (symbol (codes "__qualname__") symbols.Local 2) ∷ (symbol (codes "__doc__") symbols.Local 2) ∷ (symbol (codes "__class__") symbols.Local 2) ∷ []) 2) ∷ [])
 
 keyword_debug_refused : emitted keyword_debug Exec (outermost 0 (codes "m.py") keyword_debug_scopes) ≡ Refused error.InvalidContinue (Some (at 3 5))
-unfolding with_step with_block with_name with_varname with_constant with_loops located refuse emit jump begin new_block emit_count emit_name emit_varname emit_mangled add_varname add_constant emit_constant move generating pass_over by_context by_level by_loops in_loop accessed inside with_path within_class child lambda_value emission_of_def emission_of_class load_cell sealed as_element called_at_once
+unfolding with_step with_block with_name with_varname with_constant with_loops located refuse emit jump one_block two_blocks three_blocks put emit_count emit_name emit_varname emit_mangled add_varname add_constant emit_constant move generating pass_over by_context by_level by_loops in_loop accessed inside with_path within_class child lambda_value emission_of_def emission_of_class load_cell sealed as_element called_at_once
 keyword_debug_refused = refl
 
 keyword_debug_faults : told (compile_faults Exec 0 keyword_debug) ≡ (((codes "'continue' outside loop"), Some (at 3 5)) ∷ ((codes "cannot assign to __debug__"), Some (at 2 16)) ∷ ((codes "cannot assign to __debug__"), Some (at 2 35)) ∷ [])
@@ -386,7 +387,7 @@ abbrev named_debug_scopes : List ScopeEntry
 named_debug_scopes = ((entry kinds.Module ((symbol (codes "B") symbols.Unknown 1) ∷ (symbol (codes "c") symbols.Unknown 1) ∷ (symbol (codes "__debug__") symbols.Local 2) ∷ []) 3) ∷ (entry kinds.Class ((symbol (codes "__module__") symbols.Local 2) ∷ (symbol (codes "__qualname__") symbols.Local 2) ∷ (symbol (codes "__doc__") symbols.Local 2) ∷ (symbol (codes "__class__") symbols.Local 2) ∷ (symbol (codes "__debug__") symbols.Local 2) ∷ (symbol (codes "x") symbols.GlobalImplicit 1) ∷ []) 3) ∷ (entry kinds.Function [] 3) ∷ [])
 
 named_debug_refused : emitted named_debug Exec (outermost 0 (codes "m.py") named_debug_scopes) ≡ Refused (error.SyntaxError (codes "cannot assign to __debug__")) (Some (at 3 22))
-unfolding with_step with_block with_name with_varname with_constant with_loops located refuse emit jump begin new_block emit_count emit_name emit_varname emit_mangled add_varname add_constant emit_constant move generating pass_over by_context by_level by_loops in_loop accessed inside with_path within_class child lambda_value emission_of_def emission_of_class load_cell sealed as_element called_at_once
+unfolding with_step with_block with_name with_varname with_constant with_loops located refuse emit jump one_block two_blocks three_blocks put emit_count emit_name emit_varname emit_mangled add_varname add_constant emit_constant move generating pass_over by_context by_level by_loops in_loop accessed inside with_path within_class child lambda_value emission_of_def emission_of_class load_cell sealed as_element called_at_once
 named_debug_refused = refl
 
 named_debug_faults : told (compile_faults Exec 0 named_debug) ≡ (((codes "cannot assign to __debug__"), Some (at 3 22)) ∷ ((codes "cannot assign to __debug__"), Some (at 2 11)) ∷ [])

@@ -17,7 +17,8 @@ use Rattle.py_emission_parts.specs.Accesses.{accessed}
 use Rattle.py_emission_parts.specs.Children.{child, load_cell}
 use Rattle.py_emission_parts.specs.Comprehensions.{as_element, called_at_once}
 use Rattle.py_emission_parts.specs.Context.{inside, outermost, with_path}
-use Rattle.py_emission_parts.specs.Emitting.{Refused, with_step, with_block, with_name, with_varname, with_constant, with_loops, located, refuse, emit, jump, begin, new_block, emit_count, emit_name, emit_varname, emit_mangled, add_varname, add_constant, emit_constant, move, generating, pass_over, by_context, by_level, by_loops, in_loop}
+use Rattle.py_emission_parts.specs.Emitting.{Refused, with_step, with_block, with_name, with_varname, with_constant, with_loops, located, refuse, emit, jump, emit_count, emit_name, emit_varname, emit_mangled, add_varname, add_constant, emit_constant, move, generating, pass_over, by_context, by_level, by_loops, in_loop, one_block, two_blocks, three_blocks}
+use Rattle.py_emission_parts.specs.Running.{put}
 use Rattle.py_emission_parts.specs.Sealed.{sealed}
 use Rattle.py_emission.specs.Emission.{lambda_value}
 use Rattle.py_emission.specs.EmissionDefs.{emission_of_def}
@@ -41,7 +42,7 @@ abbrev displays_object : Object
 displays_object = (sealed_as 2 None 1 0 0 0 1 (codes "<module>") ((unit op.LoadConst 0) ∷ (unit op.LoadConst 1) ∷ (unit op.MakeFunction 0) ∷ (unit op.LoadNameAny 0) ∷ (unit op.GetIter 0) ∷ (unit op.CallFunctionPositional 1) ∷ (unit op.StoreLocal 1) ∷ (unit op.LoadConst 2) ∷ (unit op.LoadConst 3) ∷ (unit op.MakeFunction 0) ∷ (unit op.LoadNameAny 0) ∷ (unit op.GetIter 0) ∷ (unit op.CallFunctionPositional 1) ∷ (unit op.StoreLocal 2) ∷ (unit op.LoadConst 4) ∷ (unit op.LoadConst 5) ∷ (unit op.MakeFunction 0) ∷ (unit op.LoadNameAny 3) ∷ (unit op.GetIter 0) ∷ (unit op.CallFunctionPositional 1) ∷ (unit op.StoreLocal 4) ∷ (unit op.ReturnConst 6) ∷ []) ((at 1 10) ∷ (at 1 10) ∷ (at 1 10) ∷ (at 1 21) ∷ (at 1 21) ∷ (at 1 21) ∷ (at 1 21) ∷ (at 2 6) ∷ (at 2 6) ∷ (at 2 6) ∷ (at 2 21) ∷ (at 2 21) ∷ (at 2 21) ∷ (at 2 21) ∷ (at 3 9) ∷ (at 3 9) ∷ (at 3 9) ∷ (at 3 29) ∷ (at 3 29) ∷ (at 3 29) ∷ (at 3 29) ∷ (at 3 29) ∷ []) ((codes "b") ∷ (codes "x") ∷ (codes "y") ∷ (codes "d") ∷ (codes "z") ∷ []) [] [] [] ((const.code (sealed_as 4 None 33 1 1 0 1 (codes "<listcomp>") ((unit op.BuildList 0) ∷ (unit op.LoadFast 0) ∷ (unit op.ForIter 9) ∷ (unit op.StoreFast 1) ∷ (unit op.LoadFast 1) ∷ (unit op.LoadConst 0) ∷ (unit op.BinaryOperation 0) ∷ (unit op.ListAppend 1) ∷ (unit op.Jump 2) ∷ (unit op.ReturnValue 0) ∷ []) ((at 1 5) ∷ (at 1 5) ∷ (at 1 5) ∷ (at 1 5) ∷ (at 1 6) ∷ (at 1 10) ∷ (at 1 10) ∷ (at 1 10) ∷ (at 1 10) ∷ (at 1 10) ∷ []) [] ((codes ".0") ∷ (codes "a") ∷ []) [] [] ((const.integer (pos 1)) ∷ []))) ∷ (const.str (codes "<listcomp>")) ∷ (const.code (sealed_as 4 None 33 1 1 0 2 (codes "<setcomp>") ((unit op.BuildSet 0) ∷ (unit op.LoadFast 0) ∷ (unit op.ForIter 9) ∷ (unit op.UnpackEx 1) ∷ (unit op.StoreFast 1) ∷ (unit op.StoreFast 2) ∷ (unit op.LoadFast 1) ∷ (unit op.SetAdd 1) ∷ (unit op.Jump 2) ∷ (unit op.ReturnValue 0) ∷ []) ((at 2 5) ∷ (at 2 5) ∷ (at 2 5) ∷ (at 2 5) ∷ (at 2 5) ∷ (at 2 5) ∷ (at 2 6) ∷ (at 2 6) ∷ (at 2 6) ∷ (at 2 6) ∷ []) [] ((codes ".0") ∷ (codes "a") ∷ (codes "c") ∷ []) [] [] [])) ∷ (const.str (codes "<setcomp>")) ∷ (const.code (sealed_as 4 None 33 1 1 0 3 (codes "<dictcomp>") ((unit op.BuildMap 0) ∷ (unit op.LoadFast 0) ∷ (unit op.ForIter 12) ∷ (unit op.UnpackSequence 2) ∷ (unit op.StoreFast 1) ∷ (unit op.UnpackSequence 1) ∷ (unit op.StoreFast 2) ∷ (unit op.LoadFast 1) ∷ (unit op.LoadFast 2) ∷ (unit op.LoadAttr 0) ∷ (unit op.MapAdd 1) ∷ (unit op.Jump 2) ∷ (unit op.ReturnValue 0) ∷ []) ((at 3 5) ∷ (at 3 5) ∷ (at 3 5) ∷ (at 3 5) ∷ (at 3 5) ∷ (at 3 5) ∷ (at 3 5) ∷ (at 3 6) ∷ (at 3 9) ∷ (at 3 9) ∷ (at 3 9) ∷ (at 3 9) ∷ (at 3 9) ∷ []) ((codes "w") ∷ []) ((codes ".0") ∷ (codes "k") ∷ (codes "v") ∷ []) [] [] [])) ∷ (const.str (codes "<dictcomp>")) ∷ const.none ∷ []))
 
 displays_emitted : object_emitted displays_scopes displays 0 ≡ Some (displays_object, length displays_scopes)
-unfolding with_step with_block with_name with_varname with_constant with_loops located refuse emit jump begin new_block emit_count emit_name emit_varname emit_mangled add_varname add_constant emit_constant move generating pass_over by_context by_level by_loops in_loop accessed inside with_path child lambda_value emission_of_def load_cell sealed as_element called_at_once
+unfolding with_step with_block with_name with_varname with_constant with_loops located refuse emit jump one_block two_blocks three_blocks put emit_count emit_name emit_varname emit_mangled add_varname add_constant emit_constant move generating pass_over by_context by_level by_loops in_loop accessed inside with_path child lambda_value emission_of_def load_cell sealed as_element called_at_once
 displays_emitted = refl
 
 displays_forms : codes_of_object 9 displays_object ≡ codes_of_scope 9 (body displays_scopes displays Exec 0)
@@ -63,7 +64,7 @@ abbrev generator_object : Object
 generator_object = (sealed_as 3 None 1 0 0 0 1 (codes "<module>") ((unit op.LoadNameAny 0) ∷ (unit op.LoadConst 0) ∷ (unit op.LoadConst 1) ∷ (unit op.MakeFunction 0) ∷ (unit op.LoadNameAny 1) ∷ (unit op.LoadAttr 2) ∷ (unit op.GetIter 0) ∷ (unit op.CallFunctionPositional 1) ∷ (unit op.CallFunctionPositional 1) ∷ (unit op.StoreLocal 3) ∷ (unit op.ReturnConst 2) ∷ []) ((at 1 5) ∷ (at 1 7) ∷ (at 1 7) ∷ (at 1 7) ∷ (at 1 18) ∷ (at 1 18) ∷ (at 1 18) ∷ (at 1 18) ∷ (at 1 18) ∷ (at 1 18) ∷ (at 1 18) ∷ []) ((codes "f") ∷ (codes "b") ∷ (codes "c") ∷ (codes "x") ∷ []) [] [] [] ((const.code (sealed_as 2 None 35 1 1 0 1 (codes "<genexpr>") ((unit op.LoadFast 0) ∷ (unit op.ForIter 9) ∷ (unit op.StoreFast 1) ∷ (unit op.LoadFast 1) ∷ (unit op.JumpIfFalse 1) ∷ (unit op.LoadFast 1) ∷ (unit op.YieldValue 0) ∷ (unit op.Pop 0) ∷ (unit op.Jump 1) ∷ (unit op.ReturnConst 0) ∷ []) ((at 1 6) ∷ (at 1 6) ∷ (at 1 6) ∷ (at 1 25) ∷ (at 1 25) ∷ (at 1 7) ∷ (at 1 7) ∷ (at 1 7) ∷ (at 1 7) ∷ (at 1 7) ∷ []) [] ((codes ".0") ∷ (codes "a") ∷ []) [] [] (const.none ∷ []))) ∷ (const.str (codes "<genexpr>")) ∷ const.none ∷ []))
 
 generator_emitted : object_emitted generator_scopes generator 0 ≡ Some (generator_object, length generator_scopes)
-unfolding with_step with_block with_name with_varname with_constant with_loops located refuse emit jump begin new_block emit_count emit_name emit_varname emit_mangled add_varname add_constant emit_constant move generating pass_over by_context by_level by_loops in_loop accessed inside with_path child lambda_value emission_of_def load_cell sealed as_element called_at_once
+unfolding with_step with_block with_name with_varname with_constant with_loops located refuse emit jump one_block two_blocks three_blocks put emit_count emit_name emit_varname emit_mangled add_varname add_constant emit_constant move generating pass_over by_context by_level by_loops in_loop accessed inside with_path child lambda_value emission_of_def load_cell sealed as_element called_at_once
 generator_emitted = refl
 
 generator_forms : codes_of_object 9 generator_object ≡ codes_of_scope 9 (body generator_scopes generator Exec 0)
@@ -85,7 +86,7 @@ abbrev two_clauses_object : Object
 two_clauses_object = (sealed_as 2 None 1 0 0 0 1 (codes "<module>") ((unit op.LoadConst 0) ∷ (unit op.LoadConst 1) ∷ (unit op.MakeFunction 0) ∷ (unit op.LoadNameAny 0) ∷ (unit op.GetIter 0) ∷ (unit op.CallFunctionPositional 1) ∷ (unit op.Pop 0) ∷ (unit op.ReturnConst 2) ∷ []) ((at 1 6) ∷ (at 1 6) ∷ (at 1 6) ∷ (at 1 17) ∷ (at 1 17) ∷ (at 1 17) ∷ (at 1 17) ∷ (at 1 17) ∷ []) ((codes "b") ∷ []) [] [] [] ((const.code (sealed_as 5 None 33 1 1 0 1 (codes "<listcomp>") ((unit op.BuildList 0) ∷ (unit op.LoadFast 0) ∷ (unit op.ForIter 27) ∷ (unit op.StoreFast 1) ∷ (unit op.LoadFast 1) ∷ (unit op.JumpIfFalse 2) ∷ (unit op.LoadFast 1) ∷ (unit op.LoadAttr 0) ∷ (unit op.JumpIfTrue 2) ∷ (unit op.LoadFast 1) ∷ (unit op.LoadConst 0) ∷ (unit op.Subscript 0) ∷ (unit op.GetIter 0) ∷ (unit op.ForIter 26) ∷ (unit op.StoreFast 2) ∷ (unit op.LoadFast 2) ∷ (unit op.JumpIfFalse 13) ∷ (unit op.LoadFast 1) ∷ (unit op.JumpIfTrue 21) ∷ (unit op.LoadGlobal 0) ∷ (unit op.JumpIfFalse 13) ∷ (unit op.LoadFast 1) ∷ (unit op.LoadFast 2) ∷ (unit op.BinaryOperation 0) ∷ (unit op.ListAppend 2) ∷ (unit op.Jump 13) ∷ (unit op.Jump 2) ∷ (unit op.ReturnValue 0) ∷ []) ((at 1 1) ∷ (at 1 1) ∷ (at 1 1) ∷ (at 1 1) ∷ (at 1 22) ∷ (at 1 22) ∷ (at 1 31) ∷ (at 1 31) ∷ (at 1 31) ∷ (at 1 44) ∷ (at 1 46) ∷ (at 1 46) ∷ (at 1 46) ∷ (at 1 46) ∷ (at 1 46) ∷ (at 1 52) ∷ (at 1 52) ∷ (at 1 59) ∷ (at 1 59) ∷ (at 1 64) ∷ (at 1 64) ∷ (at 1 2) ∷ (at 1 6) ∷ (at 1 6) ∷ (at 1 6) ∷ (at 1 6) ∷ (at 1 6) ∷ (at 1 6) ∷ []) ((codes "d") ∷ []) ((codes ".0") ∷ (codes "a") ∷ (codes "c") ∷ []) [] [] ((const.integer (pos 0)) ∷ []))) ∷ (const.str (codes "<listcomp>")) ∷ const.none ∷ []))
 
 two_clauses_emitted : object_emitted two_clauses_scopes two_clauses 0 ≡ Some (two_clauses_object, length two_clauses_scopes)
-unfolding with_step with_block with_name with_varname with_constant with_loops located refuse emit jump begin new_block emit_count emit_name emit_varname emit_mangled add_varname add_constant emit_constant move generating pass_over by_context by_level by_loops in_loop accessed inside with_path child lambda_value emission_of_def load_cell sealed as_element called_at_once
+unfolding with_step with_block with_name with_varname with_constant with_loops located refuse emit jump one_block two_blocks three_blocks put emit_count emit_name emit_varname emit_mangled add_varname add_constant emit_constant move generating pass_over by_context by_level by_loops in_loop accessed inside with_path child lambda_value emission_of_def load_cell sealed as_element called_at_once
 two_clauses_emitted = refl
 
 two_clauses_forms : codes_of_object 9 two_clauses_object ≡ codes_of_scope 9 (body two_clauses_scopes two_clauses Exec 0)
@@ -107,7 +108,7 @@ abbrev walrus_within_object : Object
 walrus_within_object = (sealed_as 2 None 1 0 0 0 1 (codes "<module>") ((unit op.LoadConst 0) ∷ (unit op.LoadConst 1) ∷ (unit op.MakeFunction 0) ∷ (unit op.StoreLocal 0) ∷ (unit op.ReturnConst 2) ∷ []) ((at 1 34) ∷ (at 1 34) ∷ (at 1 34) ∷ (at 1 34) ∷ (at 1 34) ∷ []) ((codes "f") ∷ []) [] [] [] ((const.code (sealed_as 3 None 33 0 0 0 1 (codes "f") ((unit op.LoadClosure 0) ∷ (unit op.BuildTuple 1) ∷ (unit op.LoadConst 1) ∷ (unit op.LoadConst 2) ∷ (unit op.MakeFunction 1) ∷ (unit op.LoadGlobal 0) ∷ (unit op.GetIter 0) ∷ (unit op.CallFunctionPositional 1) ∷ (unit op.ReturnValue 0) ∷ []) ((at 1 23) ∷ (at 1 23) ∷ (at 1 23) ∷ (at 1 23) ∷ (at 1 23) ∷ (at 1 34) ∷ (at 1 34) ∷ (at 1 34) ∷ (at 1 34) ∷ []) ((codes "z") ∷ []) [] ((codes "y") ∷ []) [] (const.none ∷ (const.code (sealed_as 4 None 33 1 1 0 1 (codes "<listcomp>") ((unit op.BuildList 0) ∷ (unit op.LoadFast 0) ∷ (unit op.ForIter 9) ∷ (unit op.StoreFast 1) ∷ (unit op.LoadFast 1) ∷ (unit op.Duplicate 0) ∷ (unit op.StoreDeref 0) ∷ (unit op.ListAppend 1) ∷ (unit op.Jump 2) ∷ (unit op.ReturnValue 0) ∷ []) ((at 1 17) ∷ (at 1 17) ∷ (at 1 17) ∷ (at 1 17) ∷ (at 1 23) ∷ (at 1 23) ∷ (at 1 23) ∷ (at 1 23) ∷ (at 1 23) ∷ (at 1 23) ∷ []) [] ((codes ".0") ∷ (codes "v") ∷ []) [] ((codes "y") ∷ []) [])) ∷ (const.str (codes "<listcomp>")) ∷ []))) ∷ (const.str (codes "f")) ∷ const.none ∷ []))
 
 walrus_within_emitted : object_emitted walrus_within_scopes walrus_within 0 ≡ Some (walrus_within_object, length walrus_within_scopes)
-unfolding with_step with_block with_name with_varname with_constant with_loops located refuse emit jump begin new_block emit_count emit_name emit_varname emit_mangled add_varname add_constant emit_constant move generating pass_over by_context by_level by_loops in_loop accessed inside with_path child lambda_value emission_of_def load_cell sealed as_element called_at_once
+unfolding with_step with_block with_name with_varname with_constant with_loops located refuse emit jump one_block two_blocks three_blocks put emit_count emit_name emit_varname emit_mangled add_varname add_constant emit_constant move generating pass_over by_context by_level by_loops in_loop accessed inside with_path child lambda_value emission_of_def load_cell sealed as_element called_at_once
 walrus_within_emitted = refl
 
 walrus_within_forms : codes_of_object 9 walrus_within_object ≡ codes_of_scope 9 (body walrus_within_scopes walrus_within Exec 0)
@@ -129,7 +130,7 @@ abbrev walrus_of_module_object : Object
 walrus_of_module_object = (sealed_as 2 None 1 0 0 0 1 (codes "<module>") ((unit op.LoadConst 0) ∷ (unit op.LoadConst 1) ∷ (unit op.MakeFunction 0) ∷ (unit op.LoadNameAny 0) ∷ (unit op.GetIter 0) ∷ (unit op.CallFunctionPositional 1) ∷ (unit op.Pop 0) ∷ (unit op.ReturnConst 2) ∷ []) ((at 1 11) ∷ (at 1 11) ∷ (at 1 11) ∷ (at 1 23) ∷ (at 1 23) ∷ (at 1 23) ∷ (at 1 23) ∷ (at 1 23) ∷ []) ((codes "z") ∷ []) [] [] [] ((const.code (sealed_as 4 None 33 1 1 0 1 (codes "<listcomp>") ((unit op.BuildList 0) ∷ (unit op.LoadFast 0) ∷ (unit op.ForIter 13) ∷ (unit op.StoreFast 1) ∷ (unit op.LoadFast 1) ∷ (unit op.Duplicate 0) ∷ (unit op.StoreGlobal 0) ∷ (unit op.JumpIfFalse 2) ∷ (unit op.LoadConst 0) ∷ (unit op.LoadConst 1) ∷ (unit op.MakeFunction 0) ∷ (unit op.ListAppend 1) ∷ (unit op.Jump 2) ∷ (unit op.ReturnValue 0) ∷ []) ((at 1 1) ∷ (at 1 1) ∷ (at 1 1) ∷ (at 1 1) ∷ (at 1 34) ∷ (at 1 34) ∷ (at 1 34) ∷ (at 1 34) ∷ (at 1 11) ∷ (at 1 11) ∷ (at 1 11) ∷ (at 1 11) ∷ (at 1 11) ∷ (at 1 11) ∷ []) ((codes "y") ∷ []) ((codes ".0") ∷ (codes "v") ∷ []) [] [] ((const.code (sealed_as 1 None 33 0 0 0 1 (codes "<lambda>") ((unit op.LoadGlobal 0) ∷ (unit op.ReturnValue 0) ∷ []) ((at 1 11) ∷ (at 1 11) ∷ []) ((codes "y") ∷ []) [] [] [] (const.none ∷ []))) ∷ (const.str (codes "<lambda>")) ∷ []))) ∷ (const.str (codes "<listcomp>")) ∷ const.none ∷ []))
 
 walrus_of_module_emitted : object_emitted walrus_of_module_scopes walrus_of_module 0 ≡ Some (walrus_of_module_object, length walrus_of_module_scopes)
-unfolding with_step with_block with_name with_varname with_constant with_loops located refuse emit jump begin new_block emit_count emit_name emit_varname emit_mangled add_varname add_constant emit_constant move generating pass_over by_context by_level by_loops in_loop accessed inside with_path child lambda_value emission_of_def load_cell sealed as_element called_at_once
+unfolding with_step with_block with_name with_varname with_constant with_loops located refuse emit jump one_block two_blocks three_blocks put emit_count emit_name emit_varname emit_mangled add_varname add_constant emit_constant move generating pass_over by_context by_level by_loops in_loop accessed inside with_path child lambda_value emission_of_def load_cell sealed as_element called_at_once
 walrus_of_module_emitted = refl
 
 walrus_of_module_forms : codes_of_object 9 walrus_of_module_object ≡ codes_of_scope 9 (body walrus_of_module_scopes walrus_of_module Exec 0)
@@ -151,7 +152,7 @@ abbrev stored_into_object : Object
 stored_into_object = (sealed_as 4 None 1 0 0 0 1 (codes "<module>") ((unit op.LoadConst 0) ∷ (unit op.LoadConst 1) ∷ (unit op.MakeFunction 0) ∷ (unit op.LoadNameAny 0) ∷ (unit op.GetIter 0) ∷ (unit op.CallFunctionPositional 1) ∷ (unit op.LoadNameAny 1) ∷ (unit op.LoadConst 2) ∷ (unit op.LoadConst 3) ∷ (unit op.MakeFunction 0) ∷ (unit op.CallFunctionPositional 0) ∷ (unit op.StoreSubscript 0) ∷ (unit op.ReturnConst 4) ∷ []) ((at 1 21) ∷ (at 1 21) ∷ (at 1 21) ∷ (at 1 32) ∷ (at 1 32) ∷ (at 1 32) ∷ (at 1 1) ∷ (at 1 12) ∷ (at 1 12) ∷ (at 1 12) ∷ (at 1 12) ∷ (at 1 12) ∷ (at 1 12) ∷ []) ((codes "y") ∷ (codes "d") ∷ []) [] [] [] ((const.code (sealed_as 3 None 33 1 1 0 1 (codes "<listcomp>") ((unit op.BuildList 0) ∷ (unit op.LoadFast 0) ∷ (unit op.ForIter 7) ∷ (unit op.StoreFast 1) ∷ (unit op.LoadFast 1) ∷ (unit op.ListAppend 1) ∷ (unit op.Jump 2) ∷ (unit op.ReturnValue 0) ∷ []) ((at 1 20) ∷ (at 1 20) ∷ (at 1 20) ∷ (at 1 20) ∷ (at 1 21) ∷ (at 1 21) ∷ (at 1 21) ∷ (at 1 21) ∷ []) [] ((codes ".0") ∷ (codes "x") ∷ []) [] [] [])) ∷ (const.str (codes "<listcomp>")) ∷ (const.code (sealed_as 1 None 33 0 0 0 1 (codes "<lambda>") ((unit op.LoadGlobal 0) ∷ (unit op.ReturnValue 0) ∷ []) ((at 1 12) ∷ (at 1 12) ∷ []) ((codes "k") ∷ []) [] [] [] (const.none ∷ []))) ∷ (const.str (codes "<lambda>")) ∷ const.none ∷ []))
 
 stored_into_emitted : object_emitted stored_into_scopes stored_into 0 ≡ Some (stored_into_object, length stored_into_scopes)
-unfolding with_step with_block with_name with_varname with_constant with_loops located refuse emit jump begin new_block emit_count emit_name emit_varname emit_mangled add_varname add_constant emit_constant move generating pass_over by_context by_level by_loops in_loop accessed inside with_path child lambda_value emission_of_def load_cell sealed as_element called_at_once
+unfolding with_step with_block with_name with_varname with_constant with_loops located refuse emit jump one_block two_blocks three_blocks put emit_count emit_name emit_varname emit_mangled add_varname add_constant emit_constant move generating pass_over by_context by_level by_loops in_loop accessed inside with_path child lambda_value emission_of_def load_cell sealed as_element called_at_once
 stored_into_emitted = refl
 
 stored_into_forms : codes_of_object 9 stored_into_object ≡ codes_of_scope 9 (body stored_into_scopes stored_into Exec 0)
@@ -174,7 +175,7 @@ abbrev nested_object : Object
 nested_object = (sealed_as 2 None 1 0 0 0 1 (codes "<module>") ((unit op.LoadConst 0) ∷ (unit op.LoadConst 1) ∷ (unit op.MakeFunction 0) ∷ (unit op.StoreLocal 0) ∷ (unit op.ReturnConst 2) ∷ []) ((at 2 58) ∷ (at 2 58) ∷ (at 2 58) ∷ (at 2 58) ∷ (at 2 58) ∷ []) ((codes "f") ∷ []) [] [] [] ((const.code (sealed_as 3 (Some ((pos 0) ∷ (pos 1) ∷ [])) 33 0 2 0 1 (codes "f") ((unit op.LoadClosure 0) ∷ (unit op.LoadClosure 1) ∷ (unit op.BuildTuple 2) ∷ (unit op.LoadConst 1) ∷ (unit op.LoadConst 2) ∷ (unit op.MakeFunction 1) ∷ (unit op.LoadConst 3) ∷ (unit op.LoadConst 4) ∷ (unit op.MakeFunction 0) ∷ (unit op.LoadDeref 0) ∷ (unit op.GetIter 0) ∷ (unit op.CallFunctionPositional 1) ∷ (unit op.GetIter 0) ∷ (unit op.CallFunctionPositional 1) ∷ (unit op.ReturnValue 0) ∷ []) ((at 2 29) ∷ (at 2 29) ∷ (at 2 29) ∷ (at 2 29) ∷ (at 2 29) ∷ (at 2 29) ∷ (at 2 47) ∷ (at 2 47) ∷ (at 2 47) ∷ (at 2 58) ∷ (at 2 58) ∷ (at 2 58) ∷ (at 2 58) ∷ (at 2 58) ∷ (at 2 58) ∷ []) [] ((codes "m") ∷ (codes "n") ∷ []) ((codes "m") ∷ (codes "n") ∷ []) [] (const.none ∷ (const.code (sealed_as 8 None 33 1 1 0 2 (codes "<listcomp>") ((unit op.BuildList 0) ∷ (unit op.LoadFast 0) ∷ (unit op.ForIter 46) ∷ (unit op.StoreDeref 0) ∷ (unit op.LoadClosure 0) ∷ (unit op.BuildTuple 1) ∷ (unit op.LoadConst 0) ∷ (unit op.LoadConst 1) ∷ (unit op.MakeFunction 1) ∷ (unit op.LoadDeref 0) ∷ (unit op.GetIter 0) ∷ (unit op.CallFunctionPositional 1) ∷ (unit op.GetIter 0) ∷ (unit op.ForIter 45) ∷ (unit op.LoadGlobal 0) ∷ (unit op.LoadClosure 2) ∷ (unit op.BuildTuple 1) ∷ (unit op.LoadConst 2) ∷ (unit op.LoadConst 1) ∷ (unit op.MakeFunction 1) ∷ (unit op.LoadDeref 0) ∷ (unit op.GetIter 0) ∷ (unit op.CallFunctionPositional 1) ∷ (unit op.LoadConst 3) ∷ (unit op.Subscript 0) ∷ (unit op.StoreSubscript 0) ∷ (unit op.LoadClosure 1) ∷ (unit op.BuildTuple 1) ∷ (unit op.LoadConst 4) ∷ (unit op.LoadConst 1) ∷ (unit op.MakeFunction 1) ∷ (unit op.LoadDeref 1) ∷ (unit op.GetIter 0) ∷ (unit op.CallFunctionPositional 1) ∷ (unit op.JumpIfFalse 13) ∷ (unit op.LoadClosure 2) ∷ (unit op.BuildTuple 1) ∷ (unit op.LoadConst 5) ∷ (unit op.LoadConst 6) ∷ (unit op.MakeFunction 1) ∷ (unit op.LoadDeref 0) ∷ (unit op.GetIter 0) ∷ (unit op.CallFunctionPositional 1) ∷ (unit op.ListAppend 2) ∷ (unit op.Jump 13) ∷ (unit op.Jump 2) ∷ (unit op.ReturnValue 0) ∷ []) ((at 2 12) ∷ (at 2 12) ∷ (at 2 12) ∷ (at 2 12) ∷ (at 2 90) ∷ (at 2 90) ∷ (at 2 90) ∷ (at 2 90) ∷ (at 2 90) ∷ (at 2 101) ∷ (at 2 101) ∷ (at 2 101) ∷ (at 2 101) ∷ (at 2 101) ∷ (at 2 65) ∷ (at 2 68) ∷ (at 2 68) ∷ (at 2 68) ∷ (at 2 68) ∷ (at 2 68) ∷ (at 2 79) ∷ (at 2 79) ∷ (at 2 79) ∷ (at 2 82) ∷ (at 2 82) ∷ (at 2 82) ∷ (at 2 108) ∷ (at 2 108) ∷ (at 2 108) ∷ (at 2 108) ∷ (at 2 108) ∷ (at 2 119) ∷ (at 2 119) ∷ (at 2 119) ∷ (at 2 119) ∷ (at 2 18) ∷ (at 2 18) ∷ (at 2 18) ∷ (at 2 18) ∷ (at 2 18) ∷ (at 2 29) ∷ (at 2 29) ∷ (at 2 29) ∷ (at 2 29) ∷ (at 2 29) ∷ (at 2 29) ∷ (at 2 29) ∷ []) ((codes "a") ∷ []) ((codes ".0") ∷ []) ((codes "r") ∷ []) ((codes "m") ∷ (codes "n") ∷ []) ((const.code (sealed_as 3 None 33 1 1 0 2 (codes "<listcomp>") ((unit op.BuildList 0) ∷ (unit op.LoadFast 0) ∷ (unit op.ForIter 7) ∷ (unit op.StoreFast 1) ∷ (unit op.LoadDeref 0) ∷ (unit op.ListAppend 1) ∷ (unit op.Jump 2) ∷ (unit op.ReturnValue 0) ∷ []) ((at 2 89) ∷ (at 2 89) ∷ (at 2 89) ∷ (at 2 89) ∷ (at 2 90) ∷ (at 2 90) ∷ (at 2 90) ∷ (at 2 90) ∷ []) [] ((codes ".0") ∷ (codes "m") ∷ []) [] ((codes "r") ∷ []) [])) ∷ (const.str (codes "<listcomp>")) ∷ (const.code (sealed_as 3 None 33 1 1 0 2 (codes "<listcomp>") ((unit op.BuildList 0) ∷ (unit op.LoadFast 0) ∷ (unit op.ForIter 7) ∷ (unit op.StoreFast 1) ∷ (unit op.LoadDeref 0) ∷ (unit op.ListAppend 1) ∷ (unit op.Jump 2) ∷ (unit op.ReturnValue 0) ∷ []) ((at 2 67) ∷ (at 2 67) ∷ (at 2 67) ∷ (at 2 67) ∷ (at 2 68) ∷ (at 2 68) ∷ (at 2 68) ∷ (at 2 68) ∷ []) [] ((codes ".0") ∷ (codes "i") ∷ []) [] ((codes "n") ∷ []) [])) ∷ (const.integer (pos 0)) ∷ (const.code (sealed_as 3 None 33 1 1 0 2 (codes "<listcomp>") ((unit op.BuildList 0) ∷ (unit op.LoadFast 0) ∷ (unit op.ForIter 7) ∷ (unit op.StoreFast 1) ∷ (unit op.LoadDeref 0) ∷ (unit op.ListAppend 1) ∷ (unit op.Jump 2) ∷ (unit op.ReturnValue 0) ∷ []) ((at 2 107) ∷ (at 2 107) ∷ (at 2 107) ∷ (at 2 107) ∷ (at 2 108) ∷ (at 2 108) ∷ (at 2 108) ∷ (at 2 108) ∷ []) [] ((codes ".0") ∷ (codes "j") ∷ []) [] ((codes "m") ∷ []) [])) ∷ (const.code (sealed_as 4 None 33 1 1 0 2 (codes "<setcomp>") ((unit op.BuildSet 0) ∷ (unit op.LoadFast 0) ∷ (unit op.ForIter 11) ∷ (unit op.StoreFast 1) ∷ (unit op.LoadDeref 0) ∷ (unit op.JumpIfFalse 2) ∷ (unit op.LoadFast 1) ∷ (unit op.LoadDeref 0) ∷ (unit op.BinaryOperation 2) ∷ (unit op.SetAdd 1) ∷ (unit op.Jump 2) ∷ (unit op.ReturnValue 0) ∷ []) ((at 2 13) ∷ (at 2 13) ∷ (at 2 13) ∷ (at 2 13) ∷ (at 2 34) ∷ (at 2 34) ∷ (at 2 14) ∷ (at 2 18) ∷ (at 2 18) ∷ (at 2 18) ∷ (at 2 18) ∷ (at 2 18) ∷ []) [] ((codes ".0") ∷ (codes "c") ∷ []) [] ((codes "n") ∷ []) [])) ∷ (const.str (codes "<setcomp>")) ∷ []))) ∷ (const.str (codes "<listcomp>")) ∷ (const.code (sealed_as 2 None 35 1 1 0 2 (codes "<genexpr>") ((unit op.LoadFast 0) ∷ (unit op.ForIter 7) ∷ (unit op.StoreFast 1) ∷ (unit op.LoadFast 1) ∷ (unit op.YieldValue 0) ∷ (unit op.Pop 0) ∷ (unit op.Jump 1) ∷ (unit op.ReturnConst 0) ∷ []) ((at 2 46) ∷ (at 2 46) ∷ (at 2 46) ∷ (at 2 47) ∷ (at 2 47) ∷ (at 2 47) ∷ (at 2 47) ∷ (at 2 47) ∷ []) [] ((codes ".0") ∷ (codes "q") ∷ []) [] [] (const.none ∷ []))) ∷ (const.str (codes "<genexpr>")) ∷ []))) ∷ (const.str (codes "f")) ∷ const.none ∷ []))
 
 nested_emitted : object_emitted nested_scopes nested 0 ≡ Some (nested_object, length nested_scopes)
-unfolding with_step with_block with_name with_varname with_constant with_loops located refuse emit jump begin new_block emit_count emit_name emit_varname emit_mangled add_varname add_constant emit_constant move generating pass_over by_context by_level by_loops in_loop accessed inside with_path child lambda_value emission_of_def load_cell sealed as_element called_at_once
+unfolding with_step with_block with_name with_varname with_constant with_loops located refuse emit jump one_block two_blocks three_blocks put emit_count emit_name emit_varname emit_mangled add_varname add_constant emit_constant move generating pass_over by_context by_level by_loops in_loop accessed inside with_path child lambda_value emission_of_def load_cell sealed as_element called_at_once
 nested_emitted = refl
 
 nested_forms : codes_of_object 9 nested_object ≡ codes_of_scope 9 (body nested_scopes nested Exec 0)
@@ -199,7 +200,7 @@ abbrev lifted_object : Object
 lifted_object = (sealed_as 2 None 1 0 0 0 1 (codes "<module>") ((unit op.LoadConst 0) ∷ (unit op.LoadConst 1) ∷ (unit op.MakeFunction 0) ∷ (unit op.StoreLocal 0) ∷ (unit op.ReturnConst 2) ∷ []) ((at 4 68) ∷ (at 4 68) ∷ (at 4 68) ∷ (at 4 68) ∷ (at 4 68) ∷ []) ((codes "f") ∷ []) [] [] [] ((const.code (sealed_as 3 (Some ((pos 0) ∷ (negsuc 0) ∷ [])) 33 0 1 0 1 (codes "f") ((unit op.LoadConst 1) ∷ (unit op.StoreDeref 1) ∷ (unit op.LoadClosure 0) ∷ (unit op.LoadClosure 1) ∷ (unit op.BuildTuple 2) ∷ (unit op.LoadConst 2) ∷ (unit op.LoadConst 3) ∷ (unit op.MakeFunction 1) ∷ (unit op.ReturnValue 0) ∷ []) ((at 3 9) ∷ (at 3 9) ∷ (at 4 68) ∷ (at 4 68) ∷ (at 4 68) ∷ (at 4 68) ∷ (at 4 68) ∷ (at 4 68) ∷ (at 4 68) ∷ []) [] ((codes "b") ∷ []) ((codes "b") ∷ (codes "h") ∷ []) [] (const.none ∷ (const.integer (pos 0)) ∷ (const.code (sealed_as 3 None 33 0 0 0 4 (codes "<lambda>") ((unit op.LoadClosure 1) ∷ (unit op.LoadClosure 0) ∷ (unit op.LoadClosure 3) ∷ (unit op.BuildTuple 3) ∷ (unit op.LoadConst 1) ∷ (unit op.LoadConst 2) ∷ (unit op.MakeFunction 1) ∷ (unit op.LoadDeref 2) ∷ (unit op.GetIter 0) ∷ (unit op.CallFunctionPositional 1) ∷ (unit op.LoadDeref 0) ∷ (unit op.BuildTuple 2) ∷ (unit op.ReturnValue 0) ∷ []) ((at 4 52) ∷ (at 4 52) ∷ (at 4 52) ∷ (at 4 52) ∷ (at 4 52) ∷ (at 4 52) ∷ (at 4 52) ∷ (at 4 64) ∷ (at 4 64) ∷ (at 4 64) ∷ (at 4 68) ∷ (at 4 68) ∷ (at 4 68) ∷ []) [] [] ((codes "k") ∷ (codes "g") ∷ []) ((codes "b") ∷ (codes "h") ∷ []) (const.none ∷ (const.code (sealed_as 5 None 33 1 1 0 4 (codes "<listcomp>") ((unit op.BuildList 0) ∷ (unit op.LoadFast 0) ∷ (unit op.ForIter 16) ∷ (unit op.StoreFast 1) ∷ (unit op.LoadClosure 0) ∷ (unit op.LoadClosure 2) ∷ (unit op.LoadClosure 1) ∷ (unit op.BuildTuple 3) ∷ (unit op.LoadConst 0) ∷ (unit op.LoadConst 1) ∷ (unit op.MakeFunction 1) ∷ (unit op.LoadFast 1) ∷ (unit op.GetIter 0) ∷ (unit op.CallFunctionPositional 1) ∷ (unit op.ListAppend 1) ∷ (unit op.Jump 2) ∷ (unit op.ReturnValue 0) ∷ []) ((at 4 21) ∷ (at 4 21) ∷ (at 4 21) ∷ (at 4 21) ∷ (at 4 40) ∷ (at 4 40) ∷ (at 4 40) ∷ (at 4 40) ∷ (at 4 40) ∷ (at 4 40) ∷ (at 4 40) ∷ (at 4 52) ∷ (at 4 52) ∷ (at 4 52) ∷ (at 4 52) ∷ (at 4 52) ∷ (at 4 52) ∷ []) [] ((codes ".0") ∷ (codes "c") ∷ []) [] ((codes "g") ∷ (codes "k") ∷ (codes "h") ∷ []) ((const.code (sealed_as 6 None 33 1 1 0 4 (codes "<listcomp>") ((unit op.BuildList 0) ∷ (unit op.LoadFast 0) ∷ (unit op.ForIter 14) ∷ (unit op.StoreFast 1) ∷ (unit op.LoadFast 1) ∷ (unit op.Duplicate 0) ∷ (unit op.StoreDeref 0) ∷ (unit op.LoadDeref 1) ∷ (unit op.LoadFast 1) ∷ (unit op.Duplicate 0) ∷ (unit op.StoreDeref 2) ∷ (unit op.BuildTuple 3) ∷ (unit op.ListAppend 1) ∷ (unit op.Jump 2) ∷ (unit op.ReturnValue 0) ∷ []) ((at 4 22) ∷ (at 4 22) ∷ (at 4 22) ∷ (at 4 22) ∷ (at 4 29) ∷ (at 4 29) ∷ (at 4 29) ∷ (at 4 32) ∷ (at 4 40) ∷ (at 4 40) ∷ (at 4 40) ∷ (at 4 40) ∷ (at 4 40) ∷ (at 4 40) ∷ (at 4 40) ∷ []) [] ((codes ".0") ∷ (codes "a") ∷ []) [] ((codes "g") ∷ (codes "h") ∷ (codes "k") ∷ []) [])) ∷ (const.str (codes "<listcomp>")) ∷ []))) ∷ (const.str (codes "<listcomp>")) ∷ []))) ∷ (const.str (codes "<lambda>")) ∷ []))) ∷ (const.str (codes "f")) ∷ const.none ∷ []))
 
 lifted_emitted : object_emitted lifted_scopes lifted 0 ≡ Some (lifted_object, length lifted_scopes)
-unfolding with_step with_block with_name with_varname with_constant with_loops located refuse emit jump begin new_block emit_count emit_name emit_varname emit_mangled add_varname add_constant emit_constant move generating pass_over by_context by_level by_loops in_loop accessed inside with_path child lambda_value emission_of_def load_cell sealed as_element called_at_once
+unfolding with_step with_block with_name with_varname with_constant with_loops located refuse emit jump one_block two_blocks three_blocks put emit_count emit_name emit_varname emit_mangled add_varname add_constant emit_constant move generating pass_over by_context by_level by_loops in_loop accessed inside with_path child lambda_value emission_of_def load_cell sealed as_element called_at_once
 lifted_emitted = refl
 
 lifted_forms : codes_of_object 9 lifted_object ≡ codes_of_scope 9 (body lifted_scopes lifted Exec 0)
@@ -224,7 +225,7 @@ abbrev numbered_object : Object
 numbered_object = (sealed_as 8 None 1 0 0 0 1 (codes "<module>") ((unit op.LoadNameAny 0) ∷ (unit op.LoadConst 0) ∷ (unit op.LoadConst 1) ∷ (unit op.MakeFunction 0) ∷ (unit op.LoadNameAny 1) ∷ (unit op.GetIter 0) ∷ (unit op.CallFunctionPositional 1) ∷ (unit op.CallFunctionPositional 1) ∷ (unit op.LoadConst 2) ∷ (unit op.LoadConst 3) ∷ (unit op.MakeFunction 0) ∷ (unit op.LoadNameAny 2) ∷ (unit op.GetIter 0) ∷ (unit op.CallFunctionPositional 1) ∷ (unit op.BuildTuple 1) ∷ (unit op.LoadConst 4) ∷ (unit op.LoadConst 5) ∷ (unit op.LoadConst 6) ∷ (unit op.MakeFunction 0) ∷ (unit op.LoadNameAny 3) ∷ (unit op.GetIter 0) ∷ (unit op.CallFunctionPositional 1) ∷ (unit op.BuildMap 1) ∷ (unit op.LoadConst 7) ∷ (unit op.LoadConst 8) ∷ (unit op.LoadConst 9) ∷ (unit op.MakeFunction 0) ∷ (unit op.LoadNameAny 4) ∷ (unit op.GetIter 0) ∷ (unit op.CallFunctionPositional 1) ∷ (unit op.LoadConst 10) ∷ (unit op.LoadConst 11) ∷ (unit op.LoadConst 1) ∷ (unit op.MakeFunction 0) ∷ (unit op.LoadNameAny 5) ∷ (unit op.GetIter 0) ∷ (unit op.CallFunctionPositional 1) ∷ (unit op.BuildMap 2) ∷ (unit op.LoadConst 12) ∷ (unit op.LoadConst 13) ∷ (unit op.MakeFunction 14) ∷ (unit op.CallFunctionPositional 1) ∷ (unit op.StoreLocal 6) ∷ (unit op.LoadNameAny 7) ∷ (unit op.LoadConst 14) ∷ (unit op.LoadConst 1) ∷ (unit op.MakeFunction 0) ∷ (unit op.LoadNameAny 8) ∷ (unit op.GetIter 0) ∷ (unit op.CallFunctionPositional 1) ∷ (unit op.BuildTupleUnpack 1) ∷ (unit op.LoadConst 15) ∷ (unit op.LoadConst 16) ∷ (unit op.LoadConst 1) ∷ (unit op.MakeFunction 0) ∷ (unit op.LoadNameAny 9) ∷ (unit op.GetIter 0) ∷ (unit op.CallFunctionPositional 1) ∷ (unit op.BuildMap 1) ∷ (unit op.CallFunctionEx 1) ∷ (unit op.Pop 0) ∷ (unit op.ReturnConst 17) ∷ []) ((at 1 2) ∷ (at 1 5) ∷ (at 1 5) ∷ (at 1 5) ∷ (at 1 16) ∷ (at 1 16) ∷ (at 1 16) ∷ (at 1 16) ∷ (at 2 28) ∷ (at 2 28) ∷ (at 2 28) ∷ (at 2 39) ∷ (at 2 39) ∷ (at 2 39) ∷ (at 2 39) ∷ (at 2 39) ∷ (at 2 49) ∷ (at 2 49) ∷ (at 2 49) ∷ (at 2 60) ∷ (at 2 60) ∷ (at 2 60) ∷ (at 2 60) ∷ (at 3 49) ∷ (at 2 71) ∷ (at 2 71) ∷ (at 2 71) ∷ (at 2 82) ∷ (at 2 82) ∷ (at 2 82) ∷ (at 2 82) ∷ (at 2 11) ∷ (at 2 11) ∷ (at 2 11) ∷ (at 2 22) ∷ (at 2 22) ∷ (at 2 22) ∷ (at 2 22) ∷ (at 2 22) ∷ (at 2 22) ∷ (at 2 22) ∷ (at 2 22) ∷ (at 2 22) ∷ (at 4 1) ∷ (at 4 5) ∷ (at 4 5) ∷ (at 4 5) ∷ (at 4 16) ∷ (at 4 16) ∷ (at 4 16) ∷ (at 4 16) ∷ (at 4 16) ∷ (at 4 23) ∷ (at 4 23) ∷ (at 4 23) ∷ (at 4 34) ∷ (at 4 34) ∷ (at 4 34) ∷ (at 4 34) ∷ (at 4 34) ∷ (at 4 34) ∷ (at 4 34) ∷ []) ((codes "d") ∷ (codes "j") ∷ (codes "n") ∷ (codes "p") ∷ (codes "r") ∷ (codes "l") ∷ (codes "f") ∷ (codes "g") ∷ (codes "t") ∷ (codes "v") ∷ []) [] [] [] ((const.code (sealed_as 3 None 33 1 1 0 1 (codes "<listcomp>") ((unit op.BuildList 0) ∷ (unit op.LoadFast 0) ∷ (unit op.ForIter 7) ∷ (unit op.StoreFast 1) ∷ (unit op.LoadFast 1) ∷ (unit op.ListAppend 1) ∷ (unit op.Jump 2) ∷ (unit op.ReturnValue 0) ∷ []) ((at 1 4) ∷ (at 1 4) ∷ (at 1 4) ∷ (at 1 4) ∷ (at 1 5) ∷ (at 1 5) ∷ (at 1 5) ∷ (at 1 5) ∷ []) [] ((codes ".0") ∷ (codes "i") ∷ []) [] [] [])) ∷ (const.str (codes "<listcomp>")) ∷ (const.code (sealed_as 3 None 33 1 1 0 2 (codes "<setcomp>") ((unit op.BuildSet 0) ∷ (unit op.LoadFast 0) ∷ (unit op.ForIter 7) ∷ (unit op.StoreFast 1) ∷ (unit op.LoadFast 1) ∷ (unit op.SetAdd 1) ∷ (unit op.Jump 2) ∷ (unit op.ReturnValue 0) ∷ []) ((at 2 27) ∷ (at 2 27) ∷ (at 2 27) ∷ (at 2 27) ∷ (at 2 28) ∷ (at 2 28) ∷ (at 2 28) ∷ (at 2 28) ∷ []) [] ((codes ".0") ∷ (codes "m") ∷ []) [] [] [])) ∷ (const.str (codes "<setcomp>")) ∷ (const.str (codes "b")) ∷ (const.code (sealed_as 2 None 35 1 1 0 2 (codes "<genexpr>") ((unit op.LoadFast 0) ∷ (unit op.ForIter 7) ∷ (unit op.StoreFast 1) ∷ (unit op.LoadFast 1) ∷ (unit op.YieldValue 0) ∷ (unit op.Pop 0) ∷ (unit op.Jump 1) ∷ (unit op.ReturnConst 0) ∷ []) ((at 2 48) ∷ (at 2 48) ∷ (at 2 48) ∷ (at 2 49) ∷ (at 2 49) ∷ (at 2 49) ∷ (at 2 49) ∷ (at 2 49) ∷ []) [] ((codes ".0") ∷ (codes "o") ∷ []) [] [] (const.none ∷ []))) ∷ (const.str (codes "<genexpr>")) ∷ (const.str (codes "return")) ∷ (const.code (sealed_as 4 None 33 1 1 0 2 (codes "<dictcomp>") ((unit op.BuildMap 0) ∷ (unit op.LoadFast 0) ∷ (unit op.ForIter 8) ∷ (unit op.StoreFast 1) ∷ (unit op.LoadFast 1) ∷ (unit op.LoadFast 1) ∷ (unit op.MapAdd 1) ∷ (unit op.Jump 2) ∷ (unit op.ReturnValue 0) ∷ []) ((at 2 67) ∷ (at 2 67) ∷ (at 2 67) ∷ (at 2 67) ∷ (at 2 68) ∷ (at 2 71) ∷ (at 2 71) ∷ (at 2 71) ∷ (at 2 71) ∷ []) [] ((codes ".0") ∷ (codes "q") ∷ []) [] [] [])) ∷ (const.str (codes "<dictcomp>")) ∷ (const.str (codes "a")) ∷ (const.code (sealed_as 3 None 33 1 1 0 2 (codes "<listcomp>") ((unit op.BuildList 0) ∷ (unit op.LoadFast 0) ∷ (unit op.ForIter 7) ∷ (unit op.StoreFast 1) ∷ (unit op.LoadFast 1) ∷ (unit op.ListAppend 1) ∷ (unit op.Jump 2) ∷ (unit op.ReturnValue 0) ∷ []) ((at 2 10) ∷ (at 2 10) ∷ (at 2 10) ∷ (at 2 10) ∷ (at 2 11) ∷ (at 2 11) ∷ (at 2 11) ∷ (at 2 11) ∷ []) [] ((codes ".0") ∷ (codes "k") ∷ []) [] [] [])) ∷ (const.code (sealed_as 3 None 33 0 1 1 2 (codes "f") ((unit op.LoadGlobal 0) ∷ (unit op.LoadConst 1) ∷ (unit op.LoadConst 2) ∷ (unit op.MakeFunction 0) ∷ (unit op.LoadGlobal 0) ∷ (unit op.GetIter 0) ∷ (unit op.CallFunctionPositional 1) ∷ (unit op.BuildMap 1) ∷ (unit op.LoadConst 3) ∷ (unit op.LoadConst 4) ∷ (unit op.MakeFunction 0) ∷ (unit op.LoadGlobal 1) ∷ (unit op.GetIter 0) ∷ (unit op.CallFunctionPositional 1) ∷ (unit op.DictUpdate 0) ∷ (unit op.ReturnValue 0) ∷ []) ((at 3 13) ∷ (at 3 17) ∷ (at 3 17) ∷ (at 3 17) ∷ (at 3 28) ∷ (at 3 28) ∷ (at 3 28) ∷ (at 3 28) ∷ (at 3 38) ∷ (at 3 38) ∷ (at 3 38) ∷ (at 3 49) ∷ (at 3 49) ∷ (at 3 49) ∷ (at 3 49) ∷ (at 3 49) ∷ []) ((codes "x") ∷ (codes "y") ∷ []) ((codes "a") ∷ (codes "b") ∷ []) [] [] (const.none ∷ (const.code (sealed_as 3 None 33 1 1 0 3 (codes "<listcomp>") ((unit op.BuildList 0) ∷ (unit op.LoadFast 0) ∷ (unit op.ForIter 7) ∷ (unit op.StoreFast 1) ∷ (unit op.LoadFast 1) ∷ (unit op.ListAppend 1) ∷ (unit op.Jump 2) ∷ (unit op.ReturnValue 0) ∷ []) ((at 3 16) ∷ (at 3 16) ∷ (at 3 16) ∷ (at 3 16) ∷ (at 3 17) ∷ (at 3 17) ∷ (at 3 17) ∷ (at 3 17) ∷ []) [] ((codes ".0") ∷ (codes "x") ∷ []) [] [] [])) ∷ (const.str (codes "<listcomp>")) ∷ (const.code (sealed_as 4 None 33 1 1 0 3 (codes "<dictcomp>") ((unit op.BuildMap 0) ∷ (unit op.LoadFast 0) ∷ (unit op.ForIter 8) ∷ (unit op.StoreFast 1) ∷ (unit op.LoadFast 1) ∷ (unit op.LoadFast 1) ∷ (unit op.MapAdd 1) ∷ (unit op.Jump 2) ∷ (unit op.ReturnValue 0) ∷ []) ((at 3 34) ∷ (at 3 34) ∷ (at 3 34) ∷ (at 3 34) ∷ (at 3 35) ∷ (at 3 38) ∷ (at 3 38) ∷ (at 3 38) ∷ (at 3 38) ∷ []) [] ((codes ".0") ∷ (codes "y") ∷ []) [] [] [])) ∷ (const.str (codes "<dictcomp>")) ∷ []))) ∷ (const.str (codes "f")) ∷ (const.code (sealed_as 3 None 33 1 1 0 4 (codes "<listcomp>") ((unit op.BuildList 0) ∷ (unit op.LoadFast 0) ∷ (unit op.ForIter 7) ∷ (unit op.StoreFast 1) ∷ (unit op.LoadFast 1) ∷ (unit op.ListAppend 1) ∷ (unit op.Jump 2) ∷ (unit op.ReturnValue 0) ∷ []) ((at 4 4) ∷ (at 4 4) ∷ (at 4 4) ∷ (at 4 4) ∷ (at 4 5) ∷ (at 4 5) ∷ (at 4 5) ∷ (at 4 5) ∷ []) [] ((codes ".0") ∷ (codes "s") ∷ []) [] [] [])) ∷ (const.str (codes "k")) ∷ (const.code (sealed_as 3 None 33 1 1 0 4 (codes "<listcomp>") ((unit op.BuildList 0) ∷ (unit op.LoadFast 0) ∷ (unit op.ForIter 7) ∷ (unit op.StoreFast 1) ∷ (unit op.LoadFast 1) ∷ (unit op.ListAppend 1) ∷ (unit op.Jump 2) ∷ (unit op.ReturnValue 0) ∷ []) ((at 4 22) ∷ (at 4 22) ∷ (at 4 22) ∷ (at 4 22) ∷ (at 4 23) ∷ (at 4 23) ∷ (at 4 23) ∷ (at 4 23) ∷ []) [] ((codes ".0") ∷ (codes "u") ∷ []) [] [] [])) ∷ const.none ∷ []))
 
 numbered_emitted : object_emitted numbered_scopes numbered 0 ≡ Some (numbered_object, length numbered_scopes)
-unfolding with_step with_block with_name with_varname with_constant with_loops located refuse emit jump begin new_block emit_count emit_name emit_varname emit_mangled add_varname add_constant emit_constant move generating pass_over by_context by_level by_loops in_loop accessed inside with_path child lambda_value emission_of_def load_cell sealed as_element called_at_once
+unfolding with_step with_block with_name with_varname with_constant with_loops located refuse emit jump one_block two_blocks three_blocks put emit_count emit_name emit_varname emit_mangled add_varname add_constant emit_constant move generating pass_over by_context by_level by_loops in_loop accessed inside with_path child lambda_value emission_of_def load_cell sealed as_element called_at_once
 numbered_emitted = refl
 
 numbered_forms : codes_of_object 9 numbered_object ≡ codes_of_scope 9 (body numbered_scopes numbered Exec 0)
@@ -248,7 +249,7 @@ abbrev yields_object : Object
 yields_object = (sealed_as 2 None 1 0 0 0 1 (codes "<module>") ((unit op.LoadConst 0) ∷ (unit op.LoadConst 1) ∷ (unit op.MakeFunction 0) ∷ (unit op.StoreLocal 0) ∷ (unit op.ReturnConst 2) ∷ []) ((at 3 38) ∷ (at 3 38) ∷ (at 3 38) ∷ (at 3 38) ∷ (at 3 38) ∷ []) ((codes "f") ∷ []) [] [] [] ((const.code (sealed_as 2 None 35 0 1 0 1 (codes "f") ((unit op.LoadConst 1) ∷ (unit op.LoadConst 2) ∷ (unit op.MakeFunction 0) ∷ (unit op.LoadFast 0) ∷ (unit op.GetIter 0) ∷ (unit op.CallFunctionPositional 1) ∷ (unit op.StoreFast 1) ∷ (unit op.LoadConst 3) ∷ (unit op.LoadConst 4) ∷ (unit op.MakeFunction 0) ∷ (unit op.LoadConst 0) ∷ (unit op.YieldValue 0) ∷ (unit op.GetIter 0) ∷ (unit op.CallFunctionPositional 1) ∷ (unit op.ReturnValue 0) ∷ []) ((at 2 17) ∷ (at 2 17) ∷ (at 2 17) ∷ (at 2 29) ∷ (at 2 29) ∷ (at 2 29) ∷ (at 2 29) ∷ (at 3 25) ∷ (at 3 25) ∷ (at 3 25) ∷ (at 3 38) ∷ (at 3 38) ∷ (at 3 38) ∷ (at 3 38) ∷ (at 3 38) ∷ []) [] ((codes "b") ∷ (codes "x") ∷ []) [] [] (const.none ∷ (const.code (sealed_as 3 None 35 1 1 0 2 (codes "<listcomp>") ((unit op.BuildList 0) ∷ (unit op.LoadFast 0) ∷ (unit op.ForIter 8) ∷ (unit op.StoreFast 1) ∷ (unit op.LoadFast 1) ∷ (unit op.YieldValue 0) ∷ (unit op.ListAppend 1) ∷ (unit op.Jump 2) ∷ (unit op.ReturnValue 0) ∷ []) ((at 2 9) ∷ (at 2 9) ∷ (at 2 9) ∷ (at 2 9) ∷ (at 2 17) ∷ (at 2 17) ∷ (at 2 17) ∷ (at 2 17) ∷ (at 2 17) ∷ []) [] ((codes ".0") ∷ (codes "a") ∷ []) [] [] [])) ∷ (const.str (codes "<listcomp>")) ∷ (const.code (sealed_as 3 None 35 1 1 0 3 (codes "<genexpr>") ((unit op.LoadFast 0) ∷ (unit op.ForIter 10) ∷ (unit op.StoreFast 1) ∷ (unit op.LoadFast 1) ∷ (unit op.GetIter 0) ∷ (unit op.LoadConst 0) ∷ (unit op.YieldFrom 0) ∷ (unit op.YieldValue 0) ∷ (unit op.Pop 0) ∷ (unit op.Jump 1) ∷ (unit op.ReturnConst 0) ∷ []) ((at 3 12) ∷ (at 3 12) ∷ (at 3 12) ∷ (at 3 25) ∷ (at 3 25) ∷ (at 3 25) ∷ (at 3 25) ∷ (at 3 25) ∷ (at 3 25) ∷ (at 3 25) ∷ (at 3 25) ∷ []) [] ((codes ".0") ∷ (codes "a") ∷ []) [] [] (const.none ∷ []))) ∷ (const.str (codes "<genexpr>")) ∷ []))) ∷ (const.str (codes "f")) ∷ const.none ∷ []))
 
 yields_emitted : object_emitted yields_scopes yields 0 ≡ Some (yields_object, length yields_scopes)
-unfolding with_step with_block with_name with_varname with_constant with_loops located refuse emit jump begin new_block emit_count emit_name emit_varname emit_mangled add_varname add_constant emit_constant move generating pass_over by_context by_level by_loops in_loop accessed inside with_path child lambda_value emission_of_def load_cell sealed as_element called_at_once
+unfolding with_step with_block with_name with_varname with_constant with_loops located refuse emit jump one_block two_blocks three_blocks put emit_count emit_name emit_varname emit_mangled add_varname add_constant emit_constant move generating pass_over by_context by_level by_loops in_loop accessed inside with_path child lambda_value emission_of_def load_cell sealed as_element called_at_once
 yields_emitted = refl
 
 yields_forms : codes_of_object 9 yields_object ≡ codes_of_scope 9 (body yields_scopes yields Exec 0)
@@ -270,7 +271,7 @@ abbrev stars_scopes : List ScopeEntry
 stars_scopes = ((entry kinds.Module ((symbol (codes "b") symbols.Unknown 1) ∷ (symbol (codes "x") symbols.Local 2) ∷ (symbol (codes "y") symbols.Local 2) ∷ (symbol (codes "z") symbols.Local 2) ∷ []) 7) ∷ (entry kinds.Comprehension ((symbol (codes ".0") symbols.Local 4) ∷ (symbol (codes "a") symbols.Local 129) ∷ []) 2) ∷ (entry kinds.Comprehension ((symbol (codes ".0") symbols.Local 4) ∷ (symbol (codes "a") symbols.Cell 128) ∷ (symbol (codes "f") symbols.GlobalImplicit 1) ∷ []) 4) ∷ (entry kinds.Function ((symbol (codes "a") symbols.Free 1) ∷ []) 4) ∷ (entry kinds.Comprehension ((symbol (codes ".0") symbols.Local 4) ∷ (symbol (codes "a") symbols.Local 128) ∷ (symbol (codes "b") symbols.GlobalImplicit 1) ∷ []) 6) ∷ (entry kinds.Comprehension ((symbol (codes ".0") symbols.Local 4) ∷ (symbol (codes "a") symbols.Local 129) ∷ (symbol (codes "c") symbols.GlobalImplicit 1) ∷ []) 6) ∷ (entry kinds.Comprehension ((symbol (codes ".0") symbols.Local 4) ∷ (symbol (codes "a") symbols.Local 129) ∷ (symbol (codes "c") symbols.GlobalImplicit 1) ∷ []) 7) ∷ [])
 
 stars_refused : emitted stars Exec (outermost 0 (codes "m.py") stars_scopes) ≡ Refused (error.SyntaxError (codes "iterable unpacking cannot be used in comprehension")) (Some (at 1 6))
-unfolding with_step with_block with_name with_varname with_constant with_loops located refuse emit jump begin new_block emit_count emit_name emit_varname emit_mangled add_varname add_constant emit_constant move generating pass_over by_context by_level by_loops in_loop accessed inside with_path child lambda_value emission_of_def load_cell sealed as_element called_at_once
+unfolding with_step with_block with_name with_varname with_constant with_loops located refuse emit jump one_block two_blocks three_blocks put emit_count emit_name emit_varname emit_mangled add_varname add_constant emit_constant move generating pass_over by_context by_level by_loops in_loop accessed inside with_path child lambda_value emission_of_def load_cell sealed as_element called_at_once
 stars_refused = refl
 
 stars_faults : told (compile_faults Exec 0 stars) ≡ (((codes "iterable unpacking cannot be used in comprehension"), Some (at 1 6)) ∷ ((codes "iterable unpacking cannot be used in comprehension"), Some (at 2 16)) ∷ ((codes "iterable unpacking cannot be used in comprehension"), Some (at 3 7)) ∷ ((codes "iterable unpacking cannot be used in comprehension"), Some (at 3 11)) ∷ ((codes "iterable unpacking cannot be used in comprehension"), Some (at 3 23)) ∷ ((codes "cannot use starred expression here"), Some (at 4 2)) ∷ ((codes "cannot use starred expression here"), Some (at 4 17)) ∷ [])
@@ -288,7 +289,7 @@ abbrev asynchronous_scopes : List ScopeEntry
 asynchronous_scopes = ((entry kinds.Module ((symbol (codes "b") symbols.Unknown 1) ∷ (symbol (codes "x") symbols.Local 2) ∷ (symbol (codes "y") symbols.Local 2) ∷ (symbol (codes "z") symbols.Local 2) ∷ []) 5) ∷ (entry kinds.Comprehension ((symbol (codes ".0") symbols.Local 4) ∷ (symbol (codes "a") symbols.Local 129) ∷ []) 2) ∷ (entry kinds.Comprehension ((symbol (codes ".0") symbols.Local 4) ∷ (symbol (codes "a") symbols.Local 129) ∷ (symbol (codes "c") symbols.GlobalImplicit 1) ∷ []) 3) ∷ (entry kinds.Comprehension ((symbol (codes ".0") symbols.Local 4) ∷ (symbol (codes "a") symbols.Local 129) ∷ (symbol (codes "b") symbols.GlobalImplicit 1) ∷ (symbol (codes "c") symbols.Local 128) ∷ (symbol (codes "e") symbols.GlobalImplicit 1) ∷ (symbol (codes "d") symbols.Local 128) ∷ (symbol (codes "f") symbols.GlobalImplicit 1) ∷ []) 4) ∷ (entry kinds.Comprehension ((symbol (codes ".0") symbols.Local 4) ∷ (symbol (codes "a") symbols.Local 129) ∷ []) 5) ∷ [])
 
 asynchronous_refused : emitted asynchronous Exec (outermost 0 (codes "m.py") asynchronous_scopes) ≡ Refused error.NotImplementedYet (Some (at 2 5))
-unfolding with_step with_block with_name with_varname with_constant with_loops located refuse emit jump begin new_block emit_count emit_name emit_varname emit_mangled add_varname add_constant emit_constant move generating pass_over by_context by_level by_loops in_loop accessed inside with_path child lambda_value emission_of_def load_cell sealed as_element called_at_once
+unfolding with_step with_block with_name with_varname with_constant with_loops located refuse emit jump one_block two_blocks three_blocks put emit_count emit_name emit_varname emit_mangled add_varname add_constant emit_constant move generating pass_over by_context by_level by_loops in_loop accessed inside with_path child lambda_value emission_of_def load_cell sealed as_element called_at_once
 asynchronous_refused = refl
 
 asynchronous_faults : told (compile_faults Exec 0 asynchronous) ≡ (((codes "RustPython does not implement this feature yet"), Some (at 2 5)) ∷ ((codes "RustPython does not implement this feature yet"), Some (at 3 5)) ∷ ((codes "cannot use starred expression here"), Some (at 3 37)) ∷ ((codes "'await' outside async function"), Some (at 3 8)) ∷ ((codes "'await' outside async function"), Some (at 4 2)) ∷ [])
@@ -305,7 +306,7 @@ abbrev awaits_within_scopes : List ScopeEntry
 awaits_within_scopes = ((entry kinds.Module ((symbol (codes "b") symbols.Unknown 1) ∷ (symbol (codes "x") symbols.Local 2) ∷ (symbol (codes "y") symbols.Local 2) ∷ (symbol (codes "z") symbols.Local 2) ∷ []) 7) ∷ (entry kinds.Comprehension ((symbol (codes ".0") symbols.Local 4) ∷ (symbol (codes "a") symbols.Cell 128) ∷ []) 3) ∷ (entry kinds.Function ((symbol (codes "a") symbols.Free 1) ∷ []) 3) ∷ (entry kinds.Comprehension ((symbol (codes ".0") symbols.Local 4) ∷ (symbol (codes "a") symbols.Local 129) ∷ []) 5) ∷ (entry kinds.Function ((symbol (codes "c") symbols.Local 5) ∷ []) 5) ∷ (entry kinds.Comprehension ((symbol (codes ".0") symbols.Local 4) ∷ (symbol (codes "a") symbols.Cell 129) ∷ []) 7) ∷ (entry kinds.Comprehension ((symbol (codes ".0") symbols.Local 4) ∷ (symbol (codes "c") symbols.Local 128) ∷ (symbol (codes "a") symbols.Free 1) ∷ []) 7) ∷ [])
 
 awaits_within_refused : emitted awaits_within Exec (outermost 0 (codes "m.py") awaits_within_scopes) ≡ Refused error.NotImplementedYet (Some (at 1 5))
-unfolding with_step with_block with_name with_varname with_constant with_loops located refuse emit jump begin new_block emit_count emit_name emit_varname emit_mangled add_varname add_constant emit_constant move generating pass_over by_context by_level by_loops in_loop accessed inside with_path child lambda_value emission_of_def load_cell sealed as_element called_at_once
+unfolding with_step with_block with_name with_varname with_constant with_loops located refuse emit jump one_block two_blocks three_blocks put emit_count emit_name emit_varname emit_mangled add_varname add_constant emit_constant move generating pass_over by_context by_level by_loops in_loop accessed inside with_path child lambda_value emission_of_def load_cell sealed as_element called_at_once
 awaits_within_refused = refl
 
 awaits_within_faults : told (compile_faults Exec 0 awaits_within) ≡ (((codes "RustPython does not implement this feature yet"), Some (at 1 5)) ∷ ((codes "'await' outside async function"), Some (at 1 15)) ∷ ((codes "'await' outside async function"), Some (at 2 16)) ∷ ((codes "RustPython does not implement this feature yet"), Some (at 3 5)) ∷ ((codes "'await' outside async function"), Some (at 3 18)) ∷ [])
@@ -321,7 +322,7 @@ abbrev further_scopes : List ScopeEntry
 further_scopes = ((entry kinds.Module ((symbol (codes "b") symbols.Unknown 1) ∷ (symbol (codes "x") symbols.Local 2) ∷ []) 3) ∷ (entry kinds.Comprehension ((symbol (codes ".0") symbols.Local 4) ∷ (symbol (codes "a") symbols.Local 129) ∷ (symbol (codes "c") symbols.GlobalImplicit 1) ∷ (symbol (codes "f") symbols.GlobalImplicit 1) ∷ (symbol (codes "d") symbols.GlobalImplicit 1) ∷ []) 2) ∷ (entry kinds.Comprehension ((symbol (codes ".0") symbols.Local 4) ∷ (symbol (codes "a") symbols.Local 129) ∷ (symbol (codes "c") symbols.Local 129) ∷ (symbol (codes "d") symbols.Local 129) ∷ (symbol (codes "e") symbols.Local 128) ∷ (symbol (codes "h") symbols.GlobalImplicit 1) ∷ (symbol (codes "__debug__") symbols.Local 128) ∷ []) 3) ∷ [])
 
 further_refused : emitted further Exec (outermost 0 (codes "m.py") further_scopes) ≡ Refused error.InvalidStarExpr (Some (at 1 43))
-unfolding with_step with_block with_name with_varname with_constant with_loops located refuse emit jump begin new_block emit_count emit_name emit_varname emit_mangled add_varname add_constant emit_constant move generating pass_over by_context by_level by_loops in_loop accessed inside with_path child lambda_value emission_of_def load_cell sealed as_element called_at_once
+unfolding with_step with_block with_name with_varname with_constant with_loops located refuse emit jump one_block two_blocks three_blocks put emit_count emit_name emit_varname emit_mangled add_varname add_constant emit_constant move generating pass_over by_context by_level by_loops in_loop accessed inside with_path child lambda_value emission_of_def load_cell sealed as_element called_at_once
 further_refused = refl
 
 further_faults : told (compile_faults Exec 0 further) ≡ (((codes "cannot use starred expression here"), Some (at 1 43)) ∷ ((codes "cannot assign to __debug__"), Some (at 1 44)) ∷ ((codes "cannot use starred expression here"), Some (at 1 49)) ∷ ((codes "two starred expressions in assignment"), Some (at 2 35)) ∷ ((codes "cannot assign to __debug__"), Some (at 2 67)) ∷ ((codes "cannot use starred expression here"), Some (at 2 13)) ∷ [])
@@ -338,7 +339,7 @@ abbrev outside_scopes : List ScopeEntry
 outside_scopes = ((entry kinds.Module ((symbol (codes "b") symbols.Unknown 1) ∷ (symbol (codes "x") symbols.Local 2) ∷ (symbol (codes "y") symbols.Local 2) ∷ []) 4) ∷ (entry kinds.Comprehension ((symbol (codes ".0") symbols.Local 4) ∷ (symbol (codes "a") symbols.Local 128) ∷ (symbol (codes "c") symbols.Local 129) ∷ []) 2) ∷ (entry kinds.Comprehension ((symbol (codes ".0") symbols.Local 4) ∷ (symbol (codes "a") symbols.Local 129) ∷ []) 3) ∷ (entry kinds.Comprehension ((symbol (codes ".0") symbols.Local 4) ∷ (symbol (codes "a") symbols.Local 129) ∷ (symbol (codes "c") symbols.GlobalImplicit 1) ∷ []) 4) ∷ [])
 
 outside_refused : emitted outside Exec (outermost 0 (codes "m.py") outside_scopes) ≡ Refused error.InvalidYield (Some (at 2 18))
-unfolding with_step with_block with_name with_varname with_constant with_loops located refuse emit jump begin new_block emit_count emit_name emit_varname emit_mangled add_varname add_constant emit_constant move generating pass_over by_context by_level by_loops in_loop accessed inside with_path child lambda_value emission_of_def load_cell sealed as_element called_at_once
+unfolding with_step with_block with_name with_varname with_constant with_loops located refuse emit jump one_block two_blocks three_blocks put emit_count emit_name emit_varname emit_mangled add_varname add_constant emit_constant move generating pass_over by_context by_level by_loops in_loop accessed inside with_path child lambda_value emission_of_def load_cell sealed as_element called_at_once
 outside_refused = refl
 
 outside_faults : told (compile_faults Exec 0 outside) ≡ (((codes "'yield' outside function"), Some (at 2 18)) ∷ ((codes "'yield from' outside function"), Some (at 3 17)) ∷ [])
@@ -356,7 +357,7 @@ abbrev in_loops_scopes : List ScopeEntry
 in_loops_scopes = ((entry kinds.Module ((symbol (codes "a") symbols.Unknown 1) ∷ (symbol (codes "c") symbols.Unknown 1) ∷ []) 2) ∷ (entry kinds.Comprehension ((symbol (codes ".0") symbols.Local 4) ∷ (symbol (codes "b") symbols.Local 129) ∷ []) 2) ∷ [])
 
 in_loops_refused : emitted in_loops Exec (outermost 0 (codes "m.py") in_loops_scopes) ≡ Refused error.InvalidContinue (Some (at 4 1))
-unfolding with_step with_block with_name with_varname with_constant with_loops located refuse emit jump begin new_block emit_count emit_name emit_varname emit_mangled add_varname add_constant emit_constant move generating pass_over by_context by_level by_loops in_loop accessed inside with_path child lambda_value emission_of_def load_cell sealed as_element called_at_once
+unfolding with_step with_block with_name with_varname with_constant with_loops located refuse emit jump one_block two_blocks three_blocks put emit_count emit_name emit_varname emit_mangled add_varname add_constant emit_constant move generating pass_over by_context by_level by_loops in_loop accessed inside with_path child lambda_value emission_of_def load_cell sealed as_element called_at_once
 in_loops_refused = refl
 
 in_loops_faults : told (compile_faults Exec 0 in_loops) ≡ (((codes "'continue' outside loop"), Some (at 4 1)) ∷ [])

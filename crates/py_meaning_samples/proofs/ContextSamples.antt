@@ -13,7 +13,8 @@ use Rattle.py_scope.specs.declared.symbols.Symbol.{Symbol}
 use Rattle.py_scope.specs.declared.table_type.SymbolTableType.TheVariants as kind
 use Rattle.py_control.specs.Form.{Scope, SReturn, MkScope}
 use Rattle.py_control.specs.Agree.{exactly, meaning_by}
-use Rattle.py_emission_parts.specs.Emitting.{Emission, Outcome, ◌▸◌, add_varname, begin, begun, by_context, by_level, by_loops, emit, emit_constant, emit_count, emit_mangled, emit_name, emit_varname, in_loop, jump, located, move, new_block, refuse, with_block, with_constant, with_loops, with_name, with_step, with_varname}
+use Rattle.py_emission_parts.specs.Emitting.{Emission, Outcome, ◌▸◌, add_varname, begun, by_context, by_level, by_loops, emit, emit_constant, emit_count, emit_mangled, emit_name, emit_varname, in_loop, jump, located, move, refuse, with_block, with_constant, with_loops, with_name, with_step, with_varname, one_block, two_blocks, three_blocks}
+use Rattle.py_emission_parts.specs.Running.{put, run}
 use Rattle.py_emission_parts.specs.Accesses.{accessed}
 use Rattle.py_emission_parts.specs.Context.{Context, head_of, inside, outermost, within_class}
 use Rattle.py_emission.specs.Emission.{emission}
@@ -62,16 +63,16 @@ all_of [] = tree.no_stmts
 all_of (s ∷ ss) = tree.more_stmts s (all_of ss)
 
 abbrev emitted_in : Context → Emission → Outcome
-emitted_in c e = e (begun c (at 1 1) 0)
+emitted_in c e = run e (begun c (at 1 1) 0)
 
 -- in a function a name of its own is a local one, a name that a scope within needs is a cell, and a declared one is global
 function_names : lines_in (emitted_in in_f (add_varname (codes "p") ▸ add_varname (codes "q") ▸ emission_of_stmts (all_of (tree.Assign (at 3 5) (one (named 3 5 (codes "g"))) (named 3 9 (codes "p")) ∷ tree.Delete (at 4 5) (one (named 4 9 (codes "q"))) ∷ tree.Assign (at 5 5) (one (named 5 5 (codes "u"))) (named 5 9 (codes "g")) ∷ [])))) ≡ told_with (line op.LoadDeref 0 3 9 ∷ line op.StoreGlobal 0 3 9 ∷ line op.DeleteDeref 1 4 5 ∷ line op.LoadGlobal 0 5 9 ∷ line op.StoreFast 2 5 9 ∷ []) (codes "g" ∷ []) (codes "p" ∷ codes "q" ∷ codes "u" ∷ []) []
-unfolding with_step with_block with_name with_varname with_constant with_loops located refuse emit jump begin new_block emit_count emit_name emit_varname emit_mangled add_varname emit_constant move by_context by_level by_loops in_loop accessed inside within_class
+unfolding with_step with_block with_name with_varname with_constant with_loops located refuse emit jump one_block two_blocks three_blocks put emit_count emit_name emit_varname emit_mangled add_varname emit_constant move by_context by_level by_loops in_loop accessed inside within_class
 function_names = refl
 
 -- in a class names from outside are looked up in it first, and private names are mangled
 class_names : lines_in (emitted_in in_class (emission_of_stmts (all_of (tree.Assign (at 7 9) (one (tree.Attribute (at 7 9) (named 7 9 (codes "p")) (codes "__m"))) (named 7 17 (codes "q")) ∷ tree.Assign (at 8 9) (one (named 8 9 (codes "k"))) (tree.Constant (at 8 13) (literal.Int (pos 1))) ∷ tree.Delete (at 9 9) (one (named 9 13 (codes "k"))) ∷ [])))) ≡ told_with (line op.LoadClassDeref 0 7 17 ∷ line op.LoadClassDeref 1 7 9 ∷ line op.StoreAttr 0 7 9 ∷ line op.LoadConst 0 8 13 ∷ line op.StoreLocal 1 8 13 ∷ line op.DeleteLocal 1 9 9 ∷ []) (codes "_A__m" ∷ codes "k" ∷ []) [] (const.integer (pos 1) ∷ [])
-unfolding with_step with_block with_name with_varname with_constant with_loops located refuse emit jump begin new_block emit_count emit_name emit_varname emit_mangled add_varname emit_constant move by_context by_level by_loops in_loop accessed inside within_class
+unfolding with_step with_block with_name with_varname with_constant with_loops located refuse emit jump one_block two_blocks three_blocks put emit_count emit_name emit_varname emit_mangled add_varname emit_constant move by_context by_level by_loops in_loop accessed inside within_class
 class_names = refl
 
 -- `(__x, q, self.__m(), A)`
@@ -81,7 +82,7 @@ returned =
 
 -- in a method the class still mangles, and what no scope around binds is global
 method_names : lines_in (emitted_in in_method (add_varname (codes "self") ▸ emission returned)) ≡ told_with (line op.LoadGlobal 0 11 21 ∷ line op.LoadDeref 0 11 26 ∷ line op.LoadFast 0 11 29 ∷ line op.LoadMethod 1 11 29 ∷ line op.CallMethodPositional 0 11 29 ∷ line op.LoadDeref 1 11 41 ∷ line op.BuildTuple 4 11 41 ∷ []) (codes "_A__x" ∷ codes "_A__m" ∷ []) (codes "self" ∷ []) []
-unfolding with_step with_block with_name with_varname with_constant with_loops located refuse emit jump begin new_block emit_count emit_name emit_varname emit_mangled add_varname emit_constant move by_context by_level by_loops in_loop accessed inside within_class
+unfolding with_step with_block with_name with_varname with_constant with_loops located refuse emit jump one_block two_blocks three_blocks put emit_count emit_name emit_varname emit_mangled add_varname emit_constant move by_context by_level by_loops in_loop accessed inside within_class
 method_names = refl
 
 abbrev method : Scope
@@ -103,5 +104,5 @@ shared =
 
 -- the others are looked up by name
 module_names : lines_in (emitted (tree.Module (all_of (tree.Assign (at 3 1) (one (named 3 1 (codes "g"))) (named 3 5 (codes "h")) ∷ tree.StmtExpr (at 4 1) (tree.Call (at 4 1) (named 4 1 (codes "f")) (one (named 4 3 (codes "g"))) tree.no_keywords) ∷ tree.Delete (at 5 1) (one (named 5 5 (codes "g"))) ∷ []))) Exec (outermost 0 [] shared)) ≡ told_with (line op.LoadNameAny 0 3 5 ∷ line op.StoreGlobal 1 3 5 ∷ line op.LoadNameAny 2 4 1 ∷ line op.LoadGlobal 1 4 3 ∷ line op.CallFunctionPositional 1 4 3 ∷ line op.Pop 0 4 3 ∷ line op.DeleteGlobal 1 5 1 ∷ line op.ReturnConst 0 5 1 ∷ []) (codes "h" ∷ codes "g" ∷ codes "f" ∷ []) [] (const.none ∷ [])
-unfolding with_step with_block with_name with_varname with_constant with_loops located refuse emit jump begin new_block emit_count emit_name emit_varname emit_mangled emit_constant move by_context by_level by_loops in_loop accessed inside
+unfolding with_step with_block with_name with_varname with_constant with_loops located refuse emit jump one_block two_blocks three_blocks put emit_count emit_name emit_varname emit_mangled emit_constant move by_context by_level by_loops in_loop accessed inside
 module_names = refl

@@ -14,7 +14,8 @@ use Rattle.py_base.specs.declared.errors.CodegenErrorType.TheVariants as error
 use Rattle.py_emission_parts.specs.Accesses.{accessed}
 use Rattle.py_emission_parts.specs.Children.{child, load_cell}
 use Rattle.py_emission_parts.specs.Context.{inside, outermost, with_path}
-use Rattle.py_emission_parts.specs.Emitting.{Refused, with_step, with_block, with_name, with_varname, with_constant, with_loops, located, refuse, emit, jump, begin, new_block, emit_count, emit_name, emit_varname, emit_mangled, add_varname, add_constant, emit_constant, move, generating, pass_over, by_context, by_level, by_loops, in_loop}
+use Rattle.py_emission_parts.specs.Emitting.{Refused, with_step, with_block, with_name, with_varname, with_constant, with_loops, located, refuse, emit, jump, emit_count, emit_name, emit_varname, emit_mangled, add_varname, add_constant, emit_constant, move, generating, pass_over, by_context, by_level, by_loops, in_loop, one_block, two_blocks, three_blocks}
+use Rattle.py_emission_parts.specs.Running.{put}
 use Rattle.py_emission_parts.specs.Sealed.{sealed}
 use Rattle.py_emission.specs.Emission.{lambda_value}
 use Rattle.py_emission.specs.EmissionDefs.{emission_of_def}
@@ -36,7 +37,7 @@ abbrev nested_lambda_object : Object
 nested_lambda_object = (sealed_as 3 None 1 0 0 0 1 (codes "<module>") ((unit op.LoadConst 0) ∷ (unit op.BuildTuple 1) ∷ (unit op.LoadConst 1) ∷ (unit op.LoadConst 2) ∷ (unit op.MakeFunction 8) ∷ (unit op.StoreLocal 0) ∷ (unit op.ReturnConst 3) ∷ []) ((at 1 17) ∷ (at 1 17) ∷ (at 1 32) ∷ (at 1 32) ∷ (at 1 32) ∷ (at 1 32) ∷ (at 1 32) ∷ []) ((codes "f") ∷ []) [] [] [] ((const.integer (pos 1)) ∷ (const.code (sealed_as 3 (Some ((pos 0) ∷ (pos 1) ∷ [])) 33 0 2 0 1 (codes "<lambda>") ((unit op.LoadClosure 0) ∷ (unit op.LoadClosure 1) ∷ (unit op.BuildTuple 2) ∷ (unit op.LoadConst 1) ∷ (unit op.LoadConst 2) ∷ (unit op.MakeFunction 1) ∷ (unit op.ReturnValue 0) ∷ []) ((at 1 32) ∷ (at 1 32) ∷ (at 1 32) ∷ (at 1 32) ∷ (at 1 32) ∷ (at 1 32) ∷ (at 1 32) ∷ []) [] ((codes "x") ∷ (codes "y") ∷ []) ((codes "x") ∷ (codes "y") ∷ []) [] (const.none ∷ (const.code (sealed_as 2 None 33 0 0 0 1 (codes "<lambda>") ((unit op.LoadDeref 0) ∷ (unit op.LoadDeref 1) ∷ (unit op.BinaryOperation 0) ∷ (unit op.ReturnValue 0) ∷ []) ((at 1 28) ∷ (at 1 32) ∷ (at 1 32) ∷ (at 1 32) ∷ []) [] [] [] ((codes "x") ∷ (codes "y") ∷ []) (const.none ∷ []))) ∷ (const.str (codes "<lambda>")) ∷ []))) ∷ (const.str (codes "<lambda>")) ∷ const.none ∷ []))
 
 nested_lambda_emitted : object_emitted nested_lambda_scopes nested_lambda 0 ≡ Some (nested_lambda_object, length nested_lambda_scopes)
-unfolding with_step with_block with_name with_varname with_constant with_loops located refuse emit jump begin new_block emit_count emit_name emit_varname emit_mangled add_varname add_constant emit_constant move generating pass_over by_context by_level by_loops in_loop accessed inside with_path child lambda_value emission_of_def load_cell sealed
+unfolding with_step with_block with_name with_varname with_constant with_loops located refuse emit jump one_block two_blocks three_blocks put emit_count emit_name emit_varname emit_mangled add_varname add_constant emit_constant move generating pass_over by_context by_level by_loops in_loop accessed inside with_path child lambda_value emission_of_def load_cell sealed
 nested_lambda_emitted = refl
 
 nested_lambda_forms : codes_of_object 9 nested_lambda_object ≡ codes_of_scope 9 (body nested_lambda_scopes nested_lambda Exec 0)
@@ -63,7 +64,7 @@ abbrev closures_object : Object
 closures_object = (sealed_as 2 None 1 0 0 0 1 (codes "<module>") ((unit op.LoadConst 0) ∷ (unit op.LoadConst 1) ∷ (unit op.MakeFunction 0) ∷ (unit op.StoreLocal 0) ∷ (unit op.ReturnConst 2) ∷ []) ((at 6 12) ∷ (at 6 12) ∷ (at 6 12) ∷ (at 6 12) ∷ (at 6 12) ∷ []) ((codes "f") ∷ []) [] [] [] ((const.code (sealed_as 3 (Some ((pos 0) ∷ [])) 33 0 1 0 1 (codes "f") ((unit op.LoadClosure 0) ∷ (unit op.BuildTuple 1) ∷ (unit op.LoadConst 1) ∷ (unit op.LoadConst 2) ∷ (unit op.MakeFunction 1) ∷ (unit op.StoreFast 1) ∷ (unit op.LoadFast 1) ∷ (unit op.ReturnValue 0) ∷ []) ((at 5 16) ∷ (at 5 16) ∷ (at 5 16) ∷ (at 5 16) ∷ (at 5 16) ∷ (at 5 16) ∷ (at 6 12) ∷ (at 6 12) ∷ []) [] ((codes "a") ∷ (codes "g") ∷ []) ((codes "a") ∷ []) [] (const.none ∷ (const.code (sealed_as 3 None 33 0 0 0 2 (codes "g") ((unit op.LoadClosure 0) ∷ (unit op.BuildTuple 1) ∷ (unit op.LoadConst 1) ∷ (unit op.LoadConst 2) ∷ (unit op.MakeFunction 1) ∷ (unit op.StoreFast 0) ∷ (unit op.LoadFast 0) ∷ (unit op.ReturnValue 0) ∷ []) ((at 4 20) ∷ (at 4 20) ∷ (at 4 20) ∷ (at 4 20) ∷ (at 4 20) ∷ (at 4 20) ∷ (at 5 16) ∷ (at 5 16) ∷ []) [] ((codes "h") ∷ []) [] ((codes "a") ∷ []) (const.none ∷ (const.code (sealed_as 1 None 33 0 0 0 3 (codes "h") ((unit op.LoadDeref 0) ∷ (unit op.ReturnValue 0) ∷ []) ((at 4 20) ∷ (at 4 20) ∷ []) [] [] [] ((codes "a") ∷ []) (const.none ∷ []))) ∷ (const.str (codes "f.<locals>.g.<locals>.h")) ∷ []))) ∷ (const.str (codes "f.<locals>.g")) ∷ []))) ∷ (const.str (codes "f")) ∷ const.none ∷ []))
 
 closures_emitted : object_emitted closures_scopes closures 0 ≡ Some (closures_object, length closures_scopes)
-unfolding with_step with_block with_name with_varname with_constant with_loops located refuse emit jump begin new_block emit_count emit_name emit_varname emit_mangled add_varname add_constant emit_constant move generating pass_over by_context by_level by_loops in_loop accessed inside with_path child lambda_value emission_of_def load_cell sealed
+unfolding with_step with_block with_name with_varname with_constant with_loops located refuse emit jump one_block two_blocks three_blocks put emit_count emit_name emit_varname emit_mangled add_varname add_constant emit_constant move generating pass_over by_context by_level by_loops in_loop accessed inside with_path child lambda_value emission_of_def load_cell sealed
 closures_emitted = refl
 
 closures_forms : codes_of_object 9 closures_object ≡ codes_of_scope 9 (body closures_scopes closures Exec 0)
@@ -88,7 +89,7 @@ abbrev generator_object : Object
 generator_object = (sealed_as 2 None 1 0 0 0 1 (codes "<module>") ((unit op.LoadConst 0) ∷ (unit op.LoadConst 1) ∷ (unit op.MakeFunction 0) ∷ (unit op.StoreLocal 0) ∷ (unit op.ReturnConst 2) ∷ []) ((at 4 14) ∷ (at 4 14) ∷ (at 4 14) ∷ (at 4 14) ∷ (at 4 14) ∷ []) ((codes "f") ∷ []) [] [] [] ((const.code (sealed_as 2 None 43 0 1 0 1 (codes "f") ((unit op.LoadConst 0) ∷ (unit op.YieldValue 0) ∷ (unit op.StoreFast 2) ∷ (unit op.LoadFast 1) ∷ (unit op.GetIter 0) ∷ (unit op.LoadConst 0) ∷ (unit op.YieldFrom 0) ∷ (unit op.Pop 0) ∷ (unit op.LoadFast 2) ∷ (unit op.LoadFast 0) ∷ (unit op.BuildTuple 2) ∷ (unit op.YieldValue 0) ∷ (unit op.Pop 0) ∷ (unit op.ReturnConst 0) ∷ []) ((at 2 9) ∷ (at 2 9) ∷ (at 2 9) ∷ (at 3 16) ∷ (at 3 16) ∷ (at 3 16) ∷ (at 3 16) ∷ (at 3 16) ∷ (at 4 11) ∷ (at 4 14) ∷ (at 4 14) ∷ (at 4 14) ∷ (at 4 14) ∷ (at 4 14) ∷ []) [] ((codes "a") ∷ (codes "b") ∷ (codes "x") ∷ []) [] [] (const.none ∷ []))) ∷ (const.str (codes "f")) ∷ const.none ∷ []))
 
 generator_emitted : object_emitted generator_scopes generator 0 ≡ Some (generator_object, length generator_scopes)
-unfolding with_step with_block with_name with_varname with_constant with_loops located refuse emit jump begin new_block emit_count emit_name emit_varname emit_mangled add_varname add_constant emit_constant move generating pass_over by_context by_level by_loops in_loop accessed inside with_path child lambda_value emission_of_def load_cell sealed
+unfolding with_step with_block with_name with_varname with_constant with_loops located refuse emit jump one_block two_blocks three_blocks put emit_count emit_name emit_varname emit_mangled add_varname add_constant emit_constant move generating pass_over by_context by_level by_loops in_loop accessed inside with_path child lambda_value emission_of_def load_cell sealed
 generator_emitted = refl
 
 generator_forms : codes_of_object 9 generator_object ≡ codes_of_scope 9 (body generator_scopes generator Exec 0)
@@ -116,7 +117,7 @@ abbrev counting_object : Object
 counting_object = (sealed_as 2 None 1 0 0 0 1 (codes "<module>") ((unit op.LoadConst 0) ∷ (unit op.LoadConst 1) ∷ (unit op.MakeFunction 0) ∷ (unit op.StoreLocal 0) ∷ (unit op.ReturnConst 2) ∷ []) ((at 7 12) ∷ (at 7 12) ∷ (at 7 12) ∷ (at 7 12) ∷ (at 7 12) ∷ []) ((codes "f") ∷ []) [] [] [] ((const.code (sealed_as 3 None 33 0 0 0 1 (codes "f") ((unit op.LoadConst 1) ∷ (unit op.StoreDeref 0) ∷ (unit op.LoadClosure 0) ∷ (unit op.BuildTuple 1) ∷ (unit op.LoadConst 2) ∷ (unit op.LoadConst 3) ∷ (unit op.MakeFunction 1) ∷ (unit op.StoreFast 0) ∷ (unit op.LoadFast 0) ∷ (unit op.ReturnValue 0) ∷ []) ((at 2 9) ∷ (at 2 9) ∷ (at 6 16) ∷ (at 6 16) ∷ (at 6 16) ∷ (at 6 16) ∷ (at 6 16) ∷ (at 6 16) ∷ (at 7 12) ∷ (at 7 12) ∷ []) [] ((codes "g") ∷ []) ((codes "n") ∷ []) [] (const.none ∷ (const.integer (pos 0)) ∷ (const.code (sealed_as 2 None 33 0 0 0 3 (codes "g") ((unit op.LoadDeref 0) ∷ (unit op.LoadConst 1) ∷ (unit op.BinaryOperationInplace 0) ∷ (unit op.StoreDeref 0) ∷ (unit op.LoadDeref 0) ∷ (unit op.ReturnValue 0) ∷ []) ((at 5 9) ∷ (at 5 14) ∷ (at 5 14) ∷ (at 5 14) ∷ (at 6 16) ∷ (at 6 16) ∷ []) [] [] [] ((codes "n") ∷ []) (const.none ∷ (const.integer (pos 1)) ∷ []))) ∷ (const.str (codes "f.<locals>.g")) ∷ []))) ∷ (const.str (codes "f")) ∷ const.none ∷ []))
 
 counting_emitted : object_emitted counting_scopes counting 0 ≡ Some (counting_object, length counting_scopes)
-unfolding with_step with_block with_name with_varname with_constant with_loops located refuse emit jump begin new_block emit_count emit_name emit_varname emit_mangled add_varname add_constant emit_constant move generating pass_over by_context by_level by_loops in_loop accessed inside with_path child lambda_value emission_of_def load_cell sealed
+unfolding with_step with_block with_name with_varname with_constant with_loops located refuse emit jump one_block two_blocks three_blocks put emit_count emit_name emit_varname emit_mangled add_varname add_constant emit_constant move generating pass_over by_context by_level by_loops in_loop accessed inside with_path child lambda_value emission_of_def load_cell sealed
 counting_emitted = refl
 
 counting_forms : codes_of_object 9 counting_object ≡ codes_of_scope 9 (body counting_scopes counting Exec 0)
@@ -141,7 +142,7 @@ abbrev decorated_def_object : Object
 decorated_def_object = (sealed_as 10 None 1 0 0 0 1 (codes "<module>") ((unit op.LoadNameAny 0) ∷ (unit op.LoadNameAny 1) ∷ (unit op.LoadConst 0) ∷ (unit op.CallFunctionPositional 1) ∷ (unit op.LoadConst 1) ∷ (unit op.BuildTuple 1) ∷ (unit op.LoadConst 2) ∷ (unit op.LoadConst 3) ∷ (unit op.BuildMap 1) ∷ (unit op.LoadConst 4) ∷ (unit op.LoadNameAny 2) ∷ (unit op.LoadConst 5) ∷ (unit op.LoadNameAny 3) ∷ (unit op.LoadConst 6) ∷ (unit op.LoadNameAny 4) ∷ (unit op.BuildMap 3) ∷ (unit op.LoadConst 7) ∷ (unit op.LoadConst 8) ∷ (unit op.MakeFunction 14) ∷ (unit op.CallFunctionPositional 1) ∷ (unit op.CallFunctionPositional 1) ∷ (unit op.StoreLocal 5) ∷ (unit op.ReturnConst 9) ∷ []) ((at 1 2) ∷ (at 2 2) ∷ (at 2 4) ∷ (at 2 4) ∷ (at 3 20) ∷ (at 3 20) ∷ (at 3 20) ∷ (at 3 32) ∷ (at 3 32) ∷ (at 4 5) ∷ (at 3 46) ∷ (at 3 46) ∷ (at 3 16) ∷ (at 3 16) ∷ (at 3 27) ∷ (at 3 27) ∷ (at 3 27) ∷ (at 3 27) ∷ (at 3 27) ∷ (at 3 27) ∷ (at 3 27) ∷ (at 3 27) ∷ (at 3 27) ∷ []) ((codes "d") ∷ (codes "e") ∷ (codes "R") ∷ (codes "A") ∷ (codes "B") ∷ (codes "f") ∷ []) [] [] [] ((const.integer (pos 1)) ∷ (const.integer (pos 2)) ∷ (const.str (codes "k")) ∷ (const.integer (pos 3)) ∷ (const.str (codes "return")) ∷ (const.str (codes "b")) ∷ (const.str (codes "c")) ∷ (const.code (sealed_as 0 None 57 1 2 2 3 (codes "f") ((unit op.ReturnConst 0) ∷ []) ((at 4 5) ∷ []) [] ((codes "a") ∷ (codes "b") ∷ (codes "j") ∷ (codes "k") ∷ (codes "c") ∷ (codes "m") ∷ []) [] [] (const.none ∷ []))) ∷ (const.str (codes "f")) ∷ const.none ∷ []))
 
 decorated_def_emitted : object_emitted decorated_def_scopes decorated_def 0 ≡ Some (decorated_def_object, length decorated_def_scopes)
-unfolding with_step with_block with_name with_varname with_constant with_loops located refuse emit jump begin new_block emit_count emit_name emit_varname emit_mangled add_varname add_constant emit_constant move generating pass_over by_context by_level by_loops in_loop accessed inside with_path child lambda_value emission_of_def load_cell sealed
+unfolding with_step with_block with_name with_varname with_constant with_loops located refuse emit jump one_block two_blocks three_blocks put emit_count emit_name emit_varname emit_mangled add_varname add_constant emit_constant move generating pass_over by_context by_level by_loops in_loop accessed inside with_path child lambda_value emission_of_def load_cell sealed
 decorated_def_emitted = refl
 
 decorated_def_forms : codes_of_object 9 decorated_def_object ≡ codes_of_scope 9 (body decorated_def_scopes decorated_def Exec 0)
@@ -166,7 +167,7 @@ abbrev documented_def_object : Object
 documented_def_object = (sealed_as 3 None 1 0 0 0 1 (codes "<module>") ((unit op.LoadConst 0) ∷ (unit op.LoadConst 1) ∷ (unit op.MakeFunction 0) ∷ (unit op.Duplicate 0) ∷ (unit op.LoadConst 2) ∷ (unit op.Rotate2 0) ∷ (unit op.StoreAttr 0) ∷ (unit op.StoreLocal 1) ∷ (unit op.ReturnConst 3) ∷ []) ((at 4 5) ∷ (at 4 5) ∷ (at 4 5) ∷ (at 4 5) ∷ (at 4 5) ∷ (at 4 5) ∷ (at 4 5) ∷ (at 4 5) ∷ (at 4 5) ∷ []) ((codes "__doc__") ∷ (codes "f") ∷ []) [] [] [] ((const.code (sealed_as 2 None 33 0 0 0 1 (codes "f") ((unit op.LoadConst 1) ∷ (unit op.LoadConst 2) ∷ (unit op.MakeFunction 0) ∷ (unit op.StoreFast 0) ∷ (unit op.DeleteFast 0) ∷ (unit op.ReturnConst 0) ∷ []) ((at 3 30) ∷ (at 3 30) ∷ (at 3 30) ∷ (at 3 30) ∷ (at 4 5) ∷ (at 4 5) ∷ []) [] ((codes "x") ∷ []) [] [] (const.none ∷ (const.code (sealed_as 0 None 33 0 0 0 3 (codes "<lambda>") ((unit op.ReturnConst 1) ∷ []) ((at 3 30) ∷ []) [] [] [] [] (const.none ∷ (const.integer (pos 2)) ∷ []))) ∷ (const.str (codes "<lambda>")) ∷ []))) ∷ (const.str (codes "f")) ∷ (const.str (codes "doc")) ∷ const.none ∷ []))
 
 documented_def_emitted : object_emitted documented_def_scopes documented_def 0 ≡ Some (documented_def_object, length documented_def_scopes)
-unfolding with_step with_block with_name with_varname with_constant with_loops located refuse emit jump begin new_block emit_count emit_name emit_varname emit_mangled add_varname add_constant emit_constant move generating pass_over by_context by_level by_loops in_loop accessed inside with_path child lambda_value emission_of_def load_cell sealed
+unfolding with_step with_block with_name with_varname with_constant with_loops located refuse emit jump one_block two_blocks three_blocks put emit_count emit_name emit_varname emit_mangled add_varname add_constant emit_constant move generating pass_over by_context by_level by_loops in_loop accessed inside with_path child lambda_value emission_of_def load_cell sealed
 documented_def_emitted = refl
 
 documented_def_forms : codes_of_object 9 documented_def_object ≡ codes_of_scope 9 (body documented_def_scopes documented_def Exec 0)
@@ -192,7 +193,7 @@ abbrev undocumented_object : Object
 undocumented_object = (sealed_as 2 None 1 0 0 0 1 (codes "<module>") ((unit op.LoadConst 0) ∷ (unit op.LoadConst 1) ∷ (unit op.MakeFunction 0) ∷ (unit op.StoreLocal 0) ∷ (unit op.ReturnConst 2) ∷ []) ((at 5 12) ∷ (at 5 12) ∷ (at 5 12) ∷ (at 5 12) ∷ (at 5 12) ∷ []) ((codes "f") ∷ []) [] [] [] ((const.code (sealed_as 2 (Some ((pos 0) ∷ [])) 33 0 1 0 1 (codes "f") ((unit op.LoadConst 1) ∷ (unit op.LoadConst 2) ∷ (unit op.MakeFunction 0) ∷ (unit op.StoreFast 1) ∷ (unit op.LoadFast 1) ∷ (unit op.ReturnValue 0) ∷ []) ((at 4 28) ∷ (at 4 28) ∷ (at 4 28) ∷ (at 4 28) ∷ (at 5 12) ∷ (at 5 12) ∷ []) [] ((codes "a") ∷ (codes "g") ∷ []) ((codes "a") ∷ []) [] (const.none ∷ (const.code (sealed_as 3 (Some ((pos 0) ∷ [])) 33 0 1 0 4 (codes "<lambda>") ((unit op.LoadClosure 0) ∷ (unit op.BuildTuple 1) ∷ (unit op.LoadConst 1) ∷ (unit op.LoadConst 2) ∷ (unit op.MakeFunction 1) ∷ (unit op.ReturnValue 0) ∷ []) ((at 4 28) ∷ (at 4 28) ∷ (at 4 28) ∷ (at 4 28) ∷ (at 4 28) ∷ (at 4 28) ∷ []) [] ((codes "b") ∷ []) ((codes "b") ∷ []) [] (const.none ∷ (const.code (sealed_as 1 None 33 0 0 0 4 (codes "<lambda>") ((unit op.LoadDeref 0) ∷ (unit op.ReturnValue 0) ∷ []) ((at 4 28) ∷ (at 4 28) ∷ []) [] [] [] ((codes "b") ∷ []) (const.none ∷ []))) ∷ (const.str (codes "<lambda>")) ∷ []))) ∷ (const.str (codes "<lambda>")) ∷ []))) ∷ (const.str (codes "f")) ∷ const.none ∷ []))
 
 undocumented_emitted : object_emitted undocumented_scopes undocumented 2 ≡ Some (undocumented_object, length undocumented_scopes)
-unfolding with_step with_block with_name with_varname with_constant with_loops located refuse emit jump begin new_block emit_count emit_name emit_varname emit_mangled add_varname add_constant emit_constant move generating pass_over by_context by_level by_loops in_loop accessed inside with_path child lambda_value emission_of_def load_cell sealed
+unfolding with_step with_block with_name with_varname with_constant with_loops located refuse emit jump one_block two_blocks three_blocks put emit_count emit_name emit_varname emit_mangled add_varname add_constant emit_constant move generating pass_over by_context by_level by_loops in_loop accessed inside with_path child lambda_value emission_of_def load_cell sealed
 undocumented_emitted = refl
 
 undocumented_faults : told (compile_faults Exec 2 undocumented) ≡ []
@@ -217,7 +218,7 @@ abbrev global_def_object : Object
 global_def_object = (sealed_as 3 None 1 0 0 0 1 (codes "<module>") ((unit op.SetupLoop 0) ∷ (unit op.LoadNameAny 0) ∷ (unit op.GetIter 0) ∷ (unit op.ForIter 11) ∷ (unit op.StoreGlobal 1) ∷ (unit op.LoadConst 0) ∷ (unit op.LoadConst 1) ∷ (unit op.MakeFunction 0) ∷ (unit op.StoreLocal 2) ∷ (unit op.Continue 3) ∷ (unit op.Jump 3) ∷ (unit op.PopBlock 0) ∷ (unit op.ReturnConst 2) ∷ []) ((at 1 1) ∷ (at 1 10) ∷ (at 1 10) ∷ (at 1 10) ∷ (at 1 10) ∷ (at 7 16) ∷ (at 7 16) ∷ (at 7 16) ∷ (at 7 16) ∷ (at 8 5) ∷ (at 8 5) ∷ (at 8 5) ∷ (at 8 5) ∷ []) ((codes "y") ∷ (codes "x") ∷ (codes "f") ∷ []) [] [] [] ((const.code (sealed_as 2 None 33 0 0 0 2 (codes "f") ((unit op.LoadConst 1) ∷ (unit op.StoreGlobal 0) ∷ (unit op.SetupLoop 0) ∷ (unit op.LoadGlobal 0) ∷ (unit op.GetIter 0) ∷ (unit op.ForIter 11) ∷ (unit op.StoreFast 0) ∷ (unit op.LoadFast 0) ∷ (unit op.JumpIfFalse 10) ∷ (unit op.Break 12) ∷ (unit op.Jump 5) ∷ (unit op.PopBlock 0) ∷ (unit op.LoadGlobal 0) ∷ (unit op.ReturnValue 0) ∷ []) ((at 4 13) ∷ (at 4 13) ∷ (at 5 9) ∷ (at 5 18) ∷ (at 5 18) ∷ (at 5 18) ∷ (at 5 18) ∷ (at 6 16) ∷ (at 6 16) ∷ (at 6 19) ∷ (at 6 19) ∷ (at 6 19) ∷ (at 7 16) ∷ (at 7 16) ∷ []) ((codes "x") ∷ []) ((codes "z") ∷ []) [] [] (const.none ∷ (const.integer (pos 1)) ∷ []))) ∷ (const.str (codes "f")) ∷ const.none ∷ []))
 
 global_def_emitted : object_emitted global_def_scopes global_def 0 ≡ Some (global_def_object, length global_def_scopes)
-unfolding with_step with_block with_name with_varname with_constant with_loops located refuse emit jump begin new_block emit_count emit_name emit_varname emit_mangled add_varname add_constant emit_constant move generating pass_over by_context by_level by_loops in_loop accessed inside with_path child lambda_value emission_of_def load_cell sealed
+unfolding with_step with_block with_name with_varname with_constant with_loops located refuse emit jump one_block two_blocks three_blocks put emit_count emit_name emit_varname emit_mangled add_varname add_constant emit_constant move generating pass_over by_context by_level by_loops in_loop accessed inside with_path child lambda_value emission_of_def load_cell sealed
 global_def_emitted = refl
 
 global_def_forms : codes_of_object 9 global_def_object ≡ codes_of_scope 9 (body global_def_scopes global_def Exec 0)
@@ -241,7 +242,7 @@ abbrev annotated_lambda_object : Object
 annotated_lambda_object = (sealed_as 7 None 1 0 0 0 1 (codes "<module>") ((unit op.LoadConst 0) ∷ (unit op.LoadConst 1) ∷ (unit op.LoadConst 2) ∷ (unit op.MakeFunction 0) ∷ (unit op.LoadConst 3) ∷ (unit op.LoadConst 4) ∷ (unit op.LoadConst 2) ∷ (unit op.MakeFunction 0) ∷ (unit op.LoadConst 5) ∷ (unit op.LoadConst 6) ∷ (unit op.LoadConst 2) ∷ (unit op.MakeFunction 0) ∷ (unit op.BuildMap 3) ∷ (unit op.LoadConst 7) ∷ (unit op.LoadConst 8) ∷ (unit op.MakeFunction 2) ∷ (unit op.StoreLocal 0) ∷ (unit op.ReturnConst 9) ∷ []) ((at 3 32) ∷ (at 1 48) ∷ (at 1 48) ∷ (at 1 48) ∷ (at 1 48) ∷ (at 1 18) ∷ (at 1 18) ∷ (at 1 18) ∷ (at 1 18) ∷ (at 1 33) ∷ (at 1 33) ∷ (at 1 33) ∷ (at 1 33) ∷ (at 1 33) ∷ (at 1 33) ∷ (at 1 33) ∷ (at 1 33) ∷ (at 1 33) ∷ []) ((codes "f") ∷ []) [] [] [] ((const.str (codes "return")) ∷ (const.code (sealed_as 0 None 33 0 0 0 1 (codes "<lambda>") ((unit op.ReturnConst 1) ∷ []) ((at 1 48) ∷ []) [] [] [] [] (const.none ∷ (const.integer (pos 3)) ∷ []))) ∷ (const.str (codes "<lambda>")) ∷ (const.str (codes "a")) ∷ (const.code (sealed_as 0 None 33 0 0 0 1 (codes "<lambda>") ((unit op.ReturnConst 1) ∷ []) ((at 1 18) ∷ []) [] [] [] [] (const.none ∷ (const.integer (pos 1)) ∷ []))) ∷ (const.str (codes "b")) ∷ (const.code (sealed_as 0 None 33 0 0 0 1 (codes "<lambda>") ((unit op.ReturnConst 1) ∷ []) ((at 1 33) ∷ []) [] [] [] [] (const.none ∷ (const.integer (pos 2)) ∷ []))) ∷ (const.code (sealed_as 3 None 41 0 1 0 1 (codes "f") ((unit op.LoadConst 1) ∷ (unit op.LoadConst 2) ∷ (unit op.MakeFunction 0) ∷ (unit op.BuildTuple 1) ∷ (unit op.LoadConst 3) ∷ (unit op.LoadConst 2) ∷ (unit op.MakeFunction 8) ∷ (unit op.ReturnValue 0) ∷ []) ((at 3 29) ∷ (at 3 29) ∷ (at 3 29) ∷ (at 3 29) ∷ (at 3 32) ∷ (at 3 32) ∷ (at 3 32) ∷ (at 3 32) ∷ []) [] ((codes "a") ∷ (codes "b") ∷ []) [] [] (const.none ∷ (const.code (sealed_as 0 None 33 0 0 0 3 (codes "<lambda>") ((unit op.ReturnConst 1) ∷ []) ((at 3 29) ∷ []) [] [] [] [] (const.none ∷ (const.integer (pos 6)) ∷ []))) ∷ (const.str (codes "<lambda>")) ∷ (const.code (sealed_as 1 None 33 0 1 0 3 (codes "<lambda>") ((unit op.LoadFast 0) ∷ (unit op.ReturnValue 0) ∷ []) ((at 3 32) ∷ (at 3 32) ∷ []) [] ((codes "c") ∷ []) [] [] (const.none ∷ []))) ∷ []))) ∷ (const.str (codes "f")) ∷ const.none ∷ []))
 
 annotated_lambda_emitted : object_emitted annotated_lambda_scopes annotated_lambda 0 ≡ Some (annotated_lambda_object, length annotated_lambda_scopes)
-unfolding with_step with_block with_name with_varname with_constant with_loops located refuse emit jump begin new_block emit_count emit_name emit_varname emit_mangled add_varname add_constant emit_constant move generating pass_over by_context by_level by_loops in_loop accessed inside with_path child lambda_value emission_of_def load_cell sealed
+unfolding with_step with_block with_name with_varname with_constant with_loops located refuse emit jump one_block two_blocks three_blocks put emit_count emit_name emit_varname emit_mangled add_varname add_constant emit_constant move generating pass_over by_context by_level by_loops in_loop accessed inside with_path child lambda_value emission_of_def load_cell sealed
 annotated_lambda_emitted = refl
 
 annotated_lambda_forms : codes_of_object 9 annotated_lambda_object ≡ codes_of_scope 9 (body annotated_lambda_scopes annotated_lambda Exec 0)
@@ -260,7 +261,7 @@ abbrev yields_outside_scopes : List ScopeEntry
 yields_outside_scopes = ((entry kinds.Module ((symbol (codes "x") symbols.Local 2) ∷ []) 1) ∷ [])
 
 yields_outside_refused : emitted yields_outside Exec (outermost 0 (codes "m.py") yields_outside_scopes) ≡ Refused error.InvalidYield (Some (at 1 5))
-unfolding with_step with_block with_name with_varname with_constant with_loops located refuse emit jump begin new_block emit_count emit_name emit_varname emit_mangled add_varname add_constant emit_constant move generating pass_over by_context by_level by_loops in_loop accessed inside with_path child lambda_value emission_of_def load_cell sealed
+unfolding with_step with_block with_name with_varname with_constant with_loops located refuse emit jump one_block two_blocks three_blocks put emit_count emit_name emit_varname emit_mangled add_varname add_constant emit_constant move generating pass_over by_context by_level by_loops in_loop accessed inside with_path child lambda_value emission_of_def load_cell sealed
 yields_outside_refused = refl
 
 yields_outside_faults : told (compile_faults Exec 0 yields_outside) ≡ (((codes "'yield' outside function"), Some (at 1 5)) ∷ [])
@@ -276,7 +277,7 @@ abbrev yields_from_outside_scopes : List ScopeEntry
 yields_from_outside_scopes = ((entry kinds.Module ((symbol (codes "a") symbols.Unknown 1) ∷ (symbol (codes "b") symbols.Unknown 1) ∷ (symbol (codes "x") symbols.Local 2) ∷ []) 2) ∷ (entry kinds.Function ((symbol (codes "a") symbols.GlobalImplicit 1) ∷ []) 2) ∷ [])
 
 yields_from_outside_refused : emitted yields_from_outside Exec (outermost 0 (codes "m.py") yields_from_outside_scopes) ≡ Refused error.InvalidYieldFrom (Some (at 2 10))
-unfolding with_step with_block with_name with_varname with_constant with_loops located refuse emit jump begin new_block emit_count emit_name emit_varname emit_mangled add_varname add_constant emit_constant move generating pass_over by_context by_level by_loops in_loop accessed inside with_path child lambda_value emission_of_def load_cell sealed
+unfolding with_step with_block with_name with_varname with_constant with_loops located refuse emit jump one_block two_blocks three_blocks put emit_count emit_name emit_varname emit_mangled add_varname add_constant emit_constant move generating pass_over by_context by_level by_loops in_loop accessed inside with_path child lambda_value emission_of_def load_cell sealed
 yields_from_outside_refused = refl
 
 yields_from_outside_faults : told (compile_faults Exec 0 yields_from_outside) ≡ (((codes "'yield from' outside function"), Some (at 2 10)) ∷ [])
@@ -293,7 +294,7 @@ abbrev returns_outside_scopes : List ScopeEntry
 returns_outside_scopes = ((entry kinds.Module ((symbol (codes "f") symbols.Local 3) ∷ (symbol (codes "a") symbols.Unknown 1) ∷ []) 2) ∷ (entry kinds.Function [] 2) ∷ [])
 
 returns_outside_refused : emitted returns_outside Exec (outermost 0 (codes "m.py") returns_outside_scopes) ≡ Refused error.InvalidReturn (Some (at 3 5))
-unfolding with_step with_block with_name with_varname with_constant with_loops located refuse emit jump begin new_block emit_count emit_name emit_varname emit_mangled add_varname add_constant emit_constant move generating pass_over by_context by_level by_loops in_loop accessed inside with_path child lambda_value emission_of_def load_cell sealed
+unfolding with_step with_block with_name with_varname with_constant with_loops located refuse emit jump one_block two_blocks three_blocks put emit_count emit_name emit_varname emit_mangled add_varname add_constant emit_constant move generating pass_over by_context by_level by_loops in_loop accessed inside with_path child lambda_value emission_of_def load_cell sealed
 returns_outside_refused = refl
 
 returns_outside_faults : told (compile_faults Exec 0 returns_outside) ≡ (((codes "'return' outside function"), Some (at 3 5)) ∷ [])
@@ -310,7 +311,7 @@ abbrev awaits_scopes : List ScopeEntry
 awaits_scopes = ((entry kinds.Module ((symbol (codes "f") symbols.Local 3) ∷ (symbol (codes "a") symbols.Unknown 1) ∷ (symbol (codes "b") symbols.Unknown 1) ∷ []) 3) ∷ (entry kinds.Function ((symbol (codes "__debug__") symbols.Local 4) ∷ []) 2) ∷ (entry kinds.Function ((symbol (codes "x") symbols.Local 4) ∷ (symbol (codes "__debug__") symbols.Local 12) ∷ []) 3) ∷ [])
 
 awaits_refused : emitted awaits Exec (outermost 0 (codes "m.py") awaits_scopes) ≡ Refused (error.SyntaxError (codes "cannot assign to __debug__")) (Some (at 2 13))
-unfolding with_step with_block with_name with_varname with_constant with_loops located refuse emit jump begin new_block emit_count emit_name emit_varname emit_mangled add_varname add_constant emit_constant move generating pass_over by_context by_level by_loops in_loop accessed inside with_path child lambda_value emission_of_def load_cell sealed
+unfolding with_step with_block with_name with_varname with_constant with_loops located refuse emit jump one_block two_blocks three_blocks put emit_count emit_name emit_varname emit_mangled add_varname add_constant emit_constant move generating pass_over by_context by_level by_loops in_loop accessed inside with_path child lambda_value emission_of_def load_cell sealed
 awaits_refused = refl
 
 awaits_faults : told (compile_faults Exec 0 awaits) ≡ (((codes "cannot assign to __debug__"), Some (at 2 13)) ∷ ((codes "cannot assign to __debug__"), Some (at 2 31)) ∷ ((codes "'break' outside loop"), Some (at 2 52)) ∷ ((codes "'await' outside async function"), Some (at 3 1)) ∷ [])

@@ -15,7 +15,8 @@ use Rattle.py_base.specs.declared.errors.CodegenErrorType.TheVariants as error
 use Rattle.py_emission_parts.specs.Accesses.{accessed}
 use Rattle.py_emission_parts.specs.Children.{child, load_cell}
 use Rattle.py_emission_parts.specs.Context.{inside, outermost, with_path, within_class}
-use Rattle.py_emission_parts.specs.Emitting.{Refused, with_step, with_block, with_name, with_varname, with_constant, with_loops, with_postponed, located, refuse, emit, jump, begin, new_block, emit_count, emit_name, emit_varname, emit_mangled, add_varname, add_constant, emit_constant, move, generating, pass_over, by_context, by_level, by_loops, in_loop, postponing}
+use Rattle.py_emission_parts.specs.Emitting.{Refused, with_step, with_block, with_name, with_varname, with_constant, with_loops, with_postponed, located, refuse, emit, jump, emit_count, emit_name, emit_varname, emit_mangled, add_varname, add_constant, emit_constant, move, generating, pass_over, by_context, by_level, by_loops, in_loop, postponing, one_block, two_blocks, three_blocks}
+use Rattle.py_emission_parts.specs.Running.{put}
 use Rattle.py_emission_parts.specs.Sealed.{sealed}
 use Rattle.py_emission.specs.Emission.{lambda_value}
 use Rattle.py_emission.specs.EmissionDefs.{emission_of_class, emission_of_def}
@@ -44,7 +45,7 @@ abbrev several_object : Object
 several_object = (sealed_as 3 None 1 0 0 0 1 (codes "<module>") ((unit op.LoadConst 0) ∷ (unit op.StoreGlobal 0) ∷ (unit op.SetupAnnotation 0) ∷ (unit op.LoadConst 1) ∷ (unit op.LoadConst 2) ∷ (unit op.ImportName 1) ∷ (unit op.ImportFrom 2) ∷ (unit op.StoreLocal 2) ∷ (unit op.Pop 0) ∷ (unit op.LoadConst 3) ∷ (unit op.LoadConst 4) ∷ (unit op.ImportName 1) ∷ (unit op.ImportFrom 3) ∷ (unit op.StoreLocal 4) ∷ (unit op.ImportFrom 5) ∷ (unit op.StoreLocal 5) ∷ (unit op.Pop 0) ∷ (unit op.LoadConst 3) ∷ (unit op.StoreLocal 6) ∷ (unit op.LoadConst 5) ∷ (unit op.LoadNameAny 7) ∷ (unit op.LoadConst 6) ∷ (unit op.StoreSubscript 0) ∷ (unit op.LoadConst 7) ∷ (unit op.LoadNameAny 7) ∷ (unit op.LoadConst 8) ∷ (unit op.StoreSubscript 0) ∷ (unit op.ReturnConst 9) ∷ []) ((at 1 1) ∷ (at 1 1) ∷ (at 1 1) ∷ (at 2 1) ∷ (at 2 1) ∷ (at 2 1) ∷ (at 2 1) ∷ (at 2 1) ∷ (at 2 1) ∷ (at 3 1) ∷ (at 3 1) ∷ (at 3 1) ∷ (at 3 1) ∷ (at 3 1) ∷ (at 3 1) ∷ (at 3 1) ∷ (at 3 1) ∷ (at 4 11) ∷ (at 4 11) ∷ (at 4 11) ∷ (at 4 11) ∷ (at 4 11) ∷ (at 4 11) ∷ (at 5 1) ∷ (at 5 1) ∷ (at 5 1) ∷ (at 5 1) ∷ (at 5 1) ∷ []) ((codes "__doc__") ∷ (codes "__future__") ∷ (codes "division") ∷ (codes "annotations") ∷ (codes "a") ∷ (codes "generators") ∷ (codes "x") ∷ (codes "__annotations__") ∷ []) [] [] [] ((const.str (codes "doc")) ∷ (const.integer (pos 0)) ∷ (const.tuple (const.more_consts (const.str (codes "division")) const.no_consts)) ∷ (const.integer (pos 1)) ∷ (const.tuple (const.more_consts (const.str (codes "annotations")) (const.more_consts (const.str (codes "generators")) const.no_consts))) ∷ (const.str (codes "f[y]")) ∷ (const.str (codes "x")) ∷ (const.str (codes "lambda: w")) ∷ (const.str (codes "z")) ∷ const.none ∷ []))
 
 several_emitted : object_in_mode several_scopes several Exec 0 ≡ Some (several_object, length several_scopes)
-unfolding with_step with_block with_name with_varname with_constant with_loops with_postponed located refuse emit jump begin new_block emit_count emit_name emit_varname emit_mangled add_varname add_constant emit_constant move generating pass_over by_context by_level by_loops in_loop postponing accessed inside with_path within_class child lambda_value emission_of_def emission_of_class load_cell sealed
+unfolding with_step with_block with_name with_varname with_constant with_loops with_postponed located refuse emit jump one_block two_blocks three_blocks put emit_count emit_name emit_varname emit_mangled add_varname add_constant emit_constant move generating pass_over by_context by_level by_loops in_loop postponing accessed inside with_path within_class child lambda_value emission_of_def emission_of_class load_cell sealed
 several_emitted = refl
 
 several_forms : codes_of_object 9 several_object ≡ codes_of_scope 9 (body several_scopes several Exec 0)
@@ -69,7 +70,7 @@ abbrev function_object : Object
 function_object = (sealed_as 6 None 1 0 0 0 1 (codes "<module>") ((unit op.LoadConst 0) ∷ (unit op.LoadConst 1) ∷ (unit op.ImportName 0) ∷ (unit op.ImportFrom 1) ∷ (unit op.StoreLocal 1) ∷ (unit op.Pop 0) ∷ (unit op.LoadConst 2) ∷ (unit op.LoadConst 3) ∷ (unit op.LoadConst 4) ∷ (unit op.LoadConst 5) ∷ (unit op.LoadConst 6) ∷ (unit op.LoadConst 7) ∷ (unit op.BuildMap 3) ∷ (unit op.LoadConst 8) ∷ (unit op.LoadConst 9) ∷ (unit op.MakeFunction 2) ∷ (unit op.StoreLocal 2) ∷ (unit op.ReturnConst 10) ∷ []) ((at 1 1) ∷ (at 1 1) ∷ (at 1 1) ∷ (at 1 1) ∷ (at 1 1) ∷ (at 1 1) ∷ (at 4 20) ∷ (at 4 20) ∷ (at 4 20) ∷ (at 4 20) ∷ (at 4 20) ∷ (at 4 20) ∷ (at 4 20) ∷ (at 4 20) ∷ (at 4 20) ∷ (at 4 20) ∷ (at 4 20) ∷ (at 4 20) ∷ []) ((codes "__future__") ∷ (codes "annotations") ∷ (codes "f") ∷ []) [] [] [] ((const.integer (pos 0)) ∷ (const.tuple (const.more_consts (const.str (codes "annotations")) const.no_consts)) ∷ (const.str (codes "return")) ∷ (const.str (codes "c")) ∷ (const.str (codes "a")) ∷ (const.str (codes "int")) ∷ (const.str (codes "b")) ∷ (const.str (codes "lambda: g")) ∷ (const.code (sealed_as 3 (Some ((pos 0) ∷ [])) 41 0 1 0 2 (codes "f") ((unit op.LoadClosure 0) ∷ (unit op.BuildTuple 1) ∷ (unit op.LoadConst 1) ∷ (unit op.LoadConst 2) ∷ (unit op.MakeFunction 1) ∷ (unit op.ReturnValue 0) ∷ []) ((at 4 20) ∷ (at 4 20) ∷ (at 4 20) ∷ (at 4 20) ∷ (at 4 20) ∷ (at 4 20) ∷ []) [] ((codes "a") ∷ (codes "b") ∷ []) ((codes "a") ∷ []) [] (const.none ∷ (const.code (sealed_as 1 None 33 0 0 0 4 (codes "<lambda>") ((unit op.LoadDeref 0) ∷ (unit op.ReturnValue 0) ∷ []) ((at 4 20) ∷ (at 4 20) ∷ []) [] [] [] ((codes "a") ∷ []) (const.none ∷ []))) ∷ (const.str (codes "<lambda>")) ∷ []))) ∷ (const.str (codes "f")) ∷ const.none ∷ []))
 
 function_emitted : object_in_mode function_scopes function Exec 0 ≡ Some (function_object, length function_scopes)
-unfolding with_step with_block with_name with_varname with_constant with_loops with_postponed located refuse emit jump begin new_block emit_count emit_name emit_varname emit_mangled add_varname add_constant emit_constant move generating pass_over by_context by_level by_loops in_loop postponing accessed inside with_path within_class child lambda_value emission_of_def emission_of_class load_cell sealed
+unfolding with_step with_block with_name with_varname with_constant with_loops with_postponed located refuse emit jump one_block two_blocks three_blocks put emit_count emit_name emit_varname emit_mangled add_varname add_constant emit_constant move generating pass_over by_context by_level by_loops in_loop postponing accessed inside with_path within_class child lambda_value emission_of_def emission_of_class load_cell sealed
 function_emitted = refl
 
 function_forms : codes_of_object 9 function_object ≡ codes_of_scope 9 (body function_scopes function Exec 0)
@@ -92,7 +93,7 @@ abbrev present_object : Object
 present_object = (sealed_as 3 None 1 0 0 0 1 (codes "<module>") ((unit op.LoadConst 0) ∷ (unit op.LoadConst 1) ∷ (unit op.ImportName 0) ∷ (unit op.ImportFrom 1) ∷ (unit op.StoreLocal 1) ∷ (unit op.Pop 0) ∷ (unit op.LoadConst 2) ∷ (unit op.LoadNameAny 2) ∷ (unit op.BuildMap 1) ∷ (unit op.LoadConst 3) ∷ (unit op.LoadConst 4) ∷ (unit op.MakeFunction 2) ∷ (unit op.StoreLocal 3) ∷ (unit op.ReturnConst 5) ∷ []) ((at 1 1) ∷ (at 1 1) ∷ (at 1 1) ∷ (at 1 1) ∷ (at 1 1) ∷ (at 1 1) ∷ (at 2 14) ∷ (at 2 10) ∷ (at 2 10) ∷ (at 2 10) ∷ (at 2 10) ∷ (at 2 10) ∷ (at 2 10) ∷ (at 2 10) ∷ []) ((codes "__future__") ∷ (codes "division") ∷ (codes "b") ∷ (codes "f") ∷ []) [] [] [] ((const.integer (pos 0)) ∷ (const.tuple (const.more_consts (const.str (codes "division")) const.no_consts)) ∷ (const.str (codes "a")) ∷ (const.code (sealed_as 0 None 33 0 1 0 2 (codes "f") ((unit op.ReturnConst 0) ∷ []) ((at 2 14) ∷ []) [] ((codes "a") ∷ []) [] [] (const.none ∷ []))) ∷ (const.str (codes "f")) ∷ const.none ∷ []))
 
 present_emitted : object_in_mode present_scopes present Exec 0 ≡ Some (present_object, length present_scopes)
-unfolding with_step with_block with_name with_varname with_constant with_loops with_postponed located refuse emit jump begin new_block emit_count emit_name emit_varname emit_mangled add_varname add_constant emit_constant move generating pass_over by_context by_level by_loops in_loop postponing accessed inside with_path within_class child lambda_value emission_of_def emission_of_class load_cell sealed
+unfolding with_step with_block with_name with_varname with_constant with_loops with_postponed located refuse emit jump one_block two_blocks three_blocks put emit_count emit_name emit_varname emit_mangled add_varname add_constant emit_constant move generating pass_over by_context by_level by_loops in_loop postponing accessed inside with_path within_class child lambda_value emission_of_def emission_of_class load_cell sealed
 present_emitted = refl
 
 present_forms : codes_of_object 9 present_object ≡ codes_of_scope 9 (body present_scopes present Exec 0)
@@ -119,7 +120,7 @@ abbrev prompt_object : Object
 prompt_object = (sealed_as 3 None 1 0 0 0 1 (codes "<module>") ((unit op.LoadConst 0) ∷ (unit op.PrintExpr 0) ∷ (unit op.LoadConst 1) ∷ (unit op.LoadConst 2) ∷ (unit op.ImportName 0) ∷ (unit op.ImportFrom 1) ∷ (unit op.StoreLocal 1) ∷ (unit op.Pop 0) ∷ (unit op.LoadConst 3) ∷ (unit op.PrintExpr 0) ∷ (unit op.LoadConst 1) ∷ (unit op.LoadConst 4) ∷ (unit op.ImportName 0) ∷ (unit op.ImportFrom 2) ∷ (unit op.StoreLocal 2) ∷ (unit op.Pop 0) ∷ (unit op.LoadConst 5) ∷ (unit op.PrintExpr 0) ∷ (unit op.LoadConst 6) ∷ (unit op.LoadNameAny 3) ∷ (unit op.LoadConst 7) ∷ (unit op.StoreSubscript 0) ∷ (unit op.ReturnConst 8) ∷ []) ((at 1 1) ∷ (at 1 1) ∷ (at 2 1) ∷ (at 2 1) ∷ (at 2 1) ∷ (at 2 1) ∷ (at 2 1) ∷ (at 2 1) ∷ (at 3 1) ∷ (at 3 1) ∷ (at 4 1) ∷ (at 4 1) ∷ (at 4 1) ∷ (at 4 1) ∷ (at 4 1) ∷ (at 4 1) ∷ (at 5 1) ∷ (at 5 1) ∷ (at 6 1) ∷ (at 6 1) ∷ (at 6 1) ∷ (at 6 1) ∷ (at 6 1) ∷ []) ((codes "__future__") ∷ (codes "division") ∷ (codes "annotations") ∷ (codes "__annotations__") ∷ []) [] [] [] ((const.integer (pos 1)) ∷ (const.integer (pos 0)) ∷ (const.tuple (const.more_consts (const.str (codes "division")) const.no_consts)) ∷ (const.integer (pos 2)) ∷ (const.tuple (const.more_consts (const.str (codes "annotations")) const.no_consts)) ∷ (const.integer (pos 3)) ∷ (const.str (codes "y")) ∷ (const.str (codes "x")) ∷ const.none ∷ []))
 
 prompt_emitted : object_in_mode prompt_scopes prompt Single 0 ≡ Some (prompt_object, length prompt_scopes)
-unfolding with_step with_block with_name with_varname with_constant with_loops with_postponed located refuse emit jump begin new_block emit_count emit_name emit_varname emit_mangled add_varname add_constant emit_constant move generating pass_over by_context by_level by_loops in_loop postponing accessed inside with_path within_class child lambda_value emission_of_def emission_of_class load_cell sealed
+unfolding with_step with_block with_name with_varname with_constant with_loops with_postponed located refuse emit jump one_block two_blocks three_blocks put emit_count emit_name emit_varname emit_mangled add_varname add_constant emit_constant move generating pass_over by_context by_level by_loops in_loop postponing accessed inside with_path within_class child lambda_value emission_of_def emission_of_class load_cell sealed
 prompt_emitted = refl
 
 prompt_forms : codes_of_object 9 prompt_object ≡ codes_of_scope 9 (body prompt_scopes prompt Single 0)
@@ -143,7 +144,7 @@ abbrev block_object : Object
 block_object = (sealed_as 3 None 1 0 0 0 1 (codes "<module>") ((unit op.LoadConst 0) ∷ (unit op.LoadConst 1) ∷ (unit op.ImportName 0) ∷ (unit op.ImportFrom 1) ∷ (unit op.StoreLocal 1) ∷ (unit op.Pop 0) ∷ (unit op.LoadBuildClass 0) ∷ (unit op.LoadConst 2) ∷ (unit op.LoadConst 3) ∷ (unit op.MakeFunction 0) ∷ (unit op.LoadConst 3) ∷ (unit op.CallFunctionPositional 2) ∷ (unit op.Duplicate 0) ∷ (unit op.StoreLocal 2) ∷ (unit op.ReturnValue 0) ∷ []) ((at 1 1) ∷ (at 1 1) ∷ (at 1 1) ∷ (at 1 1) ∷ (at 1 1) ∷ (at 1 1) ∷ (at 2 1) ∷ (at 3 5) ∷ (at 3 5) ∷ (at 3 5) ∷ (at 3 5) ∷ (at 3 5) ∷ (at 3 5) ∷ (at 3 5) ∷ (at 3 5) ∷ []) ((codes "__future__") ∷ (codes "annotations") ∷ (codes "A") ∷ []) [] [] [] ((const.integer (pos 0)) ∷ (const.tuple (const.more_consts (const.str (codes "annotations")) const.no_consts)) ∷ (const.code (sealed_as 3 None 0 0 0 0 2 (codes "A") ((unit op.LoadGlobal 0) ∷ (unit op.StoreLocal 1) ∷ (unit op.LoadConst 0) ∷ (unit op.StoreLocal 2) ∷ (unit op.LoadConst 1) ∷ (unit op.StoreLocal 3) ∷ (unit op.SetupAnnotation 0) ∷ (unit op.LoadConst 2) ∷ (unit op.LoadNameAny 4) ∷ (unit op.LoadConst 3) ∷ (unit op.StoreSubscript 0) ∷ (unit op.ReturnConst 1) ∷ []) ((at 2 1) ∷ (at 2 1) ∷ (at 2 1) ∷ (at 2 1) ∷ (at 2 1) ∷ (at 2 1) ∷ (at 2 1) ∷ (at 3 5) ∷ (at 3 5) ∷ (at 3 5) ∷ (at 3 5) ∷ (at 3 5) ∷ []) ((codes "__name__") ∷ (codes "__module__") ∷ (codes "__qualname__") ∷ (codes "__doc__") ∷ (codes "__annotations__") ∷ []) [] [] [] ((const.str (codes "A")) ∷ const.none ∷ (const.str (codes "y")) ∷ (const.str (codes "x")) ∷ []))) ∷ (const.str (codes "A")) ∷ []))
 
 block_emitted : object_in_mode block_scopes block BlockExpr 0 ≡ Some (block_object, length block_scopes)
-unfolding with_step with_block with_name with_varname with_constant with_loops with_postponed located refuse emit jump begin new_block emit_count emit_name emit_varname emit_mangled add_varname add_constant emit_constant move generating pass_over by_context by_level by_loops in_loop postponing accessed inside with_path within_class child lambda_value emission_of_def emission_of_class load_cell sealed
+unfolding with_step with_block with_name with_varname with_constant with_loops with_postponed located refuse emit jump one_block two_blocks three_blocks put emit_count emit_name emit_varname emit_mangled add_varname add_constant emit_constant move generating pass_over by_context by_level by_loops in_loop postponing accessed inside with_path within_class child lambda_value emission_of_def emission_of_class load_cell sealed
 block_emitted = refl
 
 block_forms : codes_of_object 9 block_object ≡ codes_of_scope 9 (body block_scopes block BlockExpr 0)
@@ -165,7 +166,7 @@ abbrev last_object : Object
 last_object = (sealed_as 2 None 1 0 0 0 1 (codes "<module>") ((unit op.LoadConst 0) ∷ (unit op.LoadConst 1) ∷ (unit op.ImportName 0) ∷ (unit op.ImportFrom 1) ∷ (unit op.StoreLocal 1) ∷ (unit op.Pop 0) ∷ (unit op.ReturnConst 2) ∷ []) ((at 1 1) ∷ (at 1 1) ∷ (at 1 1) ∷ (at 1 1) ∷ (at 1 1) ∷ (at 1 1) ∷ (at 1 1) ∷ []) ((codes "__future__") ∷ (codes "annotations") ∷ []) [] [] [] ((const.integer (pos 0)) ∷ (const.tuple (const.more_consts (const.str (codes "annotations")) const.no_consts)) ∷ const.none ∷ []))
 
 last_emitted : object_in_mode last_scopes last BlockExpr 0 ≡ Some (last_object, length last_scopes)
-unfolding with_step with_block with_name with_varname with_constant with_loops with_postponed located refuse emit jump begin new_block emit_count emit_name emit_varname emit_mangled add_varname add_constant emit_constant move generating pass_over by_context by_level by_loops in_loop postponing accessed inside with_path within_class child lambda_value emission_of_def emission_of_class load_cell sealed
+unfolding with_step with_block with_name with_varname with_constant with_loops with_postponed located refuse emit jump one_block two_blocks three_blocks put emit_count emit_name emit_varname emit_mangled add_varname add_constant emit_constant move generating pass_over by_context by_level by_loops in_loop postponing accessed inside with_path within_class child lambda_value emission_of_def emission_of_class load_cell sealed
 last_emitted = refl
 
 last_forms : codes_of_object 9 last_object ≡ codes_of_scope 9 (body last_scopes last BlockExpr 0)
@@ -185,7 +186,7 @@ abbrev after_pass_scopes : List ScopeEntry
 after_pass_scopes = ((entry kinds.Module ((symbol (codes "division") symbols.Local 18) ∷ []) 1) ∷ [])
 
 after_pass_refused : emitted after_pass Exec (outermost 0 (codes "m.py") after_pass_scopes) ≡ Refused error.InvalidFuturePlacement (Some (at 2 1))
-unfolding with_step with_block with_name with_varname with_constant with_loops with_postponed located refuse emit jump begin new_block emit_count emit_name emit_varname emit_mangled add_varname add_constant emit_constant move generating pass_over by_context by_level by_loops in_loop postponing accessed inside with_path within_class child lambda_value emission_of_def emission_of_class load_cell sealed
+unfolding with_step with_block with_name with_varname with_constant with_loops with_postponed located refuse emit jump one_block two_blocks three_blocks put emit_count emit_name emit_varname emit_mangled add_varname add_constant emit_constant move generating pass_over by_context by_level by_loops in_loop postponing accessed inside with_path within_class child lambda_value emission_of_def emission_of_class load_cell sealed
 after_pass_refused = refl
 
 after_pass_faults : told (compile_faults Exec 0 after_pass) ≡ (((codes "from __future__ imports must occur at the beginning of the file"), Some (at 2 1)) ∷ [])
@@ -201,7 +202,7 @@ abbrev within_scopes : List ScopeEntry
 within_scopes = ((entry kinds.Module ((symbol (codes "f") symbols.Local 2) ∷ []) 2) ∷ (entry kinds.Function ((symbol (codes "*") symbols.Local 18) ∷ []) 2) ∷ [])
 
 within_refused : emitted within Exec (outermost 0 (codes "m.py") within_scopes) ≡ Refused error.InvalidFuturePlacement (Some (at 2 5))
-unfolding with_step with_block with_name with_varname with_constant with_loops with_postponed located refuse emit jump begin new_block emit_count emit_name emit_varname emit_mangled add_varname add_constant emit_constant move generating pass_over by_context by_level by_loops in_loop postponing accessed inside with_path within_class child lambda_value emission_of_def emission_of_class load_cell sealed
+unfolding with_step with_block with_name with_varname with_constant with_loops with_postponed located refuse emit jump one_block two_blocks three_blocks put emit_count emit_name emit_varname emit_mangled add_varname add_constant emit_constant move generating pass_over by_context by_level by_loops in_loop postponing accessed inside with_path within_class child lambda_value emission_of_def emission_of_class load_cell sealed
 within_refused = refl
 
 within_faults : told (compile_faults Exec 0 within) ≡ (((codes "from __future__ imports must occur at the beginning of the file"), Some (at 2 5)) ∷ ((codes "future feature * is not defined"), Some (at 2 5)) ∷ ((codes "import * only allowed at module level"), Some (at 2 5)) ∷ [])
@@ -217,7 +218,7 @@ abbrev in_class_scopes : List ScopeEntry
 in_class_scopes = ((entry kinds.Module ((symbol (codes "A") symbols.Local 2) ∷ []) 2) ∷ (entry kinds.Class ((symbol (codes "__module__") symbols.Local 2) ∷ (symbol (codes "__qualname__") symbols.Local 2) ∷ (symbol (codes "__doc__") symbols.Local 2) ∷ (symbol (codes "__class__") symbols.Local 2) ∷ (symbol (codes "division") symbols.Local 18) ∷ []) 2) ∷ [])
 
 in_class_refused : emitted in_class Exec (outermost 0 (codes "m.py") in_class_scopes) ≡ Refused error.InvalidFuturePlacement (Some (at 2 5))
-unfolding with_step with_block with_name with_varname with_constant with_loops with_postponed located refuse emit jump begin new_block emit_count emit_name emit_varname emit_mangled add_varname add_constant emit_constant move generating pass_over by_context by_level by_loops in_loop postponing accessed inside with_path within_class child lambda_value emission_of_def emission_of_class load_cell sealed
+unfolding with_step with_block with_name with_varname with_constant with_loops with_postponed located refuse emit jump one_block two_blocks three_blocks put emit_count emit_name emit_varname emit_mangled add_varname add_constant emit_constant move generating pass_over by_context by_level by_loops in_loop postponing accessed inside with_path within_class child lambda_value emission_of_def emission_of_class load_cell sealed
 in_class_refused = refl
 
 in_class_faults : told (compile_faults Exec 0 in_class) ≡ (((codes "from __future__ imports must occur at the beginning of the file"), Some (at 2 5)) ∷ [])
@@ -234,7 +235,7 @@ abbrev second_text_scopes : List ScopeEntry
 second_text_scopes = ((entry kinds.Module ((symbol (codes "division") symbols.Local 18) ∷ []) 1) ∷ [])
 
 second_text_refused : emitted second_text Exec (outermost 0 (codes "m.py") second_text_scopes) ≡ Refused error.InvalidFuturePlacement (Some (at 3 1))
-unfolding with_step with_block with_name with_varname with_constant with_loops with_postponed located refuse emit jump begin new_block emit_count emit_name emit_varname emit_mangled add_varname add_constant emit_constant move generating pass_over by_context by_level by_loops in_loop postponing accessed inside with_path within_class child lambda_value emission_of_def emission_of_class load_cell sealed
+unfolding with_step with_block with_name with_varname with_constant with_loops with_postponed located refuse emit jump one_block two_blocks three_blocks put emit_count emit_name emit_varname emit_mangled add_varname add_constant emit_constant move generating pass_over by_context by_level by_loops in_loop postponing accessed inside with_path within_class child lambda_value emission_of_def emission_of_class load_cell sealed
 second_text_refused = refl
 
 second_text_faults : told (compile_faults Exec 0 second_text) ≡ (((codes "from __future__ imports must occur at the beginning of the file"), Some (at 3 1)) ∷ [])
@@ -249,7 +250,7 @@ abbrev unknown_scopes : List ScopeEntry
 unknown_scopes = ((entry kinds.Module ((symbol (codes "__debug__") symbols.Local 18) ∷ (symbol (codes "a") symbols.Local 18) ∷ (symbol (codes "annotations") symbols.Local 18) ∷ []) 1) ∷ [])
 
 unknown_refused : emitted unknown Exec (outermost 0 (codes "m.py") unknown_scopes) ≡ Refused (error.InvalidFutureFeature (codes "a")) (Some (at 1 1))
-unfolding with_step with_block with_name with_varname with_constant with_loops with_postponed located refuse emit jump begin new_block emit_count emit_name emit_varname emit_mangled add_varname add_constant emit_constant move generating pass_over by_context by_level by_loops in_loop postponing accessed inside with_path within_class child lambda_value emission_of_def emission_of_class load_cell sealed
+unfolding with_step with_block with_name with_varname with_constant with_loops with_postponed located refuse emit jump one_block two_blocks three_blocks put emit_count emit_name emit_varname emit_mangled add_varname add_constant emit_constant move generating pass_over by_context by_level by_loops in_loop postponing accessed inside with_path within_class child lambda_value emission_of_def emission_of_class load_cell sealed
 unknown_refused = refl
 
 unknown_faults : told (compile_faults Exec 0 unknown) ≡ (((codes "future feature a is not defined"), Some (at 1 1)) ∷ ((codes "cannot assign to __debug__"), Some (at 1 1)) ∷ [])
@@ -264,7 +265,7 @@ abbrev stored_scopes : List ScopeEntry
 stored_scopes = ((entry kinds.Module ((symbol (codes "__debug__") symbols.Local 18) ∷ []) 1) ∷ [])
 
 stored_refused : emitted stored Exec (outermost 0 (codes "m.py") stored_scopes) ≡ Refused (error.SyntaxError (codes "cannot assign to __debug__")) (Some (at 1 1))
-unfolding with_step with_block with_name with_varname with_constant with_loops with_postponed located refuse emit jump begin new_block emit_count emit_name emit_varname emit_mangled add_varname add_constant emit_constant move generating pass_over by_context by_level by_loops in_loop postponing accessed inside with_path within_class child lambda_value emission_of_def emission_of_class load_cell sealed
+unfolding with_step with_block with_name with_varname with_constant with_loops with_postponed located refuse emit jump one_block two_blocks three_blocks put emit_count emit_name emit_varname emit_mangled add_varname add_constant emit_constant move generating pass_over by_context by_level by_loops in_loop postponing accessed inside with_path within_class child lambda_value emission_of_def emission_of_class load_cell sealed
 stored_refused = refl
 
 stored_faults : told (compile_faults Exec 0 stored) ≡ (((codes "cannot assign to __debug__"), Some (at 1 1)) ∷ [])
@@ -280,7 +281,7 @@ abbrev assigned_scopes : List ScopeEntry
 assigned_scopes = ((entry kinds.Module ((symbol (codes "x") symbols.Local 2) ∷ (symbol (codes "division") symbols.Local 18) ∷ []) 1) ∷ [])
 
 assigned_refused : emitted assigned Single (outermost 0 (codes "m.py") assigned_scopes) ≡ Refused error.InvalidFuturePlacement (Some (at 2 1))
-unfolding with_step with_block with_name with_varname with_constant with_loops with_postponed located refuse emit jump begin new_block emit_count emit_name emit_varname emit_mangled add_varname add_constant emit_constant move generating pass_over by_context by_level by_loops in_loop postponing accessed inside with_path within_class child lambda_value emission_of_def emission_of_class load_cell sealed
+unfolding with_step with_block with_name with_varname with_constant with_loops with_postponed located refuse emit jump one_block two_blocks three_blocks put emit_count emit_name emit_varname emit_mangled add_varname add_constant emit_constant move generating pass_over by_context by_level by_loops in_loop postponing accessed inside with_path within_class child lambda_value emission_of_def emission_of_class load_cell sealed
 assigned_refused = refl
 
 assigned_faults : told (compile_faults Single 0 assigned) ≡ (((codes "from __future__ imports must occur at the beginning of the file"), Some (at 2 1)) ∷ [])
@@ -296,7 +297,7 @@ abbrev text_before_scopes : List ScopeEntry
 text_before_scopes = ((entry kinds.Module ((symbol (codes "division") symbols.Local 18) ∷ []) 1) ∷ [])
 
 text_before_refused : emitted text_before BlockExpr (outermost 0 (codes "m.py") text_before_scopes) ≡ Refused error.InvalidFuturePlacement (Some (at 2 1))
-unfolding with_step with_block with_name with_varname with_constant with_loops with_postponed located refuse emit jump begin new_block emit_count emit_name emit_varname emit_mangled add_varname add_constant emit_constant move generating pass_over by_context by_level by_loops in_loop postponing accessed inside with_path within_class child lambda_value emission_of_def emission_of_class load_cell sealed
+unfolding with_step with_block with_name with_varname with_constant with_loops with_postponed located refuse emit jump one_block two_blocks three_blocks put emit_count emit_name emit_varname emit_mangled add_varname add_constant emit_constant move generating pass_over by_context by_level by_loops in_loop postponing accessed inside with_path within_class child lambda_value emission_of_def emission_of_class load_cell sealed
 text_before_refused = refl
 
 text_before_faults : told (compile_faults BlockExpr 0 text_before) ≡ (((codes "from __future__ imports must occur at the beginning of the file"), Some (at 2 1)) ∷ [])
@@ -313,7 +314,7 @@ abbrev formatted_scopes : List ScopeEntry
 formatted_scopes = ((entry kinds.Module ((symbol (codes "annotations") symbols.Local 18) ∷ (symbol (codes "f") symbols.Local 2) ∷ []) 2) ∷ (entry kinds.Function ((symbol (codes "a") symbols.Local 12) ∷ (symbol (codes "c") symbols.Local 12) ∷ []) 2) ∷ [])
 
 formatted_refused : emitted formatted Exec (outermost 0 (codes "m.py") formatted_scopes) ≡ Refused error.NotImplementedYet (Some (at 3 12))
-unfolding with_step with_block with_name with_varname with_constant with_loops with_postponed located refuse emit jump begin new_block emit_count emit_name emit_varname emit_mangled add_varname add_constant emit_constant move generating pass_over by_context by_level by_loops in_loop postponing accessed inside with_path within_class child lambda_value emission_of_def emission_of_class load_cell sealed
+unfolding with_step with_block with_name with_varname with_constant with_loops with_postponed located refuse emit jump one_block two_blocks three_blocks put emit_count emit_name emit_varname emit_mangled add_varname add_constant emit_constant move generating pass_over by_context by_level by_loops in_loop postponing accessed inside with_path within_class child lambda_value emission_of_def emission_of_class load_cell sealed
 formatted_refused = refl
 
 formatted_faults : told (compile_faults Exec 0 formatted) ≡ (((codes "RustPython does not implement this feature yet"), Some (at 3 12)) ∷ ((codes "RustPython does not implement this feature yet"), Some (at 3 12)) ∷ [])
@@ -329,7 +330,7 @@ abbrev formatted_name_scopes : List ScopeEntry
 formatted_name_scopes = ((entry kinds.Module ((symbol (codes "annotations") symbols.Local 18) ∷ (symbol (codes "y") symbols.Unknown 1) ∷ (symbol (codes "x") symbols.Local 10) ∷ []) 1) ∷ [])
 
 formatted_name_refused : emitted formatted_name Exec (outermost 0 (codes "m.py") formatted_name_scopes) ≡ Refused error.NotImplementedYet (Some (at 2 13))
-unfolding with_step with_block with_name with_varname with_constant with_loops with_postponed located refuse emit jump begin new_block emit_count emit_name emit_varname emit_mangled add_varname add_constant emit_constant move generating pass_over by_context by_level by_loops in_loop postponing accessed inside with_path within_class child lambda_value emission_of_def emission_of_class load_cell sealed
+unfolding with_step with_block with_name with_varname with_constant with_loops with_postponed located refuse emit jump one_block two_blocks three_blocks put emit_count emit_name emit_varname emit_mangled add_varname add_constant emit_constant move generating pass_over by_context by_level by_loops in_loop postponing accessed inside with_path within_class child lambda_value emission_of_def emission_of_class load_cell sealed
 formatted_name_refused = refl
 
 formatted_name_faults : told (compile_faults Exec 0 formatted_name) ≡ (((codes "RustPython does not implement this feature yet"), Some (at 2 13)) ∷ [])

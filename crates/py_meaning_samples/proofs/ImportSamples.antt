@@ -13,7 +13,8 @@ use Rattle.py_base.specs.declared.errors.CodegenErrorType.TheVariants as error
 use Rattle.py_emission_parts.specs.Accesses.{accessed}
 use Rattle.py_emission_parts.specs.Children.{child, load_cell}
 use Rattle.py_emission_parts.specs.Context.{inside, outermost, with_path}
-use Rattle.py_emission_parts.specs.Emitting.{Refused, with_step, with_block, with_name, with_varname, with_constant, with_loops, located, refuse, emit, jump, begin, new_block, emit_count, emit_name, emit_varname, emit_mangled, add_varname, add_constant, emit_constant, move, generating, pass_over, by_context, by_level, by_loops, in_loop}
+use Rattle.py_emission_parts.specs.Emitting.{Refused, with_step, with_block, with_name, with_varname, with_constant, with_loops, located, refuse, emit, jump, emit_count, emit_name, emit_varname, emit_mangled, add_varname, add_constant, emit_constant, move, generating, pass_over, by_context, by_level, by_loops, in_loop, one_block, two_blocks, three_blocks}
+use Rattle.py_emission_parts.specs.Running.{put}
 use Rattle.py_emission_parts.specs.Sealed.{sealed}
 use Rattle.py_emission.specs.Emission.{lambda_value}
 use Rattle.py_emission.specs.EmissionDefs.{emission_of_def}
@@ -39,7 +40,7 @@ abbrev modules_object : Object
 modules_object = (sealed_as 2 None 1 0 0 0 1 (codes "<module>") ((unit op.LoadConst 0) ∷ (unit op.LoadConst 1) ∷ (unit op.ImportName 0) ∷ (unit op.StoreLocal 0) ∷ (unit op.LoadConst 0) ∷ (unit op.LoadConst 1) ∷ (unit op.ImportName 1) ∷ (unit op.StoreLocal 2) ∷ (unit op.LoadConst 0) ∷ (unit op.LoadConst 1) ∷ (unit op.ImportName 3) ∷ (unit op.LoadAttr 4) ∷ (unit op.LoadAttr 5) ∷ (unit op.StoreLocal 6) ∷ (unit op.LoadConst 0) ∷ (unit op.LoadConst 1) ∷ (unit op.ImportName 7) ∷ (unit op.StoreLocal 8) ∷ (unit op.LoadConst 0) ∷ (unit op.LoadConst 1) ∷ (unit op.ImportName 9) ∷ (unit op.StoreLocal 2) ∷ (unit op.ReturnConst 1) ∷ []) ((at 1 1) ∷ (at 1 1) ∷ (at 1 1) ∷ (at 1 1) ∷ (at 1 1) ∷ (at 1 1) ∷ (at 1 1) ∷ (at 1 1) ∷ (at 1 1) ∷ (at 1 1) ∷ (at 1 1) ∷ (at 1 1) ∷ (at 1 1) ∷ (at 1 1) ∷ (at 1 1) ∷ (at 1 1) ∷ (at 1 1) ∷ (at 1 1) ∷ (at 2 1) ∷ (at 2 1) ∷ (at 2 1) ∷ (at 2 1) ∷ (at 2 1) ∷ []) ((codes "a") ∷ (codes "b.c") ∷ (codes "b") ∷ (codes "d.e.f") ∷ (codes "e") ∷ (codes "f") ∷ (codes "g") ∷ (codes "h") ∷ (codes "i") ∷ (codes "b.x") ∷ []) [] [] [] ((const.integer (pos 0)) ∷ const.none ∷ []))
 
 modules_emitted : object_emitted modules_scopes modules 0 ≡ Some (modules_object, length modules_scopes)
-unfolding with_step with_block with_name with_varname with_constant with_loops located refuse emit jump begin new_block emit_count emit_name emit_varname emit_mangled add_varname add_constant emit_constant move generating pass_over by_context by_level by_loops in_loop accessed inside with_path child lambda_value emission_of_def load_cell sealed
+unfolding with_step with_block with_name with_varname with_constant with_loops located refuse emit jump one_block two_blocks three_blocks put emit_count emit_name emit_varname emit_mangled add_varname add_constant emit_constant move generating pass_over by_context by_level by_loops in_loop accessed inside with_path child lambda_value emission_of_def load_cell sealed
 modules_emitted = refl
 
 modules_forms : codes_of_object 9 modules_object ≡ codes_of_scope 9 (body modules_scopes modules Exec 0)
@@ -64,7 +65,7 @@ abbrev names_object : Object
 names_object = (sealed_as 2 None 1 0 0 0 1 (codes "<module>") ((unit op.LoadConst 0) ∷ (unit op.LoadConst 1) ∷ (unit op.ImportName 0) ∷ (unit op.ImportFrom 1) ∷ (unit op.StoreLocal 1) ∷ (unit op.ImportFrom 2) ∷ (unit op.StoreLocal 3) ∷ (unit op.Pop 0) ∷ (unit op.LoadConst 2) ∷ (unit op.LoadConst 3) ∷ (unit op.ImportNameless 0) ∷ (unit op.ImportFrom 4) ∷ (unit op.StoreLocal 4) ∷ (unit op.Pop 0) ∷ (unit op.LoadConst 4) ∷ (unit op.LoadConst 5) ∷ (unit op.ImportName 5) ∷ (unit op.ImportFrom 6) ∷ (unit op.StoreLocal 6) ∷ (unit op.Pop 0) ∷ (unit op.LoadConst 0) ∷ (unit op.LoadConst 6) ∷ (unit op.ImportName 7) ∷ (unit op.ImportStar 0) ∷ (unit op.ReturnConst 7) ∷ []) ((at 1 1) ∷ (at 1 1) ∷ (at 1 1) ∷ (at 1 1) ∷ (at 1 1) ∷ (at 1 1) ∷ (at 1 1) ∷ (at 1 1) ∷ (at 2 1) ∷ (at 2 1) ∷ (at 2 1) ∷ (at 2 1) ∷ (at 2 1) ∷ (at 2 1) ∷ (at 3 1) ∷ (at 3 1) ∷ (at 3 1) ∷ (at 3 1) ∷ (at 3 1) ∷ (at 3 1) ∷ (at 4 1) ∷ (at 4 1) ∷ (at 4 1) ∷ (at 4 1) ∷ (at 4 1) ∷ []) ((codes "a.b") ∷ (codes "c") ∷ (codes "d") ∷ (codes "e") ∷ (codes "x") ∷ (codes "y") ∷ (codes "z") ∷ (codes "a") ∷ []) [] [] [] ((const.integer (pos 0)) ∷ (const.tuple (const.more_consts (const.str (codes "c")) (const.more_consts (const.str (codes "d")) const.no_consts))) ∷ (const.integer (pos 1)) ∷ (const.tuple (const.more_consts (const.str (codes "x")) const.no_consts)) ∷ (const.integer (pos 2)) ∷ (const.tuple (const.more_consts (const.str (codes "z")) const.no_consts)) ∷ (const.tuple (const.more_consts (const.str (codes "*")) const.no_consts)) ∷ const.none ∷ []))
 
 names_emitted : object_emitted names_scopes names 0 ≡ Some (names_object, length names_scopes)
-unfolding with_step with_block with_name with_varname with_constant with_loops located refuse emit jump begin new_block emit_count emit_name emit_varname emit_mangled add_varname add_constant emit_constant move generating pass_over by_context by_level by_loops in_loop accessed inside with_path child lambda_value emission_of_def load_cell sealed
+unfolding with_step with_block with_name with_varname with_constant with_loops located refuse emit jump one_block two_blocks three_blocks put emit_count emit_name emit_varname emit_mangled add_varname add_constant emit_constant move generating pass_over by_context by_level by_loops in_loop accessed inside with_path child lambda_value emission_of_def load_cell sealed
 names_emitted = refl
 
 names_forms : codes_of_object 9 names_object ≡ codes_of_scope 9 (body names_scopes names Exec 0)
@@ -91,7 +92,7 @@ abbrev within_object : Object
 within_object = (sealed_as 2 None 1 0 0 0 1 (codes "<module>") ((unit op.LoadConst 0) ∷ (unit op.LoadConst 1) ∷ (unit op.MakeFunction 0) ∷ (unit op.StoreLocal 0) ∷ (unit op.ReturnConst 2) ∷ []) ((at 6 24) ∷ (at 6 24) ∷ (at 6 24) ∷ (at 6 24) ∷ (at 6 24) ∷ []) ((codes "f") ∷ []) [] [] [] ((const.code (sealed_as 3 None 33 0 0 0 1 (codes "f") ((unit op.LoadConst 1) ∷ (unit op.LoadConst 0) ∷ (unit op.ImportName 0) ∷ (unit op.StoreDeref 0) ∷ (unit op.LoadConst 1) ∷ (unit op.LoadConst 0) ∷ (unit op.ImportName 1) ∷ (unit op.StoreGlobal 2) ∷ (unit op.LoadConst 1) ∷ (unit op.LoadConst 2) ∷ (unit op.ImportName 3) ∷ (unit op.ImportFrom 4) ∷ (unit op.StoreDeref 1) ∷ (unit op.ImportFrom 5) ∷ (unit op.StoreFast 0) ∷ (unit op.Pop 0) ∷ (unit op.LoadClosure 1) ∷ (unit op.LoadClosure 0) ∷ (unit op.BuildTuple 2) ∷ (unit op.LoadConst 3) ∷ (unit op.LoadConst 4) ∷ (unit op.MakeFunction 1) ∷ (unit op.ReturnValue 0) ∷ []) ((at 3 5) ∷ (at 3 5) ∷ (at 3 5) ∷ (at 3 5) ∷ (at 4 5) ∷ (at 4 5) ∷ (at 4 5) ∷ (at 4 5) ∷ (at 5 5) ∷ (at 5 5) ∷ (at 5 5) ∷ (at 5 5) ∷ (at 5 5) ∷ (at 5 5) ∷ (at 5 5) ∷ (at 5 5) ∷ (at 6 24) ∷ (at 6 24) ∷ (at 6 24) ∷ (at 6 24) ∷ (at 6 24) ∷ (at 6 24) ∷ (at 6 24) ∷ []) ((codes "a.b") ∷ (codes "c") ∷ (codes "g") ∷ (codes "m") ∷ (codes "x") ∷ (codes "z") ∷ []) ((codes "z") ∷ []) ((codes "a") ∷ (codes "y") ∷ []) [] (const.none ∷ (const.integer (pos 0)) ∷ (const.tuple (const.more_consts (const.str (codes "x")) (const.more_consts (const.str (codes "z")) const.no_consts))) ∷ (const.code (sealed_as 2 None 33 0 0 0 6 (codes "<lambda>") ((unit op.LoadDeref 0) ∷ (unit op.LoadDeref 1) ∷ (unit op.BuildTuple 2) ∷ (unit op.ReturnValue 0) ∷ []) ((at 6 21) ∷ (at 6 24) ∷ (at 6 24) ∷ (at 6 24) ∷ []) [] [] [] ((codes "y") ∷ (codes "a") ∷ []) (const.none ∷ []))) ∷ (const.str (codes "<lambda>")) ∷ []))) ∷ (const.str (codes "f")) ∷ const.none ∷ []))
 
 within_emitted : object_emitted within_scopes within 0 ≡ Some (within_object, length within_scopes)
-unfolding with_step with_block with_name with_varname with_constant with_loops located refuse emit jump begin new_block emit_count emit_name emit_varname emit_mangled add_varname add_constant emit_constant move generating pass_over by_context by_level by_loops in_loop accessed inside with_path child lambda_value emission_of_def load_cell sealed
+unfolding with_step with_block with_name with_varname with_constant with_loops located refuse emit jump one_block two_blocks three_blocks put emit_count emit_name emit_varname emit_mangled add_varname add_constant emit_constant move generating pass_over by_context by_level by_loops in_loop accessed inside with_path child lambda_value emission_of_def load_cell sealed
 within_emitted = refl
 
 within_forms : codes_of_object 9 within_object ≡ codes_of_scope 9 (body within_scopes within Exec 0)
@@ -113,7 +114,7 @@ abbrev all_and_more_object : Object
 all_and_more_object = (sealed_as 2 None 1 0 0 0 1 (codes "<module>") ((unit op.LoadConst 0) ∷ (unit op.LoadConst 1) ∷ (unit op.ImportName 0) ∷ (unit op.ImportStar 0) ∷ (unit op.ReturnConst 2) ∷ []) ((at 1 1) ∷ (at 1 1) ∷ (at 1 1) ∷ (at 1 1) ∷ (at 1 1) ∷ []) ((codes "m") ∷ []) [] [] [] ((const.integer (pos 0)) ∷ (const.tuple (const.more_consts (const.str (codes "*")) const.no_consts)) ∷ const.none ∷ []))
 
 all_and_more_emitted : object_emitted all_and_more_scopes all_and_more 0 ≡ Some (all_and_more_object, length all_and_more_scopes)
-unfolding with_step with_block with_name with_varname with_constant with_loops located refuse emit jump begin new_block emit_count emit_name emit_varname emit_mangled add_varname add_constant emit_constant move generating pass_over by_context by_level by_loops in_loop accessed inside with_path child lambda_value emission_of_def load_cell sealed
+unfolding with_step with_block with_name with_varname with_constant with_loops located refuse emit jump one_block two_blocks three_blocks put emit_count emit_name emit_varname emit_mangled add_varname add_constant emit_constant move generating pass_over by_context by_level by_loops in_loop accessed inside with_path child lambda_value emission_of_def load_cell sealed
 all_and_more_emitted = refl
 
 all_and_more_forms : codes_of_object 9 all_and_more_object ≡ codes_of_scope 9 (body all_and_more_scopes all_and_more Exec 0)
@@ -134,7 +135,7 @@ abbrev no_names_object : Object
 no_names_object = (sealed_as 2 None 1 0 0 0 1 (codes "<module>") ((unit op.LoadConst 0) ∷ (unit op.LoadConst 1) ∷ (unit op.ImportName 0) ∷ (unit op.Pop 0) ∷ (unit op.ReturnConst 2) ∷ []) ((at 2 1) ∷ (at 2 1) ∷ (at 2 1) ∷ (at 2 1) ∷ (at 2 1) ∷ []) ((codes "m") ∷ []) [] [] [] ((const.integer (pos 0)) ∷ (const.tuple const.no_consts) ∷ const.none ∷ []))
 
 no_names_emitted : object_emitted no_names_scopes no_names 0 ≡ Some (no_names_object, length no_names_scopes)
-unfolding with_step with_block with_name with_varname with_constant with_loops located refuse emit jump begin new_block emit_count emit_name emit_varname emit_mangled add_varname add_constant emit_constant move generating pass_over by_context by_level by_loops in_loop accessed inside with_path child lambda_value emission_of_def load_cell sealed
+unfolding with_step with_block with_name with_varname with_constant with_loops located refuse emit jump one_block two_blocks three_blocks put emit_count emit_name emit_varname emit_mangled add_varname add_constant emit_constant move generating pass_over by_context by_level by_loops in_loop accessed inside with_path child lambda_value emission_of_def load_cell sealed
 no_names_emitted = refl
 
 no_names_forms : codes_of_object 9 no_names_object ≡ codes_of_scope 9 (body no_names_scopes no_names Exec 0)
@@ -156,7 +157,7 @@ abbrev star_in_function_scopes : List ScopeEntry
 star_in_function_scopes = ((entry kinds.Module ((symbol (codes "f") symbols.Local 2) ∷ []) 2) ∷ (entry kinds.Function ((symbol (codes "x") symbols.GlobalImplicit 1) ∷ (symbol (codes "a") symbols.Local 18) ∷ (symbol (codes "*") symbols.Local 18) ∷ []) 2) ∷ [])
 
 star_in_function_refused : emitted star_in_function Exec (outermost 0 (codes "m.py") star_in_function_scopes) ≡ Refused error.FunctionImportStar (Some (at 3 5))
-unfolding with_step with_block with_name with_varname with_constant with_loops located refuse emit jump begin new_block emit_count emit_name emit_varname emit_mangled add_varname add_constant emit_constant move generating pass_over by_context by_level by_loops in_loop accessed inside with_path child lambda_value emission_of_def load_cell sealed
+unfolding with_step with_block with_name with_varname with_constant with_loops located refuse emit jump one_block two_blocks three_blocks put emit_count emit_name emit_varname emit_mangled add_varname add_constant emit_constant move generating pass_over by_context by_level by_loops in_loop accessed inside with_path child lambda_value emission_of_def load_cell sealed
 star_in_function_refused = refl
 
 star_in_function_faults : told (compile_faults Exec 0 star_in_function) ≡ (((codes "import * only allowed at module level"), Some (at 3 5)) ∷ ((codes "import * only allowed at module level"), Some (at 4 5)) ∷ [])
@@ -172,7 +173,7 @@ abbrev first_segment_scopes : List ScopeEntry
 first_segment_scopes = ((entry kinds.Module ((symbol (codes "b") symbols.Local 18) ∷ (symbol (codes "__debug__") symbols.Local 18) ∷ (symbol (codes "f") symbols.Local 18) ∷ (symbol (codes "g") symbols.Local 18) ∷ []) 1) ∷ [])
 
 first_segment_refused : emitted first_segment Exec (outermost 0 (codes "m.py") first_segment_scopes) ≡ Refused (error.SyntaxError (codes "cannot assign to __debug__")) (Some (at 1 1))
-unfolding with_step with_block with_name with_varname with_constant with_loops located refuse emit jump begin new_block emit_count emit_name emit_varname emit_mangled add_varname add_constant emit_constant move generating pass_over by_context by_level by_loops in_loop accessed inside with_path child lambda_value emission_of_def load_cell sealed
+unfolding with_step with_block with_name with_varname with_constant with_loops located refuse emit jump one_block two_blocks three_blocks put emit_count emit_name emit_varname emit_mangled add_varname add_constant emit_constant move generating pass_over by_context by_level by_loops in_loop accessed inside with_path child lambda_value emission_of_def load_cell sealed
 first_segment_refused = refl
 
 first_segment_faults : told (compile_faults Exec 0 first_segment) ≡ (((codes "cannot assign to __debug__"), Some (at 1 1)) ∷ ((codes "cannot assign to __debug__"), Some (at 1 1)) ∷ [])
@@ -187,7 +188,7 @@ abbrev taken_scopes : List ScopeEntry
 taken_scopes = ((entry kinds.Module ((symbol (codes "a") symbols.Local 18) ∷ (symbol (codes "__debug__") symbols.Local 18) ∷ []) 1) ∷ [])
 
 taken_refused : emitted taken Exec (outermost 0 (codes "m.py") taken_scopes) ≡ Refused (error.SyntaxError (codes "cannot assign to __debug__")) (Some (at 1 1))
-unfolding with_step with_block with_name with_varname with_constant with_loops located refuse emit jump begin new_block emit_count emit_name emit_varname emit_mangled add_varname add_constant emit_constant move generating pass_over by_context by_level by_loops in_loop accessed inside with_path child lambda_value emission_of_def load_cell sealed
+unfolding with_step with_block with_name with_varname with_constant with_loops located refuse emit jump one_block two_blocks three_blocks put emit_count emit_name emit_varname emit_mangled add_varname add_constant emit_constant move generating pass_over by_context by_level by_loops in_loop accessed inside with_path child lambda_value emission_of_def load_cell sealed
 taken_refused = refl
 
 taken_faults : told (compile_faults Exec 0 taken) ≡ (((codes "cannot assign to __debug__"), Some (at 1 1)) ∷ ((codes "cannot assign to __debug__"), Some (at 1 1)) ∷ [])

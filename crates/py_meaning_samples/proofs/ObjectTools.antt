@@ -19,7 +19,7 @@ use Rattle.py_control.specs.CodeRuns.{instrs, place_of}
 use Rattle.py_control.specs.Code.{Item, body_code}
 use Rattle.py_control.specs.Form.{Scope}
 use Rattle.py_control.specs.Places.{instr_over}
-use Rattle.py_emission_parts.specs.Children.{code_head}
+use Rattle.py_emission_parts.specs.Running.{code_head}
 use Rattle.py_emission_parts.specs.Within.{Shape}
 use Rattle.py_emission_parts.specs.Context.{Context, outermost}
 use Rattle.py_emission_parts.specs.Emitting.{Outcome, Done, TooWide, Refused}

@@ -8,7 +8,8 @@ use Rattle.py_bytecode.specs.declared.instruction.Instruction.TheVariants as op
 use Rattle.py_bytecode.specs.Objects as const
 use Rattle.py_bytecode.specs.Values.{Constant, Given, Gives, Raised, Event, Operates, Accesses, Unsaid, Load, Bare, Number, operation, ran, It, Returned, RaisedOut}
 use Rattle.py_base.specs.declared.errors.CodegenErrorType.TheVariants as error
-use Rattle.py_emission_parts.specs.Emitting.{Refused, with_step, with_block, with_name, with_constant, with_loops, located, refuse, emit, jump, begin, new_block, emit_count, emit_name, emit_mangled, emit_constant, move, by_context, by_level, by_loops, in_loop}
+use Rattle.py_emission_parts.specs.Emitting.{Refused, with_step, with_block, with_name, with_constant, with_loops, located, refuse, emit, jump, emit_count, emit_name, emit_mangled, emit_constant, move, by_context, by_level, by_loops, in_loop, one_block, two_blocks, three_blocks}
+use Rattle.py_emission_parts.specs.Running.{put}
 use Rattle.py_emission_parts.specs.Accesses.{accessed}
 use Rattle.py_emission_parts.specs.Context.{inside}
 use Rattle.py_control.specs.Form.{Scope}
@@ -25,7 +26,7 @@ abbrev spread_first : tree.Mod
 spread_first = (tree.Module (tree.more_stmts (tree.StmtExpr (at 1 1) (tree.Dict (at 1 1) (tree.more_opts tree.no_expr (tree.more_opts (tree.some_expr (tree.Constant (at 1 7) (literal.Str (codes "x")))) tree.no_opts)) (tree.more_exprs (tree.Name (at 1 4) (codes "a")) (tree.more_exprs (tree.Constant (at 1 12) (literal.Int (pos 1))) tree.no_exprs)))) tree.no_stmts))
 
 spread_first_emitted : lines_in (emitted spread_first Exec (unscoped 0)) ≡ (told_as ((line op.BuildMap 0 1 1) ∷ (line op.LoadNameAny 0 1 4) ∷ (line op.DictUpdate 0 1 4) ∷ (line op.LoadConst 0 1 7) ∷ (line op.LoadConst 1 1 12) ∷ (line op.BuildMap 1 1 12) ∷ (line op.DictUpdate 0 1 12) ∷ (line op.Pop 0 1 12) ∷ (line op.ReturnConst 2 1 12) ∷ []) ((codes "a") ∷ []) ((const.str (codes "x")) ∷ (const.integer (pos 1)) ∷ const.none ∷ []))
-unfolding with_step with_block with_name with_constant with_loops located refuse emit jump begin new_block emit_count emit_name emit_mangled emit_constant move by_context by_level by_loops in_loop accessed inside
+unfolding with_step with_block with_name with_constant with_loops located refuse emit jump one_block two_blocks three_blocks put emit_count emit_name emit_mangled emit_constant move by_context by_level by_loops in_loop accessed inside
 spread_first_emitted = refl
 
 spread_first_given : meaning (body [] spread_first Exec 0) (Gives 1 ∷ Gives 1 ∷ Gives 1 ∷ Gives 1 ∷ Gives 1 ∷ []) ≡ ran (Operates (operation op.BuildMap (Number 0)) [] ∷ loads (codes "a") ∷ Operates (operation op.DictUpdate Bare) (Given 0 0 ∷ Given 1 0 ∷ []) ∷ Operates (operation op.BuildMap (Number 1)) (Constant (const.str (codes "x")) ∷ Constant (const.integer (pos 1)) ∷ []) ∷ Operates (operation op.DictUpdate Bare) (Given 2 0 ∷ Given 3 0 ∷ []) ∷ []) (Returned (It (Constant const.none)))
@@ -37,7 +38,7 @@ abbrev spread_between : tree.Mod
 spread_between = (tree.Module (tree.more_stmts (tree.StmtExpr (at 1 1) (tree.Dict (at 1 1) (tree.more_opts (tree.some_expr (tree.Name (at 1 2) (codes "a"))) (tree.more_opts tree.no_expr (tree.more_opts tree.no_expr (tree.more_opts (tree.some_expr (tree.Name (at 1 18) (codes "e"))) (tree.more_opts (tree.some_expr (tree.Name (at 1 24) (codes "g"))) tree.no_opts))))) (tree.more_exprs (tree.Name (at 1 5) (codes "b")) (tree.more_exprs (tree.Name (at 1 10) (codes "c")) (tree.more_exprs (tree.Name (at 1 15) (codes "d")) (tree.more_exprs (tree.Name (at 1 21) (codes "f")) (tree.more_exprs (tree.Name (at 1 27) (codes "h")) tree.no_exprs))))))) tree.no_stmts))
 
 spread_between_emitted : lines_in (emitted spread_between Exec (unscoped 0)) ≡ (told_as ((line op.LoadNameAny 0 1 2) ∷ (line op.LoadNameAny 1 1 5) ∷ (line op.BuildMap 1 1 5) ∷ (line op.LoadNameAny 2 1 10) ∷ (line op.DictUpdate 0 1 10) ∷ (line op.LoadNameAny 3 1 15) ∷ (line op.DictUpdate 0 1 15) ∷ (line op.LoadNameAny 4 1 18) ∷ (line op.LoadNameAny 5 1 21) ∷ (line op.LoadNameAny 6 1 24) ∷ (line op.LoadNameAny 7 1 27) ∷ (line op.BuildMap 2 1 27) ∷ (line op.DictUpdate 0 1 27) ∷ (line op.Pop 0 1 27) ∷ (line op.ReturnConst 0 1 27) ∷ []) ((codes "a") ∷ (codes "b") ∷ (codes "c") ∷ (codes "d") ∷ (codes "e") ∷ (codes "f") ∷ (codes "g") ∷ (codes "h") ∷ []) (const.none ∷ []))
-unfolding with_step with_block with_name with_constant with_loops located refuse emit jump begin new_block emit_count emit_name emit_mangled emit_constant move by_context by_level by_loops in_loop accessed inside
+unfolding with_step with_block with_name with_constant with_loops located refuse emit jump one_block two_blocks three_blocks put emit_count emit_name emit_mangled emit_constant move by_context by_level by_loops in_loop accessed inside
 spread_between_emitted = refl
 
 spread_between_given : meaning (body [] spread_between Exec 0) (Gives 1 ∷ Gives 1 ∷ Gives 1 ∷ Gives 1 ∷ Gives 1 ∷ Gives 1 ∷ Gives 1 ∷ Gives 1 ∷ Gives 1 ∷ Gives 1 ∷ Gives 1 ∷ Gives 1 ∷ Gives 1 ∷ []) ≡ ran (loads (codes "a") ∷ loads (codes "b") ∷ Operates (operation op.BuildMap (Number 1)) (Given 0 0 ∷ Given 1 0 ∷ []) ∷ loads (codes "c") ∷ Operates (operation op.DictUpdate Bare) (Given 2 0 ∷ Given 3 0 ∷ []) ∷ loads (codes "d") ∷ Operates (operation op.DictUpdate Bare) (Given 4 0 ∷ Given 5 0 ∷ []) ∷ loads (codes "e") ∷ loads (codes "f") ∷ loads (codes "g") ∷ loads (codes "h") ∷ Operates (operation op.BuildMap (Number 2)) (Given 7 0 ∷ Given 8 0 ∷ Given 9 0 ∷ Given 10 0 ∷ []) ∷ Operates (operation op.DictUpdate Bare) (Given 6 0 ∷ Given 11 0 ∷ []) ∷ []) (Returned (It (Constant const.none)))
@@ -53,7 +54,7 @@ abbrev spread_last : tree.Mod
 spread_last = (tree.Module (tree.more_stmts (tree.StmtExpr (at 1 1) (tree.Dict (at 1 1) (tree.more_opts (tree.some_expr (tree.Name (at 1 2) (codes "a"))) (tree.more_opts tree.no_expr tree.no_opts)) (tree.more_exprs (tree.Name (at 1 5) (codes "b")) (tree.more_exprs (tree.Name (at 1 10) (codes "c")) tree.no_exprs)))) tree.no_stmts))
 
 spread_last_emitted : lines_in (emitted spread_last Exec (unscoped 0)) ≡ (told_as ((line op.LoadNameAny 0 1 2) ∷ (line op.LoadNameAny 1 1 5) ∷ (line op.BuildMap 1 1 5) ∷ (line op.LoadNameAny 2 1 10) ∷ (line op.DictUpdate 0 1 10) ∷ (line op.Pop 0 1 10) ∷ (line op.ReturnConst 0 1 10) ∷ []) ((codes "a") ∷ (codes "b") ∷ (codes "c") ∷ []) (const.none ∷ []))
-unfolding with_step with_block with_name with_constant with_loops located refuse emit jump begin new_block emit_count emit_name emit_mangled emit_constant move by_context by_level by_loops in_loop accessed inside
+unfolding with_step with_block with_name with_constant with_loops located refuse emit jump one_block two_blocks three_blocks put emit_count emit_name emit_mangled emit_constant move by_context by_level by_loops in_loop accessed inside
 spread_last_emitted = refl
 
 spread_last_given : meaning (body [] spread_last Exec 0) (Gives 1 ∷ Gives 1 ∷ Gives 1 ∷ Gives 1 ∷ Gives 1 ∷ []) ≡ ran (loads (codes "a") ∷ loads (codes "b") ∷ Operates (operation op.BuildMap (Number 1)) (Given 0 0 ∷ Given 1 0 ∷ []) ∷ loads (codes "c") ∷ Operates (operation op.DictUpdate Bare) (Given 2 0 ∷ Given 3 0 ∷ []) ∷ []) (Returned (It (Constant const.none)))
@@ -65,7 +66,7 @@ abbrev no_pair : tree.Mod
 no_pair = (tree.Module (tree.more_stmts (tree.StmtExpr (at 1 1) (tree.Dict (at 1 1) (tree.more_opts tree.no_expr tree.no_opts) (tree.more_exprs (tree.Name (at 1 4) (codes "a")) tree.no_exprs))) tree.no_stmts))
 
 no_pair_emitted : lines_in (emitted no_pair Exec (unscoped 0)) ≡ (told_as ((line op.BuildMap 0 1 1) ∷ (line op.LoadNameAny 0 1 4) ∷ (line op.DictUpdate 0 1 4) ∷ (line op.Pop 0 1 4) ∷ (line op.ReturnConst 0 1 4) ∷ []) ((codes "a") ∷ []) (const.none ∷ []))
-unfolding with_step with_block with_name with_constant with_loops located refuse emit jump begin new_block emit_count emit_name emit_mangled emit_constant move by_context by_level by_loops in_loop accessed inside
+unfolding with_step with_block with_name with_constant with_loops located refuse emit jump one_block two_blocks three_blocks put emit_count emit_name emit_mangled emit_constant move by_context by_level by_loops in_loop accessed inside
 no_pair_emitted = refl
 
 no_pair_given : meaning (body [] no_pair Exec 0) (Gives 1 ∷ Gives 1 ∷ Gives 1 ∷ []) ≡ ran (Operates (operation op.BuildMap (Number 0)) [] ∷ loads (codes "a") ∷ Operates (operation op.DictUpdate Bare) (Given 0 0 ∷ Given 1 0 ∷ []) ∷ []) (Returned (It (Constant const.none)))
@@ -77,7 +78,7 @@ abbrev within : tree.Mod
 within = (tree.Module (tree.more_stmts (tree.StmtExpr (at 1 1) (tree.Dict (at 1 1) (tree.more_opts tree.no_expr (tree.more_opts (tree.some_expr (tree.Name (at 1 17) (codes "d"))) (tree.more_opts tree.no_expr tree.no_opts))) (tree.more_exprs (tree.Dict (at 1 4) (tree.more_opts tree.no_expr (tree.more_opts (tree.some_expr (tree.Name (at 1 10) (codes "b"))) tree.no_opts)) (tree.more_exprs (tree.Name (at 1 7) (codes "a")) (tree.more_exprs (tree.Name (at 1 13) (codes "c")) tree.no_exprs))) (tree.more_exprs (tree.Dict (at 1 20) (tree.more_opts (tree.some_expr (tree.Name (at 1 21) (codes "e"))) tree.no_opts) (tree.more_exprs (tree.Name (at 1 24) (codes "f")) tree.no_exprs)) (tree.more_exprs (tree.Name (at 1 30) (codes "g")) tree.no_exprs))))) tree.no_stmts))
 
 within_emitted : lines_in (emitted within Exec (unscoped 0)) ≡ (told_as ((line op.BuildMap 0 1 1) ∷ (line op.BuildMap 0 1 4) ∷ (line op.LoadNameAny 0 1 7) ∷ (line op.DictUpdate 0 1 7) ∷ (line op.LoadNameAny 1 1 10) ∷ (line op.LoadNameAny 2 1 13) ∷ (line op.BuildMap 1 1 13) ∷ (line op.DictUpdate 0 1 13) ∷ (line op.DictUpdate 0 1 13) ∷ (line op.LoadNameAny 3 1 17) ∷ (line op.LoadNameAny 4 1 21) ∷ (line op.LoadNameAny 5 1 24) ∷ (line op.BuildMap 1 1 24) ∷ (line op.BuildMap 1 1 24) ∷ (line op.DictUpdate 0 1 24) ∷ (line op.LoadNameAny 6 1 30) ∷ (line op.DictUpdate 0 1 30) ∷ (line op.Pop 0 1 30) ∷ (line op.ReturnConst 0 1 30) ∷ []) ((codes "a") ∷ (codes "b") ∷ (codes "c") ∷ (codes "d") ∷ (codes "e") ∷ (codes "f") ∷ (codes "g") ∷ []) (const.none ∷ []))
-unfolding with_step with_block with_name with_constant with_loops located refuse emit jump begin new_block emit_count emit_name emit_mangled emit_constant move by_context by_level by_loops in_loop accessed inside
+unfolding with_step with_block with_name with_constant with_loops located refuse emit jump one_block two_blocks three_blocks put emit_count emit_name emit_mangled emit_constant move by_context by_level by_loops in_loop accessed inside
 within_emitted = refl
 
 within_given : meaning (body [] within Exec 0) (Gives 1 ∷ Gives 1 ∷ Gives 1 ∷ Gives 1 ∷ Gives 1 ∷ Gives 1 ∷ Gives 1 ∷ Gives 1 ∷ Gives 1 ∷ Gives 1 ∷ Gives 1 ∷ Gives 1 ∷ Gives 1 ∷ Gives 1 ∷ Gives 1 ∷ Gives 1 ∷ Gives 1 ∷ []) ≡ ran (Operates (operation op.BuildMap (Number 0)) [] ∷ Operates (operation op.BuildMap (Number 0)) [] ∷ loads (codes "a") ∷ Operates (operation op.DictUpdate Bare) (Given 1 0 ∷ Given 2 0 ∷ []) ∷ loads (codes "b") ∷ loads (codes "c") ∷ Operates (operation op.BuildMap (Number 1)) (Given 4 0 ∷ Given 5 0 ∷ []) ∷ Operates (operation op.DictUpdate Bare) (Given 3 0 ∷ Given 6 0 ∷ []) ∷ Operates (operation op.DictUpdate Bare) (Given 0 0 ∷ Given 7 0 ∷ []) ∷ loads (codes "d") ∷ loads (codes "e") ∷ loads (codes "f") ∷ Operates (operation op.BuildMap (Number 1)) (Given 10 0 ∷ Given 11 0 ∷ []) ∷ Operates (operation op.BuildMap (Number 1)) (Given 9 0 ∷ Given 12 0 ∷ []) ∷ Operates (operation op.DictUpdate Bare) (Given 8 0 ∷ Given 13 0 ∷ []) ∷ loads (codes "g") ∷ Operates (operation op.DictUpdate Bare) (Given 14 0 ∷ Given 15 0 ∷ []) ∷ []) (Returned (It (Constant const.none)))
@@ -89,7 +90,7 @@ abbrev formatted : tree.Mod
 formatted = (tree.Module (tree.more_stmts (tree.StmtExpr (at 1 1) (tree.JoinedStr (at 1 1) (tree.more_exprs (tree.FormattedValue (at 1 1) (tree.Name (at 1 4) (codes "a")) conversion.None (tree.some_expr (tree.JoinedStr (at 1 1) (tree.more_exprs (tree.Constant (at 1 1) (literal.Str (codes ">4"))) tree.no_exprs)))) tree.no_exprs))) tree.no_stmts))
 
 formatted_emitted : lines_in (emitted formatted Exec (unscoped 0)) ≡ (told_as ((line op.LoadNameAny 0 1 4) ∷ (line op.LoadConst 0 1 1) ∷ (line op.FormatValue 0 1 1) ∷ (line op.BuildString 1 1 1) ∷ (line op.Pop 0 1 1) ∷ (line op.ReturnConst 1 1 1) ∷ []) ((codes "a") ∷ []) ((const.str (codes ">4")) ∷ const.none ∷ []))
-unfolding with_step with_block with_name with_constant with_loops located refuse emit jump begin new_block emit_count emit_name emit_mangled emit_constant move by_context by_level by_loops in_loop accessed inside
+unfolding with_step with_block with_name with_constant with_loops located refuse emit jump one_block two_blocks three_blocks put emit_count emit_name emit_mangled emit_constant move by_context by_level by_loops in_loop accessed inside
 formatted_emitted = refl
 
 formatted_given : meaning (body [] formatted Exec 0) (Gives 1 ∷ Gives 1 ∷ Gives 1 ∷ []) ≡ ran (loads (codes "a") ∷ Operates (operation op.FormatValue (Number 0)) (Given 0 0 ∷ Constant (const.str (codes ">4")) ∷ []) ∷ Operates (operation op.BuildString (Number 1)) (Given 1 0 ∷ []) ∷ []) (Returned (It (Constant const.none)))
@@ -101,7 +102,7 @@ abbrev formatted_by : tree.Mod
 formatted_by = (tree.Module (tree.more_stmts (tree.StmtExpr (at 1 1) (tree.JoinedStr (at 1 1) (tree.more_exprs (tree.FormattedValue (at 1 1) (tree.Name (at 1 4) (codes "a")) conversion.Repr (tree.some_expr (tree.JoinedStr (at 1 1) (tree.more_exprs (tree.FormattedValue (at 1 1) (tree.Name (at 1 9) (codes "b")) conversion.None tree.no_expr) tree.no_exprs)))) (tree.more_exprs (tree.FormattedValue (at 1 1) (tree.Name (at 1 13) (codes "c")) conversion.None tree.no_expr) tree.no_exprs)))) tree.no_stmts))
 
 formatted_by_emitted : lines_in (emitted formatted_by Exec (unscoped 0)) ≡ (told_as ((line op.LoadNameAny 0 1 4) ∷ (line op.LoadNameAny 1 1 9) ∷ (line op.LoadConst 0 1 9) ∷ (line op.FormatValue 0 1 9) ∷ (line op.BuildString 1 1 9) ∷ (line op.FormatValue 3 1 9) ∷ (line op.LoadNameAny 2 1 13) ∷ (line op.LoadConst 0 1 13) ∷ (line op.FormatValue 0 1 13) ∷ (line op.BuildString 2 1 13) ∷ (line op.Pop 0 1 13) ∷ (line op.ReturnConst 1 1 13) ∷ []) ((codes "a") ∷ (codes "b") ∷ (codes "c") ∷ []) ((const.str []) ∷ const.none ∷ []))
-unfolding with_step with_block with_name with_constant with_loops located refuse emit jump begin new_block emit_count emit_name emit_mangled emit_constant move by_context by_level by_loops in_loop accessed inside
+unfolding with_step with_block with_name with_constant with_loops located refuse emit jump one_block two_blocks three_blocks put emit_count emit_name emit_mangled emit_constant move by_context by_level by_loops in_loop accessed inside
 formatted_by_emitted = refl
 
 formatted_by_given : meaning (body [] formatted_by Exec 0) (Gives 1 ∷ Gives 1 ∷ Gives 1 ∷ Gives 1 ∷ Gives 1 ∷ Gives 1 ∷ Gives 1 ∷ Gives 1 ∷ []) ≡ ran (loads (codes "a") ∷ loads (codes "b") ∷ Operates (operation op.FormatValue (Number 0)) (Given 1 0 ∷ Constant (const.str []) ∷ []) ∷ Operates (operation op.BuildString (Number 1)) (Given 2 0 ∷ []) ∷ Operates (operation op.FormatValue (Number 3)) (Given 0 0 ∷ Given 3 0 ∷ []) ∷ loads (codes "c") ∷ Operates (operation op.FormatValue (Number 0)) (Given 5 0 ∷ Constant (const.str []) ∷ []) ∷ Operates (operation op.BuildString (Number 2)) (Given 4 0 ∷ Given 6 0 ∷ []) ∷ []) (Returned (It (Constant const.none)))
@@ -117,7 +118,7 @@ abbrev wrong_entries : tree.Mod
 wrong_entries = (tree.Module (tree.more_stmts (tree.StmtExpr (at 1 1) (tree.Dict (at 1 1) (tree.more_opts tree.no_expr (tree.more_opts (tree.some_expr (tree.Call (at 1 20) (tree.Name (at 1 20) (codes "g")) tree.no_exprs (tree.more_keywords (Some (codes "__debug__")) (tree.Constant (at 1 32) (literal.Int (pos 2))) tree.no_keywords))) (tree.more_opts tree.no_expr tree.no_opts))) (tree.more_exprs (tree.Call (at 1 4) (tree.Name (at 1 4) (codes "f")) tree.no_exprs (tree.more_keywords (Some (codes "__debug__")) (tree.Constant (at 1 16) (literal.Int (pos 1))) tree.no_keywords)) (tree.more_exprs (tree.Constant (at 1 36) (literal.Int (pos 3))) (tree.more_exprs (tree.Call (at 1 41) (tree.Name (at 1 41) (codes "h")) tree.no_exprs (tree.more_keywords (Some (codes "__debug__")) (tree.Constant (at 1 53) (literal.Int (pos 4))) tree.no_keywords)) tree.no_exprs))))) tree.no_stmts))
 
 wrong_entries_refused : emitted wrong_entries Exec (unscoped 0) ≡ Refused (error.SyntaxError (codes "cannot assign to __debug__")) (Some (at 1 4))
-unfolding with_step with_block with_name with_constant with_loops located refuse emit jump begin new_block emit_count emit_name emit_mangled emit_constant move by_context by_level by_loops in_loop accessed inside
+unfolding with_step with_block with_name with_constant with_loops located refuse emit jump one_block two_blocks three_blocks put emit_count emit_name emit_mangled emit_constant move by_context by_level by_loops in_loop accessed inside
 wrong_entries_refused = refl
 
 wrong_entries_faults : told (compile_faults Exec 0 wrong_entries) ≡ (((codes "cannot assign to __debug__"), Some (at 1 4)) ∷ ((codes "cannot assign to __debug__"), Some (at 1 20)) ∷ ((codes "cannot assign to __debug__"), Some (at 1 41)) ∷ [])
@@ -128,7 +129,7 @@ abbrev wrong_format : tree.Mod
 wrong_format = (tree.Module (tree.more_stmts (tree.StmtExpr (at 1 1) (tree.JoinedStr (at 1 1) (tree.more_exprs (tree.FormattedValue (at 1 1) (tree.Call (at 1 4) (tree.Name (at 1 4) (codes "f")) tree.no_exprs (tree.more_keywords (Some (codes "__debug__")) (tree.Constant (at 1 16) (literal.Int (pos 1))) tree.no_keywords)) conversion.None (tree.some_expr (tree.JoinedStr (at 1 1) (tree.more_exprs (tree.FormattedValue (at 1 1) (tree.Call (at 1 20) (tree.Name (at 1 20) (codes "g")) tree.no_exprs (tree.more_keywords (Some (codes "__debug__")) (tree.Constant (at 1 32) (literal.Int (pos 2))) tree.no_keywords)) conversion.None tree.no_expr) tree.no_exprs)))) tree.no_exprs))) tree.no_stmts))
 
 wrong_format_refused : emitted wrong_format Exec (unscoped 0) ≡ Refused (error.SyntaxError (codes "cannot assign to __debug__")) (Some (at 1 4))
-unfolding with_step with_block with_name with_constant with_loops located refuse emit jump begin new_block emit_count emit_name emit_mangled emit_constant move by_context by_level by_loops in_loop accessed inside
+unfolding with_step with_block with_name with_constant with_loops located refuse emit jump one_block two_blocks three_blocks put emit_count emit_name emit_mangled emit_constant move by_context by_level by_loops in_loop accessed inside
 wrong_format_refused = refl
 
 wrong_format_faults : told (compile_faults Exec 0 wrong_format) ≡ (((codes "cannot assign to __debug__"), Some (at 1 4)) ∷ ((codes "cannot assign to __debug__"), Some (at 1 20)) ∷ [])
@@ -139,7 +140,7 @@ abbrev wrong_behind : tree.Mod
 wrong_behind = (tree.Module (tree.more_stmts (tree.StmtExpr (at 1 1) (tree.NamedExpr (at 1 2) (tree.Name (at 1 2) (codes "__debug__")) (tree.JoinedStr (at 1 15) (tree.more_exprs (tree.FormattedValue (at 1 15) (tree.Name (at 1 18) (codes "a")) conversion.None (tree.some_expr (tree.JoinedStr (at 1 15) (tree.more_exprs (tree.FormattedValue (at 1 15) (tree.Name (at 1 21) (codes "b")) conversion.None tree.no_expr) tree.no_exprs)))) tree.no_exprs)))) tree.no_stmts))
 
 wrong_behind_refused : emitted wrong_behind Exec (unscoped 0) ≡ Refused (error.SyntaxError (codes "cannot assign to __debug__")) (Some (at 1 21))
-unfolding with_step with_block with_name with_constant with_loops located refuse emit jump begin new_block emit_count emit_name emit_mangled emit_constant move by_context by_level by_loops in_loop accessed inside
+unfolding with_step with_block with_name with_constant with_loops located refuse emit jump one_block two_blocks three_blocks put emit_count emit_name emit_mangled emit_constant move by_context by_level by_loops in_loop accessed inside
 wrong_behind_refused = refl
 
 wrong_behind_faults : told (compile_faults Exec 0 wrong_behind) ≡ (((codes "cannot assign to __debug__"), Some (at 1 21)) ∷ [])
@@ -150,7 +151,7 @@ abbrev wrong_after_pair : tree.Mod
 wrong_after_pair = (tree.Module (tree.more_stmts (tree.StmtExpr (at 1 1) (tree.NamedExpr (at 1 2) (tree.Name (at 1 2) (codes "__debug__")) (tree.Dict (at 1 15) (tree.more_opts tree.no_expr (tree.more_opts (tree.some_expr (tree.Name (at 1 21) (codes "b"))) tree.no_opts)) (tree.more_exprs (tree.Name (at 1 18) (codes "a")) (tree.more_exprs (tree.Name (at 1 24) (codes "c")) tree.no_exprs))))) tree.no_stmts))
 
 wrong_after_pair_refused : emitted wrong_after_pair Exec (unscoped 0) ≡ Refused (error.SyntaxError (codes "cannot assign to __debug__")) (Some (at 1 24))
-unfolding with_step with_block with_name with_constant with_loops located refuse emit jump begin new_block emit_count emit_name emit_mangled emit_constant move by_context by_level by_loops in_loop accessed inside
+unfolding with_step with_block with_name with_constant with_loops located refuse emit jump one_block two_blocks three_blocks put emit_count emit_name emit_mangled emit_constant move by_context by_level by_loops in_loop accessed inside
 wrong_after_pair_refused = refl
 
 wrong_after_pair_faults : told (compile_faults Exec 0 wrong_after_pair) ≡ (((codes "cannot assign to __debug__"), Some (at 1 24)) ∷ [])
@@ -161,7 +162,7 @@ abbrev wrong_after_map : tree.Mod
 wrong_after_map = (tree.Module (tree.more_stmts (tree.StmtExpr (at 1 1) (tree.NamedExpr (at 1 2) (tree.Name (at 1 2) (codes "__debug__")) (tree.Dict (at 1 15) (tree.more_opts (tree.some_expr (tree.Name (at 1 16) (codes "a"))) (tree.more_opts tree.no_expr tree.no_opts)) (tree.more_exprs (tree.Name (at 1 19) (codes "b")) (tree.more_exprs (tree.Name (at 1 24) (codes "c")) tree.no_exprs))))) tree.no_stmts))
 
 wrong_after_map_refused : emitted wrong_after_map Exec (unscoped 0) ≡ Refused (error.SyntaxError (codes "cannot assign to __debug__")) (Some (at 1 24))
-unfolding with_step with_block with_name with_constant with_loops located refuse emit jump begin new_block emit_count emit_name emit_mangled emit_constant move by_context by_level by_loops in_loop accessed inside
+unfolding with_step with_block with_name with_constant with_loops located refuse emit jump one_block two_blocks three_blocks put emit_count emit_name emit_mangled emit_constant move by_context by_level by_loops in_loop accessed inside
 wrong_after_map_refused = refl
 
 wrong_after_map_faults : told (compile_faults Exec 0 wrong_after_map) ≡ (((codes "cannot assign to __debug__"), Some (at 1 24)) ∷ [])

@@ -15,7 +15,8 @@ use Rattle.py_emission_parts.specs.Accesses.{accessed}
 use Rattle.py_emission_parts.specs.Children.{child, load_cell}
 use Rattle.py_emission_parts.specs.Comprehensions.{as_element, called_at_once}
 use Rattle.py_emission_parts.specs.Context.{inside, outermost, with_path, within_class}
-use Rattle.py_emission_parts.specs.Emitting.{Refused, with_step, with_block, with_name, with_varname, with_constant, with_loops, with_postponed, located, refuse, emit, jump, begin, new_block, emit_count, emit_name, emit_varname, emit_mangled, add_varname, add_constant, emit_constant, move, generating, pass_over, by_context, by_level, by_loops, in_loop, postponing}
+use Rattle.py_emission_parts.specs.Emitting.{Refused, with_step, with_block, with_name, with_varname, with_constant, with_loops, with_postponed, located, refuse, emit, jump, emit_count, emit_name, emit_varname, emit_mangled, add_varname, add_constant, emit_constant, move, generating, pass_over, by_context, by_level, by_loops, in_loop, postponing, one_block, two_blocks, three_blocks}
+use Rattle.py_emission_parts.specs.Running.{put}
 use Rattle.py_emission_parts.specs.Sealed.{sealed}
 use Rattle.py_emission.specs.Emission.{lambda_value}
 use Rattle.py_emission.specs.EmissionDefs.{emission_of_class, emission_of_def, emission_of_generic_class, emission_of_generic_def}
@@ -40,7 +41,7 @@ abbrev last_generic_object : Object
 last_generic_object = (sealed_as 3 None 1 0 0 0 1 (codes "<module>") ((unit op.LoadBuildClass 0) ∷ (unit op.LoadConst 0) ∷ (unit op.LoadConst 1) ∷ (unit op.MakeFunction 0) ∷ (unit op.LoadConst 1) ∷ (unit op.CallFunctionPositional 2) ∷ (unit op.StoreLocal 0) ∷ (unit op.LoadNameAny 1) ∷ (unit op.LoadConst 2) ∷ (unit op.LoadConst 3) ∷ (unit op.MakeFunction 0) ∷ (unit op.LoadConst 4) ∷ (unit op.BuildTuple 1) ∷ (unit op.CallFunctionPositional 1) ∷ (unit op.CallFunctionPositional 1) ∷ (unit op.StoreLocal 2) ∷ (unit op.ReturnConst 5) ∷ []) ((at 1 1) ∷ (at 1 10) ∷ (at 1 10) ∷ (at 1 10) ∷ (at 1 10) ∷ (at 1 10) ∷ (at 1 10) ∷ (at 2 2) ∷ (at 2 2) ∷ (at 2 2) ∷ (at 2 2) ∷ (at 3 12) ∷ (at 3 12) ∷ (at 3 12) ∷ (at 3 12) ∷ (at 3 12) ∷ (at 3 12) ∷ []) ((codes "A") ∷ (codes "d") ∷ (codes "f") ∷ []) [] [] [] ((const.code (sealed_as 1 None 0 0 0 0 1 (codes "A") ((unit op.LoadGlobal 0) ∷ (unit op.StoreLocal 1) ∷ (unit op.LoadConst 0) ∷ (unit op.StoreLocal 2) ∷ (unit op.LoadConst 1) ∷ (unit op.StoreLocal 3) ∷ (unit op.ReturnConst 1) ∷ []) ((at 1 1) ∷ (at 1 1) ∷ (at 1 1) ∷ (at 1 1) ∷ (at 1 1) ∷ (at 1 1) ∷ (at 1 10) ∷ []) ((codes "__name__") ∷ (codes "__module__") ∷ (codes "__qualname__") ∷ (codes "__doc__") ∷ []) [] [] [] ((const.str (codes "A")) ∷ const.none ∷ []))) ∷ (const.str (codes "A")) ∷ (const.code (sealed_as 4 None 33 1 1 0 2 (codes "<generic parameters of f>") ((unit op.LoadFast 0) ∷ (unit op.LoadConst 0) ∷ (unit op.TypeVar 0) ∷ (unit op.Duplicate 0) ∷ (unit op.StoreFast 1) ∷ (unit op.BuildTuple 1) ∷ (unit op.LoadConst 1) ∷ (unit op.LoadConst 2) ∷ (unit op.MakeFunction 24) ∷ (unit op.Duplicate 0) ∷ (unit op.LoadConst 3) ∷ (unit op.Rotate2 0) ∷ (unit op.StoreAttr 0) ∷ (unit op.ReturnValue 0) ∷ []) ((at 2 2) ∷ (at 2 2) ∷ (at 2 2) ∷ (at 2 2) ∷ (at 2 2) ∷ (at 2 2) ∷ (at 2 2) ∷ (at 2 2) ∷ (at 2 2) ∷ (at 2 2) ∷ (at 2 2) ∷ (at 2 2) ∷ (at 2 2) ∷ (at 2 2) ∷ []) ((codes "__doc__") ∷ []) ((codes ".defaults") ∷ (codes "T") ∷ []) [] [] ((const.str (codes "T")) ∷ (const.code (sealed_as 0 None 33 0 1 0 2 (codes "f") ((unit op.ReturnConst 0) ∷ []) ((at 2 2) ∷ []) [] ((codes "x") ∷ []) [] [] (const.none ∷ []))) ∷ (const.str (codes "f")) ∷ (const.str (codes "doc")) ∷ []))) ∷ (const.str (codes "<generic parameters of f>")) ∷ (const.integer (pos 1)) ∷ const.none ∷ []))
 
 last_generic_emitted : object_in_mode last_generic_scopes last_generic BlockExpr 0 ≡ Some (last_generic_object, length last_generic_scopes)
-unfolding with_step with_block with_name with_varname with_constant with_loops with_postponed located refuse emit jump begin new_block emit_count emit_name emit_varname emit_mangled add_varname add_constant emit_constant move generating pass_over by_context by_level by_loops in_loop postponing accessed inside with_path within_class child lambda_value emission_of_def emission_of_generic_def emission_of_class emission_of_generic_class load_cell sealed as_element called_at_once
+unfolding with_step with_block with_name with_varname with_constant with_loops with_postponed located refuse emit jump one_block two_blocks three_blocks put emit_count emit_name emit_varname emit_mangled add_varname add_constant emit_constant move generating pass_over by_context by_level by_loops in_loop postponing accessed inside with_path within_class child lambda_value emission_of_def emission_of_generic_def emission_of_class emission_of_generic_class load_cell sealed as_element called_at_once
 last_generic_emitted = refl
 
 last_generic_forms : codes_of_object 9 last_generic_object ≡ codes_of_scope 9 (body last_generic_scopes last_generic BlockExpr 0)
@@ -64,7 +65,7 @@ abbrev last_generic_class_object : Object
 last_generic_class_object = (sealed_as 3 None 1 0 0 0 1 (codes "<module>") ((unit op.LoadConst 0) ∷ (unit op.LoadConst 1) ∷ (unit op.MakeFunction 0) ∷ (unit op.CallFunctionPositional 0) ∷ (unit op.StoreLocal 0) ∷ (unit op.LoadNameAny 1) ∷ (unit op.LoadConst 2) ∷ (unit op.LoadConst 3) ∷ (unit op.MakeFunction 0) ∷ (unit op.CallFunctionPositional 0) ∷ (unit op.CallFunctionPositional 1) ∷ (unit op.StoreLocal 2) ∷ (unit op.ReturnConst 4) ∷ []) ((at 1 13) ∷ (at 1 13) ∷ (at 1 13) ∷ (at 1 13) ∷ (at 1 13) ∷ (at 2 2) ∷ (at 3 12) ∷ (at 3 12) ∷ (at 3 12) ∷ (at 3 12) ∷ (at 3 12) ∷ (at 3 12) ∷ (at 3 12) ∷ []) ((codes "X") ∷ (codes "d") ∷ (codes "A") ∷ []) [] [] [] ((const.code (sealed_as 3 None 33 0 0 0 1 (codes "<generic parameters of X>") ((unit op.LoadConst 0) ∷ (unit op.TypeVar 0) ∷ (unit op.Duplicate 0) ∷ (unit op.StoreFast 0) ∷ (unit op.BuildTuple 1) ∷ (unit op.LoadFast 0) ∷ (unit op.Rotate2 0) ∷ (unit op.LoadConst 1) ∷ (unit op.TypeAlias 0) ∷ (unit op.ReturnValue 0) ∷ []) ((at 1 1) ∷ (at 1 1) ∷ (at 1 1) ∷ (at 1 1) ∷ (at 1 1) ∷ (at 1 13) ∷ (at 1 13) ∷ (at 1 13) ∷ (at 1 13) ∷ (at 1 13) ∷ []) [] ((codes "T") ∷ []) [] [] ((const.str (codes "T")) ∷ (const.str (codes "X")) ∷ []))) ∷ (const.str (codes "<generic parameters of X>")) ∷ (const.code (sealed_as 5 None 33 0 0 0 2 (codes "<generic parameters of A>") ((unit op.LoadBuildClass 0) ∷ (unit op.LoadConst 0) ∷ (unit op.TypeVar 0) ∷ (unit op.Duplicate 0) ∷ (unit op.StoreDeref 0) ∷ (unit op.BuildTuple 1) ∷ (unit op.LoadClosure 0) ∷ (unit op.BuildTuple 1) ∷ (unit op.LoadConst 1) ∷ (unit op.LoadConst 2) ∷ (unit op.MakeFunction 17) ∷ (unit op.LoadConst 2) ∷ (unit op.LoadDeref 0) ∷ (unit op.CallFunctionPositional 3) ∷ (unit op.ReturnValue 0) ∷ []) ((at 2 2) ∷ (at 2 2) ∷ (at 2 2) ∷ (at 2 2) ∷ (at 2 2) ∷ (at 2 2) ∷ (at 3 28) ∷ (at 3 28) ∷ (at 3 28) ∷ (at 3 28) ∷ (at 3 28) ∷ (at 3 28) ∷ (at 3 12) ∷ (at 3 12) ∷ (at 3 12) ∷ []) [] [] ((codes "T") ∷ []) [] ((const.str (codes "T")) ∷ (const.code (sealed_as 3 None 0 0 0 0 2 (codes "A") ((unit op.LoadGlobal 0) ∷ (unit op.StoreLocal 1) ∷ (unit op.LoadConst 0) ∷ (unit op.StoreLocal 2) ∷ (unit op.LoadConst 1) ∷ (unit op.StoreLocal 3) ∷ (unit op.LoadClosure 0) ∷ (unit op.BuildTuple 1) ∷ (unit op.LoadConst 2) ∷ (unit op.LoadConst 3) ∷ (unit op.MakeFunction 1) ∷ (unit op.StoreLocal 4) ∷ (unit op.ReturnConst 1) ∷ []) ((at 2 2) ∷ (at 2 2) ∷ (at 2 2) ∷ (at 2 2) ∷ (at 2 2) ∷ (at 2 2) ∷ (at 3 28) ∷ (at 3 28) ∷ (at 3 28) ∷ (at 3 28) ∷ (at 3 28) ∷ (at 3 28) ∷ (at 3 28) ∷ []) ((codes "__name__") ∷ (codes "__module__") ∷ (codes "__qualname__") ∷ (codes "__doc__") ∷ (codes "x") ∷ []) [] [] ((codes "T") ∷ []) ((const.str (codes "A")) ∷ const.none ∷ (const.code (sealed_as 1 None 33 0 0 0 3 (codes "<lambda>") ((unit op.LoadDeref 0) ∷ (unit op.ReturnValue 0) ∷ []) ((at 3 28) ∷ (at 3 28) ∷ []) [] [] [] ((codes "T") ∷ []) (const.none ∷ []))) ∷ (const.str (codes "<lambda>")) ∷ []))) ∷ (const.str (codes "A")) ∷ []))) ∷ (const.str (codes "<generic parameters of A>")) ∷ const.none ∷ []))
 
 last_generic_class_emitted : object_in_mode last_generic_class_scopes last_generic_class BlockExpr 0 ≡ Some (last_generic_class_object, length last_generic_class_scopes)
-unfolding with_step with_block with_name with_varname with_constant with_loops with_postponed located refuse emit jump begin new_block emit_count emit_name emit_varname emit_mangled add_varname add_constant emit_constant move generating pass_over by_context by_level by_loops in_loop postponing accessed inside with_path within_class child lambda_value emission_of_def emission_of_generic_def emission_of_class emission_of_generic_class load_cell sealed as_element called_at_once
+unfolding with_step with_block with_name with_varname with_constant with_loops with_postponed located refuse emit jump one_block two_blocks three_blocks put emit_count emit_name emit_varname emit_mangled add_varname add_constant emit_constant move generating pass_over by_context by_level by_loops in_loop postponing accessed inside with_path within_class child lambda_value emission_of_def emission_of_generic_def emission_of_class emission_of_generic_class load_cell sealed as_element called_at_once
 last_generic_class_emitted = refl
 
 last_generic_class_forms : codes_of_object 9 last_generic_class_object ≡ codes_of_scope 9 (body last_generic_class_scopes last_generic_class BlockExpr 0)
@@ -86,7 +87,7 @@ abbrev last_alias_object : Object
 last_alias_object = (sealed_as 2 None 1 0 0 0 1 (codes "<module>") ((unit op.LoadConst 0) ∷ (unit op.LoadConst 1) ∷ (unit op.MakeFunction 0) ∷ (unit op.CallFunctionPositional 0) ∷ (unit op.StoreLocal 0) ∷ (unit op.ReturnConst 2) ∷ []) ((at 1 13) ∷ (at 1 13) ∷ (at 1 13) ∷ (at 1 13) ∷ (at 1 13) ∷ (at 1 13) ∷ []) ((codes "X") ∷ []) [] [] [] ((const.code (sealed_as 3 None 33 0 0 0 1 (codes "<generic parameters of X>") ((unit op.LoadConst 0) ∷ (unit op.TypeVar 0) ∷ (unit op.Duplicate 0) ∷ (unit op.StoreFast 0) ∷ (unit op.BuildTuple 1) ∷ (unit op.LoadFast 0) ∷ (unit op.Rotate2 0) ∷ (unit op.LoadConst 1) ∷ (unit op.TypeAlias 0) ∷ (unit op.ReturnValue 0) ∷ []) ((at 1 1) ∷ (at 1 1) ∷ (at 1 1) ∷ (at 1 1) ∷ (at 1 1) ∷ (at 1 13) ∷ (at 1 13) ∷ (at 1 13) ∷ (at 1 13) ∷ (at 1 13) ∷ []) [] ((codes "T") ∷ []) [] [] ((const.str (codes "T")) ∷ (const.str (codes "X")) ∷ []))) ∷ (const.str (codes "<generic parameters of X>")) ∷ const.none ∷ []))
 
 last_alias_emitted : object_in_mode last_alias_scopes last_alias BlockExpr 0 ≡ Some (last_alias_object, length last_alias_scopes)
-unfolding with_step with_block with_name with_varname with_constant with_loops with_postponed located refuse emit jump begin new_block emit_count emit_name emit_varname emit_mangled add_varname add_constant emit_constant move generating pass_over by_context by_level by_loops in_loop postponing accessed inside with_path within_class child lambda_value emission_of_def emission_of_generic_def emission_of_class emission_of_generic_class load_cell sealed as_element called_at_once
+unfolding with_step with_block with_name with_varname with_constant with_loops with_postponed located refuse emit jump one_block two_blocks three_blocks put emit_count emit_name emit_varname emit_mangled add_varname add_constant emit_constant move generating pass_over by_context by_level by_loops in_loop postponing accessed inside with_path within_class child lambda_value emission_of_def emission_of_generic_def emission_of_class emission_of_generic_class load_cell sealed as_element called_at_once
 last_alias_emitted = refl
 
 last_alias_forms : codes_of_object 9 last_alias_object ≡ codes_of_scope 9 (body last_alias_scopes last_alias BlockExpr 0)
@@ -107,7 +108,7 @@ abbrev alias_debug_scopes : List ScopeEntry
 alias_debug_scopes = ((entry kinds.Module ((symbol (codes "__debug__") symbols.Local 2) ∷ (symbol (codes "int") symbols.Unknown 1) ∷ []) 2) ∷ (entry kinds.TypeParams ((symbol (codes "int") symbols.GlobalImplicit 1) ∷ (symbol (codes "T") symbols.Local 2) ∷ (symbol (codes "f") symbols.GlobalImplicit 1) ∷ (symbol (codes "x") symbols.GlobalImplicit 1) ∷ []) 2) ∷ [])
 
 alias_debug_refused : emitted alias_debug Exec (outermost 0 (codes "m.py") alias_debug_scopes) ≡ Refused (error.SyntaxError (codes "cannot assign to __debug__")) (Some (at 2 5))
-unfolding with_step with_block with_name with_varname with_constant with_loops with_postponed located refuse emit jump begin new_block emit_count emit_name emit_varname emit_mangled add_varname add_constant emit_constant move generating pass_over by_context by_level by_loops in_loop postponing accessed inside with_path within_class child lambda_value emission_of_def emission_of_generic_def emission_of_class emission_of_generic_class load_cell sealed as_element called_at_once
+unfolding with_step with_block with_name with_varname with_constant with_loops with_postponed located refuse emit jump one_block two_blocks three_blocks put emit_count emit_name emit_varname emit_mangled add_varname add_constant emit_constant move generating pass_over by_context by_level by_loops in_loop postponing accessed inside with_path within_class child lambda_value emission_of_def emission_of_generic_def emission_of_class emission_of_generic_class load_cell sealed as_element called_at_once
 alias_debug_refused = refl
 
 alias_debug_faults : told (compile_faults Exec 0 alias_debug) ≡ (((codes "cannot assign to __debug__"), Some (at 2 5)) ∷ ((codes "cannot assign to __debug__"), Some (at 2 18)) ∷ ((codes "cannot assign to __debug__"), Some (at 3 18)) ∷ [])
@@ -123,7 +124,7 @@ abbrev parameter_debug_scopes : List ScopeEntry
 parameter_debug_scopes = ((entry kinds.Module ((symbol (codes "f") symbols.Local 2) ∷ []) 3) ∷ (entry kinds.TypeParams ((symbol (codes ".defaults") symbols.Local 4) ∷ (symbol (codes "int") symbols.GlobalImplicit 1) ∷ (symbol (codes "T") symbols.Local 2) ∷ (symbol (codes "__debug__") symbols.Local 2) ∷ (symbol (codes "f") symbols.GlobalImplicit 1) ∷ []) 3) ∷ (entry kinds.Function ((symbol (codes "__debug__") symbols.Local 4) ∷ (symbol (codes "x") symbols.Local 4) ∷ []) 3) ∷ [])
 
 parameter_debug_refused : emitted parameter_debug Exec (outermost 0 (codes "m.py") parameter_debug_scopes) ≡ Refused (error.SyntaxError (codes "cannot assign to __debug__")) (Some (at 1 10))
-unfolding with_step with_block with_name with_varname with_constant with_loops with_postponed located refuse emit jump begin new_block emit_count emit_name emit_varname emit_mangled add_varname add_constant emit_constant move generating pass_over by_context by_level by_loops in_loop postponing accessed inside with_path within_class child lambda_value emission_of_def emission_of_generic_def emission_of_class emission_of_generic_class load_cell sealed as_element called_at_once
+unfolding with_step with_block with_name with_varname with_constant with_loops with_postponed located refuse emit jump one_block two_blocks three_blocks put emit_count emit_name emit_varname emit_mangled add_varname add_constant emit_constant move generating pass_over by_context by_level by_loops in_loop postponing accessed inside with_path within_class child lambda_value emission_of_def emission_of_generic_def emission_of_class emission_of_generic_class load_cell sealed as_element called_at_once
 parameter_debug_refused = refl
 
 parameter_debug_faults : told (compile_faults Exec 0 parameter_debug) ≡ (((codes "cannot assign to __debug__"), Some (at 1 10)) ∷ ((codes "cannot assign to __debug__"), Some (at 1 10)) ∷ ((codes "'break' outside loop"), Some (at 2 5)) ∷ ((codes "cannot assign to __debug__"), Some (at 1 51)) ∷ ((codes "'yield' outside function"), Some (at 1 40)) ∷ [])
@@ -138,7 +139,7 @@ abbrev alias_of_attribute_scopes : List ScopeEntry
 alias_of_attribute_scopes = ((entry kinds.Module ((symbol (codes "a") symbols.Unknown 1) ∷ []) 2) ∷ (entry kinds.TypeParams ((symbol (codes "x") symbols.GlobalImplicit 1) ∷ (symbol (codes "T") symbols.Local 2) ∷ (symbol (codes "y") symbols.GlobalImplicit 1) ∷ []) 2) ∷ [])
 
 alias_of_attribute_refused : emitted alias_of_attribute Exec (outermost 0 (codes "m.py") alias_of_attribute_scopes) ≡ Refused (error.Assign (codes "attribute")) (Some (at 1 1))
-unfolding with_step with_block with_name with_varname with_constant with_loops with_postponed located refuse emit jump begin new_block emit_count emit_name emit_varname emit_mangled add_varname add_constant emit_constant move generating pass_over by_context by_level by_loops in_loop postponing accessed inside with_path within_class child lambda_value emission_of_def emission_of_generic_def emission_of_class emission_of_generic_class load_cell sealed as_element called_at_once
+unfolding with_step with_block with_name with_varname with_constant with_loops with_postponed located refuse emit jump one_block two_blocks three_blocks put emit_count emit_name emit_varname emit_mangled add_varname add_constant emit_constant move generating pass_over by_context by_level by_loops in_loop postponing accessed inside with_path within_class child lambda_value emission_of_def emission_of_generic_def emission_of_class emission_of_generic_class load_cell sealed as_element called_at_once
 alias_of_attribute_refused = refl
 
 alias_of_attribute_faults : told (compile_faults Exec 0 alias_of_attribute) ≡ (((codes "cannot assign to attribute"), Some (at 1 1)) ∷ [])
@@ -155,7 +156,7 @@ abbrev awaited_bound_scopes : List ScopeEntry
 awaited_bound_scopes = ((entry kinds.Module ((symbol (codes "z") symbols.Unknown 1) ∷ (symbol (codes "f") symbols.Local 2) ∷ []) 4) ∷ (entry kinds.TypeParams ((symbol (codes ".defaults") symbols.Local 4) ∷ (symbol (codes ".kwdefaults") symbols.Local 4) ∷ (symbol (codes "T") symbols.Local 2) ∷ (symbol (codes "x") symbols.GlobalImplicit 1) ∷ (symbol (codes "U") symbols.Local 2) ∷ (symbol (codes "c") symbols.GlobalImplicit 1) ∷ (symbol (codes "d") symbols.GlobalImplicit 1) ∷ (symbol (codes "y") symbols.GlobalImplicit 1) ∷ []) 4) ∷ (entry kinds.Function [] 3) ∷ (entry kinds.Function ((symbol (codes "a") symbols.Local 4) ∷ (symbol (codes "b") symbols.Local 12) ∷ (symbol (codes "w") symbols.GlobalImplicit 1) ∷ []) 4) ∷ [])
 
 awaited_bound_refused : emitted awaited_bound Exec (outermost 0 (codes "m.py") awaited_bound_scopes) ≡ Refused error.InvalidAwait (Some (at 1 32))
-unfolding with_step with_block with_name with_varname with_constant with_loops with_postponed located refuse emit jump begin new_block emit_count emit_name emit_varname emit_mangled add_varname add_constant emit_constant move generating pass_over by_context by_level by_loops in_loop postponing accessed inside with_path within_class child lambda_value emission_of_def emission_of_generic_def emission_of_class emission_of_generic_class load_cell sealed as_element called_at_once
+unfolding with_step with_block with_name with_varname with_constant with_loops with_postponed located refuse emit jump one_block two_blocks three_blocks put emit_count emit_name emit_varname emit_mangled add_varname add_constant emit_constant move generating pass_over by_context by_level by_loops in_loop postponing accessed inside with_path within_class child lambda_value emission_of_def emission_of_generic_def emission_of_class emission_of_generic_class load_cell sealed as_element called_at_once
 awaited_bound_refused = refl
 
 awaited_bound_faults : told (compile_faults Exec 0 awaited_bound) ≡ (((codes "'await' outside async function"), Some (at 1 32)) ∷ ((codes "'await' outside async function"), Some (at 2 5)) ∷ ((codes "cannot assign to __debug__"), Some (at 1 83)) ∷ ((codes "'await' outside async function"), Some (at 1 58)) ∷ ((codes "'yield' outside function"), Some (at 1 44)) ∷ ((codes "'await' outside async function"), Some (at 1 68)) ∷ [])
@@ -175,7 +176,7 @@ abbrev refused_generic_class_scopes : List ScopeEntry
 refused_generic_class_scopes = ((entry kinds.Module ((symbol (codes "x") symbols.Unknown 1) ∷ (symbol (codes "__debug__") symbols.Local 2) ∷ []) 3) ∷ (entry kinds.TypeParams ((symbol (codes "x") symbols.GlobalImplicit 1) ∷ (symbol (codes "T") symbols.Local 2) ∷ (symbol (codes "B") symbols.GlobalImplicit 1) ∷ (symbol (codes "y") symbols.GlobalImplicit 1) ∷ (symbol (codes "f") symbols.GlobalImplicit 1) ∷ (symbol (codes "z") symbols.GlobalImplicit 1) ∷ []) 3) ∷ (entry kinds.Class ((symbol (codes "__module__") symbols.Local 2) ∷ (symbol (codes "__qualname__") symbols.Local 2) ∷ (symbol (codes "__doc__") symbols.Local 2) ∷ (symbol (codes "__class__") symbols.Local 2) ∷ []) 3) ∷ [])
 
 refused_generic_class_refused : emitted refused_generic_class Exec (outermost 0 (codes "m.py") refused_generic_class_scopes) ≡ Refused error.InvalidYield (Some (at 2 7))
-unfolding with_step with_block with_name with_varname with_constant with_loops with_postponed located refuse emit jump begin new_block emit_count emit_name emit_varname emit_mangled add_varname add_constant emit_constant move generating pass_over by_context by_level by_loops in_loop postponing accessed inside with_path within_class child lambda_value emission_of_def emission_of_generic_def emission_of_class emission_of_generic_class load_cell sealed as_element called_at_once
+unfolding with_step with_block with_name with_varname with_constant with_loops with_postponed located refuse emit jump one_block two_blocks three_blocks put emit_count emit_name emit_varname emit_mangled add_varname add_constant emit_constant move generating pass_over by_context by_level by_loops in_loop postponing accessed inside with_path within_class child lambda_value emission_of_def emission_of_generic_def emission_of_class emission_of_generic_class load_cell sealed as_element called_at_once
 refused_generic_class_refused = refl
 
 refused_generic_class_faults : told (compile_faults Exec 0 refused_generic_class) ≡ (((codes "'yield' outside function"), Some (at 2 7)) ∷ ((codes "'await' outside async function"), Some (at 3 24)) ∷ ((codes "'break' outside loop"), Some (at 5 9)) ∷ ((codes "'return' outside function"), Some (at 6 9)) ∷ ((codes "'await' outside async function"), Some (at 3 36)) ∷ ((codes "cannot assign to __debug__"), Some (at 4 13)) ∷ ((codes "cannot assign to __debug__"), Some (at 4 27)) ∷ [])
@@ -190,7 +191,7 @@ abbrev starred_bound_scopes : List ScopeEntry
 starred_bound_scopes = ((entry kinds.Module ((symbol (codes "A") symbols.Local 2) ∷ []) 3) ∷ (entry kinds.TypeParams ((symbol (codes "x") symbols.GlobalImplicit 1) ∷ (symbol (codes "T") symbols.Local 2) ∷ (symbol (codes "B") symbols.GlobalImplicit 1) ∷ []) 3) ∷ (entry kinds.Class ((symbol (codes "__module__") symbols.Local 2) ∷ (symbol (codes "__qualname__") symbols.Local 2) ∷ (symbol (codes "__doc__") symbols.Local 2) ∷ (symbol (codes "__class__") symbols.Local 2) ∷ []) 3) ∷ [])
 
 starred_bound_refused : emitted starred_bound Exec (outermost 0 (codes "m.py") starred_bound_scopes) ≡ Refused error.InvalidStarExpr (Some (at 1 12))
-unfolding with_step with_block with_name with_varname with_constant with_loops with_postponed located refuse emit jump begin new_block emit_count emit_name emit_varname emit_mangled add_varname add_constant emit_constant move generating pass_over by_context by_level by_loops in_loop postponing accessed inside with_path within_class child lambda_value emission_of_def emission_of_generic_def emission_of_class emission_of_generic_class load_cell sealed as_element called_at_once
+unfolding with_step with_block with_name with_varname with_constant with_loops with_postponed located refuse emit jump one_block two_blocks three_blocks put emit_count emit_name emit_varname emit_mangled add_varname add_constant emit_constant move generating pass_over by_context by_level by_loops in_loop postponing accessed inside with_path within_class child lambda_value emission_of_def emission_of_generic_def emission_of_class emission_of_generic_class load_cell sealed as_element called_at_once
 starred_bound_refused = refl
 
 starred_bound_faults : told (compile_faults Exec 0 starred_bound) ≡ (((codes "cannot use starred expression here"), Some (at 1 12)) ∷ [])
@@ -209,7 +210,7 @@ abbrev postponed_text_scopes : List ScopeEntry
 postponed_text_scopes = ((entry kinds.Module ((symbol (codes "annotations") symbols.Local 18) ∷ (symbol (codes "f") symbols.Local 2) ∷ (symbol (codes "A") symbols.Local 2) ∷ []) 7) ∷ (entry kinds.TypeParams ((symbol (codes ".defaults") symbols.Local 4) ∷ (symbol (codes "int") symbols.GlobalImplicit 1) ∷ (symbol (codes "T") symbols.Local 2) ∷ []) 3) ∷ (entry kinds.Function ((symbol (codes "x") symbols.Local 12) ∷ (symbol (codes "g") symbols.GlobalImplicit 1) ∷ []) 3) ∷ (entry kinds.TypeParams ((symbol (codes "__debug__") symbols.Local 2) ∷ (symbol (codes "B") symbols.GlobalImplicit 1) ∷ []) 7) ∷ (entry kinds.Class ((symbol (codes "__module__") symbols.Local 2) ∷ (symbol (codes "__qualname__") symbols.Local 2) ∷ (symbol (codes "__doc__") symbols.Local 2) ∷ (symbol (codes "__class__") symbols.Local 2) ∷ (symbol (codes "g") symbols.Local 2) ∷ []) 7) ∷ (entry kinds.TypeParams ((symbol (codes "x") symbols.GlobalImplicit 1) ∷ (symbol (codes "T") symbols.Local 2) ∷ []) 7) ∷ (entry kinds.Function ((symbol (codes "self") symbols.Local 4) ∷ []) 7) ∷ [])
 
 postponed_text_refused : emitted postponed_text Exec (outermost 0 (codes "m.py") postponed_text_scopes) ≡ Refused error.NotImplementedYet (Some (at 3 5))
-unfolding with_step with_block with_name with_varname with_constant with_loops with_postponed located refuse emit jump begin new_block emit_count emit_name emit_varname emit_mangled add_varname add_constant emit_constant move generating pass_over by_context by_level by_loops in_loop postponing accessed inside with_path within_class child lambda_value emission_of_def emission_of_generic_def emission_of_class emission_of_generic_class load_cell sealed as_element called_at_once
+unfolding with_step with_block with_name with_varname with_constant with_loops with_postponed located refuse emit jump one_block two_blocks three_blocks put emit_count emit_name emit_varname emit_mangled add_varname add_constant emit_constant move generating pass_over by_context by_level by_loops in_loop postponing accessed inside with_path within_class child lambda_value emission_of_def emission_of_generic_def emission_of_class emission_of_generic_class load_cell sealed as_element called_at_once
 postponed_text_refused = refl
 
 postponed_text_faults : told (compile_faults Exec 0 postponed_text) ≡ (((codes "RustPython does not implement this feature yet"), Some (at 3 5)) ∷ ((codes "'yield' outside function"), Some (at 2 28)) ∷ ((codes "cannot assign to __debug__"), Some (at 4 1)) ∷ ((codes "'await' outside async function"), Some (at 5 14)) ∷ ((codes "'continue' outside loop"), Some (at 5 40)) ∷ ((codes "RustPython does not implement this feature yet"), Some (at 5 40)) ∷ [])

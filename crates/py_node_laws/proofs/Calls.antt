@@ -5,7 +5,8 @@ use Rattle.std.proofs.lemmas.List.{length-map}
 use Rattle.py_ir.specs.Chain.{plain}
 use Rattle.py_tree.specs.Tree as tree
 use Rattle.py_tree.specs.View.{expr_tree}
-use Rattle.py_emission_parts.specs.Emitting.{Done, Emission, ◌▸◌, go_on, keep, located, move}
+use Rattle.py_emission_parts.specs.Emitting.{Done, ◌▸◌, keep, located, move}
+use Rattle.py_emission_parts.specs.Running.{Action, go_on, run}
 use Rattle.py_emission_parts.specs.EmissionParts.{elements}
 use Rattle.py_emission.specs.Emission.{all_emissions, emission, emissions, keyword_emissions}
 use Rattle.py_emit.specs.States.{info, state}
@@ -58,8 +59,8 @@ argument_calls_run (Ok t) func args keywords r s before after pushed h calls few
     let c = (emissions func).callee in
     let es = elements (all_emissions args) in
     let ks = keyword_emissions keywords in
-    let is : emission (tree.Call r.location func args keywords) r ≡ Done s =
-    ap (λ (f : Emission). f r) (call_is c es ks) ∙ ap (λ o. go_on o (arguments 0 es ks ▸ calling (is_method c) (taken 0 es ks))) pushed ∙ ap (λ o. go_on o (calling (is_method c) (taken 0 es ks))) h.goes ∙ calls in
+    let is : run (emission (tree.Call r.location func args keywords)) r ≡ Done s =
+    ap (λ (a : Action). a r) (call_is c es ks) ∙ ap (λ o. go_on o (arguments 0 es ks ▸ calling (is_method c) (taken 0 es ks))) pushed ∙ ap (λ o. go_on o (calling (is_method c) (taken 0 es ks))) h.goes ∙ calls in
     λ bs tables held. exprs_run (tree.Call r.location func args keywords) few r s ready is bs tables held
 argument_calls_run (Err x) func args keywords r s before after pushed h calls few ready = tt
 

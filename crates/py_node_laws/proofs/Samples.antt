@@ -15,7 +15,8 @@ use Rattle.py_ir.specs.Chain.{Blk, IsChain, coded_blocks}
 use Rattle.py_scope.specs.declared.table_type.SymbolTableType.TheVariants as kind
 use Rattle.py_control_proof.specs.Blocks.{Comes}
 use Rattle.py_emission_parts.specs.Context.{Context}
-use Rattle.py_emission_parts.specs.Emitting.{Done, Put, State, begun, emit, emit_constant, located, move, with_constant, with_step}
+use Rattle.py_emission_parts.specs.Emitting.{Done, Put, State, begun, emit_constant, located, move, with_constant, with_step}
+use Rattle.py_emission_parts.specs.Running.{put, run}
 use Rattle.py_emission.specs.Emission.{emission}
 use Rattle.py_node_laws.specs.Adding.{IsReady}
 use Rattle.py_node_laws.specs.Running.{ExprRuns, Hold}
@@ -37,8 +38,8 @@ before = begun file there 1
 abbrev after : State
 after = record before { steps = Put op.LoadConst 0 None there ∷ []; constants = const.none ∷ [] }
 
-done : emission node before ≡ Done after
-unfolding move located emit_constant with_constant emit with_step
+done : run (emission node) before ≡ Done after
+unfolding move located emit_constant with_constant put with_step
 done = refl
 
 ready : IsReady before

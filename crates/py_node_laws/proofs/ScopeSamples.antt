@@ -8,10 +8,11 @@ use Rattle.py_bytecode.specs.declared.instruction.Instruction.TheVariants as op
 use Rattle.py_bytecode.specs.Objects as const
 use Rattle.py_control.specs.Form.{MkScope, SReturn, Scope}
 use Rattle.py_scope.specs.declared.table_type.SymbolTableType.TheVariants as kind
-use Rattle.py_emission_parts.specs.Children.{code_head, function_scope}
+use Rattle.py_emission_parts.specs.Children.{function_scope}
 use Rattle.py_emission_parts.specs.Context.{Context, head_of, inside}
-use Rattle.py_emission_parts.specs.Emitting.{Done, Put, State, add_constant, begun, emit, emit_constant, located, move, with_constant, with_step}
+use Rattle.py_emission_parts.specs.Emitting.{Done, Put, State, add_constant, begun, emit_constant, located, move, with_constant, with_step}
 use Rattle.py_emission_parts.specs.Within.{lambda_inside}
+use Rattle.py_emission_parts.specs.Running.{code_head, put, run}
 use Rattle.py_emission.specs.Emission.{emissions}
 use Rattle.py_emission.specs.Parameters.{function_shape, parameters}
 use Rattle.py_meaning.specs.Table.{expr_forms}
@@ -38,8 +39,8 @@ inner = lambda_inside file 1
 abbrev after : State
 after = record (begun inner there 2) { steps = Put op.ReturnConst 0 None there ∷ []; constants = const.none ∷ [] }
 
-done : function_scope (parameters params) (emissions node).returned (begun inner there 2) ≡ Done after
-unfolding inside move located add_constant emit_constant with_constant emit with_step
+done : run (function_scope (parameters params) (emissions node).returned) (begun inner there 2) ≡ Done after
+unfolding inside move located add_constant emit_constant with_constant put with_step
 done = refl
 
 abbrev own : Scope

@@ -11,7 +11,8 @@ use Rattle.py_scope.specs.declared.table_type.SymbolTableType.TheVariants as kin
 use Rattle.py_control.specs.Form.{MkScope, SReturn, Scope, VForm, VForms, VMore, VNone}
 use Rattle.py_control.specs.Code.{body_code}
 use Rattle.py_control.specs.Agree.{exactly, form_of}
-use Rattle.py_emission_parts.specs.Children.{code_head, function_scope}
+use Rattle.py_emission_parts.specs.Children.{function_scope}
+use Rattle.py_emission_parts.specs.Running.{code_head}
 use Rattle.py_emission_parts.specs.Classes.{class_shape}
 use Rattle.py_emission_parts.specs.Comprehensions.{as_element, comprehension_shape, gathered, generated}
 use Rattle.py_emission_parts.specs.Context.{Context, head_of, inside, with_path, within_class}

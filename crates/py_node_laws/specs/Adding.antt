@@ -18,6 +18,7 @@ use Rattle.py_control.specs.Agree.{AllOf, OneOf, exactly}
 use Rattle.py_control_proof.specs.Made.{IsMade}
 use Rattle.py_emission_parts.specs.Context.{Context, cells_among, frees_among, head_of, inside, outermost, symbols_in}
 use Rattle.py_emission_parts.specs.Emitting.{Begin, Done, LoopBlocks, Put, State, Step, begun, nothing}
+use Rattle.py_emission_parts.specs.Running.{run}
 use Rattle.py_emission_proof.specs.Loads.{LoadsUpTo}
 use Rattle.py_emission.specs.Emission.{emission, emission_of_store, emission_of_test}
 use Rattle.py_emission.specs.EmissionStmts.{emission_of_stmt, emission_of_stmts}
@@ -125,23 +126,23 @@ LoopIsMade (Some x) n = (x.on_break < n) × (x.on_continue < n)
 
 -- an expression as a value, as a test and as a target
 abbrev pub ExprsAdd : Type 0
-ExprsAdd = (e : tree.Expr) → expr_size e < 2 ^ 22 → (s r : State) → IsReady s → emission e s ≡ Done r → Adds s r (code_v (seen s) (expr_form (told s) s.next e) s.blocks) (labels_v (expr_form (told s) s.next e)) (scopes_in (postponed s) e)
+ExprsAdd = (e : tree.Expr) → expr_size e < 2 ^ 22 → (s r : State) → IsReady s → run (emission e) s ≡ Done r → Adds s r (code_v (seen s) (expr_form (told s) s.next e) s.blocks) (labels_v (expr_form (told s) s.next e)) (scopes_in (postponed s) e)
 
 abbrev pub TestsAdd : Type 0
 TestsAdd =
-    (e : tree.Expr) → expr_size e < 2 ^ 22 → (truth : Bool) (block : ℕ) (s r : State) → IsReady s → block < s.blocks → emission_of_test e truth block s ≡ Done r
+    (e : tree.Expr) → expr_size e < 2 ^ 22 → (truth : Bool) (block : ℕ) (s r : State) → IsReady s → block < s.blocks → run (emission_of_test e truth block) s ≡ Done r
     → Adds s r (code_t (seen s) (test_form (told s) s.next e) truth block s.blocks) (labels_t (test_form (told s) s.next e) truth) (scopes_in (postponed s) e)
 
 abbrev pub TargetsAdd : Type 0
-TargetsAdd = (e : tree.Expr) → expr_size e < 2 ^ 22 → (s r : State) → IsReady s → emission_of_store e s ≡ Done r → Adds s r (code_g (seen s) (target_form (told s) s.next e) s.blocks) (labels_g (target_form (told s) s.next e)) (scopes_in (postponed s) e)
+TargetsAdd = (e : tree.Expr) → expr_size e < 2 ^ 22 → (s r : State) → IsReady s → run (emission_of_store e) s ≡ Done r → Adds s r (code_g (seen s) (target_form (told s) s.next e) s.blocks) (labels_g (target_form (told s) s.next e)) (scopes_in (postponed s) e)
 
 -- a statement, and statements: breaks and continues in their form stand in loops, of it or around
 abbrev pub StatementsAdd : Type 0
 StatementsAdd =
-    (t : tree.Stmt) → stmt_size t < 2 ^ 22 → (s r : State) → IsReady s → LoopIsMade s.around.loops s.blocks → emission_of_stmt t s ≡ Done r
+    (t : tree.Stmt) → stmt_size t < 2 ^ 22 → (s r : State) → IsReady s → LoopIsMade s.around.loops s.blocks → run (emission_of_stmt t) s ≡ Done r
     → Adds s r (code (seen s) (stmt_form (told s) s.next t) (loops_in s) s.blocks) (labels (stmt_form (told s) s.next t)) (scopes_in_stmt (postponed s) t) × Looped (loops_in s).inside (stmt_form (told s) s.next t)
 
 abbrev pub BodiesAdd : Type 0
 BodiesAdd =
-    (ts : tree.Stmts) → stmts_size ts < 2 ^ 22 → (s r : State) → IsReady s → LoopIsMade s.around.loops s.blocks → emission_of_stmts ts s ≡ Done r
+    (ts : tree.Stmts) → stmts_size ts < 2 ^ 22 → (s r : State) → IsReady s → LoopIsMade s.around.loops s.blocks → run (emission_of_stmts ts) s ≡ Done r
     → Adds s r (code (seen s) (stmts_form (told s) s.next ts) (loops_in s) s.blocks) (labels (stmts_form (told s) s.next ts)) (scopes_in_stmts (postponed s) ts) × Looped (loops_in s).inside (stmts_form (told s) s.next ts)

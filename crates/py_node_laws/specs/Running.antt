@@ -28,6 +28,7 @@ use Rattle.py_emission.specs.EmissionStmts.{emission_of_stmt, emission_of_stmts}
 use Rattle.py_meaning.specs.Table.{expr_form, target_form, test_form}
 use Rattle.py_meaning.specs.TableStmts.{stmt_form, stmts_form}
 use Rattle.py_emission_parts.specs.EmissionParts.{elements}
+use Rattle.py_emission_parts.specs.Running as emitting
 use Rattle.py_expr_parts.specs.Calls.{arguments, callee_value, calling, is_method, taken}
 use Rattle.py_expr_parts.specs.declared.calls.CallType.{CallType}
 use Rattle.py_expr_scopes.specs.Comprehensions.{comprehension_of}
@@ -108,19 +109,19 @@ BodyRuns ts s r bs tables = let f = stmts_form (told s) s.next ts in Over s r (c
 
 -- of an emission that is done
 abbrev pub ExprsRun : Type 0
-ExprsRun = (e : tree.Expr) → expr_size e < 2 ^ 22 → (s r : State) → IsReady s → emission e s ≡ Done r → (bs : List Blk) (tables : Tables) → Hold r bs tables → ExprRuns e s r bs tables
+ExprsRun = (e : tree.Expr) → expr_size e < 2 ^ 22 → (s r : State) → IsReady s → emitting.run (emission e) s ≡ Done r → (bs : List Blk) (tables : Tables) → Hold r bs tables → ExprRuns e s r bs tables
 
 abbrev pub TestsRun : Type 0
-TestsRun = (e : tree.Expr) → expr_size e < 2 ^ 22 → (truth : Bool) (block : ℕ) (s r : State) → IsReady s → block < s.blocks → emission_of_test e truth block s ≡ Done r → (bs : List Blk) (tables : Tables) → Hold r bs tables → TestExprRuns e truth block s r bs tables
+TestsRun = (e : tree.Expr) → expr_size e < 2 ^ 22 → (truth : Bool) (block : ℕ) (s r : State) → IsReady s → block < s.blocks → emitting.run (emission_of_test e truth block) s ≡ Done r → (bs : List Blk) (tables : Tables) → Hold r bs tables → TestExprRuns e truth block s r bs tables
 
 abbrev pub TargetsRun : Type 0
-TargetsRun = (e : tree.Expr) → expr_size e < 2 ^ 22 → (s r : State) → IsReady s → emission_of_store e s ≡ Done r → (bs : List Blk) (tables : Tables) → Hold r bs tables → StoreRuns e s r bs tables
+TargetsRun = (e : tree.Expr) → expr_size e < 2 ^ 22 → (s r : State) → IsReady s → emitting.run (emission_of_store e) s ≡ Done r → (bs : List Blk) (tables : Tables) → Hold r bs tables → StoreRuns e s r bs tables
 
 abbrev pub StatementsRun : Type 0
-StatementsRun = (t : tree.Stmt) → stmt_size t < 2 ^ 22 → (s r : State) → IsReady s → LoopIsMade s.around.loops s.blocks → emission_of_stmt t s ≡ Done r → (bs : List Blk) (tables : Tables) → Hold r bs tables → StmtRuns t s r bs tables
+StatementsRun = (t : tree.Stmt) → stmt_size t < 2 ^ 22 → (s r : State) → IsReady s → LoopIsMade s.around.loops s.blocks → emitting.run (emission_of_stmt t) s ≡ Done r → (bs : List Blk) (tables : Tables) → Hold r bs tables → StmtRuns t s r bs tables
 
 abbrev pub BodiesRun : Type 0
-BodiesRun = (ts : tree.Stmts) → stmts_size ts < 2 ^ 22 → (s r : State) → IsReady s → LoopIsMade s.around.loops s.blocks → emission_of_stmts ts s ≡ Done r → (bs : List Blk) (tables : Tables) → Hold r bs tables → BodyRuns ts s r bs tables
+BodiesRun = (ts : tree.Stmts) → stmts_size ts < 2 ^ 22 → (s r : State) → IsReady s → LoopIsMade s.around.loops s.blocks → emitting.run (emission_of_stmts ts) s ≡ Done r → (bs : List Blk) (tables : Tables) → Hold r bs tables → BodyRuns ts s r bs tables
 
 -- the blocks and the tables of an emitter that is finished hold what it has emitted
 abbrev pub FinishedHold : Type 0
@@ -168,8 +169,8 @@ ComprehensionCallsRun =
 abbrev pub ArgumentCallsRun : Type 0
 ArgumentCallsRun =
     (answer : Result CallType (LocatedError CodegenErrorType)) (func : tree.Expr) (args : tree.Exprs) (keywords : tree.Keywords) (r s : State) (before after : Emitter)
-    → callee_value (emissions func).callee r ≡ Done (state before)
+    → emitting.run (callee_value (emissions func).callee) r ≡ Done (state before)
     → Emits answer (arguments 0 (elements (all_emissions args)) (keyword_emissions keywords)) before after
-    → calling (is_method (emissions func).callee) (taken 0 (elements (all_emissions args)) (keyword_emissions keywords)) (state after) ≡ Done s
+    → emitting.run (calling (is_method (emissions func).callee) (taken 0 (elements (all_emissions args)) (keyword_emissions keywords))) (state after) ≡ Done s
     → expr_size (tree.Call r.location func args keywords) < 2 ^ 22 → IsReady r
     → OnOk answer ((bs : List Blk) (tables : Tables) → Hold s bs tables → ExprRuns (tree.Call r.location func args keywords) r s bs tables)

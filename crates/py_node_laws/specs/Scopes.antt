@@ -9,7 +9,7 @@ use Rattle.py_bytecode.specs.Objects as const
 use Rattle.py_bytecode.specs.Values.{operation, Bare}
 use Rattle.py_ir.specs.declared.info.CodeInfo.{CodeInfo}
 use Rattle.py_control.specs.Form.{MkScope, SReturn, Scope, VConst, VMore, VNone, VSwap}
-use Rattle.py_emission_parts.specs.Children.{code_head, flags_of_defaults, function_scope}
+use Rattle.py_emission_parts.specs.Children.{flags_of_defaults, function_scope}
 use Rattle.py_emission_parts.specs.Classes.{class_shape}
 use Rattle.py_emission_parts.specs.Comprehensions.{as_element, comprehension_shape, gathered, generated}
 use Rattle.py_emission_parts.specs.Context.{Context, head_of}
@@ -17,6 +17,7 @@ use Rattle.py_emission_parts.specs.Emitting.{Done, Emission, State, ◌▸◌, b
 use Rattle.py_emission_parts.specs.Sealed.{Head}
 use Rattle.py_emission_parts.specs.TypeParameters.{generic_alias, hidden_shape, load_handed, no_defaults}
 use Rattle.py_emission_parts.specs.Within.{Shape, class_within, comprehension_inside, function_inside, handed, handed_parts, hidden_inside, lambda_inside}
+use Rattle.py_emission_parts.specs.Running.{code_head, run}
 use Rattle.py_emit.specs.declared.emitter.Emitter.{Emitter}
 use Rattle.py_emit.specs.Emitted.{Holds}
 use Rattle.py_emit.specs.States.{IsUnrefused, info, rest, state}
@@ -40,7 +41,7 @@ pub record EndsUnrefused (level : ℕ) (head : Head) (t : State) : Type 0 where
 
 -- the body of a scope ends so in this context, where no code of the scope, nor of any within it, loads many cells
 abbrev pub BodyEndsUnrefused : (inner : Context) → Shape → (body : Emission) → (next : ℕ) → Scope → Type 0
-BodyEndsUnrefused inner h body next x = LoadsFew inner.scopes x → (at : SourceLocation) (t : State) → body (begun inner at next) ≡ Done t → EndsUnrefused inner.level (code_head inner h at) t
+BodyEndsUnrefused inner h body next x = LoadsFew inner.scopes x → (at : SourceLocation) (t : State) → run body (begun inner at next) ≡ Done t → EndsUnrefused inner.level (code_head inner h at) t
 
 -- so does that of a scope within, wherever it begins
 abbrev pub IsUnrefusedWithin : (within : Context → (number : ℕ) → Context) → Shape → (body : Emission) → (scope : Context → (number : ℕ) → Scope) → Type 0

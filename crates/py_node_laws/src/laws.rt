@@ -1,5 +1,6 @@
 //! Laws of what nodes add, of where they may begin, and of the refusals of scopes within. Their bodies do nothing.
 ghost use Rattle.py_node_laws.specs.Adding.{BeginsReady, BodiesAdd, EntersReady, ExprsAdd, StatementsAdd, TargetsAdd, TestsAdd};
+ghost use Rattle.py_node_laws.specs.Growth.{BlocksBeginOnce, BlocksGrow, ContextStays, NumbersGrow, NumbersPassed, TablesGrow};
 ghost use Rattle.py_node_laws.specs.Scopes.{ClassesAreUnrefused, DictsAreUnrefused, EmittersHold, FunctionsAreUnrefused, GeneratorsAreUnrefused, GenericAliasesAreUnrefused, GenericClassesAreUnrefused, GenericFunctionsAreUnrefused, LambdasAreUnrefused, ListsAreUnrefused, SetsAreUnrefused};
 
 /// Where the emission of a node is done, it has added the code of the node's form, over code objects of the scopes within, each
@@ -10,6 +11,18 @@ pub fn nodes_add()
     ensures targets { TargetsAdd }
     ensures statements { StatementsAdd }
     ensures bodies { BodiesAdd }
+{}
+
+/// Over every emission that is done the number of the next scope and that of blocks only grow, those of nested scopes stay
+/// below the last, no block begins that was made before, steps and tables only get longer, and the context and the loop are
+/// those of before. So it is of every call by what it emits.
+pub fn emissions_grow()
+    ensures numbers { NumbersGrow }
+    ensures passed { NumbersPassed }
+    ensures blocks { BlocksGrow }
+    ensures once { BlocksBeginOnce }
+    ensures tables { TablesGrow }
+    ensures context { ContextStays }
 {}
 
 /// What stands around is as the laws of nodes ask it, outermost and in each scope that is entered.

@@ -9,6 +9,7 @@ use Rattle.py_scope.specs.declared.table_type.SymbolTableType.TheVariants as kin
 use Rattle.py_emission_parts.specs.Within.{function_inside}
 use Rattle.py_emission_parts.specs.Context.{Context, function_path, inside, with_path}
 use Rattle.py_emission_parts.specs.Emitting.{Emission, State, ◌▸◌, keep}
+use Rattle.py_emission_parts.specs.Running.{run}
 use Rattle.py_bytecode.specs.Objects.{Object}
 use Rattle.py_tree.specs.declared.statements.StmtFunctionDefOf.{StmtFunctionDefOf}
 use Rattle.py_emission.specs.Parameters.{function_shape}
@@ -46,7 +47,7 @@ pub within_is : (name path : List ℕ) (c : Context) (n : ℕ) → path ≡ func
 unfolding inside with_path
 within_is name path c n e = λ i. with_path (sym e i) (inside kind.Function n c)
 
-pub scope_as : (s : StmtFunctionDefOf Stmt) (name path : List ℕ) (k : Object → Emission) (r : State) → name ≡ s.name → path ≡ function_path r.around.context s.name → scope_emission (function_inside s.name) s.name s k r ≡ scope_emission (within_path path) name s k r
+pub scope_as : (s : StmtFunctionDefOf Stmt) (name path : List ℕ) (k : Object → Emission) (r : State) → name ≡ s.name → path ≡ function_path r.around.context s.name → run (scope_emission (function_inside s.name) s.name s k) r ≡ run (scope_emission (within_path path) name s k) r
 scope_as s name path k r a e =
     child_as (function_inside s.name) (within_path path) (function_shape (params_of s) s.name) (inner_emission s) k r (within_is s.name path r.around.context r.next e)
-    ∙ ap (λ x. scope_emission (within_path path) x s k r) (sym a)
+    ∙ ap (λ x. run (scope_emission (within_path path) x s k) r) (sym a)

@@ -1,6 +1,7 @@
 //! Definitions of classes.
 ghost use Rattle.std.specs.Prelude.{◌≡◌};
 ghost use Rattle.py_tree.specs.View.{class_def_tree, expr_tree, exprs, stmt_tree, stmts};
+ghost use Rattle.py_emission_parts.specs.Running.{run};
 ghost use Rattle.py_emission_parts.specs.Children.{decorated};
 ghost use Rattle.py_emission_parts.specs.Within.{class_within};
 ghost use Rattle.py_emission_parts.specs.EmissionParts.{values};
@@ -91,7 +92,7 @@ fn compile_hidden_scope(
     s: &StmtClassDef,
     path: Text,
 ) -> Result<CodeObject, CodegenError>
-    ensures goes { Gives result (state em.new) (λ k. hidden_scope 0 s.now.name (built_emission path s.now) k (state em.old)) }
+    ensures goes { Gives result (state em.new) (λ k. run (hidden_scope 0 s.now.name (built_emission path s.now) k) (state em.old)) }
     ensures same { Same result (rest em.new) (rest em.old) }
 {
     enter_hidden(em, s.name.as_str(), 0)?;
@@ -152,7 +153,7 @@ fn compile_class_scope(
     body: &Stmts,
     path: Text,
 ) -> Result<CodeObject, CodegenError>
-    ensures goes { Gives result (state em.new) (λ k. own_scope (class_within path name.now) name.now (stmts stmt_tree body.now) k (state em.old)) }
+    ensures goes { Gives result (state em.new) (λ k. run (own_scope (class_within path name.now) name.now (stmts stmt_tree body.now) k) (state em.old)) }
     ensures same { Same result (rest em.new) (rest em.old) }
 {
     let full = em.text(path.as_str())?;

@@ -1,6 +1,7 @@
 //! Definitions of functions.
 ghost use Rattle.std.specs.Prelude.{◌≡◌, ◌≤◌, drop, length};
 ghost use Rattle.py_tree.specs.View.{expr_tree, exprs, function_def_tree, stmt_tree, stmts};
+ghost use Rattle.py_emission_parts.specs.Running.{run};
 ghost use Rattle.py_emission_parts.specs.Children.{decorated};
 ghost use Rattle.py_emission_parts.specs.Within.{function_inside};
 ghost use Rattle.py_emission_parts.specs.EmissionParts.{values};
@@ -101,7 +102,7 @@ fn compile_hidden_scope(
     s: &StmtFunctionDef,
     defaults: Defaults,
 ) -> Result<CodeObject, CodegenError>
-    ensures goes { Gives result (state em.new) (λ k. hidden_scope (length (handed_by defaults)) s.now.name (hidden_value defaults s.now) k (state em.old)) }
+    ensures goes { Gives result (state em.new) (λ k. run (hidden_scope (length (handed_by defaults)) s.now.name (hidden_value defaults s.now) k) (state em.old)) }
     ensures same { Same result (rest em.new) (rest em.old) }
 {
     enter_hidden(em, s.name.as_str(), handed_count(defaults))?;
@@ -176,7 +177,7 @@ fn compile_function_scope(
     name: Text,
     path: Text,
 ) -> Result<CodeObject, CodegenError>
-    ensures goes { Gives result (state em.new) (λ k. scope_emission (within_path path) name s.now k (state em.old)) }
+    ensures goes { Gives result (state em.new) (λ k. run (scope_emission (within_path path) name s.now k) (state em.old)) }
     ensures same { Same result (rest em.new) (rest em.old) }
 {
     enter_function(em, &s.args, name, Naming::Function { path })?;

@@ -1,10 +1,10 @@
 //! `try`, its handlers and its last part.
 ghost use Rattle.std.specs.Prelude.{◌≡◌, ◌<◌};
 ghost use Rattle.py_tree.specs.View.{expr_tree, handlers as handler_trees, opt_box, stmt_tree, stmts, try_tree};
-ghost use Rattle.py_emission.specs.ControlEmissions.{finally_do, forgotten, named_body};
+ghost use Rattle.py_emission.specs.ControlEmissions.{finally_do, forgotten, named_body, try_body};
 ghost use Rattle.py_emission.specs.EmissionStmts.{emission_of_handlers, emission_of_last, emission_of_stmt, emission_of_stmts};
-ghost use Rattle.py_emit.specs.States.{AreMade, Emits, rest, state};
-ghost use Rattle.py_stmt.specs.Parts.{emission_of_caught, emission_of_handler, guarded, try_by_parts, unguarded};
+ghost use Rattle.py_emit.specs.States.{AreMade, Does, Emits, rest, state};
+ghost use Rattle.py_stmt.specs.Parts.{emission_of_caught, emission_of_handler, guarded, unguarded};
 
 use crate::statements::compile_statements;
 use py_base::CodegenError;
@@ -31,7 +31,7 @@ pub(crate) fn compile_try(em: &mut Emitter, s: &StmtTry) -> Result<(), CodegenEr
 #[tactic(auto, using(py_stmt_parts::proofs::Steps::steps))]
 fn compile_parts(em: &mut Emitter, s: &StmtTry, last: bool) -> Result<(), CodegenError>
     requires loops { AreMade (rest em.old).context.loop_blocks }
-    ensures { Emits result (try_by_parts last (emission_of_stmts (stmts stmt_tree s.now.body)) (emission_of_handlers (handler_trees stmt_tree s.now.handlers) last) (emission_of_stmts (stmts stmt_tree s.now.orelse)) (emission_of_last (stmts stmt_tree s.now.finalbody) (emission_of_stmts (stmts stmt_tree s.now.finalbody)))) em.old em.new }
+    ensures { Emits result (try_body last (emission_of_stmts (stmts stmt_tree s.now.body)) (emission_of_handlers (handler_trees stmt_tree s.now.handlers) last) (emission_of_stmts (stmts stmt_tree s.now.orelse)) (emission_of_last (stmts stmt_tree s.now.finalbody) (emission_of_stmts (stmts stmt_tree s.now.finalbody)))) em.old em.new }
 {
     let catch = em.new_block()?;
     let other = em.new_block()?;
@@ -123,7 +123,7 @@ fn compile_handler(
 ) -> Result<(), CodegenError>
     requires loops { AreMade (rest em.old).context.loop_blocks }
     requires end { end.0 < 0xffff_ffff }
-    ensures { Emits result (emission_of_handler (opt_box expr_tree handler.now.type_) handler.now.name (stmts stmt_tree handler.now.body) last end.0) em.old em.new }
+    ensures { Does result (emission_of_handler (opt_box expr_tree handler.now.type_) handler.now.name (stmts stmt_tree handler.now.body) last end.0) em.old em.new }
 {
     let next = em.new_block()?;
     compile_match(em, &handler.type_, &handler.name, next)?;

@@ -8,7 +8,8 @@ use Rattle.py_name_uses.specs.Parts.{has_default}
 use Rattle.py_bytecode.specs.declared.instruction.Instruction.TheVariants as op
 use Rattle.py_emission_parts.specs.Children.{flags_of_defaults}
 use Rattle.py_emission_parts.specs.Within.{handed, some_flag, some_name}
-use Rattle.py_emission_parts.specs.Emitting.{Emission, ◌▸◌, emit_varname}
+use Rattle.py_emission_parts.specs.Emitting.{◌▸◌, State, emit_varname}
+use Rattle.py_emission_parts.specs.Running.{Action, on_done, run}
 use Rattle.py_emission_parts.specs.TypeParameters.{load_handed}
 use Rattle.py_emission.specs.Emission.{default_emissions, keyword_only_emissions, positional_emissions}
 use Rattle.py_emit.proofs.Joined.{joined}
@@ -58,12 +59,12 @@ flags_are (tree.arguments posonly args vararg kwonly kwarg) =
     ∙ ap (λ n. flag_if 0x08 (has_default posonly || has_default args) + n) (keyword_flag 0x04 kwonly)
 
 -- the loads of two lists of names
-load_both : (xs ys : List (List ℕ)) → load_handed (xs ++ ys) ≡ load_handed xs ▸ load_handed ys
+load_both : (xs ys : List (List ℕ)) → run (load_handed (xs ++ ys)) ≡ run (load_handed xs ▸ load_handed ys)
 load_both [] ys = refl
-load_both (x ∷ xs) ys = ap (λ (v : Emission). emit_varname op.LoadFast x ▸ v) (load_both xs ys) ∙ sym (joined (emit_varname op.LoadFast x) (load_handed xs) (load_handed ys))
+load_both (x ∷ xs) ys = ap {A = Action} {B = Action} (λ (w : Action) (s : State). on_done (run (emit_varname op.LoadFast x) s) w) (load_both xs ys) ∙ sym (joined (emit_varname op.LoadFast x) (load_handed xs) (load_handed ys))
 
-pub handed_in_turn : (d : Defaults) → load_handed (handed_by d) ≡ load_handed (name_if (codes ".defaults") d.positional) ▸ load_handed (name_if (codes ".kwdefaults") d.keyword)
-handed_in_turn d = load_both (name_if (codes ".defaults") d.positional) (name_if (codes ".kwdefaults") d.keyword)
+pub handed_in_turn : (d : Defaults) (s : State) → run (load_handed (handed_by d)) s ≡ run (load_handed (name_if (codes ".defaults") d.positional) ▸ load_handed (name_if (codes ".kwdefaults") d.keyword)) s
+handed_in_turn d s = ap (λ (f : Action). f s) (load_both (name_if (codes ".defaults") d.positional) (name_if (codes ".kwdefaults") d.keyword))
 
 -- the flags of a function without type parameters
 pub plain_flags : (d : Defaults) → given_flags d false ≡ flag_if 0x08 d.positional + flag_if 0x04 d.keyword

@@ -8,7 +8,8 @@ use Rattle.py_tree.specs.declared.statements.StmtImportFrom.{StmtImportFrom}
 use Rattle.py_base.specs.declared.errors.CodegenErrorType.{CodegenErrorType}
 use Rattle.py_base.specs.declared.errors.CodegenErrorType.TheVariants as error
 use Rattle.py_emission.specs.Emission.{emission}
-use Rattle.py_emission_parts.specs.Emitting.{Done, Emission, Outcome, Refused, State, go_on, with_postponed}
+use Rattle.py_emission_parts.specs.Emitting.{Done, Emission, Outcome, Refused, State, with_postponed}
+use Rattle.py_emission_parts.specs.Running.{Action, on_done, run}
 use Rattle.py_emission.specs.EmissionFutures.{emission_behind}
 use Rattle.py_emission.specs.Futures.{Future}
 use Rattle.py_emit.specs.States.{Rest, postponed_rest}
@@ -22,7 +23,7 @@ future s = record { at = s.location; path = s.«module»; names = s.names; level
 abbrev pub restored_state : (changed before : Bool) → State → State
 restored_state changed before t = if changed then with_postponed before t else t
 
-abbrev pub restored : (changed before : Bool) → Emission
+abbrev pub restored : (changed before : Bool) → Action
 restored changed before t = Done (restored_state changed before t)
 
 -- what may have changed else
@@ -36,7 +37,7 @@ AreChanged before after old new = (r : Rest) → old ≡ changed_rest before r �
 -- an emission comes to a state, in which annotations are postponed where it says so; and whether they are postponed by now
 pub record Entered (a : Emission) (postpones : Bool) (s r : State) (before after : Bool) : Type 0 where
   pub mid : State
-  pub goes : a s ≡ Done mid
+  pub goes : run a s ≡ Done mid
   pub kept : mid.around.context.postponed ≡ s.around.context.postponed
   pub state_is : r ≡ restored_state postpones true mid
   pub after_is : after ≡ (if postpones then true else before)
@@ -47,12 +48,12 @@ IsRefusing e o = e.error ≢ error.OutOfMemory → o ≡ Refused e.error e.locat
 
 -- what is emitted behind future imports goes on here, from the statements that are left
 abbrev pub Leads : (before now : State) → List Stmt → (count : ℕ) → (postponed : Bool) → Type 0
-Leads s m all n c = (emission : tree.Stmts → Emission) → emission_behind emission (stmts stmt_tree all) s ≡ go_on (emission_behind emission (stmts stmt_tree (drop n all)) m) (restored c s.around.context.postponed)
+Leads s m all n c = (emission : tree.Stmts → Emission) → run (emission_behind emission (stmts stmt_tree all)) s ≡ on_done (run (emission_behind emission (stmts stmt_tree (drop n all))) m) (restored c s.around.context.postponed)
 
 -- or it is refused
 abbrev pub Opens : Result Opening (LocatedError CodegenErrorType) → (before now : State) → List Stmt → Type 0
-Opens (Ok o) s m all = (emission : tree.Stmts → Emission) → emission_behind emission (stmts stmt_tree all) s ≡ go_on (emission (stmts stmt_tree (drop o.count all)) m) (restored o.postponed s.around.context.postponed)
-Opens (Err x) s m all = (emission : tree.Stmts → Emission) → x.error ≢ error.OutOfMemory → emission_behind emission (stmts stmt_tree all) s ≡ Refused x.error x.location
+Opens (Ok o) s m all = (emission : tree.Stmts → Emission) → run (emission_behind emission (stmts stmt_tree all)) s ≡ on_done (run (emission (stmts stmt_tree (drop o.count all))) m) (restored o.postponed s.around.context.postponed)
+Opens (Err x) s m all = (emission : tree.Stmts → Emission) → x.error ≢ error.OutOfMemory → run (emission_behind emission (stmts stmt_tree all)) s ≡ Refused x.error x.location
 
 -- no future import begins these statements
 abbrev pub NoFuture : List Stmt → Type 0

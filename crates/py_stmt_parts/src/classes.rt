@@ -3,7 +3,8 @@ ghost use Rattle.std.specs.Prelude.{◌≡◌, ◌≤◌, drop, length, suc, IfE
 ghost use Rattle.py_tree.specs.View.{stmt_tree, stmts};
 ghost use Rattle.py_bytecode.specs.Objects.{str};
 ghost use Rattle.py_bytecode.specs.View.{constant, object};
-ghost use Rattle.py_emission_parts.specs.Children.{code_head, made};
+ghost use Rattle.py_emission_parts.specs.Children.{made};
+ghost use Rattle.py_emission_parts.specs.Running.{code_head};
 ghost use Rattle.py_emission_parts.specs.Classes.{cell_returned, class_end, class_names, class_shape};
 ghost use Rattle.py_emission_parts.specs.Within.{doc_const};
 ghost use Rattle.py_emission_parts.specs.Emitting.{begun, by_level};

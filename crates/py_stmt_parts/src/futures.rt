@@ -4,6 +4,7 @@ ghost use Rattle.py_tree.specs.View.{stmt_tree};
 ghost use Rattle.py_name_uses.specs.Parts.{names_annotations};
 ghost use Rattle.py_emission.specs.EmissionFutures.{check_features, emission_of_future};
 ghost use Rattle.py_emission.specs.Futures.{future_of, is_feature};
+ghost use Rattle.py_emission_parts.specs.Running.{run};
 ghost use Rattle.py_emit.specs.States.{Emits, IsTold, postponed_rest, rest, state};
 ghost use Rattle.py_stmt_parts.specs.Futures.{AreChanged, Entered, IsRefusing, NoFuture, Opens, changed_rest, future, restored_state};
 
@@ -66,7 +67,7 @@ pub fn enter_future(
     postponed: bool,
 ) -> Result<bool, CodegenError>
     ensures entered { IfOk result (λ after. Entered (emission_of_future (future s.now)) (names_annotations s.now.names) (state em.old) (state em.new) postponed after) }
-    ensures refused { IfErr result (λ e. IsRefusing e (emission_of_future (future s.now) (state em.old))) }
+    ensures refused { IfErr result (λ e. IsRefusing e (run (emission_of_future (future s.now)) (state em.old))) }
     ensures rest { IfOk result (λ after. AreChanged postponed after (rest em.old) (rest em.new)) }
     ensures told { IfErr result (λ e. IsTold e (rest em.old).path) }
 {

@@ -4,7 +4,8 @@ ghost use Rattle.std.specs.Prelude.{◌≡◌, ◌+◌, length, suc, IfErr, IfOk
 ghost use Rattle.py_tree.specs.View.{arguments, expr_tree, type_params as param_trees};
 ghost use Rattle.py_bytecode.specs.Objects.{str};
 ghost use Rattle.py_bytecode.specs.View.{object};
-ghost use Rattle.py_emission_parts.specs.Children.{code_head, made};
+ghost use Rattle.py_emission_parts.specs.Children.{made};
+ghost use Rattle.py_emission_parts.specs.Running.{code_head};
 ghost use Rattle.py_emission_parts.specs.Emitting.{begun, emit_constant};
 ghost use Rattle.py_emission_parts.specs.TypeParameters.{hidden_shape, kept_as, load_handed, plain};
 ghost use Rattle.py_emission_parts.specs.Within.{hidden_name};

@@ -7,10 +7,12 @@ use Rattle.py_tree.specs.View.{expr_tree, exprs}
 use Rattle.py_tree.specs.declared.expressions.Expr.{Expr}
 use Rattle.py_bytecode.specs.declared.instruction.Instruction.TheVariants as op
 use Rattle.py_emission_parts.specs.Emitting.{◌▸◌, emit, refuse}
+use Rattle.py_emission_parts.specs.Running.{◌▹◌, run}
 use Rattle.py_emission.specs.Emission.{emission_of_store}
 use Rattle.py_emission.specs.EmissionStmts.{emission_of_assign}
 use Rattle.py_base.specs.declared.errors.CodegenErrorType.TheVariants as error
 use Rattle.py_base.specs.declared.shapes.Malformed.TheVariants as shape
+use Rattle.py_stmt_simple.proofs.EmissionGroupLemmas.{after_same}
 use Rattle.py_emit.proofs.Joined.{joined, keep_last}
 use Rattle.py_expr_parts.proofs.Turns.{more_left, some}
 use Rattle.py_stmt_simple.specs.Assigning.{assigned_to, assigned_to_all, some_targets}
@@ -18,10 +20,10 @@ use Rattle.py_stmt_simple.specs.Assigning.{assigned_to, assigned_to_all, some_ta
 one_more : (i : ℕ) → suc i ≡ i + 1
 one_more i = omega arith
 
-pub assign_is : (e : tree.Expr) (es : tree.Exprs) → emission_of_assign (tree.more_exprs e es) ≡ assigned_to_all (tree.more_exprs e es)
+pub assign_is : (e : tree.Expr) (es : tree.Exprs) → run (emission_of_assign (tree.more_exprs e es)) ≡ run (assigned_to_all (tree.more_exprs e es))
 assign_is e tree.no_exprs = sym (keep_last (emission_of_store e))
 assign_is e (tree.more_exprs g es) =
-    ap (λ w. emit op.Duplicate 0 ▸ emission_of_store e ▸ w) (assign_is g es)
+    after_same (run (emit op.Duplicate 0)) (run (emission_of_store e) ▹ run (emission_of_assign (tree.more_exprs g es))) (run (emission_of_store e) ▹ run (assigned_to_all (tree.more_exprs g es))) (after_same (run (emission_of_store e)) _ _ (assign_is g es))
     ∙ sym (joined (emit op.Duplicate 0) (emission_of_store e) (assigned_to_all (tree.more_exprs g es)))
 
 pub assign_none : (xs : List Expr) → nat_eq (length xs) 0 ≡ true → emission_of_assign (exprs expr_tree xs) ≡ refuse (error.MalformedTree shape.NoTarget)
@@ -29,7 +31,7 @@ assign_none [] e = refl
 assign_none (x ∷ xs) e = let z : length (x ∷ xs) ≡ 0 = search (rules, e) in absurd (omega (arith, z))
 
 -- where there is a target
-pub assign_some : (xs : List Expr) → nat_eq (length xs) 0 ≡ false → emission_of_assign (exprs expr_tree xs) ≡ assigned_to_all (exprs expr_tree xs)
+pub assign_some : (xs : List Expr) → nat_eq (length xs) 0 ≡ false → run (emission_of_assign (exprs expr_tree xs)) ≡ run (assigned_to_all (exprs expr_tree xs))
 assign_some [] e = absurd cc
 assign_some (x ∷ xs) e = assign_is (expr_tree x) (exprs expr_tree xs)
 

@@ -2,6 +2,7 @@
 ghost use Rattle.std.specs.Prelude.{◌≡◌};
 ghost use Rattle.py_tree.specs.View.{expr_tree, type_alias_tree, type_params as param_trees};
 ghost use Rattle.py_bytecode.specs.declared.instruction.Instruction.TheVariants as op;
+ghost use Rattle.py_emission_parts.specs.Running.{run};
 ghost use Rattle.py_emission_parts.specs.Accesses.{emission_of_stored};
 ghost use Rattle.py_emission_parts.specs.Emitting.{◌▸◌, emit_count};
 ghost use Rattle.py_emission_parts.specs.TypeParameters.{generic_alias, plain_alias};
@@ -122,7 +123,7 @@ fn compile_alias_scope(
     params: &[TypeParam],
     value: &Expr,
 ) -> Result<CodeObject, CodegenError>
-    ensures goes { Gives result (state em.new) (λ k. hidden_scope 0 name.now (generic_alias name.now (emission_of_params (param_trees params.now)) (emission (expr_tree value.now))) k (state em.old)) }
+    ensures goes { Gives result (state em.new) (λ k. run (hidden_scope 0 name.now (generic_alias name.now (emission_of_params (param_trees params.now)) (emission (expr_tree value.now))) k) (state em.old)) }
     ensures same { Same result (rest em.new) (rest em.old) }
 {
     enter_hidden(em, name, 0)?;

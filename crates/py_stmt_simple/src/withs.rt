@@ -3,7 +3,7 @@ ghost use Rattle.std.specs.Prelude.{◌≡◌, ◌<◌, IfErr, IfOk};
 ghost use Rattle.py_tree.specs.View.{expr_tree, opt_box, with_items};
 ghost use Rattle.py_emission.specs.Emission.{emission};
 ghost use Rattle.py_emission.specs.EmissionStmts.{emission_of_item};
-ghost use Rattle.py_emit.specs.States.{Emits, Same, rest, state};
+ghost use Rattle.py_emit.specs.States.{Does, Emits, Same, rest, state};
 ghost use Rattle.py_emit.specs.Steps.{IsOpen};
 ghost use Rattle.py_stmt_parts.specs.Managing.{AllOpen};
 ghost use Rattle.py_stmt_simple.specs.Managing.{AreEntered, IsRefusing, entered, stored_at};
@@ -48,7 +48,7 @@ fn enter_item(
     ensures number { IfOk result (λ end. end.0 ≡ (state em.old).blocks) }
     ensures below { IfOk result (λ end. end.0 < 0xffff_ffff) }
     ensures open { IfOk result (λ end. IsOpen end.0 (state em.new)) }
-    ensures emits { Emits result (entered location.now (emission (expr_tree item.now.context_expr.value)) (emission_of_item (opt_box expr_tree item.now.optional_vars))) em.old em.new }
+    ensures emits { Does result (entered location.now (emission (expr_tree item.now.context_expr.value)) (emission_of_item (opt_box expr_tree item.now.optional_vars))) em.old em.new }
 {
     let end = em.new_block()?;
     compile_expression(em, &item.context_expr)?;

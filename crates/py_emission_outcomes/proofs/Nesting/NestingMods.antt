@@ -15,7 +15,7 @@ use Rattle.py_emission.specs.Futures.{Future, future_of}
 use Rattle.py_emission.specs.Predicates.{annotated, none}
 use Rattle.py_emission_parts.specs.Context.{Context}
 use Rattle.py_emission_parts.specs.Emitting.{Emission, State, Done, ◌▸◌, nothing}
-use Rattle.py_emission_outcomes.proofs.Nesting.Nests.{DoneNests, Nests, at_nests, deepest, emit_nests, keep_nests, level_nests, name_nests, none_nests, stored_nests, text_nests, then_nests}
+use Rattle.py_emission_outcomes.proofs.Nesting.Nests.{nests_run, DoneNests, Nests, at_nests, deepest, emit_nests, keep_nests, level_nests, name_nests, none_nests, stored_nests, text_nests, then_nests}
 use Rattle.py_emission_outcomes.proofs.Nesting.NestingExprs.{expr_nests}
 use Rattle.py_emission_outcomes.proofs.Nesting.NestingDefs.{setup_nests}
 use Rattle.py_emission_outcomes.proofs.Nesting.NestingImports.{future_nests}
@@ -93,12 +93,12 @@ mod_nests : (t : tree.Mod) (m : Mode) → Nests (2 * nesting t) (emission_of_mod
 mod_nests (tree.Module body) m = program_nests (2 * nesting (tree.Module body)) (omega arith) body (omega arith)
 mod_nests (tree.Interactive body) m = interactive_nests (2 * nesting (tree.Interactive body)) (omega arith) m body (omega arith)
 mod_nests (tree.Expression body) m = (expr_nests (2 * nesting (tree.Expression body)) body (omega arith)).returned
-mod_nests other m = record { nests = λ s h. tt }
+mod_nests other m = record { nests = tt }
 
 -- a code of the constants that are emitted of a tree nests below 2^11, where the tree nests below 2^10
 pub emitted_nests : (t : tree.Mod) (m : Mode) (c : Context) (s : State) → nesting t < 2 ^ 10 → emitted t m c ≡ Done s → consts_nesting (consts_of s.constants) + 1 < 2 ^ 11
 emitted_nests t m c s h e =
     let k = 2 * nesting t in
-    let d : DoneNests k (Done s) = subst (DoneNests k) e ((mod_nests t m).nests (nothing c) tt) in
+    let d : DoneNests k (Done s) = subst (DoneNests k) e (nests_run (mod_nests t m) (nothing c) tt) in
     let l = deepest k s.constants d in
     omega (arith, h, l)

@@ -13,12 +13,13 @@ use Rattle.py_emission.specs.Parameters.{function_shape, parameters}
 use Rattle.py_base.specs.declared.errors.CodegenErrorType.TheVariants as error
 use Rattle.py_emission_parts.specs.Children.{DefaultEmissions, cell_loads, closure, decorated, decorations, documented, emission_of_defaults, enter_parameters, flags_of_defaults, free_names, function_made, function_scope, made, noted, some_emitted}
 use Rattle.py_emission_parts.specs.Within.{comprehension_inside, lambda_inside, some_flag}
-use Rattle.py_emission_parts.specs.Comprehensions.{ClauseEmissions, as_element, called_at_once, clause, clauses, comprehension, comprehension_shape, conditions, further_clauses, gathered, generated, retold_in}
+use Rattle.py_emission_parts.specs.Comprehensions.{ClauseEmissions, as_element, called_at_once, clause, clauses, comprehension, comprehension_shape, conditions, further_clauses, gathered, generated}
+use Rattle.py_emission_parts.specs.Running.{retold_in, run}
 use Rattle.py_emission_parts.specs.Context.{mangled, qualified}
 use Rattle.py_emission_parts.specs.Emitting.{Emission, Outcome, Done, TooWide, Refused}
 use Rattle.py_emission_parts.specs.EmissionParts.{Emissions, built, map_of}
 use Rattle.py_emission_parts.specs.Refused.{no_assignment}
-use Rattle.py_emission_outcomes.proofs.Nesting.Nests.{DoneNests, Nests, begin_nests, cell_nests, child_nests, constant_nests, context_nests, count_nests, emit_nests, generating_nests, if_nests, jump_nests, keep_nests, name_nests, new_nests, none_added, none_nests, refuse_nests, scopes_nest, text_nests, then_nests, unless_debug_nests, varname_added, varname_nests}
+use Rattle.py_emission_outcomes.proofs.Nesting.Nests.{DoneNests, Nests, two_nest, cell_nests, child_nests, constant_nests, context_nests, count_nests, emit_nests, generating_nests, if_nests, jump_nests, keep_nests, name_nests, none_added, none_nests, refuse_nests, scopes_nest, text_nests, then_nests, unless_debug_nests, varname_added, varname_nests}
 use Rattle.py_emission_outcomes.proofs.Nesting.NestingParts.{Every, NamedNests, NestsWell, built_nests, map_nests, turn_nests}
 
 module _ (k : ℕ) where
@@ -86,14 +87,9 @@ lambda_nests {k = k} j params d l x y =
     then_nests (defaults_nest k d x)
     (child_nests j lambda_inside (function_shape params (codes "<lambda>")) (scope_nests j (parameters params) y) (λ o below. then_nests (scopes_nest (λ postponed. scopes_in_annotations postponed params)) (made_nests k (flags_of_defaults d) (codes "<lambda>") o (omega (arith, l, below)))))
 
-done_element : (k : ℕ) (o : Outcome) → DoneNests k o → DoneNests k (retold_in o)
-done_element k (Done s) h = h
-done_element k TooWide h = h
-done_element k (Refused e at) h = h
-
 pub element_nests : {k : ℕ} {a : Emission} → Nests k a → Nests k (as_element a)
 unfolding as_element
-element_nests {k = k} {a = a} x = record { nests = λ s h. done_element k (a s) (x.nests s h) }
+element_nests x = record { nests = x.nests }
 
 -- a clause of a comprehension
 pub record ClauseNests (k : ℕ) (c : ClauseEmissions) : Type 0 where
@@ -108,8 +104,7 @@ module _ (k : ℕ) where
 
   clause_nests : {iterator within : Emission} (c : ClauseEmissions) → Nests k iterator → ClauseNests k c → Nests k within → Nests k (clause iterator c within)
   clause_nests c x y z =
-      new_nests (λ start. new_nests (λ end.
-      then_nests x (then_nests (begin_nests start) (then_nests (jump_nests op.ForIter end) (then_nests y.target (then_nests (conditions_nest c.conditions start y.conditions) (then_nests z (then_nests (jump_nests op.Jump start) (begin_nests end)))))))))
+      two_nest (λ start end. x) (λ start end. then_nests (jump_nests op.ForIter end) (then_nests y.target (then_nests (conditions_nest c.conditions start y.conditions) (then_nests z (jump_nests op.Jump start))))) (λ start end. keep_nests)
 
   further_nest : {within : Emission} (cs : List ClauseEmissions) → Every (ClauseNests k) cs → Nests k within → Nests k (further_clauses cs within)
   further_nest [] x y = y

@@ -23,7 +23,7 @@ use Rattle.py_emission_parts.specs.Emitting.{Emission, LoopBlocks, ◌▸◌}
 use Rattle.py_emission_parts.specs.EmissionParts.{values}
 use Rattle.py_emission_parts.specs.Refused.{no_assignment}
 use Rattle.py_emission_parts.specs.TableParts.{binary_case}
-use Rattle.py_emission_outcomes.proofs.Nesting.Nests.{Nests, at_nests, begin_nests, context_nests, emit_nests, if_nests, in_function_nests, jump_nests, keep_nests, level_nests, load_nests, loop_nests, loops_nest, mangled_nests, move_nests, name_nests, new_nests, none_nests, refuse_nests, scopes_nest, stored_nests, text_nests, then_nests, unless_debug_nests}
+use Rattle.py_emission_outcomes.proofs.Nesting.Nests.{Nests, three_nest, at_nests, context_nests, emit_nests, if_nests, in_function_nests, jump_nests, keep_nests, level_nests, load_nests, loop_nests, loops_nest, mangled_nests, move_nests, name_nests, none_nests, refuse_nests, scopes_nest, stored_nests, text_nests, then_nests, unless_debug_nests}
 use Rattle.py_emission_outcomes.proofs.Nesting.NestingParts.{values_nest}
 use Rattle.py_emission_outcomes.proofs.Nesting.NestingTests.{choice_nests, only_nests}
 use Rattle.py_emission_outcomes.proofs.Nesting.NestingScopes.{decorated_nests}
@@ -132,10 +132,9 @@ mutual
       let y = stmts_nest k body (omega (arith, h)) in
       at_nests at (if_nests (none orelse) (only_nests x y) (choice_nests x y (stmts_nest k orelse (omega (arith, h)))))
   stmt_nests k (tree.While at t body orelse) h =
-      at_nests at (new_nests (λ start. new_nests (λ other. new_nests (λ end.
-      then_nests (emit_nests op.SetupLoop 0) (then_nests (begin_nests start) (then_nests ((expr_nests k t (omega (arith, h))).test false other)
-      (then_nests (loop_nests (record { on_break = end; on_continue = start }) (stmts_nest k body (omega (arith, h)))) (then_nests (jump_nests op.Jump start)
-      (then_nests (begin_nests other) (then_nests (emit_nests op.PopBlock 0) (then_nests (stmts_nest k orelse (omega (arith, h))) (begin_nests end))))))))))))
+      at_nests at (three_nest (λ start other end. emit_nests op.SetupLoop 0)
+      (λ start other end. then_nests ((expr_nests k t (omega (arith, h))).test false other) (then_nests (loop_nests (record { on_break = end; on_continue = start }) (stmts_nest k body (omega (arith, h)))) (jump_nests op.Jump start)))
+      (λ start other end. then_nests (emit_nests op.PopBlock 0) (stmts_nest k orelse (omega (arith, h)))) (λ start other end. keep_nests))
   stmt_nests k (tree.For at target iter body orelse) h =
       at_nests at (for_nests (expr_nests k iter (omega (arith, h))).value (stores_nest k target (omega (arith, h))).alone (stmts_nest k body (omega (arith, h))) (stmts_nest k orelse (omega (arith, h))))
   stmt_nests k (tree.With at items body) h =

@@ -11,8 +11,9 @@ use Rattle.py_dataflow.specs.declared.info.InstructionInfo.{InstructionInfo}
 use Rattle.py_ir.specs.Chain.{Blk, blk, cut, body}
 use Rattle.py_control.specs.Code.{Item, Do, Label}
 use Rattle.py_emission_parts.specs.Emitting.{Step, Put, Begin}
+use Rattle.py_emission_parts.specs.Listed.{Begun}
 use Rattle.py_control_proof.proofs.Assembly.{occurs}
-use Rattle.py_emit.specs.Steps.{step_of, onwards, steps_from, Begun}
+use Rattle.py_emit.specs.Steps.{step_of, onwards, steps_from}
 use Rattle.py_emission_proof.proofs.Additions.AddedCodeLemmas.{Reads, AllRead, Below, AllInside}
 use Rattle.py_emit.proofs.Chains.{Leads}
 

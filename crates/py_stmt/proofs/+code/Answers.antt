@@ -9,7 +9,8 @@ use Rattle.std.proofs.Common.{rules, Option, ap, false, sym, ◌∙◌}
 use Rattle.std.specs.Prelude.{if◌then◌else◌}
 use Rattle.py_bytecode.specs.declared.instruction.Instruction.TheVariants as op
 use Rattle.py_tree.specs.View.{expr_tree, stmt_tree, stmts}
-use Rattle.py_emission_parts.specs.Emitting.{Done, Emission, State, go_on, in_loop, located, with_loops}
+use Rattle.py_emission_parts.specs.Emitting.{Done, Emission, State, emit, in_loop, located, with_loops}
+use Rattle.py_emission_parts.specs.Running.{Action, on_done, run}
 use Rattle.py_emission_parts.specs.EmissionParts.{choice, only}
 use Rattle.py_emission.specs.Emission.{emission_of_test}
 use Rattle.py_emission.specs.EmissionStmts.{emission_of_stmt, emission_of_stmts}
@@ -21,8 +22,7 @@ use Rattle.py_expr_parts.proofs.Turns.{if_not}
 use Rattle.py_stmt.proofs.LocationLemmas.{entering}
 use Rattle.py_stmt_parts.proofs.Steps.{none_is}
 use Rattle.py_expr_parts.proofs.Steps.{stays}
-use Rattle.py_expr_scopes.proofs.KeptExpressions.{apart, begin_opens, block_opens, emit_opens, jump_opens, test_opens}
-use Rattle.py_stmt.proofs.OpenBlockLemmas.{loop_opens, stmts_open}
+use Rattle.py_expr_scopes.proofs.OpenBlocks.{apart, begin_opens, block_opens, jump_opens, opens}
 use Rattle.py_stmt.proofs.+code.Answers.Around.{each_around, last_around, unguarded_around, while_around}
 use Rattle.py_stmt.proofs.+code.Answers.Classes as class
 use Rattle.py_stmt.proofs.+code.Answers.Defining.{decorated_refused, defaults_refused, inner_goes, inner_refused, made_goes, made_refused, plain_goes, rest_done, rest_goes_on, rest_refused, scope_inner, scope_left, scope_refused, scope_unlooped, some_goes, value_refused}
@@ -34,41 +34,41 @@ use Rattle.py_stmt.proofs.+code.Goals as goal
 
 pub statements::compile_only-switch_to_block-requires : goal.statements::compile_only-switch_to_block-requires
 statements::compile_only-switch_to_block-requires t c =
-    let e = test_opens (expr_tree c.deref.result.now) false c.in_ok-end.end.0 _ _ _ c.in_ok-compile_jump_if.ensures.goes c.in_ok-end.ensures.made in
-    record { made = stmts_open (stmts stmt_tree c.as_slice.result.now) _ _ _ c.in_ok-compile_statements.ensures.goes e; below = c.in_ok-end.ensures.below }
+    let e = opens (emission_of_test (expr_tree c.deref.result.now) false c.in_ok-end.end.0) _ _ _ c.in_ok-compile_jump_if.ensures.goes c.in_ok-end.ensures.made in
+    record { made = opens (emission_of_stmts (stmts stmt_tree c.as_slice.result.now)) _ _ _ c.in_ok-compile_statements.ensures.goes e; below = c.in_ok-end.ensures.below }
 
 pub statements::compile_choice-switch_to_block-requires : goal.statements::compile_choice-switch_to_block-requires
 statements::compile_choice-switch_to_block-requires t c =
     let a = block_opens _ _ _ c.in_ok-end.ensures.ok c.in_ok-other.ensures.made in
-    let e = test_opens (expr_tree c.deref.result.now) false c.in_ok-other.other.0 _ _ _ c.in_ok-compile_jump_if.ensures.goes a in
-    let m = stmts_open (stmts stmt_tree c.as_slice.result.now) _ _ _ c.in_ok-compile_statements.ensures.goes e in
+    let e = opens (emission_of_test (expr_tree c.deref.result.now) false c.in_ok-other.other.0) _ _ _ c.in_ok-compile_jump_if.ensures.goes a in
+    let m = opens (emission_of_stmts (stmts stmt_tree c.as_slice.result.now)) _ _ _ c.in_ok-compile_statements.ensures.goes e in
     record { made = jump_opens op.Jump c.in_ok-end.end.0 _ _ _ c.in_Continue-emit-emit.ensures.goes m; below = c.in_ok-other.ensures.below }
 
 pub statements::compile_choice-switch_to_block-requires-2 : goal.statements::compile_choice-switch_to_block-requires-2
 statements::compile_choice-switch_to_block-requires-2 t c =
     let out = c.in_ok-other.other.0 in
     let other = apart _ _ _ c.in_ok-other.ensures.made c.in_ok-end.ensures.number in
-    let e = test_opens (expr_tree c.deref.result.now) false out _ _ _ c.in_ok-compile_jump_if.ensures.goes c.in_ok-end.ensures.made in
-    let m = stmts_open (stmts stmt_tree c.as_slice.result.now) _ _ _ c.in_ok-compile_statements.ensures.goes e in
+    let e = opens (emission_of_test (expr_tree c.deref.result.now) false out) _ _ _ c.in_ok-compile_jump_if.ensures.goes c.in_ok-end.ensures.made in
+    let m = opens (emission_of_stmts (stmts stmt_tree c.as_slice.result.now)) _ _ _ c.in_ok-compile_statements.ensures.goes e in
     let j = jump_opens op.Jump c.in_ok-end.end.0 _ _ _ c.in_Continue-emit-emit.ensures.goes m in
     let g = begin_opens _ _ _ out (λ e. other (sym e)) c.switch_to_block.ensures.state j in
-    record { made = stmts_open (stmts stmt_tree c.as_slice-2.result.now) _ _ _ c.in_ok-compile_statements-2.ensures.goes g; below = c.in_ok-end.ensures.below }
+    record { made = opens (emission_of_stmts (stmts stmt_tree c.as_slice-2.result.now)) _ _ _ c.in_ok-compile_statements-2.ensures.goes g; below = c.in_ok-end.ensures.below }
 
 pub loops::compile_while-switch_to_block-requires : goal.loops::compile_while-switch_to_block-requires
 loops::compile_while-switch_to_block-requires t c =
     let a = block_opens _ _ _ c.in_ok-other.ensures.ok c.in_ok-start.ensures.made in
     let e = block_opens _ _ _ c.in_ok-end.ensures.ok a in
-    record { made = emit_opens op.SetupLoop 0 _ _ _ c.in_Continue-emit-emit.ensures.goes e; below = c.in_ok-start.ensures.below }
+    record { made = opens (emit op.SetupLoop 0) _ _ _ c.in_Continue-emit-emit.ensures.goes e; below = c.in_ok-start.ensures.below }
 
 pub loops::compile_while-switch_to_block-requires-2 : goal.loops::compile_while-switch_to_block-requires-2
 loops::compile_while-switch_to_block-requires-2 t c =
     let start = c.in_ok-start.start.0 in
     let first = apart _ _ _ c.in_ok-start.ensures.made c.in_ok-other.ensures.number in
     let a = block_opens _ _ _ c.in_ok-end.ensures.ok c.in_ok-other.ensures.made in
-    let e = emit_opens op.SetupLoop 0 _ _ _ c.in_Continue-emit-emit.ensures.goes a in
+    let e = opens (emit op.SetupLoop 0) _ _ _ c.in_Continue-emit-emit.ensures.goes a in
     let g = begin_opens _ _ _ start (λ e. first (sym e)) c.switch_to_block.ensures.state e in
-    let j = test_opens (expr_tree c.deref.result.now) false c.in_ok-other.other.0 _ _ _ c.in_ok-compile_jump_if.ensures.goes g in
-    let m = loop_opens (record { on_break = c.in_ok-end.end.0; on_continue = start }) (stmts stmt_tree c.as_slice.result.now) _ _ _ c.in_ok-compile_loop_body.ensures.goes j in
+    let j = opens (emission_of_test (expr_tree c.deref.result.now) false c.in_ok-other.other.0) _ _ _ c.in_ok-compile_jump_if.ensures.goes g in
+    let m = opens (in_loop (record { on_break = c.in_ok-end.end.0; on_continue = start }) (emission_of_stmts (stmts stmt_tree c.as_slice.result.now))) _ _ _ c.in_ok-compile_loop_body.ensures.goes j in
     record { made = jump_opens op.Jump start _ _ _ c.in_Continue-emit-emit-2.ensures.goes m; below = c.in_ok-other.ensures.below }
 
 pub loops::compile_while-switch_to_block-requires-3 : goal.loops::compile_while-switch_to_block-requires-3
@@ -78,14 +78,14 @@ loops::compile_while-switch_to_block-requires-3 t c =
     let a = block_opens _ _ _ c.in_ok-other.ensures.ok c.in_ok-start.ensures.made in
     let first = apart _ _ _ a c.in_ok-end.ensures.number in
     let second = apart _ _ _ c.in_ok-other.ensures.made c.in_ok-end.ensures.number in
-    let e = emit_opens op.SetupLoop 0 _ _ _ c.in_Continue-emit-emit.ensures.goes c.in_ok-end.ensures.made in
+    let e = opens (emit op.SetupLoop 0) _ _ _ c.in_Continue-emit-emit.ensures.goes c.in_ok-end.ensures.made in
     let g = begin_opens _ _ _ start (λ e. first (sym e)) c.switch_to_block.ensures.state e in
-    let j = test_opens (expr_tree c.deref.result.now) false out _ _ _ c.in_ok-compile_jump_if.ensures.goes g in
-    let m = loop_opens (record { on_break = c.in_ok-end.end.0; on_continue = start }) (stmts stmt_tree c.as_slice.result.now) _ _ _ c.in_ok-compile_loop_body.ensures.goes j in
+    let j = opens (emission_of_test (expr_tree c.deref.result.now) false out) _ _ _ c.in_ok-compile_jump_if.ensures.goes g in
+    let m = opens (in_loop (record { on_break = c.in_ok-end.end.0; on_continue = start }) (emission_of_stmts (stmts stmt_tree c.as_slice.result.now))) _ _ _ c.in_ok-compile_loop_body.ensures.goes j in
     let n = jump_opens op.Jump start _ _ _ c.in_Continue-emit-emit-2.ensures.goes m in
     let p = begin_opens _ _ _ out (λ e. second (sym e)) c.switch_to_block-2.ensures.state n in
-    let q = emit_opens op.PopBlock 0 _ _ _ c.in_Continue-emit-emit-3.ensures.goes p in
-    record { made = stmts_open (stmts stmt_tree c.as_slice-2.result.now) _ _ _ c.in_ok-compile_statements.ensures.goes q; below = c.in_ok-end.ensures.below }
+    let q = opens (emit op.PopBlock 0) _ _ _ c.in_Continue-emit-emit-3.ensures.goes p in
+    record { made = opens (emission_of_stmts (stmts stmt_tree c.as_slice-2.result.now)) _ _ _ c.in_ok-compile_statements.ensures.goes q; below = c.in_ok-end.ensures.below }
 
 pub statements::compile_if-returns : goal.statements::compile_if-returns
 statements::compile_if-returns t c = record {
@@ -95,8 +95,8 @@ statements::compile_if-returns t c = record {
       let orelse = emission_of_stmts (stmts stmt_tree c.args.s.now.orelse) in
       let some = none_is c.args.s.now.orelse c.is_empty.result c.is_empty.ensures.0 c.is_empty.ensures.1 ∙ c.if-is_empty.false in
       goes_as _ _ _ _
-      (went _ (if none (stmts stmt_tree c.args.s.now.orelse) then only test body else choice test body orelse) _ (stays c.args.s.now.location (state c.args.em.now) c.requires.at)
-      ∙ ap (λ (f : Emission). f (state c.args.em.now)) (if_not _ (only test body) (choice test body orelse) some))
+      (went _ (run (if none (stmts stmt_tree c.args.s.now.orelse) then only test body else choice test body orelse)) _ (stays c.args.s.now.location (state c.args.em.now) c.requires.at)
+      ∙ ap (λ (v : Emission). run v (state c.args.em.now)) (if_not _ (only test body) (choice test body orelse) some))
       c.compile_choice.ensures.goes;
   same = search rules;
 }
@@ -106,8 +106,8 @@ pub loops::compile_loop_body-returns : goal.loops::compile_loop_body-returns
 unfolding in_loop rest
 loops::compile_loop_body-returns t c = record {
   goes =
-      let behind : Emission = λ r. Done (with_loops (state c.args.em.now).around.loops r) in
-      ap (λ (s : State). go_on (emission_of_stmts (stmts stmt_tree c.args.body.now) s) behind) (sym c.set_loops-around.ensures.state)
+      let behind : Action = λ r. Done (with_loops (state c.args.em.now).around.loops r) in
+      ap (λ (s : State). on_done (run (emission_of_stmts (stmts stmt_tree c.args.body.now)) s) behind) (sym c.set_loops-around.ensures.state)
       ∙ went _ behind _ c.in_ok-compile_statements.ensures.goes
       ∙ ap (λ (x : Option (BlockIdx × BlockIdx)). Done (with_loops (loop_blocks x) (state c.compile_statements.new.em))) (sym c.set_loops-around.ensures.old)
       ∙ ap Done (sym c.set_loops.ensures.state);
@@ -119,7 +119,7 @@ statements::compile_statement-returns t c = record {
   goes =
       let x = stmt_tree c.args.statement.now in
       let s = state c.args.em.now in
-      goes_as _ _ _ _ (entering x s ∙ ap (λ at. emission_of_stmt x (located at s)) (sym c.location.ensures) ∙ ap (emission_of_stmt x) (sym c.set_location.ensures.state)) c.compile_entered.ensures.goes;
+      goes_as _ _ _ _ (entering x s ∙ ap (λ at. run (emission_of_stmt x) (located at s)) (sym c.location.ensures) ∙ ap (run (emission_of_stmt x)) (sym c.set_location.ensures.state)) c.compile_entered.ensures.goes;
   same = search rules;
 }
 

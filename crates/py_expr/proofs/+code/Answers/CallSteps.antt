@@ -4,6 +4,7 @@ use Rattle.std.specs.Prelude.{IfOk}
 use Rattle.py_tree.specs.Tree as tree
 use Rattle.py_tree.specs.View.{expr_tree, exprs, keywords}
 use Rattle.py_tree.proofs.View.{tree_Call}
+use Rattle.py_emission_parts.specs.Running.{Action, run}
 use Rattle.py_emission_parts.specs.Emitting.{Emission}
 use Rattle.py_emission_parts.specs.EmissionParts.{elements, emission_of_call, in_turn}
 use Rattle.py_emission.specs.Emission.{all_emissions, emission, emissions, keyword_emissions}
@@ -27,23 +28,23 @@ call_entered t c = record {
       let ks = keyword_emissions (keywords expr_tree e.keywords) in
       let is = ap expr_tree c.in-Call.is ∙ tree_Call e in
       goes_as _ _ _ _
-      (ap (λ (x : tree.Expr). emission x s) is
-      ∙ went _ (emission_of_call callee es ks) _ (stays e.location s (c.requires.at ∙ ap tree.expr_location is))
-      ∙ ap (λ (f : Emission). f s) (call_is callee es ks))
+      (ap (λ (x : tree.Expr). run (emission x) s) is
+      ∙ went _ _ _ (stays e.location s (c.requires.at ∙ ap tree.expr_location is))
+      ∙ ap (λ (f : Action). f s) (call_is callee es ks))
       c.compile_call.ensures.goes;
   same = search rules;
 }
 
 pub plain_goes : goal.calls::compile_plain-returns
 plain_goes t c = record {
-  goes = goes_as _ _ _ _ (ap (λ vs. in_turn vs (state c.args.em.now)) (plain_elements (exprs expr_tree c.args.args.now) c.requires.plain)) c.compile_expressions.ensures.goes;
+  goes = goes_as _ _ _ _ (ap (λ vs. run (in_turn vs) (state c.args.em.now)) (plain_elements (exprs expr_tree c.args.args.now) c.requires.plain)) c.compile_expressions.ensures.goes;
   same = search rules;
 }
 
 pub named_goes : goal.keywords::compile_named_values-returns
 named_goes t c = record {
   goes =
-      goes_as _ _ _ _ (ap (λ (f : Emission). f (state c.args.em.now)) (some_named (keyword_emissions (keywords expr_tree c.args.keywords.now)) (λ z. not_empty (length c.args.keywords.now) (sym c.is_empty.ensures ∙ c.if-is_empty.false) (sym (many_keywords c.args.keywords.now) ∙ z)))) c.compile_some_named.ensures.goes;
+      goes_as _ _ _ _ (ap (λ (f : Emission). run f (state c.args.em.now)) (some_named (keyword_emissions (keywords expr_tree c.args.keywords.now)) (λ z. not_empty (length c.args.keywords.now) (sym c.is_empty.ensures ∙ c.if-is_empty.false) (sym (many_keywords c.args.keywords.now) ∙ z)))) c.compile_some_named.ensures.goes;
   same = search rules;
 }
 

@@ -8,6 +8,7 @@ use Rattle.py_tree.specs.Tree as tree
 use Rattle.py_tree.specs.View.{expr_tree, generators}
 use Rattle.py_tree.specs.declared.expressions.ComprehensionOf.{ComprehensionOf}
 use Rattle.py_tree.specs.declared.expressions.Expr.{Expr}
+use Rattle.py_emission_parts.specs.Running.{Action, ◌▹◌, run}
 use Rattle.py_emission_parts.specs.Children.{made}
 use Rattle.py_emission_parts.specs.Comprehensions.{as_element, called_at_once, comprehension, comprehension_shape, gathered, generated}
 use Rattle.py_emission_parts.specs.Refused.{retold}
@@ -21,7 +22,7 @@ use Rattle.py_emit.specs.declared.context.Naming.TheVariants as naming
 use Rattle.py_expr_scopes.specs.Clauses.{closed}
 use Rattle.py_expr_scopes.specs.Comprehensions.{added, element_of, first_iterable, name_of, scope_of, turn}
 use Rattle.py_expr_scopes.proofs.OpenClauses.{all_stay, many_clauses}
-use Rattle.py_expr_scopes.proofs.ComprehensionScopes.{called_is, first_is, no_clause, scope_as, some_clause, told_done, told_refused, turn_opens}
+use Rattle.py_expr_scopes.proofs.ComprehensionScopes.{called_is, first_is, no_clause, scope_alike, scope_as, some_clause, told_done, told_refused, turn_opens}
 use Rattle.py_expr_scopes.proofs.Scopes.{left_gives, left_keeps, refused_gives, same_path}
 use Rattle.py_expr_parts.proofs.Steps.{stays}
 use Rattle.py_expr_parts.proofs.Turns.{if_not, if_so, path_of, refused_by, refused_shape}
@@ -87,9 +88,9 @@ comprehension_called t c = record {
       let d = c.index-generators-0.result in
       let here = first_is c.args.generators.now d (get_or c.args.generators.now 0 d) refl c.requires ∙ ap (λ (y : Expr). emission (expr_tree y)) (sym c.deref.ensures) in
       goes_as _ _ _ _
-      (ap (λ (f : Emission). f (state c.args.em.now)) (ap (called_at_once (name_of e) (scope_of cs e)) here ∙ called_is (name_of e) (scope_of cs e) (emission (expr_tree c.deref.result.now)))
+      (ap (λ (f : Action). f (state c.args.em.now)) (ap (λ (v : Emission). run (called_at_once (name_of e) (scope_of cs e) v)) here ∙ called_is (name_of e) (scope_of cs e) (emission (expr_tree c.deref.result.now)))
       ∙ went _ _ _ c.in_ok-make_comprehension.ensures.goes
-      ∙ went _ (emit_count op.CallFunctionPositional 1) _ c.in_ok-compile_iterator.ensures.goes)
+      ∙ went _ _ _ c.in_ok-compile_iterator.ensures.goes)
       c.emit_count.ensures.goes;
   same = search rules;
 }
@@ -100,7 +101,7 @@ function_refused t c = record {
       let e = c.args.element.now in
       let cs = clause_emissions (generators expr_tree c.args.generators.now) in
       let r : c.from_residual.result ≡ Err c.in_err-make_comprehension.field-0.0 = grind arith in
-      first_refuses _ _ _ _ _ _ r (ap (λ (f : Emission). f (state c.args.em.now)) (called_is (name_of e) (scope_of cs e) (first_iterable cs))) c.in_err-make_comprehension.ensures.goes;
+      first_refuses _ _ _ _ _ _ r (ap (λ (f : Action). f (state c.args.em.now)) (called_is (name_of e) (scope_of cs e) (first_iterable cs))) c.in_err-make_comprehension.ensures.goes;
   same = search rules;
 }
 
@@ -112,8 +113,8 @@ iterable_refused t c = record {
       let d = c.index-generators-0.result in
       let here = first_is c.args.generators.now d (get_or c.args.generators.now 0 d) refl c.requires ∙ ap (λ (y : Expr). emission (expr_tree y)) (sym c.deref.ensures) in
       let r : c.from_residual-in_err-compile_iterator.result ≡ Err c.in_err-compile_iterator.field-0.0 = grind arith in
-      first_refuses _ _ _ _ _ (emit_count op.CallFunctionPositional 1) r
-      (ap (λ (f : Emission). f (state c.args.em.now)) (ap (called_at_once (name_of e) (scope_of cs e)) here ∙ called_is (name_of e) (scope_of cs e) (emission (expr_tree c.deref.result.now)))
+      first_refuses _ _ _ _ _ _ r
+      (ap (λ (f : Action). f (state c.args.em.now)) (ap (λ (v : Emission). run (called_at_once (name_of e) (scope_of cs e) v)) here ∙ called_is (name_of e) (scope_of cs e) (emission (expr_tree c.deref.result.now)))
       ∙ went _ _ _ c.in_ok-make_comprehension.ensures.goes)
       c.in_err-compile_iterator.ensures.goes;
   same = search rules;
@@ -122,13 +123,13 @@ iterable_refused t c = record {
 pub no_generator : goal.comprehensions::compile_comprehension-returns-then-is_empty
 no_generator t c =
     let none = sym c.is_empty.ensures ∙ c.if-is_empty.true in
-    record { goes = λ n. ap (λ (f : Emission). f (state c.args.em.now)) (no_clause c.args.generators.now c.args.element.now none) ∙ refused_shape _ (state c.args.em.now) _ c.refuse-error.result c.refuse-error.ensures.told; same = path_of _ (state c.args.em.now) _ c.refuse-error.result c.refuse-error.ensures.told }
+    record { goes = λ n. ap (λ (f : Emission). run f (state c.args.em.now)) (no_clause c.args.generators.now c.args.element.now none) ∙ refused_shape _ (state c.args.em.now) _ c.refuse-error.result c.refuse-error.ensures.told; same = path_of _ (state c.args.em.now) _ c.refuse-error.result c.refuse-error.ensures.told }
 
 pub comprehension_awaits : goal.comprehensions::compile_comprehension-returns-then-is_awaited
 comprehension_awaits t c = record {
   goes =
       let some = sym c.is_empty.ensures ∙ c.if-is_empty.false in
-      λ n. ap (λ (f : Emission). f (state c.args.em.now)) (some_clause c.args.generators.now c.args.element.now some ∙ if_so _ _ _ (sym c.is_awaited.ensures ∙ c.if-is_awaited.true)) ∙ refused_by error.NotImplementedYet (state c.args.em.now) _ c.refuse-error-then-is_awaited.result c.refuse-error-then-is_awaited.ensures.told;
+      λ n. ap (λ (f : Emission). run f (state c.args.em.now)) (some_clause c.args.generators.now c.args.element.now some ∙ if_so _ _ _ (sym c.is_awaited.ensures ∙ c.if-is_awaited.true)) ∙ refused_by error.NotImplementedYet (state c.args.em.now) _ c.refuse-error-then-is_awaited.result c.refuse-error-then-is_awaited.ensures.told;
   same = search rules;
 }
 
@@ -136,7 +137,7 @@ pub comprehension_goes : goal.comprehensions::compile_comprehension-returns
 comprehension_goes t c = record {
   goes =
       let some = sym c.is_empty.ensures ∙ c.if-is_empty.false in
-      goes_as _ _ _ _ (ap (λ (f : Emission). f (state c.args.em.now)) (some_clause c.args.generators.now c.args.element.now some ∙ if_not _ _ _ (sym c.is_awaited.ensures ∙ c.if-is_awaited.false))) c.call_comprehension.ensures.goes;
+      goes_as _ _ _ _ (ap (λ (f : Emission). run f (state c.args.em.now)) (some_clause c.args.generators.now c.args.element.now some ∙ if_not _ _ _ (sym c.is_awaited.ensures ∙ c.if-is_awaited.false))) c.call_comprehension.ensures.goes;
   same = search rules;
 }
 
@@ -152,8 +153,8 @@ clauses_closed t c = record {
       let many = many_clauses xs in
       goes_as _ _ _ _
       (c.in_ok-blocks.ensures.opened.goes (turn cs e)
-      ∙ ap (λ n. ((element_of e ▸ added e n) ▸ closed c.in_ok-blocks.blocks) (state c.open_clauses.new.em)) many
-      ∙ went _ (closed c.in_ok-blocks.blocks) _ c.in_ok-compile_turn.ensures.goes)
+      ∙ ap (λ n. (run (element_of e ▸ added e n) ▹ closed c.in_ok-blocks.blocks) (state c.open_clauses.new.em)) many
+      ∙ went _ _ _ c.in_ok-compile_turn.ensures.goes)
       c.close_clauses.ensures.goes;
   same = search rules;
 }
@@ -176,9 +177,9 @@ turn_refused t c = record {
       let cs = clause_emissions (generators expr_tree xs) in
       let many = many_clauses xs in
       let r : c.from_residual-in_err-compile_turn.result ≡ Err c.in_err-compile_turn.field-0.0 = grind arith in
-      first_refuses _ _ _ _ _ (closed c.in_ok-blocks.blocks) r
+      first_refuses _ _ _ _ _ _ r
       (c.in_ok-blocks.ensures.opened.goes (turn cs e)
-      ∙ ap (λ n. ((element_of e ▸ added e n) ▸ closed c.in_ok-blocks.blocks) (state c.open_clauses.new.em)) many)
+      ∙ ap (λ n. (run (element_of e ▸ added e n) ▹ closed c.in_ok-blocks.blocks) (state c.open_clauses.new.em)) many)
       c.in_err-compile_turn.ensures.goes;
   same = search rules;
 }
@@ -211,18 +212,15 @@ dict_goes t c = record {
       let now = state c.args.em.now in
       let v = dict_value (expr_tree e.key.value) (expr_tree e.value.value) gs in
       goes_as _ _ _ _
-      (went _ v _ (stays e.location now c.requires.at)
-      ∙ ap (λ (y : Expr). dict_value (expr_tree y) (expr_tree e.value.value) gs now) (sym c.deref.ensures)
-      ∙ ap (λ (y : Expr). dict_value (expr_tree c.deref.result.now) (expr_tree y) gs now) (sym c.deref-2.ensures)
-      ∙ ap (λ (ys : List (ComprehensionOf Expr)). dict_value (expr_tree c.deref.result.now) (expr_tree c.deref-2.result.now) (generators expr_tree ys) now) (sym c.as_slice.ensures))
+      (went _ _ _ (stays e.location now c.requires.at)
+      ∙ ap (λ (y : Expr). run (dict_value (expr_tree y) (expr_tree e.value.value) gs) now) (sym c.deref.ensures)
+      ∙ ap (λ (y : Expr). run (dict_value (expr_tree c.deref.result.now) (expr_tree y) gs) now) (sym c.deref-2.ensures)
+      ∙ ap (λ (ys : List (ComprehensionOf Expr)). run (dict_value (expr_tree c.deref.result.now) (expr_tree c.deref-2.result.now) (generators expr_tree ys)) now) (sym c.as_slice.ensures))
       c.compile_comprehension.ensures.goes;
   same = search rules;
 }
 
 -- a generator, whose scope begins with nothing
-first_kept : (v : Emission) → v ≡ keep ▸ v
-first_kept v = refl
-
 abbrev generator_scope : tree.Expr → tree.Generators → Emission
 generator_scope elt gs = generated (clause_emissions gs) (as_element (emission elt))
 
@@ -238,10 +236,10 @@ generator_goes t c = record {
       let now = state c.args.em.now in
       let v = generator_value elt gs (generator_scope elt gs) in
       goes_as _ _ _ _
-      (went _ v _ (stays e.location now c.requires.at)
-      ∙ ap (λ (y : Expr). generator_value (expr_tree y) gs (generator_scope (expr_tree y) gs) now) (sym c.deref.ensures)
-      ∙ ap (λ (ys : List (ComprehensionOf Expr)). generator_value (expr_tree c.deref.result.now) (generators expr_tree ys) (generator_scope (expr_tree c.deref.result.now) (generators expr_tree ys)) now) (sym c.as_slice.ensures)
-      ∙ ap (λ (w : Emission). generator_value (expr_tree c.deref.result.now) (generators expr_tree c.as_slice.result.now) w now) (first_kept (generator_scope (expr_tree c.deref.result.now) (generators expr_tree c.as_slice.result.now))))
+      (went _ _ _ (stays e.location now c.requires.at)
+      ∙ ap (λ (y : Expr). run (generator_value (expr_tree y) gs (generator_scope (expr_tree y) gs)) now) (sym c.deref.ensures)
+      ∙ ap (λ (ys : List (ComprehensionOf Expr)). run (generator_value (expr_tree c.deref.result.now) (generators expr_tree ys) (generator_scope (expr_tree c.deref.result.now) (generators expr_tree ys))) now) (sym c.as_slice.ensures)
+      ∙ scope_alike (some_async (generators expr_tree c.as_slice.result.now) || awaits (expr_tree c.deref.result.now)) (codes "<genexpr>") (clause_emissions (generators expr_tree c.as_slice.result.now)) (generator_scope (expr_tree c.deref.result.now) (generators expr_tree c.as_slice.result.now)) (keep ▸ generator_scope (expr_tree c.deref.result.now) (generators expr_tree c.as_slice.result.now)) now refl)
       c.compile_comprehension.ensures.goes;
   same = search rules;
 }

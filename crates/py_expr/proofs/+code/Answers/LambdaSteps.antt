@@ -7,6 +7,7 @@ use Rattle.py_tree.specs.View.{arguments, expr_tree}
 use Rattle.py_tree.specs.declared.expressions.ArgumentsOf.{ArgumentsOf}
 use Rattle.py_tree.specs.declared.expressions.Expr.{Expr}
 use Rattle.py_tree.specs.declared.expressions.ExprLambdaOf.{ExprLambdaOf}
+use Rattle.py_emission_parts.specs.Running.{run}
 use Rattle.py_emission_parts.specs.Emitting.{State}
 use Rattle.py_scope.specs.declared.table_type.SymbolTableType.TheVariants as kind
 use Rattle.py_emission_parts.specs.Children.{function_scope}
@@ -72,10 +73,10 @@ lambda_refused t c =
 
 -- by the parts of the tree themselves
 module _ {A : Type 0} (r : Result A (LocatedError CodegenErrorType)) (s : State) (em : Emitter) (e : ExprLambdaOf Expr) (params : ArgumentsOf Expr) (body : Expr) (is_params : params ≡ e.args.value) (is_body : body ≡ e.body.value) where
-  by_parts : Goes r s (lambda_value (arguments expr_tree params) (default_emissions (arguments expr_tree params)) (emission_of_return (expr_tree body)) (state em)) → Goes r s (lambda_value (arguments expr_tree e.args.value) (default_emissions (arguments expr_tree e.args.value)) (emission_of_return (expr_tree e.body.value)) (state em))
+  by_parts : Goes r s (run (lambda_value (arguments expr_tree params) (default_emissions (arguments expr_tree params)) (emission_of_return (expr_tree body))) (state em)) → Goes r s (run (lambda_value (arguments expr_tree e.args.value) (default_emissions (arguments expr_tree e.args.value)) (emission_of_return (expr_tree e.body.value))) (state em))
   by_parts h =
-      subst (λ (b : Expr). Goes r s (lambda_value (arguments expr_tree e.args.value) (default_emissions (arguments expr_tree e.args.value)) (emission_of_return (expr_tree b)) (state em))) is_body
-      (subst (λ (p : ArgumentsOf Expr). Goes r s (lambda_value (arguments expr_tree p) (default_emissions (arguments expr_tree p)) (emission_of_return (expr_tree body)) (state em))) is_params h)
+      subst (λ (b : Expr). Goes r s (run (lambda_value (arguments expr_tree e.args.value) (default_emissions (arguments expr_tree e.args.value)) (emission_of_return (expr_tree b))) (state em))) is_body
+      (subst (λ (p : ArgumentsOf Expr). Goes r s (run (lambda_value (arguments expr_tree p) (default_emissions (arguments expr_tree p)) (emission_of_return (expr_tree body))) (state em))) is_params h)
 
 pub lambda_goes : goal.functions::compile_lambda-returns
 lambda_goes t c = record {

@@ -2,6 +2,7 @@ use Rattle.std.proofs.Common.{rules, ◌≡◌, ap, ◌∙◌, sym, arith}
 use Rattle.py_tree.specs.View.{expr_tree, exprs}
 use Rattle.py_emission_parts.specs.Emitting.{Emission, ◌▸◌, emit, move, refuse}
 use Rattle.py_emission_parts.specs.EmissionParts.{unpack_starred}
+use Rattle.py_emission_parts.specs.Running.{run}
 use Rattle.py_emission.specs.Emission.{all_stores}
 use Rattle.py_base.specs.declared.errors.CodegenErrorType.TheVariants as error
 use Rattle.py_bytecode.specs.declared.instruction.Instruction.TheVariants as op
@@ -30,7 +31,7 @@ returns-then-before-gt-MOST_ASIDE c = record {
         | then-before-gt-MOST_ASIDE-via-then-before-gt-MOST_ASIDE w ↦ many_before c.args.location es (let h = w.if-before-gt-MOST_ASIDE.true in omega (arith, h, b))
         | then-before-gt-MOST_ASIDE-via-else-before-gt-MOST_ASIDE+then-after-gt-MOST_ASIDE w ↦ many_after c.args.location es (let h = w.if-after-gt-MOST_ASIDE.true in omega (arith, h, e))
       ] in
-      ap (λ (f : Emission). f (state c.args.em.now)) many ∙ went _ (refuse error.TooManyStarUnpack) _ (move_goes c.args.location (state c.args.em.now)) ∙ ap (refuse error.TooManyStarUnpack) (sym c.set_location.ensures.state) ∙ refused_by error.TooManyStarUnpack (state c.set_location.new.self) _ c.refuse-error.result c.refuse-error.ensures.told;
+      ap (λ (f : Emission). run f (state c.args.em.now)) many ∙ went _ _ _ (move_goes c.args.location (state c.args.em.now)) ∙ ap (run (refuse error.TooManyStarUnpack)) (sym c.set_location.ensures.state) ∙ refused_by error.TooManyStarUnpack (state c.set_location.new.self) _ c.refuse-error.result c.refuse-error.ensures.told;
   same = search rules;
 }
 
@@ -45,7 +46,7 @@ returns-then-starred-gt1 c = record {
       let few = c.if-after-gt-MOST_ASIDE.false in
       let s = c.requires.counted in
       let more = c.if-starred-gt1.true in
-      ap (λ (f : Emission). f (state c.args.em.now)) (two_stars c.args.location es (omega (arith, low, b)) (omega (arith, few, e)) (λ z. absurd (omega (arith, z, s, more)))) ∙ refused_by error.MultipleStarArgs (state c.args.em.now) _ c.refuse-error-then-starred-gt1.result c.refuse-error-then-starred-gt1.ensures.told;
+      ap (λ (f : Emission). run f (state c.args.em.now)) (two_stars c.args.location es (omega (arith, low, b)) (omega (arith, few, e)) (λ z. absurd (omega (arith, z, s, more)))) ∙ refused_by error.MultipleStarArgs (state c.args.em.now) _ c.refuse-error-then-starred-gt1.result c.refuse-error-then-starred-gt1.ensures.told;
   same = search rules;
 }
 
@@ -60,6 +61,6 @@ returns c = record {
       let s = c.requires.counted in
       let one = c.if-starred-gt1.false in
       let some = c.requires.some in
-      goes_as _ _ _ _ (ap (λ (f : Emission). f (state c.args.em.now)) (one_star c.args.location es (omega (arith, low, b)) (omega (arith, few, e)) (omega (arith, s, one, some)) ∙ ap (λ m. emit op.UnpackEx m) (omega (arith, e, b)))) c.emit_arg.ensures.goes;
+      goes_as _ _ _ _ (ap (λ (f : Emission). run f (state c.args.em.now)) (one_star c.args.location es (omega (arith, low, b)) (omega (arith, few, e)) (omega (arith, s, one, some)) ∙ ap (λ m. emit op.UnpackEx m) (omega (arith, e, b)))) c.emit_arg.ensures.goes;
   same = search rules;
 }

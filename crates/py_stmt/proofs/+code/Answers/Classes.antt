@@ -7,7 +7,8 @@ use Rattle.py_emission_parts.specs.Accesses.{emission_of_stored}
 use Rattle.py_emission_parts.specs.Children.{decorated, made}
 use Rattle.py_emission_parts.specs.Classes.{class_shape}
 use Rattle.py_emission_parts.specs.Within.{class_path, class_within}
-use Rattle.py_emission_parts.specs.Emitting.{Emission, State, ◌▸◌, by_context, go_on}
+use Rattle.py_emission_parts.specs.Emitting.{Emission, State, ◌▸◌, by_context}
+use Rattle.py_emission_parts.specs.Running.{go_on, run}
 use Rattle.py_emission_parts.specs.EmissionParts.{values}
 use Rattle.py_emission.specs.Emission.{all_emissions}
 use Rattle.py_emit.specs.States.{AreMade, Rest, Same, rest, state}
@@ -40,7 +41,7 @@ scope_left t c =
     let gives = left_gives kind.Class n h first entry begins last c.leave_scope.new.self into same (own_emission body) c.leave_scope.result c.in_ok-compile_inner.ensures.goes c.leave_scope.ensures.code c.leave_scope.ensures.state c.leave_scope.ensures.err in
     let keeps = left_keeps kind.Class n h first entry begins last c.leave_scope.new.self into same c.leave_scope.result c.leave_scope.ensures.rest c.leave_scope.ensures.err in
     record {
-      goes = subst (λ (e : Emitter). Gives c.leave_scope.result (state c.leave_scope.new.self) (λ k. own_scope (class_within c.args.path name) name body k (state e))) c.in_ok-full.ensures.same gives;
+      goes = subst (λ (e : Emitter). Gives c.leave_scope.result (state c.leave_scope.new.self) (λ k. run (own_scope (class_within c.args.path name) name body k) (state e))) c.in_ok-full.ensures.same gives;
       same = subst (λ (e : Emitter). Same c.leave_scope.result (rest c.leave_scope.new.self) (rest e)) c.in_ok-full.ensures.same keeps;
     }
 
@@ -65,7 +66,7 @@ scope_refused t c =
     let gives = refused_gives kind.Class n h first entry begins (own_emission body) out x _ r c.in_err-compile_inner.ensures.goes in
     let keeps = same_path kind.Class n h first entry begins entry entry into refl out x _ r c.in_err-compile_inner.ensures.same in
     record {
-      goes = subst (λ (e : Emitter). Gives out (state c.compile_inner.new.em) (λ k. own_scope (class_within c.args.path name) name body k (state e))) c.in_ok-full.ensures.same gives;
+      goes = subst (λ (e : Emitter). Gives out (state c.compile_inner.new.em) (λ k. run (own_scope (class_within c.args.path name) name body k) (state e))) c.in_ok-full.ensures.same gives;
       same = subst (λ (e : Emitter). Same out (rest c.compile_inner.new.em) (rest e)) c.in_ok-full.ensures.same keeps;
     }
 
@@ -107,10 +108,10 @@ part_goes t c = record {
       let flag = c.params_flag-flags.ensures ∙ ap (λ (xs : List TypeParam). params_flag (type_params xs)) c.as_slice-2.ensures in
       let k : Emission = function_emission path (params_flag (class_params s)) s.name body in
       goes_as _ _ _ _
-      (ap (λ (xs : List TypeParam). go_on (some_params (type_params xs) now) k) (sym c.as_slice.ensures)
-      ∙ went _ k _ c.in_ok-compile_some_params.ensures.goes
-      ∙ ap (λ n. function_emission path n s.name body mid) (sym flag)
-      ∙ ap (λ y. function_emission path c.params_flag-flags.result.0 y body mid) (sym c.as_str.ensures))
+      (ap (λ (xs : List TypeParam). go_on (run (some_params (type_params xs)) now) k) (sym c.as_slice.ensures)
+      ∙ went _ (run k) _ c.in_ok-compile_some_params.ensures.goes
+      ∙ ap (λ n. run (function_emission path n s.name body) mid) (sym flag)
+      ∙ ap (λ y. run (function_emission path c.params_flag-flags.result.0 y body) mid) (sym c.as_str.ensures))
       c.compile_class_function.ensures.goes;
   same = search rules;
 }
@@ -123,9 +124,9 @@ class_goes t c = record {
       let s = c.args.s.now in
       let path = c.in_ok-path.ensures.data ∙ ap (class_path (state c.args.em.now).around.context) c.as_str.ensures in
       goes_as _ _ _ _
-      (ap (λ (f : Emission). f (state c.args.em.now)) (class_is s)
-      ∙ ap (λ p. placed p s (class_params s) (state c.args.em.now)) (sym path)
-      ∙ ap (λ (e : Emitter). placed c.in_ok-path.path s (class_params s) (state e)) (sym c.in_ok-path.ensures.same))
+      (class_is s (state c.args.em.now)
+      ∙ ap (λ p. run (placed p s (class_params s)) (state c.args.em.now)) (sym path)
+      ∙ ap (λ (e : Emitter). run (placed c.in_ok-path.path s (class_params s)) (state e)) (sym c.in_ok-path.ensures.same))
       c.compile_placed.ensures.goes;
   same = search rules;
 }
@@ -136,7 +137,7 @@ some_goes t c = record {
   goes =
       let s = c.args.s.now in
       let many : 1 ≤ length s.type_params = subst (λ (xs : List TypeParam). 1 ≤ length xs) c.as_slice.ensures c.in-len1-up.len_at_least in
-      goes_as _ _ _ _ (ap (λ (f : Emission). f (state c.args.em.now)) (some_params_placed s c.args.path many)) c.compile_generic.ensures.goes;
+      goes_as _ _ _ _ (ap (λ (v : Emission). run v (state c.args.em.now)) (some_params_placed s c.args.path many)) c.compile_generic.ensures.goes;
   same = search rules;
 }
 
@@ -148,6 +149,6 @@ decorated_refused t c = record {
       let d = decorated (values (all_emissions (exprs expr_tree s.decorator_list))) (class_emission s) in
       let w = d ▸ emission_of_stored s.name in
       let r : c.from_residual.result ≡ Err c.in_err-compile_decorated.field-0.0 = grind arith in
-      first_refuses _ _ _ _ _ (emission_of_stored s.name) r (ap (λ o. go_on o w) (stays s.location (state c.args.em.now) c.requires.at)) c.in_err-compile_decorated.ensures.goes;
+      first_refuses _ _ _ _ _ (run (emission_of_stored s.name)) r (ap (λ o. go_on o w) (stays s.location (state c.args.em.now) c.requires.at)) c.in_err-compile_decorated.ensures.goes;
   same = search rules;
 }

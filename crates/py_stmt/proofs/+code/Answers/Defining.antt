@@ -10,10 +10,11 @@ use Rattle.py_scope.specs.declared.table_type.SymbolTableType.TheVariants as kin
 use Rattle.py_emission.specs.Parameters.{function_shape, parameters}
 use Rattle.py_bytecode.specs.Objects as const
 use Rattle.py_emission_parts.specs.Accesses.{emission_of_stored}
-use Rattle.py_emission_parts.specs.Children.{code_head, decorated, documented, emission_of_defaults, enter_parameters, flags_of_defaults}
+use Rattle.py_emission_parts.specs.Children.{decorated, documented, emission_of_defaults, enter_parameters, flags_of_defaults}
 use Rattle.py_emission_parts.specs.Within.{function_inside}
 use Rattle.py_emission_parts.specs.Context.{function_path}
-use Rattle.py_emission_parts.specs.Emitting.{Emission, State, ◌▸◌, add_constant, by_level, go_on}
+use Rattle.py_emission_parts.specs.Emitting.{Emission, State, ◌▸◌, add_constant, by_level}
+use Rattle.py_emission_parts.specs.Running.{Action, code_head, go_on, run}
 use Rattle.py_emission_parts.specs.EmissionParts.{values}
 use Rattle.py_emission.specs.Emission.{all_emissions, default_emissions}
 use Rattle.py_emission.specs.Texts.{doc_of}
@@ -80,16 +81,16 @@ scope_unlooped t c =
     let made : AreMade (rest c.enter_function.new.em).context.loop_blocks = subst (λ (r : Rest). AreMade r.context.loop_blocks) (sym c.in_ok-enter_function.ensures.rest) tt in search (rules, made)
 
 -- parameters and the first constant come before the statements
-inner_as : (s : StmtFunctionDefOf Stmt) (p : ArgumentsOf Expr) (r : State) → p ≡ s.args.value → inner_emission s r ≡ go_on ((enter_parameters (parameters (arguments expr_tree p)) ▸ add_constant const.none) r) (body_emission (body_of s))
+inner_as : (s : StmtFunctionDefOf Stmt) (p : ArgumentsOf Expr) (r : State) → p ≡ s.args.value → run (inner_emission s) r ≡ go_on (run (enter_parameters (parameters (arguments expr_tree p)) ▸ add_constant const.none) r) (body_emission (body_of s))
 inner_as s p r is =
-    ap (λ (f : Emission). f r) (sym (joined (enter_parameters (parameters (params_of s))) (add_constant const.none) (body_emission (body_of s))))
-    ∙ ap (λ (x : ArgumentsOf Expr). go_on ((enter_parameters (parameters (arguments expr_tree x)) ▸ add_constant const.none) r) (body_emission (body_of s))) (sym is)
+    ap (λ (f : Action). f r) (sym (joined (enter_parameters (parameters (params_of s))) (add_constant const.none) (body_emission (body_of s))))
+    ∙ ap (λ (x : ArgumentsOf Expr). go_on (run (enter_parameters (parameters (arguments expr_tree x)) ▸ add_constant const.none) r) (body_emission (body_of s))) (sym is)
 
 pub inner_goes : goal.functions::compile_inner-returns
 inner_goes t c = record {
   goes =
       let v = body_emission (body_of c.args.s.now) in
-      goes_as _ _ _ _ (inner_as c.args.s.now c.deref.result.now (state c.args.em.now) c.deref.ensures ∙ went _ v _ c.in_ok-begin_function.ensures.goes) c.compile_body.ensures.goes;
+      goes_as _ _ _ _ (inner_as c.args.s.now c.deref.result.now (state c.args.em.now) c.deref.ensures ∙ went _ (run v) _ c.in_ok-begin_function.ensures.goes) c.compile_body.ensures.goes;
   same = search rules;
 }
 
@@ -97,7 +98,7 @@ pub inner_refused : goal.functions::compile_inner-returns-in_err-begin_function
 inner_refused t c = record {
   goes =
       let r : c.from_residual.result ≡ Err c.in_err-begin_function.field-0.0 = grind arith in
-      first_refuses _ _ _ _ _ (body_emission (body_of c.args.s.now)) r (inner_as c.args.s.now c.deref.result.now (state c.args.em.now) c.deref.ensures) c.in_err-begin_function.ensures.goes;
+      first_refuses _ _ _ _ _ (run (body_emission (body_of c.args.s.now))) r (inner_as c.args.s.now c.deref.result.now (state c.args.em.now) c.deref.ensures) c.in_err-begin_function.ensures.goes;
   same = search rules;
 }
 
@@ -110,7 +111,7 @@ made_goes t c = record {
       let same = c.in_ok-path.ensures.same ∙ c.in_ok-name.ensures.same in
       let path = c.in_ok-path.ensures.data ∙ ap (function_path (state c.text.new.self).around.context) c.as_str-2.ensures ∙ ap (λ (e : Emitter). function_path (state e).around.context s.name) (sym c.in_ok-path.ensures.same) in
       goes_as _ _ _ _
-      (ap (λ (e : Emitter). scope_emission (function_inside s.name) s.name s k (state e)) (sym same)
+      (ap (λ (e : Emitter). run (scope_emission (function_inside s.name) s.name s k) (state e)) (sym same)
       ∙ scope_as s _ _ k _ (c.in_ok-name.ensures.data ∙ c.as_str.ensures) path
       ∙ c.in_ok-code.ensures.goes k)
       c.make_noted.ensures.goes;
@@ -126,7 +127,7 @@ made_refused t c = record {
       let path = c.in_ok-path.ensures.data ∙ ap (function_path (state c.text.new.self).around.context) c.as_str-2.ensures ∙ ap (λ (e : Emitter). function_path (state e).around.context s.name) (sym c.in_ok-path.ensures.same) in
       let r : c.from_residual-in_err-code.result ≡ Err c.in_err-code.field-0.0 = grind arith in
       refuses_as _ _ _ _ _ r
-      (ap (λ (e : Emitter). scope_emission (function_inside s.name) s.name s k (state e)) (sym same)
+      (ap (λ (e : Emitter). run (scope_emission (function_inside s.name) s.name s k) (state e)) (sym same)
       ∙ scope_as s _ _ k _ (c.in_ok-name.ensures.data ∙ c.as_str.ensures) path)
       (c.in_err-code.ensures.goes k);
   same = search rules;
@@ -137,17 +138,17 @@ def_is : (s : StmtFunctionDefOf Stmt) → plain_emission s ≡ emission_of_defau
 unfolding emission_of_def
 def_is s = refl
 
-def_as : (s : StmtFunctionDefOf Stmt) (p : ArgumentsOf Expr) (r : State) → p ≡ s.args.value → plain_emission s r ≡ go_on (emission_of_defaults (default_emissions (arguments expr_tree p)) r) (value_emission (flags_of_defaults (default_emissions (arguments expr_tree p))) s)
+def_as : (s : StmtFunctionDefOf Stmt) (p : ArgumentsOf Expr) (r : State) → p ≡ s.args.value → run (plain_emission s) r ≡ go_on (run (emission_of_defaults (default_emissions (arguments expr_tree p))) r) (value_emission (flags_of_defaults (default_emissions (arguments expr_tree p))) s)
 def_as s p r is =
-    ap (λ (f : Emission). f r) (def_is s)
-    ∙ ap (λ (x : ArgumentsOf Expr). go_on (emission_of_defaults (default_emissions (arguments expr_tree x)) r) (value_emission (flags_of_defaults (default_emissions (arguments expr_tree x))) s)) (sym is)
+    ap (λ (v : Emission). run v r) (def_is s)
+    ∙ ap (λ (x : ArgumentsOf Expr). go_on (run (emission_of_defaults (default_emissions (arguments expr_tree x))) r) (value_emission (flags_of_defaults (default_emissions (arguments expr_tree x))) s)) (sym is)
 
 pub defaults_refused : goal.functions::compile_plain-returns-in_err-defaults
 defaults_refused t c = record {
   goes =
       let s = c.args.s.now in
       let r : c.from_residual.result ≡ Err c.in_err-defaults.field-0.0 = grind arith in
-      first_refuses _ _ _ _ _ (value_emission (flags_of_defaults (default_emissions (arguments expr_tree c.deref.result.now))) s) r (def_as s c.deref.result.now (state c.args.em.now) c.deref.ensures) c.in_err-defaults.ensures.emits.goes;
+      first_refuses _ _ _ _ _ (run (value_emission (flags_of_defaults (default_emissions (arguments expr_tree c.deref.result.now))) s)) r (def_as s c.deref.result.now (state c.args.em.now) c.deref.ensures) c.in_err-defaults.ensures.emits.goes;
   same = search rules;
 }
 
@@ -159,8 +160,8 @@ plain_goes t c = record {
       let flags = c.in_ok-defaults.ensures.flags ∙ sym (plain_flags d) in
       goes_as _ _ _ _
       (def_as s c.deref.result.now (state c.args.em.now) c.deref.ensures
-      ∙ went _ (value_emission (flags_of_defaults (default_emissions (arguments expr_tree c.deref.result.now))) s) _ c.in_ok-defaults.ensures.emits.goes
-      ∙ ap (λ n. value_emission n s (state c.compile_defaults.new.em)) flags)
+      ∙ went _ (run (value_emission (flags_of_defaults (default_emissions (arguments expr_tree c.deref.result.now))) s)) _ c.in_ok-defaults.ensures.emits.goes
+      ∙ ap (λ n. run (value_emission n s) (state c.compile_defaults.new.em)) flags)
       c.compile_value.ensures.goes;
   same = search rules;
 }
@@ -171,7 +172,7 @@ value_refused t c = record {
   goes =
       let s = c.args.s.now in
       let r : c.from_residual.result ≡ Err c.in_err-compile_made.field-0.0 = grind arith in
-      first_refuses _ _ _ _ _ (by_level (λ l. documented (doc_of l (body_of s)))) r refl c.in_err-compile_made.ensures.goes;
+      first_refuses _ _ _ _ _ (run (by_level (λ l. documented (doc_of l (body_of s))))) r refl c.in_err-compile_made.ensures.goes;
   same = search rules;
 }
 
@@ -181,7 +182,7 @@ some_goes t c = record {
   goes =
       let s = c.args.s.now in
       let many : 1 ≤ length s.type_params = subst (λ (xs : List TypeParam). 1 ≤ length xs) c.as_slice.ensures c.in-len1-up.len_at_least in
-      goes_as _ _ _ _ (ap (λ (f : Emission). f (state c.args.em.now)) (some_generic s many)) c.compile_generic.ensures.goes;
+      goes_as _ _ _ _ (ap (λ (v : Emission). run v (state c.args.em.now)) (some_generic s many)) c.compile_generic.ensures.goes;
   same = search rules;
 }
 
@@ -193,7 +194,7 @@ decorated_refused t c = record {
       let d = decorated (values (all_emissions (exprs expr_tree s.decorator_list))) (def_emission s) in
       let w = d ▸ emission_of_stored s.name in
       let r : c.from_residual.result ≡ Err c.in_err-compile_decorated.field-0.0 = grind arith in
-      first_refuses _ _ _ _ _ (emission_of_stored s.name) r (ap (λ o. go_on o w) (stays s.location (state c.args.em.now) c.requires.at)) c.in_err-compile_decorated.ensures.goes;
+      first_refuses _ _ _ _ _ (run (emission_of_stored s.name)) r (ap (λ o. go_on o w) (stays s.location (state c.args.em.now) c.requires.at)) c.in_err-compile_decorated.ensures.goes;
   same = search rules;
 }
 
@@ -202,7 +203,7 @@ pub rest_goes_on : goal.functions::compile_rest-loop-i-preserved
 rest_goes_on t c =
     let lt : c.loop-i.i < length c.args.body.now = omega (arith, c.loop-i-test.true) in (
       c.in_ok-compile_statement.ensures.same ∙ c.loop-i.invariant.0,
-      c.loop-i.invariant.1 ∙ ap (λ (f : Emission). f (state c.loop-i.em)) (statement_at c.args.body.now c.loop-i.i _ c.index-body-i.result c.index-body-i.is lt) ∙ went _ _ _ c.in_ok-compile_statement.ensures.goes,
+      c.loop-i.invariant.1 ∙ ap (λ (v : Emission). run v (state c.loop-i.em)) (statement_at c.args.body.now c.loop-i.i _ c.index-body-i.result c.index-body-i.is lt) ∙ went _ _ _ c.in_ok-compile_statement.ensures.goes,
     )
 
 pub rest_refused : goal.functions::compile_rest-returns-in_err-compile_statement
@@ -210,7 +211,7 @@ rest_refused t c = record {
   goes =
       let lt : c.loop-i.i < length c.args.body.now = omega (arith, c.loop-i-test.true) in
       let r : c.from_residual.result ≡ Err c.in_err-compile_statement.field-0.0 = grind arith in
-      first_refuses _ _ _ _ _ _ r (c.loop-i.invariant.1 ∙ ap (λ (f : Emission). f (state c.loop-i.em)) (statement_at c.args.body.now c.loop-i.i _ c.index-body-i.result c.index-body-i.is lt)) c.in_err-compile_statement.ensures.goes;
+      first_refuses _ _ _ _ _ _ r (c.loop-i.invariant.1 ∙ ap (λ (v : Emission). run v (state c.loop-i.em)) (statement_at c.args.body.now c.loop-i.i _ c.index-body-i.result c.index-body-i.is lt)) c.in_err-compile_statement.ensures.goes;
   same = search rules;
 }
 
@@ -218,6 +219,6 @@ pub rest_done : goal.functions::compile_rest-returns
 rest_done t c = record {
   goes =
       let last : c.loop-i.i ≡ length c.args.body.now = omega (arith, c.loop-i-test.false, c.loop-i.auto.i-end) in
-      c.loop-i.invariant.1 ∙ ap (λ (f : Emission). f (state c.loop-i.em)) (none_left c.args.body.now c.loop-i.i last);
+      c.loop-i.invariant.1 ∙ ap (λ (v : Emission). run v (state c.loop-i.em)) (none_left c.args.body.now c.loop-i.i last);
   same = search rules;
 }

@@ -4,7 +4,8 @@ use Rattle.py_tree.specs.View.{arguments, expr_tree}
 use Rattle.py_tree.specs.declared.expressions.ArgumentsOf.{ArgumentsOf}
 use Rattle.py_tree.specs.declared.expressions.Expr.{Expr}
 use Rattle.py_scope.specs.declared.table_type.SymbolTableType.TheVariants as kind
-use Rattle.py_emission_parts.specs.Children.{code_head, made}
+use Rattle.py_emission_parts.specs.Children.{made}
+use Rattle.py_emission_parts.specs.Running.{code_head, run}
 use Rattle.py_emission_parts.specs.Emitting.{Emission, ◌▸◌}
 use Rattle.py_emission_parts.specs.TypeParameters.{hidden_shape}
 use Rattle.py_emission_parts.specs.Within.{hidden_name}
@@ -71,7 +72,7 @@ around_goes t c = record {
       let s = c.args.s.now in
       goes_as _ _ _ _
       (c.in_ok-code.ensures.goes (made 0 (hidden_name s.name))
-      ∙ ap (λ x. made 0 (hidden_name x) (object c.in_ok-code.code) (state c.compile_hidden_scope.new.em)) (sym c.as_str.ensures))
+      ∙ ap (λ x. run (made 0 (hidden_name x) (object c.in_ok-code.code)) (state c.compile_hidden_scope.new.em)) (sym c.as_str.ensures))
       c.make_hidden.ensures.goes;
   same = search rules;
 }
@@ -94,10 +95,10 @@ generic_goes t c = record {
       let is = c.given_defaults-defaults.ensures ∙ ap (λ (p : ArgumentsOf Expr). defaults_of (arguments expr_tree p)) c.deref.ensures in
       let whole : Defaults → Emission = λ e. hidden_function e s ▸ hidden_called (params_of s) (length (handed_by e)) in
       goes_as _ _ _ _
-      (ap (λ (f : Emission). f (state c.args.em.now)) (generic_is s ∙ ap whole (sym is))
-      ∙ went _ (hidden_called (params_of s) (length (handed_by d))) _ c.in_ok-make_around.ensures.goes
-      ∙ ap (λ (p : ArgumentsOf Expr). hidden_called (arguments expr_tree p) (length (handed_by d)) (state c.make_around.new.em)) (sym c.deref-2.ensures)
-      ∙ ap (λ n. hidden_called (arguments expr_tree c.deref-2.result.now) n (state c.make_around.new.em)) (sym c.handed_count.ensures))
+      (ap (λ (v : Emission). run v (state c.args.em.now)) (generic_is s ∙ ap whole (sym is))
+      ∙ went _ (run (hidden_called (params_of s) (length (handed_by d)))) _ c.in_ok-make_around.ensures.goes
+      ∙ ap (λ (p : ArgumentsOf Expr). run (hidden_called (arguments expr_tree p) (length (handed_by d))) (state c.make_around.new.em)) (sym c.deref-2.ensures)
+      ∙ ap (λ n. run (hidden_called (arguments expr_tree c.deref-2.result.now) n) (state c.make_around.new.em)) (sym c.handed_count.ensures))
       c.call_hidden.ensures.goes;
   same = search rules;
 }
@@ -110,7 +111,7 @@ generic_refused t c = record {
       let is = c.given_defaults-defaults.ensures ∙ ap (λ (p : ArgumentsOf Expr). defaults_of (arguments expr_tree p)) c.deref.ensures in
       let whole : Defaults → Emission = λ e. hidden_function e s ▸ hidden_called (params_of s) (length (handed_by e)) in
       let r : c.from_residual.result ≡ Err c.in_err-make_around.field-0.0 = grind arith in
-      first_refuses _ _ _ _ _ (hidden_called (params_of s) (length (handed_by d))) r (ap (λ (f : Emission). f (state c.args.em.now)) (generic_is s ∙ ap whole (sym is))) c.in_err-make_around.ensures.goes;
+      first_refuses _ _ _ _ _ (run (hidden_called (params_of s) (length (handed_by d)))) r (ap (λ (v : Emission). run v (state c.args.em.now)) (generic_is s ∙ ap whole (sym is))) c.in_err-make_around.ensures.goes;
   same = search rules;
 }
 
@@ -157,7 +158,7 @@ class_around_goes t c = record {
       let s = c.args.s.now in
       goes_as _ _ _ _
       (c.in_ok-code.ensures.goes (made 0 (hidden_name s.name))
-      ∙ ap (λ x. made 0 (hidden_name x) (object c.in_ok-code.code) (state c.compile_hidden_scope.new.em)) (sym c.as_str.ensures))
+      ∙ ap (λ x. run (made 0 (hidden_name x) (object c.in_ok-code.code)) (state c.compile_hidden_scope.new.em)) (sym c.as_str.ensures))
       c.make_hidden.ensures.goes;
   same = search rules;
 }

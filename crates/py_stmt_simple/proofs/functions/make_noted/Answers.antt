@@ -14,6 +14,7 @@ use Rattle.py_emit.specs.States.{state}
 use Rattle.py_emit.proofs.Joined.{goes_as, went}
 use Rattle.py_stmt_simple.specs.Functions.{notes_of}
 use Rattle.py_stmt_parts.specs.Generics.{given_flags}
+use Rattle.py_emission_parts.specs.Running.{on_done, run}
 use Rattle.py_stmt_simple.proofs.functions.make_noted.Goals as goal
 
 pub returns : goal.returns
@@ -28,10 +29,10 @@ returns c = record {
       let n : given + some_flag 0x02 (notes_of s) ≡ c.made_flags-flags.result.0 = ap (λ m. given + m) g ∙ sym c.made_flags-flags.ensures in
       let k : Emission = by_context (λ x. made (given + some_flag 0x02 (notes_of s)) (qualified x s.name) o) in
       goes_as _ _ _ _
-      (ap (λ (p : ArgumentsOf Expr). go_on (some_emitted (built op.BuildMap) (notes (arguments expr_tree p) returns) (state c.args.em.now)) k) is
-      ∙ went _ k _ c.in_ok-annotated.ensures.emits.goes
-      ∙ ap (λ m. by_context (λ x. made m (qualified x s.name) o) (state c.compile_notes.new.em)) n
-      ∙ ap (λ y. by_context (λ x. made c.made_flags-flags.result.0 (qualified x y) o) (state c.compile_notes.new.em)) (sym c.as_str.ensures))
+      (ap (λ (p : ArgumentsOf Expr). on_done (run (some_emitted (built op.BuildMap) (notes (arguments expr_tree p) returns)) (state c.args.em.now)) (run k)) is
+      ∙ went _ (run k) _ c.in_ok-annotated.ensures.emits.goes
+      ∙ ap (λ m. run (by_context (λ x. made m (qualified x s.name) o)) (state c.compile_notes.new.em)) n
+      ∙ ap (λ y. run (by_context (λ x. made c.made_flags-flags.result.0 (qualified x y) o)) (state c.compile_notes.new.em)) (sym c.as_str.ensures))
       c.make_named.ensures.goes;
   same = search rules;
 }

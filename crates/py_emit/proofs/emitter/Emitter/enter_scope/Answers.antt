@@ -2,7 +2,7 @@ use Rattle.std.proofs.Common.{◌≡◌, suc, Some, sym, subst, arith}
 use Rattle.std.specs.Prelude.{OnOk}
 use Rattle.py_scope.specs.Flat.{typ_at}
 use Rattle.py_scope.specs.declared.table_type.SymbolTableType.{SymbolTableType}
-use Rattle.py_emission_parts.specs.Children.{code_head}
+use Rattle.py_emission_parts.specs.Running.{code_head}
 use Rattle.py_emission_parts.specs.Context.{inside}
 use Rattle.py_emission_parts.specs.Emitting.{begun}
 use Rattle.py_emit.specs.States.{entered_rest, rest, shape_of, state}
