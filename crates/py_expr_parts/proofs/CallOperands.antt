@@ -42,6 +42,7 @@ tuple_alone es ks = by_star (starred es)
   where
     gs : List Emission
     gs = groups (built op.BuildTuple) [] es
+
     by_star : (b : Bool) →
         run (if b then in_turn gs ▸ checked ks ▸ emit_count op.BuildTupleUnpack (length gs) else in_turn (bare es) ▸ checked ks ▸ emit_count op.BuildTuple (length es))
         ≡ run (if b then closed 0 ▸ in_turn gs ▸ checked ks ▸ emit_count op.BuildTupleUnpack (0 + length gs) else in_turn (bare es) ▸ checked ks ▸ emit_count op.BuildTuple (0 + length es))

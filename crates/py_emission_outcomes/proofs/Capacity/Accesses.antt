@@ -1,5 +1,6 @@
 -- Accesses to names, cells that are handed on and functions fit, where what stands around is as its scope says and has few cells.
-use Rattle.std.proofs.Common.{◌≡◌, refl, sym, ap, subst, ℕ, ◌+◌, ◌<◌, ◌≤◌, ◌^◌, List, [], ◌∷◌, ◌++◌, length, true, None, arith, length-append, Some}
+use Rattle.std.proofs.Common.{◌≡◌, refl, ap, ℕ, ◌+◌, ◌<◌, ◌≤◌, ◌^◌, List, [], ◌∷◌, ◌++◌, length, true, None, arith, length-append}
+use Rattle.std.specs.Prelude.{if◌then◌else◌}
 use Rattle.std.specs.List.{list_any}
 use Rattle.py_base.specs.declared.errors.CodegenErrorType.TheVariants as error
 use Rattle.py_bytecode.specs.declared.instruction.Instruction.{Instruction}
@@ -12,17 +13,17 @@ use Rattle.py_scope.specs.declared.flat.ScopeEntry.{ScopeEntry}
 use Rattle.py_scope.specs.declared.table_type.SymbolTableType.{SymbolTableType}
 use Rattle.py_control.specs.Agree.{AllOf}
 use Rattle.py_control.specs.Form.{Resolved}
-use Rattle.py_emission_parts.specs.Accesses.{access_by, accessed, emission_of_deleted, emission_of_name, emission_of_stored}
+use Rattle.py_emission_parts.specs.Accesses.{access_by, accessed, accessed_in, emission_of_deleted, emission_of_name, emission_of_stored}
 use Rattle.py_emission_parts.specs.Children.{cell_loads, closure, free_names, load_cell, made}
 use Rattle.py_emission_parts.specs.Context.{Context, access_kind, cell_place, cells_among, frees_among, inside, mangled, outermost, symbols_in}
-use Rattle.py_emission_parts.specs.Emitting.{Around, by_level, emit, emit_constant, Refused, refuse}
+use Rattle.py_emission_parts.specs.Emitting.{Around, by_level, emit, emit_constant, refuse}
 use Rattle.py_emission_parts.specs.EmissionParts.{in_turn}
 use Rattle.py_emission_parts.specs.Everywhere.{Everywhere}
 use Rattle.py_emission_parts.specs.Refused.{no_assignment, no_deletion}
 use Rattle.py_emission_parts.specs.TableParts.{debug_constant, is_debug}
 use Rattle.py_emission_parts.specs.Within.{some_flag}
 use Rattle.py_emission_outcomes.specs.Fitting.{HasShortTables}
-use Rattle.py_emission_outcomes.proofs.Capacity.Fits.{Fits, constant_fits, count_fits, emit_fits, emits, if_fits, keep_fits, level_fits, name_fits, narrow, place_within, room, taken, then_fits, unless_debug_fits, varname_fits}
+use Rattle.py_emission_outcomes.proofs.Capacity.Fits.{Fits, constant_fits, context_fits, count_fits, emit_fits, if_fits, if_so, keep_fits, level_fits, name_fits, place_within, room, then_fits, unless_debug_fits, varname_fits}
 
 -- each scope has few cells and names from outside
 abbrev pub FewCells : List ScopeEntry → Type 0
@@ -94,13 +95,9 @@ access_fits Delete ClassDeref x n l = room (omega arith) (emit_fits op.DeleteDer
 -- an access as the scope says
 pub accessed_fits : {c : Around} {k : ℕ} → Ready c → (u : Usage) (x : List ℕ) → Fits c k k 1 (accessed u x)
 unfolding accessed
-accessed_fits {c} r u x = record {
-  fits = λ s h g.
-      let d = s.around.context in
-      let y = mangled d x in
-      let l = subst (λ (a : Around). cell_place a.context y < 2 ^ 32) (sym h.around) (place_few c r y) in
-      (access_fits u (access_kind d u Resolved y) y (cell_place d y) l).fits s h g;
-}
+accessed_fits {c} r u x =
+    let y = mangled c.context x in
+    context_fits (λ d. accessed_in d u (mangled d x)) (access_fits u (access_kind c.context u Resolved y) y (cell_place c.context y) (place_few c r y))
 
 -- what stores a name
 pub stored_fits : {c : Around} {k : ℕ} → Ready c → (x : List ℕ) → Fits c k k 1 (emission_of_stored x)
@@ -129,14 +126,10 @@ pub record AtHand (c : Around) (names : List (List ℕ)) : Type 0 where
 
 -- the cell of such a name
 pub cell_fits : {c : Around} {k : ℕ} → Ready c → (x : List ℕ) → InReach c x → Fits c k k 0 (load_cell x)
-unfolding load_cell refuse
-cell_fits {c} {k} r x i = record {
-  fits = λ s h g.
-      let d = s.around.context in
-      let l = subst (λ (a : Around). cell_place a.context x < 2 ^ 32) (sym h.around) (place_few c r x) in
-      let e = subst (λ (a : Around). list_any (text_eq x) (a.context.cells ++ a.context.frees) ≡ true) (sym h.around) i in
-      narrow c k (taken s + 0) (list_any (text_eq x) (d.cells ++ d.frees)) (emit op.LoadClosure (cell_place d x) s) (Refused error.MissingCell (Some s.location)) e (emits op.LoadClosure (cell_place d x) s l h (omega arith));
-}
+unfolding load_cell
+cell_fits {c} r x i =
+    context_fits (λ d. if list_any (text_eq x) (d.cells ++ d.frees) then emit op.LoadClosure (cell_place d x) else refuse error.MissingCell)
+    (if_so (list_any (text_eq x) (c.context.cells ++ c.context.frees)) (λ e. emit_fits op.LoadClosure (cell_place c.context x) (place_few c r x)) (λ e. absurd cc))
 
 -- the cells of some names
 loads_fit : {c : Around} {k : ℕ} → Ready c → (xs : List (List ℕ)) → AllOf (InReach c) xs → Fits c k k 0 (in_turn (cell_loads xs))

@@ -14,7 +14,7 @@ use Rattle.py_meaning.specs.Meaning.{body}
 use Rattle.py_meaning.specs.Scanned.{scopes_of}
 use Rattle.py_scope_tree.specs.Cells.{StandUpTo, at_hand, is_one_of}
 use Rattle.py_scope_tree.proofs.CellsOfScopes.{cells_stand}
-use Rattle.py_emission_outcomes.proofs.Capacity.Fits.{looping, postponed_around}
+use Rattle.py_emission_proof.proofs.Additions.EmissionSequenceLemmas.{looping, postponed_around}
 use Rattle.py_emission_outcomes.proofs.Capacity.Accesses.{AtHand, Ready}
 
 -- what a scope has from outside is at hand in the scope with this number, and so it is at every depth within it

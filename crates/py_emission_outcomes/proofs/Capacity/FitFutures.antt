@@ -11,7 +11,8 @@ use Rattle.py_emission.specs.EmissionFutures.{emission_behind, emission_of_futur
 use Rattle.py_emission.specs.Futures.{Future, after_future, future_in, future_of, postpones}
 use Rattle.py_emission.specs.Imports.{from_future}
 use Rattle.py_meaning.specs.TableImports.{behind_futures, future_form}
-use Rattle.py_emission_outcomes.proofs.Capacity.Fits.{Fits, postponed_around, postponing_fits, room, then_fits}
+use Rattle.py_emission_proof.proofs.Additions.EmissionSequenceLemmas.{postponed_around}
+use Rattle.py_emission_outcomes.proofs.Capacity.Fits.{Fits, postponing_fits, room, then_fits}
 use Rattle.py_emission_outcomes.proofs.Capacity.Accesses.{Ready}
 use Rattle.py_emission_outcomes.proofs.Capacity.FitImports.{future_fits}
 use Rattle.py_emission_outcomes.proofs.Capacity.AvailableCellLemmas.{Here, apart, postponed_ready, told}

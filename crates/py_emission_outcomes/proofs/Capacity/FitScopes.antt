@@ -9,8 +9,9 @@ use Rattle.py_bytecode.specs.declared.instruction.Instruction.TheVariants as op
 use Rattle.py_bytecode.specs.Objects as const
 use Rattle.py_bytecode.specs.Objects.{Object}
 use Rattle.py_scope.specs.declared.table_type.SymbolTableType.TheVariants as kind
-use Rattle.py_emission_parts.specs.Children.{DefaultEmissions, behind_child, child, code_head, emission_of_defaults, enter_parameters, flags_of_defaults, free_names, function_scope, on_sealed, some_emitted}
-use Rattle.py_emission_parts.specs.Comprehensions.{ClauseEmissions, as_element, called_at_once, clause, clauses, comprehension, comprehension_shape, conditions, further_clauses, gathered, generated, retold_in}
+use Rattle.py_emission_parts.specs.Children.{DefaultEmissions, child, emission_of_defaults, enter_parameters, flags_of_defaults, free_names, function_scope, some_emitted}
+use Rattle.py_emission_parts.specs.Running.{behind_child, code_head, on_sealed, retold_in, run}
+use Rattle.py_emission_parts.specs.Comprehensions.{ClauseEmissions, as_element, called_at_once, clause, clauses, comprehension, comprehension_shape, conditions, further_clauses, gathered, generated}
 use Rattle.py_emission_parts.specs.Context.{Context}
 use Rattle.py_emission_parts.specs.Emitting.{Around, Emission, Outcome, State, Done, TooWide, Refused, begun}
 use Rattle.py_emission_parts.specs.EmissionParts.{Emissions, built, map_of}
@@ -20,7 +21,7 @@ use Rattle.py_emission_parts.specs.Sealed.{Head, sealed}
 use Rattle.py_emission_parts.specs.Within.{Shape, comprehension_inside, some_flag}
 use Rattle.py_emission_outcomes.specs.Fitting.{HasShortTables}
 use Rattle.py_emission_outcomes.proofs.Capacity.ShortTables.{FewParameters, HasFew, sealed_short}
-use Rattle.py_emission_outcomes.proofs.Capacity.Fits.{Fits, FitsIn, Stands, begin_fits, constant_added, constant_fits, count_fits, emit_fits, few_so, fits_as, fits_from, generating_fits, if_fits, jump_fits, keep_fits, more, new_fits, plain_fits, refuse_fits, room, taken, then_fits, unless_debug_fits, varname_added, varname_fits, IsOfTree}
+use Rattle.py_emission_outcomes.proofs.Capacity.Fits.{Fits, FitsIn, Stands, constant_added, constant_fits, count_fits, emit_fits, few_so, fits_as, fits_from, generating_fits, if_fits, jump_fits, keep_fits, more, plain_fits, refuse_fits, room, taken, then_fits, two_blocks_fit, unless_debug_fits, varname_added, varname_fits, IsOfTree}
 use Rattle.py_emission_outcomes.proofs.Capacity.Accesses.{AtHand, Ready, cells_few, made_fits, outside, ready_inside}
 use Rattle.py_emission_outcomes.proofs.Capacity.FitParts.{FitsWell, NamedFits, Takes, built_fits, map_fits}
 use Rattle.py_emission_outcomes.proofs.Capacity.Threads.{Thread, thread_few}
@@ -31,12 +32,12 @@ unfolding sealed
 sealed_frees level h t = refl
 
 -- what a scope within comes to is sealed, its tables are short, and what follows goes on
-seals : {c : Around} {k m w d : ℕ} {follow : Object → Emission} (inner : Around) (l b level : ℕ) (h : Head) (s : State) (o : Outcome) → Stands c k s → FitsIn inner l b o → b < 2 ^ 30 → length h.cellvars + length h.freevars < 2 ^ 30 → FewParameters h.posonlyarg_count h.arg_count h.kwonlyarg_count → taken s + w ≤ d → d < 2 ^ 30 → ((x : Object) → free_names x ≡ h.freevars → Everywhere HasShortTables x → Fits c l m w (follow x)) → FitsIn c m d (on_sealed level h s o follow)
+seals : {c : Around} {k m w d : ℕ} {follow : Object → Emission} (inner : Around) (l b level : ℕ) (h : Head) (s : State) (o : Outcome) → Stands c k s → FitsIn inner l b o → b < 2 ^ 30 → length h.cellvars + length h.freevars < 2 ^ 30 → FewParameters h.posonlyarg_count h.arg_count h.kwonlyarg_count → taken s + w ≤ d → d < 2 ^ 30 → ((x : Object) → free_names x ≡ h.freevars → Everywhere HasShortTables x → Fits c l m w (follow x)) → FitsIn c m d (on_sealed level h s o (λ x. run (follow x)))
 unfolding taken
 seals {c} {k} {m} {w} {d} {follow} inner l b level h s (Done t) st g small cells few i r y =
     let e = g.1 in
     let short = sealed_short level h t g.0.short (omega (arith, e, small)) cells few in
-    more c m (taken (behind_child s t) + w) d (follow (sealed level h t) (behind_child s t)) i ((y (sealed level h t) (sealed_frees level h t) short).fits (behind_child s t) (record { around = st.around; next = g.0.next; short = st.short }) (omega (arith, i, r)))
+    more c m (taken (behind_child s t) + w) d (run (follow (sealed level h t)) (behind_child s t)) i ((y (sealed level h t) (sealed_frees level h t) short).fits (behind_child s t) (record { around = st.around; next = g.0.next; short = st.short }) (omega (arith, i, r)))
 seals inner l b level h s TooWide st g small cells few i r y = g
 seals inner l b level h s (Refused z at) st g small cells few i r y = g
 
@@ -52,7 +53,7 @@ child_fits {c} {k} {l} {m} {v} {w} {body} {follow} within h q x few y = record {
       let x2 = subst (λ n. Fits (outside (within s.around.context n)) (suc n) l v body) (sym st.next) x1 in
       let own = x2.fits (begun d s.location (suc s.next)) (record { around = refl; next = refl; short = tt }) (omega (arith, r)) in
       let parameters = few (omega (arith, r)) in
-      seals (outside d) l (taken (begun d s.location (suc s.next)) + v) d.level (code_head d h s.location) s (body (begun d s.location (suc s.next))) st own (omega (arith, r)) cells parameters (omega arith) r (λ o e short. y o (e ∙ ap (λ (z : Context). z.frees) same) short);
+      seals (outside d) l (taken (begun d s.location (suc s.next)) + v) d.level (code_head d h s.location) s (run body (begun d s.location (suc s.next))) st own (omega (arith, r)) cells parameters (omega arith) r (λ o e short. y o (e ∙ ap (λ (z : Context). z.frees) same) short);
 }
 
 -- the same names in other words
@@ -73,7 +74,7 @@ done_element c l b (Refused e at) h = told_so e h
 -- an element of a comprehension
 pub element_fits : {c : Around} {k l w : ℕ} {a : Emission} → Fits c k l w a → Fits c k l w (as_element a)
 unfolding as_element
-element_fits {c} {k} {l} {w} {a} x = record { fits = λ s h r. done_element c l (taken s + w) (a s) (x.fits s h r) }
+element_fits {c} {k} {l} {w} {a} x = record { fits = λ s h r. done_element c l (taken s + w) (run a s) (x.fits s h r) }
 
 -- the flags of defaults are few
 pub default_flags_few : (d : DefaultEmissions) → flags_of_defaults d < 2 ^ 31
@@ -153,8 +154,7 @@ module _ (c : Around) where
   clause_fits {j = j} {m = m} x i r z =
       let t = r.together in
       room (omega (arith, t))
-      (new_fits (λ start. new_fits (λ end.
-      then_fits i (then_fits (begin_fits start) (then_fits (jump_fits op.ForIter end) (then_fits r.target (then_fits (conditions_fit r.between m r.second x.conditions start r.conditions) (then_fits z (then_fits (jump_fits op.Jump start) (begin_fits end))))))))))
+      (two_blocks_fit (λ start end. i) (λ start end. then_fits (jump_fits op.ForIter end) (then_fits r.target (then_fits (conditions_fit r.between m r.second x.conditions start r.conditions) (then_fits z (jump_fits op.Jump start))))) (λ start end. keep_fits))
 
   -- clauses that have iterables of their own
   further_fit : {within : Emission} (k m l v w : ℕ) (xs : List ClauseEmissions) → Thread FurtherFits k m v xs → Fits c m l w within → Fits c k l (v + w) (further_clauses xs within)

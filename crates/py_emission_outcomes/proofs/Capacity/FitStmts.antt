@@ -17,7 +17,8 @@ use Rattle.py_meaning.specs.StmtCounts.{scopes_in_handlers, scopes_in_items, sco
 use Rattle.py_meaning.specs.StmtParts.{annotated_form, assign_form, declared_form, handler_target, named_form}
 use Rattle.py_meaning.specs.Table.{expr_form, target_form, test_form}
 use Rattle.py_meaning.specs.TableStmts.{handler_forms, rest_form, stmt_form, stmts_form}
-use Rattle.py_emission_outcomes.proofs.Capacity.Fits.{Fits, at_fits, fits_as, if_fits, in_function_fits, keep_fits, level_fits, looping, loops_fit, move_fits, plain_fits, emit_fits, refuse_fits, room, then_fits}
+use Rattle.py_emission_proof.proofs.Additions.EmissionSequenceLemmas.{looping}
+use Rattle.py_emission_outcomes.proofs.Capacity.Fits.{Fits, at_fits, fits_as, if_fits, in_function_fits, keep_fits, level_fits, loops_fit, move_fits, plain_fits, emit_fits, refuse_fits, room, then_fits}
 use Rattle.py_emission_outcomes.proofs.Capacity.Accesses.{Ready, stored_fits}
 use Rattle.py_emission_outcomes.proofs.Capacity.FitChanges.{annotated_fits, assert_fits, assign_fits, augment_fits, declared_fits, deletes_fit, items_fit, last_part_fits, leave_fits, raise_fits, returned_fits, store_fits, test_fits, value_fits}
 use Rattle.py_emission_outcomes.proofs.Capacity.FitTests.{choice_fits, only_fits}

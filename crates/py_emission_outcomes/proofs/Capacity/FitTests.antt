@@ -14,7 +14,7 @@ use Rattle.py_bytecode.specs.Values.{flip}
 use Rattle.py_emission_parts.specs.Emitting.{Around, Emission, ◌▸◌, emit, move}
 use Rattle.py_emission_parts.specs.EmissionParts.{Emissions, bool_emissions, bool_test, bool_value, chain, choice, comparisons, emission_of_compare, emission_of_comparison, emission_of_link, first_comparison, keeping_jump, links, only, ordinary, past_tests, shorts, some_test, some_values, tested, testing_jump, tests, truth_of, unary_emissions, unary_value, values}
 use Rattle.py_emission_parts.specs.TableParts.{deciding, unary_case}
-use Rattle.py_emission_outcomes.proofs.Capacity.Fits.{Fits, at_fits, begin_fits, emit_fits, fits_as, if_fits, if_so, jump_fits, keep_fits, new_fits, plain_fits, refuse_fits, room, then_fits}
+use Rattle.py_emission_outcomes.proofs.Capacity.Fits.{Fits, at_fits, emit_fits, fits_as, if_fits, if_so, jump_fits, keep_fits, one_block_fits, plain_fits, refuse_fits, room, then_fits, two_blocks_fit}
 use Rattle.py_emission_outcomes.proofs.Capacity.FitParts.{FitsWell, turn_fits, values_fit}
 use Rattle.py_emission_outcomes.proofs.Capacity.Threads.{Thread}
 
@@ -48,11 +48,11 @@ by_return x y = record { value = x; test = truth_fits x; element = x; callee = x
 
 -- one body, where the test holds, and one of two
 pub only_fits : {c : Around} {k m l v w : ℕ} {test : Bool → ℕ → Emission} {body : Emission} → TestFits c k m v test → Fits c m l w body → Fits c k l (v + w + 1) (only test body)
-only_fits t x = room (omega arith) (new_fits (λ end. then_fits (t false end) (then_fits x (begin_fits end))))
+only_fits t x = room (omega arith) (one_block_fits (λ end. then_fits (t false end) x) (λ end. keep_fits))
 
 -- one of two bodies
 pub choice_fits : {c : Around} {k j m l u v w : ℕ} {test : Bool → ℕ → Emission} {body orelse : Emission} → TestFits c k j u test → Fits c j m v body → Fits c m l w orelse → Fits c k l (u + v + w + 2) (choice test body orelse)
-choice_fits t x y = room (omega arith) (new_fits (λ other. new_fits (λ end. then_fits (t false other) (then_fits x (then_fits (jump_fits op.Jump end) (then_fits (begin_fits other) (then_fits y (begin_fits end))))))))
+choice_fits t x y = room (omega arith) (two_blocks_fit (λ other end. then_fits (t false other) (then_fits x (jump_fits op.Jump end))) (λ other end. y) (λ other end. keep_fits))
 
 -- one comparison
 comparison_fits : {c : Around} {k : ℕ} (o : CmpOp) → Fits c k k 0 (emission_of_comparison o)
@@ -92,7 +92,7 @@ module _ (c : Around) where
 
   -- with the block behind them
   some_values_fit : (o : BoolOp) (k l w : ℕ) (es : List Emissions) → Thread (FitsWell c) k l w es → Fits c k l (w + 1) (some_values o es)
-  some_values_fit o k l w es h = room (omega arith) (new_fits (λ end. then_fits (shorts_fit o end k l w es h) (begin_fits end)))
+  some_values_fit o k l w es h = room (omega arith) (one_block_fits (λ end. shorts_fit o end k l w es h) (λ end. keep_fits))
 
   -- as a value
   bool_value_fits : (o : BoolOp) (k l w : ℕ) (es : List Emissions) → Thread (FitsWell c) k l w es → Fits c k l (w + 1) (bool_value o es)
@@ -106,7 +106,7 @@ module _ (c : Around) where
 
   -- past which a value that decides jumps
   past_fits : (stop truth : Bool) (to k l w : ℕ) (es : List Emissions) → Thread (FitsWell c) k l w es → Fits c k l (w + 1) (past_tests stop truth es to)
-  past_fits stop truth to k l w es h = room (omega arith) (new_fits (λ end. then_fits (tests_fit stop end truth to k l w es h) (begin_fits end)))
+  past_fits stop truth to k l w es h = room (omega arith) (one_block_fits (λ end. tests_fit stop end truth to k l w es h) (λ end. keep_fits))
 
   -- by the truth at which they jump
   some_test_fits : (stop truth : Bool) (to k l w : ℕ) (es : List Emissions) → Thread (FitsWell c) k l w es → Fits c k l (w + 1) (some_test stop truth es to)
@@ -153,8 +153,7 @@ module _ (c : Around) where
   chain_fits : {left : Emission} (k m l v w : ℕ) (ops : List CmpOp) (es : List Emissions) → length ops ≡ length es → Fits c k m v left → Thread (FitsWell c) m l w es → Fits c k l (v + w + 2) (chain left ops es)
   chain_fits k m l v w ops es even x h =
       room (omega arith)
-      (new_fits (λ out. new_fits (λ end.
-      then_fits x (then_fits (links_fit out m l w ops es even h) (then_fits (jump_fits op.Jump end) (then_fits (begin_fits out) (then_fits (plain_fits op.Rotate2) (then_fits (plain_fits op.Pop) (begin_fits end)))))))))
+      (two_blocks_fit (λ out end. then_fits x (then_fits (links_fit out m l w ops es even h) (jump_fits op.Jump end))) (λ out end. then_fits (plain_fits op.Rotate2) (plain_fits op.Pop)) (λ out end. keep_fits))
 
   -- one comparison or a chain
   comparisons_fit : {left : Emission} (k m l v w : ℕ) (ops : List CmpOp) (es : List Emissions) → length ops ≡ length es → Fits c k m v left → Thread (FitsWell c) m l w es → Fits c k l (v + w + 2) (comparisons left ops es)

@@ -10,7 +10,9 @@ use Rattle.py_bytecode.specs.Equality.{const_eq, text_eq, entered}
 use Rattle.py_bytecode.specs.Objects.{Const}
 use Rattle.py_control.specs.Agree.{AllOf}
 use Rattle.py_emission_parts.specs.Context.{Context, is_function, mangled}
-use Rattle.py_emission_parts.specs.Emitting.{Around, State, Outcome, Done, TooWide, Refused, Emission, LoopBlocks, ◌▸◌, add_constant, add_varname, begin, by_context, by_level, by_loops, emit, emit_constant, emit_count, emit_mangled, emit_name, emit_varname, generating, go_on, in_loop, jump, keep, located, move, new_block, pass_over, place_in, postponing, Put, refuse, with_block, with_constant, with_loops, with_name, with_postponed, with_step, with_varname}
+use Rattle.py_emission_parts.specs.Emitting.{Around, State, Outcome, Done, TooWide, Refused, Emission, LoopBlocks, ◌▸◌, add_constant, add_varname, by_context, by_level, by_loops, emit, emit_constant, emit_count, emit_mangled, emit_name, emit_varname, generating, in_loop, jump, keep, located, move, one_block, pass_over, place_in, postponing, Put, refuse, three_blocks, two_blocks, with_block, with_constant, with_loops, with_name, with_postponed, with_step, with_varname}
+use Rattle.py_emission_proof.proofs.Additions.EmissionSequenceLemmas.{new_block, looping, postponed_around}
+use Rattle.py_emission_parts.specs.Running.{Action, ◌▹◌, begin, on_done, put, run}
 use Rattle.py_emission_parts.specs.EmissionParts.{only_in_function, pass_scopes, unless_debug}
 use Rattle.py_emission_parts.specs.TableParts.{is_debug}
 use Rattle.py_emission_outcomes.proofs.Capacity.ShortTables.{IsShort, entered_short}
@@ -38,7 +40,7 @@ FitsIn c l b (Refused e at) = IsOfTree e
 
 -- so it is from each state around which c stands, where the next scope has the number k and there is room for w more; at most w more is taken
 pub record Fits (c : Around) (k l w : ℕ) (a : Emission) : Type 0 where
-  pub fits : (s : State) → Stands c k s → taken s + w < 2 ^ 30 → FitsIn c l (taken s + w) (a s)
+  pub fits : (s : State) → Stands c k s → taken s + w < 2 ^ 30 → FitsIn c l (taken s + w) (run a s)
 
 -- where more may be taken
 pub more : (c : Around) (l b d : ℕ) (o : Outcome) → b ≤ d → FitsIn c l b o → FitsIn c l d o
@@ -47,18 +49,30 @@ more c l b d TooWide e h = h
 more c l b d (Refused x at) e h = h
 
 -- what follows goes on where it is done
-pub goes_on : (c : Around) (l m b w d : ℕ) (o : Outcome) (x : Emission) → FitsIn c l b o → b + w ≤ d → d < 2 ^ 30 → Fits c l m w x → FitsIn c m d (go_on o x)
-goes_on c l m b w d (Done t) x h e r y = let g = h.1 in more c m (taken t + w) d (x t) (omega (arith, e, g)) (y.fits t h.0 (omega (arith, e, g, r)))
-goes_on c l m b w d TooWide x h e r y = h
-goes_on c l m b w d (Refused z at) x h e r y = h
+goes_on : (c d : Around) (l m b e : ℕ) (o : Outcome) (x : Action) → FitsIn c l b o → ((t : State) → Stands c l t → taken t ≤ b → FitsIn d m e (x t)) → FitsIn d m e (on_done o x)
+goes_on c d l m b e (Done t) x h y = y t h.0 h.1
+goes_on c d l m b e TooWide x h y = h
+goes_on c d l m b e (Refused z at) x h y = h
+
+-- the same of an action
+record ActionFits (c : Around) (k l w : ℕ) (a : Action) : Type 0 where
+  fits : (s : State) → Stands c k s → taken s + w < 2 ^ 30 → FitsIn c l (taken s + w) (a s)
+
+run_fits : {c : Around} {k l w : ℕ} {a : Emission} → Fits c k l w a → ActionFits c k l w (run a)
+run_fits x = record { fits = x.fits }
 
 -- one and then another
+after_fits : {c : Around} {k l m v w : ℕ} {a b : Action} → ActionFits c k l v a → ActionFits c l m w b → ActionFits c k m (v + w) (a ▹ b)
+after_fits {c} {k} {l} {m} {v} {w} {a} {b} x y = record {
+  fits = λ s h r. goes_on c c l m (taken s + v) (taken s + (v + w)) (a s) b (x.fits s h (omega (arith, r))) (λ t g i. more c m (taken t + w) (taken s + (v + w)) (b t) (omega (arith, i)) (y.fits t g (omega (arith, i, r))));
+}
+
 pub then_fits : {c : Around} {k l m v w : ℕ} {a b : Emission} → Fits c k l v a → Fits c l m w b → Fits c k m (v + w) (a ▸ b)
-then_fits {c} {k} {l} {m} {v} {w} {a} {b} x y = record { fits = λ s h r. goes_on c l m (taken s + v) w (taken s + (v + w)) (a s) b (x.fits s h (omega (arith, r))) (omega arith) r y }
+then_fits x y = record { fits = (after_fits (run_fits x) (run_fits y)).fits }
 
 -- the same number in other words, and more room
 pub fits_as : {c : Around} {k l m v w : ℕ} {a : Emission} → l ≡ m → v ≤ w → Fits c k l v a → Fits c k m w a
-fits_as {c} {k} {l} {m} {v} {w} {a} e i x = record { fits = λ s h r. subst (λ n. FitsIn c n (taken s + w) (a s)) e (more c l (taken s + v) (taken s + w) (a s) (omega (arith, i)) (x.fits s h (omega (arith, i, r)))) }
+fits_as {c} {l = l} {v = v} {w = w} {a = a} e i x = record { fits = λ s h r. subst (λ n. FitsIn c n (taken s + w) (run a s)) e (more c l (taken s + v) (taken s + w) (run a s) (omega (arith, i)) (x.fits s h (omega (arith, i, r)))) }
 
 -- from another number in other words
 pub fits_from : {c : Around} {j k l w : ℕ} {a : Emission} → j ≡ k → Fits c j l w a → Fits c k l w a
@@ -97,8 +111,8 @@ narrow c k b true o z e h = h
 narrow c k b false o z e h = absurd cc
 
 -- an instruction in such a state
-pub emits : {c : Around} {k b : ℕ} (i : Instruction) (n : ℕ) (s : State) → n < 2 ^ 32 → Stands c k s → taken s ≤ b → FitsIn c k b (emit i n s)
-unfolding emit with_step taken
+pub emits : {c : Around} {k b : ℕ} (i : Instruction) (n : ℕ) (s : State) → n < 2 ^ 32 → Stands c k s → taken s ≤ b → FitsIn c k b (run (emit i n) s)
+unfolding emit put with_step taken
 emits {c} {k} {b} i n s l h t = narrow c k b (nat_lt n (2 ^ 32)) (Done (with_step (Put i n None s.location) s)) TooWide (less_so n (2 ^ 32) l) (record { around = h.around; next = h.next; short = h.short }, t)
 
 -- an instruction with such an operand
@@ -118,15 +132,10 @@ pub jump_fits : {c : Around} {k : ℕ} (i : Instruction) (b : ℕ) → Fits c k 
 unfolding jump with_step taken
 jump_fits i b = record { fits = λ s h r. (record { around = h.around; next = h.next; short = h.short }, omega arith) }
 
--- a block begins
-pub begin_fits : {c : Around} {k : ℕ} (b : ℕ) → Fits c k k 0 (begin b)
-unfolding begin with_step taken
-begin_fits b = record { fits = λ s h r. (record { around = h.around; next = h.next; short = h.short }, omega arith) }
-
 -- a count in such a state
-counts : {c : Around} {k b : ℕ} (i : Instruction) (n : ℕ) (s : State) → n < 2 ^ 30 → Stands c k s → taken s ≤ b → FitsIn c k b (emit_count i n s)
-unfolding emit_count
-counts {c} {k} {b} i n s l h t = narrow c k b (nat_lt n (2 ^ 30)) (emit i n s) TooWide (less_so n (2 ^ 30) l) (emits i n s (omega (arith, l)) h t)
+counts : {c : Around} {k b : ℕ} (i : Instruction) (n : ℕ) (s : State) → n < 2 ^ 30 → Stands c k s → taken s ≤ b → FitsIn c k b (run (emit_count i n) s)
+unfolding emit_count emit
+counts {c} {k} {b} i n s l h t = narrow c k b (nat_lt n (2 ^ 30)) (run (emit i n) s) TooWide (less_so n (2 ^ 30) l) (emits i n s (omega (arith, l)) h t)
 
 -- an instruction that counts so many
 pub count_fits : {c : Around} {k : ℕ} (i : Instruction) (n : ℕ) → n < 2 ^ 30 → Fits c k k 0 (emit_count i n)
@@ -134,7 +143,7 @@ count_fits i n l = record { fits = λ s h r. counts i n s l h (omega arith) }
 
 -- a count for which there was room before
 pub then_count : {c : Around} {k l w : ℕ} {a : Emission} (i : Instruction) (n : ℕ) → n ≤ w → Fits c k l w a → Fits c k l w (a ▸ emit_count i n)
-then_count {c} {k} {l} {w} {a} i n e x = record { fits = λ s h r. goes_on c l l (taken s + w) 0 (taken s + w) (a s) (emit_count i n) (x.fits s h r) (omega arith) r (count_fits i n (omega (arith, e, r))) }
+then_count {c} {l = l} {w = w} {a = a} i n e x = record { fits = λ s h r. goes_on c c l l (taken s + w) (taken s + w) (run a s) (run (emit_count i n)) (x.fits s h r) (λ t g z. counts i n t (omega (arith, e, r)) g z) }
 
 -- a place one further back
 by_one : (b : Bool) (n m : ℕ) → n ≤ m → cond (not b) (1 + n) 0 ≤ 1 + m
@@ -158,7 +167,7 @@ module _ {A : Type 0} where
 
 -- an instruction that names a name
 pub name_fits : {c : Around} {k : ℕ} (i : Instruction) (x : List ℕ) → Fits c k k 1 (emit_name i x)
-unfolding emit_name with_name taken
+unfolding emit_name emit with_name taken
 name_fits i x = record {
   fits = λ s h r.
       let p = place_within (text_eq x) s.names in
@@ -168,7 +177,7 @@ name_fits i x = record {
 
 -- a name of the code object's own
 pub varname_fits : {c : Around} {k : ℕ} (i : Instruction) (x : List ℕ) → Fits c k k 1 (emit_varname i x)
-unfolding emit_varname with_varname taken
+unfolding emit_varname emit with_varname taken
 varname_fits i x = record {
   fits = λ s h r.
       let p = place_within (text_eq x) s.varnames in
@@ -178,7 +187,7 @@ varname_fits i x = record {
 
 -- and a constant that holds no code object with long tables
 pub constant_fits : {c : Around} {k : ℕ} (i : Instruction) (x : Const) → IsShort x → Fits c k k 1 (emit_constant i x)
-unfolding emit_constant with_constant taken
+unfolding emit_constant emit with_constant taken
 constant_fits i x q = record {
   fits = λ s h r.
       let p = place_within (const_eq x) s.constants in
@@ -215,73 +224,72 @@ move_fits at = record { fits = λ s h r. (record { around = h.around; next = h.n
 pub at_fits : {c : Around} {k l w : ℕ} {a : Emission} (at : SourceLocation) → Fits c k l w a → Fits c k l w (move at ▸ a)
 at_fits at x = room (omega arith) (then_fits (move_fits at) x)
 
--- what goes on with a block takes one more
-pub new_fits : {c : Around} {k l w : ℕ} {a : ℕ → Emission} → ((b : ℕ) → Fits c k l w (a b)) → Fits c k l (1 + w) (new_block a)
-unfolding new_block with_block taken
+-- a block takes one more, and begins
+new_fits : {c : Around} {k l w : ℕ} {a : ℕ → Action} → ((b : ℕ) → ActionFits c k l w (a b)) → ActionFits c k l (1 + w) (new_block a)
+unfolding with_block taken
 new_fits {c} {k} {l} {w} {a} x = record { fits = λ s h r. more c l (taken (with_block s) + w) (taken s + (1 + w)) (a s.blocks (with_block s)) (omega arith) ((x s.blocks).fits (with_block s) (record { around = h.around; next = h.next; short = h.short }) (omega (arith, r))) }
+
+begin_fits : {c : Around} {k : ℕ} (b : ℕ) → ActionFits c k k 0 (begin b)
+unfolding with_step taken
+begin_fits b = record { fits = λ s h r. (record { around = h.around; next = h.next; short = h.short }, omega arith) }
+
+-- what stands before and behind the place where it begins
+around_fits : {c : Around} {k l m v w : ℕ} {a : Emission} {x : Action} (b : ℕ) → Fits c k l v a → ActionFits c l m w x → ActionFits c k m (v + (0 + w)) (run a ▹ begin b ▹ x)
+around_fits b x y = after_fits (run_fits x) (after_fits (begin_fits b) y)
+
+pub one_block_fits : {c : Around} {k l m v w : ℕ} {f g : ℕ → Emission} → ((b : ℕ) → Fits c k l v (f b)) → ((b : ℕ) → Fits c l m w (g b)) → Fits c k m (1 + v + w) (one_block f g)
+unfolding one_block
+one_block_fits x y = room (omega arith) (record { fits = (new_fits (λ b. around_fits b (x b) (run_fits (y b)))).fits })
+
+pub two_blocks_fit : {c : Around} {k l m n u v w : ℕ} {f g h : ℕ → ℕ → Emission} → ((a b : ℕ) → Fits c k l u (f a b)) → ((a b : ℕ) → Fits c l m v (g a b)) → ((a b : ℕ) → Fits c m n w (h a b)) → Fits c k n (2 + u + v + w) (two_blocks f g h)
+unfolding two_blocks with_block
+two_blocks_fit x y z = room (omega arith) (record { fits = (new_fits (λ a. new_fits (λ b. around_fits a (x a b) (around_fits b (y a b) (run_fits (z a b)))))).fits })
+
+pub three_blocks_fit : {c : Around} {k l m n j u v w x : ℕ} {f g h i : ℕ → ℕ → ℕ → Emission} → ((a b d : ℕ) → Fits c k l u (f a b d)) → ((a b d : ℕ) → Fits c l m v (g a b d)) → ((a b d : ℕ) → Fits c m n w (h a b d)) → ((a b d : ℕ) → Fits c n j x (i a b d)) → Fits c k j (3 + u + v + w + x) (three_blocks f g h i)
+unfolding three_blocks with_block
+three_blocks_fit x y z w = room (omega arith) (record { fits = (new_fits (λ a. new_fits (λ b. new_fits (λ d. around_fits a (x a b d) (around_fits b (y a b d) (around_fits d (z a b d) (run_fits (w a b d)))))))).fits })
 
 -- what goes on with the context, the level or the loops that stand around
 pub context_fits : {c : Around} {k l w : ℕ} (a : Context → Emission) → Fits c k l w (a c.context) → Fits c k l w (by_context a)
 unfolding by_context
-context_fits {c} {k} {l} {w} a x = record { fits = λ s h r. subst (λ (z : Around). FitsIn c l (taken s + w) (a z.context s)) (sym h.around) (x.fits s h r) }
+context_fits {c} {k} {l} {w} a x = record { fits = λ s h r. subst (λ (z : Around). FitsIn c l (taken s + w) (run (a z.context) s)) (sym h.around) (x.fits s h r) }
 
 -- with the level
 pub level_fits : {c : Around} {k l w : ℕ} (a : ℕ → Emission) → Fits c k l w (a c.context.level) → Fits c k l w (by_level a)
 unfolding by_level
-level_fits {c} {k} {l} {w} a x = record { fits = λ s h r. subst (λ (z : Around). FitsIn c l (taken s + w) (a z.context.level s)) (sym h.around) (x.fits s h r) }
+level_fits {c} {k} {l} {w} a x = record { fits = λ s h r. subst (λ (z : Around). FitsIn c l (taken s + w) (run (a z.context.level) s)) (sym h.around) (x.fits s h r) }
 
 -- with the loops
 pub loops_fit : {c : Around} {k l w : ℕ} (a : Option LoopBlocks → Emission) → Fits c k l w (a c.loops) → Fits c k l w (by_loops a)
 unfolding by_loops
-loops_fit {c} {k} {l} {w} a x = record { fits = λ s h r. subst (λ (z : Around). FitsIn c l (taken s + w) (a z.loops s)) (sym h.around) (x.fits s h r) }
+loops_fit {c} {k} {l} {w} a x = record { fits = λ s h r. subst (λ (z : Around). FitsIn c l (taken s + w) (run (a z.loops) s)) (sym h.around) (x.fits s h r) }
 
--- the same around, in a loop with these blocks
-abbrev pub looping : LoopBlocks → Around → Around
-looping x c = record c { loops = Some x }
-
--- behind the loop all is as it was
-leaves_loop : (c : Around) (l b : ℕ) (x : LoopBlocks) (before : Around) (o : Outcome) → before ≡ c → FitsIn (looping x c) l b o → FitsIn c l b (go_on o (λ t. Done (with_loops before.loops t)))
-unfolding with_loops taken
-leaves_loop c l b x before (Done t) e h = (record { around = ap (λ (u : Around). record u { loops = before.loops }) h.0.around ∙ ap (λ (u : Around). record c { loops = u.loops }) e; next = h.0.next; short = h.0.short }, h.1)
-leaves_loop c l b x before TooWide e h = h
-leaves_loop c l b x before (Refused z at) e h = h
-
--- what stands in a loop
+-- what stands in a loop; behind it all is as it was
 pub loop_fits : {c : Around} {k l w : ℕ} {a : Emission} (x : LoopBlocks) → Fits (looping x c) k l w a → Fits c k l w (in_loop x a)
 unfolding in_loop with_loops taken
-loop_fits {c} {k} {l} {w} {a} x y = record { fits = λ s h r. leaves_loop c l (taken s + w) x s.around (a (with_loops (Some x) s)) h.around (y.fits (with_loops (Some x) s) (record { around = ap (looping x) h.around; next = h.next; short = h.short }) r) }
+loop_fits {c} {k} {l} {w} {a} x y = record {
+  fits = λ s h r.
+      goes_on (looping x c) c l l (taken s + w) (taken s + w) (run a (with_loops (Some x) s)) (λ t. Done (with_loops s.around.loops t)) (y.fits (with_loops (Some x) s) (record { around = ap (looping x) h.around; next = h.next; short = h.short }) r)
+      (λ t g i. (record { around = ap (λ (u : Around). record u { loops = s.around.loops }) g.around ∙ ap (λ (u : Around). record c { loops = u.loops }) h.around; next = g.next; short = g.short }, i));
+}
 
--- the same around, where annotations are postponed
-abbrev pub postponed_around : Around → Around
-postponed_around c = record c { context = record c.context { postponed = true } }
-
--- behind them all is as it was
-leaves_postponed : (c : Around) (l b : ℕ) (before : Around) (o : Outcome) → before ≡ c → FitsIn (postponed_around c) l b o → FitsIn c l b (go_on o (λ t. Done (with_postponed before.context.postponed t)))
-unfolding with_postponed taken
-leaves_postponed c l b before (Done t) e h = (
-  record {
-    around = ap (λ (u : Around). record u { context = record u.context { postponed = before.context.postponed } }) h.0.around ∙ ap (λ (u : Around). record c { context = record c.context { postponed = u.context.postponed } }) e;
-    next = h.0.next;
-    short = h.0.short;
-  },
-  h.1,
-)
-leaves_postponed c l b before TooWide e h = h
-leaves_postponed c l b before (Refused z at) e h = h
-
--- what postpones annotations
+-- what postpones annotations; behind it all is as it was
 pub postponing_fits : {c : Around} {k l w : ℕ} {a : Emission} → Fits (postponed_around c) k l w a → Fits c k l w (postponing a)
 unfolding postponing with_postponed taken
-postponing_fits {c} {k} {l} {w} {a} y = record { fits = λ s h r. leaves_postponed c l (taken s + w) s.around (a (with_postponed true s)) h.around (y.fits (with_postponed true s) (record { around = ap postponed_around h.around; next = h.next; short = h.short }) r) }
+postponing_fits {c} {k} {l} {w} {a} y = record {
+  fits = λ s h r.
+      goes_on (postponed_around c) c l l (taken s + w) (taken s + w) (run a (with_postponed true s)) (λ t. Done (with_postponed s.around.context.postponed t)) (y.fits (with_postponed true s) (record { around = ap postponed_around h.around; next = h.next; short = h.short }) r)
+      (λ t g i. (record { around = ap (λ (u : Around). record u { context = record u.context { postponed = s.around.context.postponed } }) g.around ∙ ap (λ (u : Around). record c { context = record c.context { postponed = u.context.postponed } }) h.around; next = g.next; short = g.short }, i));
+}
 
 -- scopes that are passed over
-pub pass_fits : {c : Around} {k : ℕ} (n : ℕ) → Fits c k (k + n) 0 (pass_over (λ j. j + n))
+pub pass_fits : {c : Around} {k : ℕ} (n : ℕ) → Fits c k (k + n) 0 (pass_over n)
 unfolding pass_over taken
 pass_fits n = record { fits = λ s h r. (record { around = h.around; next = ap (λ j. j + n) h.next; short = h.short }, omega arith) }
 
 -- as many as annotations that are postponed have
 pub scopes_fit : {c : Around} {k : ℕ} (count : (postponed : Bool) → ℕ) → Fits c k (k + count c.context.postponed) 0 (pass_scopes count)
-scopes_fit {c} count = context_fits (λ z. pass_over (λ n. n + count z.postponed)) (pass_fits (count c.context.postponed))
+scopes_fit {c} count = context_fits (λ z. pass_over (count z.postponed)) (pass_fits (count c.context.postponed))
 
 -- what only a function may hold
 pub in_function_fits : {c : Around} {k l w : ℕ} {v : Emission} (e : CodegenErrorType) → IsOfTree e → Fits c k l w v → Fits c k l w (only_in_function e v)

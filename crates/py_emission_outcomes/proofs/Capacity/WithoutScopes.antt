@@ -1,5 +1,5 @@
 -- Where no name has a symbol, no scope has a name from outside, and no cell is missing in what is emitted of a tree, whatever is wrong with it.
-use Rattle.std.proofs.Common.{◌≡◌, ◌≢◌, refl, sym, ap, ◌∙◌, subst, ℕ, zero, suc, ◌+◌, ◌*◌, ◌<◌, ◌^◌, true, List, [], Option, arith}
+use Rattle.std.proofs.Common.{◌≡◌, ◌≢◌, sym, ap, ◌∙◌, subst, ℕ, zero, suc, ◌+◌, ◌*◌, ◌<◌, ◌^◌, true, List, [], Option, arith}
 use Rattle.py_base.specs.declared.errors.CodegenErrorType.{CodegenErrorType}
 use Rattle.py_base.specs.declared.errors.CodegenErrorType.TheVariants as error
 use Rattle.py_base.specs.declared.location.SourceLocation.{SourceLocation}
@@ -9,7 +9,7 @@ use Rattle.py_limits.specs.Size.{size_of}
 use Rattle.py_control.specs.Agree.{AllOf, form_of, head_of, kids}
 use Rattle.py_control.specs.Form.{Scope}
 use Rattle.py_emission_parts.specs.Context.{outermost}
-use Rattle.py_emission_parts.specs.Emitting.{Outcome, Done, Refused, TooWide}
+use Rattle.py_emission_parts.specs.Emitting.{Refused}
 use Rattle.py_emission.specs.EmissionMods.{emitted}
 use Rattle.py_meaning.specs.Meaning.{body}
 use Rattle.py_scope_tree.specs.Cells.{StandUpTo, at_hand, is_one_of, wanted_at}

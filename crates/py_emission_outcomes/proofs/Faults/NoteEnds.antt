@@ -1,5 +1,5 @@
 -- Annotations end as their faults say; those that are postponed enter nothing.
-use Rattle.std.proofs.Common.{◌≡◌, ℕ, List, [], ◌++◌, Bool, true, false, Option, Some, None, refl, codes, subst, sym}
+use Rattle.std.proofs.Common.{◌≡◌, ℕ, List, [], ◌++◌, Bool, true, false, Option, Some, None, refl, codes, subst}
 use Rattle.std.specs.Prelude.{if◌then◌else◌}
 use Rattle.py_tree.specs.Tree as tree
 use Rattle.py_shapes.specs.Valid.{arg_shapes, args_shapes, arguments_shapes, expr_shapes, name_shapes, opt_arg_shapes, opt_expr_shapes}
@@ -17,7 +17,7 @@ use Rattle.py_meaning.specs.Faults.{arg_note_faults, args_note_faults, note_faul
 use Rattle.py_emission_parts.specs.Context.{mangled}
 use Rattle.py_emission_parts.specs.Emitting.{Around, Emission, by_context, emit_constant}
 use Rattle.py_emission_parts.specs.EmissionParts.{in_turn}
-use Rattle.py_emission_outcomes.proofs.Faults.RefusalLemmas.{EndsAs, Passes, constant_passes, context_ends, in_function, last_ends, nothing_passes, own_context_ends, refusal_ends, then_ends}
+use Rattle.py_emission_outcomes.proofs.Faults.RefusalLemmas.{EndsAs, Passes, alike_ends, constant_passes, context_ends, in_function, last_ends, nothing_passes, own_context_ends, refusal_ends, then_ends}
 use Rattle.py_emission_outcomes.proofs.Faults.RefusingDefaults.{Turn, no_turn, one_turn, turn_append, turns_join}
 use Rattle.py_emission_outcomes.proofs.Faults.RefusingExprs.{both_none, expr_ends, groups_none}
 
@@ -33,7 +33,7 @@ nothing_stays : {c : Around} {p : SourceLocation} → Stay c p [] []
 nothing_stays = record { ends = nothing_passes }
 
 stay_join : {c : Around} {p : SourceLocation} {vs ws : List Emission} {fs gs : List Fault} → Stay c p vs fs → Stay c p ws gs → Stay c p (vs ++ ws) (fs ++ gs)
-stay_join {c = c} {p = p} {vs = vs} {ws = ws} {fs = fs} {gs = gs} x y = record { ends = subst (λ (a : Emission). EndsAs c a p p (fs ++ gs)) (sym (turn_append vs ws)) (then_ends x.ends y.ends) }
+stay_join {vs = vs} {ws = ws} x y = record { ends = alike_ends (turn_append vs ws) (then_ends x.ends y.ends) }
 
 module _ (class : Option (List ℕ)) (c : Around) where
   text_ends : (p : SourceLocation) (text : Option (List ℕ)) → EndsAs c (emission_of_text text) p p (text_faults p text)

@@ -12,13 +12,14 @@ use Rattle.py_meaning.specs.ExprFaults.{Fault, all_faults, clause_faults, fault_
 use Rattle.py_meaning.specs.ExprFaults as fault
 use Rattle.py_base.specs.declared.errors.CodegenErrorType.TheVariants as error
 use Rattle.py_emission_parts.specs.Children.{made}
-use Rattle.py_emission_parts.specs.Comprehensions.{ClauseEmissions, as_element, called_at_once, clause, clauses, comprehension, comprehension_shape, conditions, further_clauses, gathered, generated, retold_in}
+use Rattle.py_emission_parts.specs.Comprehensions.{ClauseEmissions, as_element, called_at_once, clause, clauses, comprehension, comprehension_shape, conditions, further_clauses, gathered, generated}
 use Rattle.py_emission_parts.specs.Refused.{retold}
 use Rattle.py_emission_parts.specs.Within.{comprehension_inside}
 use Rattle.py_emission_parts.specs.Context.{Context, inside}
-use Rattle.py_emission_parts.specs.Emitting.{Around, Emission, Outcome, ◌▸◌, begin, jump, new_block}
+use Rattle.py_emission_parts.specs.Emitting.{Around, Emission, Outcome, ◌▸◌}
+use Rattle.py_emission_parts.specs.Running.{retold_in, run}
 use Rattle.py_emission.specs.Emission.{all_emissions, clause_emissions, emissions, stores}
-use Rattle.py_emission_outcomes.proofs.Faults.RefusalLemmas.{Ends, EndsAs, GoesOn, Misses, Stops, Wide, begin_passes, child_ends, constant_passes, count_passes, emit_passes, ends_so, generating_passes, guarded_ends, in_function, jump_passes, last_ends, new_ends, nothing_passes, outside, then_ends, varname_passes}
+use Rattle.py_emission_outcomes.proofs.Faults.RefusalLemmas.{Ends, EndsAs, GoesOn, Misses, Stops, Wide, child_ends, constant_passes, count_passes, emit_passes, ends_so, generating_passes, guarded_ends, in_function, jump_passes, last_ends, nothing_passes, outside, then_ends, two_blocks_end, varname_passes}
 use Rattle.py_emission_outcomes.proofs.Faults.RefusingTests.{AllEnding, EndsWell}
 use Rattle.py_emission_outcomes.proofs.Faults.RefusingTargets.{Storing}
 use Rattle.py_emission_outcomes.proofs.Faults.RefusingDefaults.{made_passes}
@@ -32,15 +33,12 @@ retold_so c fs q o (GoesOn r at z f g) = GoesOn r at z (ap retold_in f) (ap reto
 
 pub element_ends : {c : Around} {a : Emission} {p q : SourceLocation} {fs : List Fault} → EndsAs c a p q fs → EndsAs c (as_element a) p q (retold_faults fs)
 unfolding as_element
-element_ends {c = c} {a = a} {q = q} {fs = fs} x = record { ends = λ s h z. retold_so c fs q (a s) (x.ends s h z) }
+element_ends {c = c} {a = a} {q = q} {fs = fs} x = record { ends = λ s h z. retold_so c fs q (run a s) (x.ends s h z) }
 
 -- a clause around what is within
 clause_ends : {c : Around} {iterator within : Emission} {p m n k q : SourceLocation} {fs gs hs is : List Fault} (e : ClauseEmissions) → EndsAs c iterator p m fs → EndsAs c e.target m n gs → ((start : ℕ) → EndsAs c (conditions e.conditions start) n k hs) → EndsAs c within k q is → EndsAs c (clause iterator e within) p q (fs ++ (gs ++ (hs ++ is)))
-clause_ends {iterator = iterator} {within = within} e x t y z =
-    let turn : ℕ → ℕ → Emission = λ start end. iterator ▸ begin start ▸ jump op.ForIter end ▸ e.target ▸ conditions e.conditions start ▸ within ▸ jump op.Jump start ▸ begin end in
-    new_ends (λ start. new_block (λ end. turn start end)) (λ start. new_ends (λ end. turn start end) (λ end.
-    let inner = then_ends (y start) (last_ends z (then_ends (jump_passes op.Jump start) (begin_passes end))) in
-    then_ends x (then_ends (begin_passes start) (then_ends (jump_passes op.ForIter end) (then_ends t inner)))))
+clause_ends e x t y z =
+    ends_so (simp append-nil) (two_blocks_end (λ start end. x) (λ start end. then_ends (jump_passes op.ForIter end) (then_ends t (then_ends (y start) (last_ends z (jump_passes op.Jump start))))) (λ start end. nothing_passes))
 
 clause_joined : (fs gs hs is ws : List Fault) → fs ++ (gs ++ (hs ++ (is ++ ws))) ≡ (fs ++ (gs ++ (hs ++ is))) ++ ws
 clause_joined fs gs hs is ws = sym (simp append_assoc refl)

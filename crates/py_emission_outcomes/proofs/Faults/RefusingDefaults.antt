@@ -13,12 +13,14 @@ use Rattle.py_meaning.specs.ExprFaults.{Fault, arg_faults, default_faults, fault
 use Rattle.py_emission_parts.specs.Children.{cell_loads, closure, emission_of_defaults, enter_parameters, flags_of_defaults, free_names, function_scope, made, some_emitted}
 use Rattle.py_emission_parts.specs.Within.{lambda_inside, some_flag}
 use Rattle.py_emission_parts.specs.Context.{Context, inside}
-use Rattle.py_emission_parts.specs.Emitting.{Around, Emission, ◌▸◌}
+use Rattle.py_emission_parts.specs.Emitting.{Around, Emission, State, ◌▸◌}
+use Rattle.py_emission_parts.specs.Running.{run}
 use Rattle.py_emission_parts.specs.EmissionParts.{built, in_turn, map_of, name_values, pass_scopes}
 use Rattle.py_emission_parts.specs.Refused.{no_assignment}
 use Rattle.py_emission.specs.Emission.{default_emissions, emissions, keyword_only_emissions, lambda_value, positional_emissions}
 use Rattle.py_emission.specs.Parameters.{function_shape, parameters}
-use Rattle.py_emission_outcomes.proofs.Faults.RefusalLemmas.{EndsAs, Passes, cell_passes, child_ends, constant_added, constant_passes, count_passes, emit_passes, ends_so, ends_there, grouped_on, in_function, last_ends, nothing_passes, outside, scopes_passed, then_ends, unless_debug_last, varname_added}
+use Rattle.py_emission_proof.proofs.Additions.EmissionSequenceLemmas.{grouped as grouped_on, on_each}
+use Rattle.py_emission_outcomes.proofs.Faults.RefusalLemmas.{EndsAs, Passes, alike_ends, cell_passes, child_ends, constant_added, constant_passes, count_passes, emit_passes, ends_so, ends_there, in_function, last_ends, nothing_passes, outside, scopes_passed, then_ends, unless_debug_last, varname_added}
 use Rattle.py_emission_outcomes.proofs.Faults.RefusingTests.{EndsWell}
 use Rattle.py_emission_outcomes.proofs.Faults.RefusingDisplays.{OptEnding, last_append}
 
@@ -36,14 +38,12 @@ pub one_turn : {c : Around} {v : Emission} {q : SourceLocation} {fs : List Fault
 one_turn x = record { ends = λ p. last_ends (x p) nothing_passes }
 
 -- values after those before them
-pub turn_append : (vs ws : List Emission) → in_turn (vs ++ ws) ≡ (in_turn vs ▸ in_turn ws)
-turn_append [] ws = refl
-turn_append (v ∷ vs) ws = ap {B = Emission} (λ (f : Emission). v ▸ f) (turn_append vs ws) ∙ (λ i s. grouped_on (v s) (in_turn vs) (in_turn ws) i)
+pub turn_append : (vs ws : List Emission) (s : State) → run (in_turn (vs ++ ws)) s ≡ run (in_turn vs ▸ in_turn ws) s
+turn_append [] ws s = refl
+turn_append (v ∷ vs) ws s = on_each (run v s) (in_turn (vs ++ ws)) (in_turn vs ▸ in_turn ws) (turn_append vs ws) ∙ grouped_on (run v s) (in_turn vs) (in_turn ws)
 
 pub turns_join : {c : Around} {vs ws : List Emission} {ps qs : List SourceLocation} {fs gs : List Fault} → Turn c vs ps fs → Turn c ws qs gs → Turn c (vs ++ ws) (ps ++ qs) (fs ++ gs)
-turns_join {c = c} {vs = vs} {ws = ws} {ps = ps} {qs = qs} {fs = fs} {gs = gs} x y = record {
-  ends = λ p. subst (λ (a : Emission). EndsAs c a p (last_of p (ps ++ qs)) (fs ++ gs)) (sym (turn_append vs ws)) (ends_there (sym (last_append p ps qs)) (then_ends (x.ends p) (y.ends (last_of p ps))));
-}
+turns_join {vs = vs} {ws = ws} {ps = ps} {qs = qs} x y = record { ends = λ p. alike_ends (turn_append vs ws) (ends_there (sym (last_append p ps qs)) (then_ends (x.ends p) (y.ends (last_of p ps)))) }
 
 -- what is built of values, where there are any
 pub some_built_ends : {c : Around} {p q : SourceLocation} {fs : List Fault} (i : Instruction) (vs : List Emission) → EndsAs c (in_turn vs) p q fs → EndsAs c (some_emitted (built i) vs) p q fs

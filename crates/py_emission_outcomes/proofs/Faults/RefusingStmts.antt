@@ -25,11 +25,12 @@ use Rattle.py_bytecode.specs.Values.{Store}
 use Rattle.py_emission_parts.specs.Accesses.{emission_of_stored}
 use Rattle.py_emission_parts.specs.Children.{decorated}
 use Rattle.py_emission_parts.specs.Context.{Context}
-use Rattle.py_emission_parts.specs.Emitting.{Around, Emission, LoopBlocks, ◌▸◌, begin, move, refuse}
+use Rattle.py_emission_parts.specs.Emitting.{Around, Emission, LoopBlocks, ◌▸◌, move, refuse}
 use Rattle.py_emission_parts.specs.EmissionParts.{values, only, choice}
 use Rattle.py_emission_parts.specs.Refused.{no_assignment}
-use Rattle.py_emission_outcomes.proofs.Faults.RefusalLemmas.{EndsAs, accessed_passes, begin_passes, constant_passes, emit_passes, ends_so, in_function, jump_passes, last_ends, looping, loops_end, moved_ends, new_ends, nothing_passes, function_ends, outside, refusal_ends, then_ends, unkept_ends, unless_debug_last}
-use Rattle.py_emission_outcomes.proofs.Faults.RefusingTests.{TestEnds, choice_ends, turn_ends}
+use Rattle.py_emission_proof.proofs.Additions.EmissionSequenceLemmas.{looping}
+use Rattle.py_emission_outcomes.proofs.Faults.RefusalLemmas.{EndsAs, accessed_passes, constant_passes, emit_passes, ends_so, in_function, jump_passes, last_ends, loops_end, moved_ends, nothing_passes, function_ends, outside, refusal_ends, then_ends, unkept_ends, unless_debug_last}
+use Rattle.py_emission_outcomes.proofs.Faults.RefusingTests.{TestEnds, choice_ends, only_block, turn_ends}
 use Rattle.py_emission_outcomes.proofs.Faults.RefusingExprs.{both_none, expr_ends, exprs_end, store_ends}
 use Rattle.py_emission_outcomes.proofs.Faults.RefusingChanges.{deletions_end, assign_ends, augment_ends, annotated_ends}
 use Rattle.py_emission_outcomes.proofs.Faults.ControlEnds.{assert_ends, for_ends, handler_ends, items_end_so, match_ends, named_body_ends, raise_ends, try_ends, while_ends}
@@ -49,7 +50,7 @@ leave_ends p i to e (Some loops) = jump_passes i (to loops)
 
 -- one body, where the test holds
 only_ends : {c : Around} {test : Bool → ℕ → Emission} {body : Emission} {p m q : SourceLocation} {fs gs : List Fault} → TestEnds c test p m fs → EndsAs c body m q gs → EndsAs c (only test body) p q (fs ++ gs)
-only_ends {test = test} {body = body} t x = new_ends (λ end. test false end ▸ body ▸ begin end) (λ end. then_ends (t false end) (last_ends x (begin_passes end)))
+only_ends t x = only_block (λ end. then_ends (t false end) x)
 
 -- one body, or one of two
 parts_end : {c : Around} {test : Bool → ℕ → Emission} {body : Emission} {p m n q : SourceLocation} {fs gs : List Fault} (l : Setting) (b : Bool) (orelse : tree.Stmts) → TestEnds c test p m fs → EndsAs c body m n gs → EndsAs c (emission_of_stmts orelse) n q (stmts_faults l b orelse) → EndsAs c (if none orelse then only test body else choice test body (emission_of_stmts orelse)) p q (fs ++ gs ++ stmts_faults l b orelse)

@@ -1,5 +1,5 @@
 -- Expressions that decide, compare or choose end as the faults of their parts say, in which no operand is missing.
-use Rattle.std.proofs.Common.{◌≡◌, ℕ, List, [], ◌∷◌, ◌++◌, length, Bool, true, false, arith, rules}
+use Rattle.std.proofs.Common.{◌≡◌, ℕ, List, [], ◌∷◌, ◌++◌, length, Bool, true, false, arith, rules, append-nil}
 use Rattle.std.specs.Prelude.{nat_eq, nat_lt, if◌then◌else◌}
 use Rattle.py_tree.specs.Tree as tree
 use Rattle.py_base.specs.declared.location.SourceLocation.{SourceLocation}
@@ -17,10 +17,10 @@ use Rattle.py_meaning.specs.ExprFaults as fault
 use Rattle.py_emission_parts.specs.TableParts.{unary_case, deciding}
 use Rattle.py_base.specs.declared.errors.CodegenErrorType.{CodegenErrorType}
 use Rattle.py_base.specs.declared.errors.CodegenErrorType.TheVariants as error
-use Rattle.py_emission_parts.specs.Emitting.{Around, Emission, ◌▸◌, refuse, emit, jump, begin, new_block, move}
+use Rattle.py_emission_parts.specs.Emitting.{Around, Emission, ◌▸◌, refuse, emit, keep, move, one_block}
 use Rattle.py_emission_parts.specs.EmissionParts.{keeping_jump, testing_jump, Emissions, ordinary, truth_of, tested, values, in_turn, shorts, tests, some_test, bool_emissions, unary_value, unary_emissions, links, chain, first_comparison, comparisons, emission_of_compare, choice}
 use Rattle.py_emission.specs.Emission.{emissions, all_emissions}
-use Rattle.py_emission_outcomes.proofs.Faults.RefusalLemmas.{EndsAs, Passes, in_function, then_ends, three_end, last_ends, alone_ends, nothing_passes, emit_passes, jump_passes, begin_passes, moved_ends, new_ends, if_ends, comparison_passes, link_passes}
+use Rattle.py_emission_outcomes.proofs.Faults.RefusalLemmas.{EndsAs, Passes, in_function, then_ends, last_ends, alone_ends, nothing_passes, emit_passes, ends_so, jump_passes, moved_ends, if_ends, one_block_ends, two_blocks_end, comparison_passes, link_passes}
 
 -- an element and what is called end as their values do
 abbrev pub ElementEnds : Around → Element Emission Emission → (p q : SourceLocation) → List Fault → Type 0
@@ -75,12 +75,13 @@ even_ends true o d e f g x = absurd cc
 even_ends false true d e f g x = x
 even_ends false false d e f g x = absurd cc
 
+-- a block that begins at the end
+pub only_block : {c : Around} {f : ℕ → Emission} {p q : SourceLocation} {fs : List Fault} → ((b : ℕ) → EndsAs c (f b) p q fs) → EndsAs c (one_block f (λ b. keep)) p q fs
+only_block {fs = fs} x = ends_so (append-nil fs) (one_block_ends x (λ b. nothing_passes))
+
 -- one of two values or bodies
 pub choice_ends : {c : Around} {test : Bool → ℕ → Emission} {body orelse : Emission} {p m n q : SourceLocation} {fs gs hs : List Fault} → TestEnds c test p m fs → EndsAs c body m n gs → EndsAs c orelse n q hs → EndsAs c (choice test body orelse) p q (fs ++ gs ++ hs)
-choice_ends {test = test} {body = body} {orelse = orelse} t x y =
-    new_ends (λ other. new_block (λ end. test false other ▸ body ▸ jump op.Jump end ▸ begin other ▸ orelse ▸ begin end)) (λ other.
-    new_ends (λ end. test false other ▸ body ▸ jump op.Jump end ▸ begin other ▸ orelse ▸ begin end) (λ end.
-    three_end (t false other) x (then_ends (jump_passes op.Jump end) (then_ends (begin_passes other) (last_ends y (begin_passes end))))))
+choice_ends t x y = ends_so (simp append-nil) (two_blocks_end (λ other end. then_ends (t false other) (last_ends x (jump_passes op.Jump end))) (λ other end. y) (λ other end. nothing_passes))
 
 module _ (c : Around) where
   abbrev pub EndsWell : tree.Expr → Type 0
@@ -103,11 +104,6 @@ module _ (c : Around) where
   unary_ends at unary.UAdd e q f x = tested_ends (λ p. unary_value_ends p at unary.UAdd e q f x)
   unary_ends at unary.USub e q f x = tested_ends (λ p. unary_value_ends p at unary.USub e q f x)
 
-  -- what a chain ends with
-  chain_end_passes : {p : SourceLocation} (out end : ℕ) → Passes c (jump op.Jump end ▸ begin out ▸ emit op.Rotate2 0 ▸ emit op.Pop 0 ▸ begin end) p
-  chain_end_passes out end =
-      then_ends (jump_passes op.Jump end) (then_ends (begin_passes out) (then_ends (emit_passes op.Rotate2 0) (then_ends (emit_passes op.Pop 0) (begin_passes end))))
-
   first_passes : {p : SourceLocation} (ops : List CmpOp) → Passes c (first_comparison ops) p
   first_passes [] = nothing_passes
   first_passes (o ∷ ops) = comparison_passes o
@@ -125,8 +121,8 @@ module _ (c : Around) where
   some_test_ends : (p : SourceLocation) (stop t : Bool) (e : tree.Expr) (es : tree.Exprs) (to : ℕ) → EndsWell e → AllEnding es → EndsAs c (some_test stop t (emissions e ∷ all_emissions es) to) p (last_of (expr_end e) (ends_of es)) ((faults_in (in_function c) e).value ++ in_order (fault.values (all_faults (in_function c) es)))
   some_test_ends p false false e es to x y = tests_end p false to false to e es x y
   some_test_ends p true true e es to x y = tests_end p true to true to e es x y
-  some_test_ends p false true e es to x y = new_ends (λ end. tests false end true to (all_emissions (tree.more_exprs e es)) ▸ begin end) (λ end. last_ends (tests_end p false end true to e es x y) (begin_passes end))
-  some_test_ends p true false e es to x y = new_ends (λ end. tests true end false to (all_emissions (tree.more_exprs e es)) ▸ begin end) (λ end. last_ends (tests_end p true end false to e es x y) (begin_passes end))
+  some_test_ends p false true e es to x y = only_block (λ end. tests_end p false end true to e es x y)
+  some_test_ends p true false e es to x y = only_block (λ end. tests_end p true end false to e es x y)
 
   bool_test_ends : (p at : SourceLocation) (o : BoolOp) (es : tree.Exprs) (t : Bool) (to : ℕ) → nat_eq (length (all_emissions es)) 0 ≡ false → AllEnding es → EndsAs c (some_test (deciding o) t (all_emissions es) to) p (last_of at (ends_of es)) (in_order (fault.values (all_faults (in_function c) es)))
   bool_test_ends p at o tree.no_exprs t to some x = absurd cc
@@ -134,7 +130,7 @@ module _ (c : Around) where
 
   pub bool_ends : (at : SourceLocation) (o : BoolOp) (es : tree.Exprs) → nat_eq (length (all_emissions es)) 0 ≡ false → AllEnding es → Ending c (bool_emissions at o (all_emissions es)) (last_of at (ends_of es)) (either (in_order (fault.values (all_faults (in_function c) es))))
   bool_ends at o es some x = ordinary_ends
-      (λ p. moved_ends at (some_ends (nat_eq (length (all_emissions es)) 0) (error.MalformedTree shape.NoOperand) some (new_ends (λ end. shorts o end (all_emissions es) ▸ begin end) (λ end. last_ends (shorts_end at o end es x) (begin_passes end)))))
+      (λ p. moved_ends at (some_ends (nat_eq (length (all_emissions es)) 0) (error.MalformedTree shape.NoOperand) some (only_block (λ end. shorts_end at o end es x))))
       (λ p t to. some_ends (nat_eq (length (all_emissions es)) 0) (error.MalformedTree shape.NoOperand) some (bool_test_ends p at o es t to some x))
 
   -- comparisons, with an operator for each value
@@ -147,10 +143,8 @@ module _ (c : Around) where
   links_end p out (o ∷ d ∷ ops) (tree.more_exprs e es) even x = then_ends (x.0.value p) (then_ends (link_passes o out) (links_end (expr_end e) out (d ∷ ops) es (omega (arith, even)) x.1))
 
   chain_ends : {left : Emission} {p m : SourceLocation} {gs : List Fault} (ops : List CmpOp) (es : tree.Exprs) → length ops ≡ length (all_emissions es) → EndsAs c left p m gs → AllEnding es → EndsAs c (chain left ops (all_emissions es)) p (last_of m (ends_of es)) (gs ++ in_order (fault.values (all_faults (in_function c) es)))
-  chain_ends {left = left} {m = m} ops es even x y =
-      new_ends (λ out. new_block (λ end. left ▸ links out ops (all_emissions es) ▸ jump op.Jump end ▸ begin out ▸ emit op.Rotate2 0 ▸ emit op.Pop 0 ▸ begin end)) (λ out.
-      new_ends (λ end. left ▸ links out ops (all_emissions es) ▸ jump op.Jump end ▸ begin out ▸ emit op.Rotate2 0 ▸ emit op.Pop 0 ▸ begin end) (λ end.
-      then_ends x (last_ends (links_end m out ops es even y) (chain_end_passes out end))))
+  chain_ends {m = m} ops es even x y =
+      ends_so (simp append-nil) (two_blocks_end (λ out end. then_ends x (last_ends (links_end m out ops es even y) (jump_passes op.Jump end))) (λ out end. then_ends (emit_passes op.Rotate2 0) (emit_passes op.Pop 0)) (λ out end. nothing_passes))
 
   comparisons_end : {left : Emission} {p m : SourceLocation} {gs : List Fault} (ops : List CmpOp) (es : tree.Exprs) → length ops ≡ length (all_emissions es) → EndsAs c left p m gs → AllEnding es → EndsAs c (comparisons left ops (all_emissions es)) p (last_of m (ends_of es)) (gs ++ in_order (fault.values (all_faults (in_function c) es)))
   comparisons_end {m = m} ops es even x y =

@@ -14,12 +14,11 @@ use Rattle.py_base.specs.declared.errors.CodegenErrorType.TheVariants as error
 use Rattle.py_emission_parts.specs.Children.{DefaultEmissions, cell_loads, closure, decorated, decorations, documented, emission_of_defaults, enter_parameters, flags_of_defaults, free_names, function_made, function_scope, made, noted, some_emitted}
 use Rattle.py_emission_parts.specs.Within.{comprehension_inside, lambda_inside, some_flag}
 use Rattle.py_emission_parts.specs.Comprehensions.{ClauseEmissions, as_element, called_at_once, clause, clauses, comprehension, comprehension_shape, conditions, further_clauses, gathered, generated}
-use Rattle.py_emission_parts.specs.Running.{retold_in, run}
 use Rattle.py_emission_parts.specs.Context.{mangled, qualified}
-use Rattle.py_emission_parts.specs.Emitting.{Emission, Outcome, Done, TooWide, Refused}
+use Rattle.py_emission_parts.specs.Emitting.{Emission}
 use Rattle.py_emission_parts.specs.EmissionParts.{Emissions, built, map_of}
 use Rattle.py_emission_parts.specs.Refused.{no_assignment}
-use Rattle.py_emission_outcomes.proofs.Nesting.Nests.{DoneNests, Nests, two_nest, cell_nests, child_nests, constant_nests, context_nests, count_nests, emit_nests, generating_nests, if_nests, jump_nests, keep_nests, name_nests, none_added, none_nests, refuse_nests, scopes_nest, text_nests, then_nests, unless_debug_nests, varname_added, varname_nests}
+use Rattle.py_emission_outcomes.proofs.Nesting.Nests.{Nests, two_nest, cell_nests, child_nests, constant_nests, context_nests, count_nests, emit_nests, generating_nests, if_nests, jump_nests, keep_nests, name_nests, none_added, none_nests, refuse_nests, scopes_nest, text_nests, then_nests, unless_debug_nests, varname_added, varname_nests}
 use Rattle.py_emission_outcomes.proofs.Nesting.NestingParts.{Every, NamedNests, NestsWell, built_nests, map_nests, turn_nests}
 
 module _ (k : ℕ) where

@@ -1,13 +1,13 @@
 -- Emissions after which constants nest so deep at most, where those before them do.
-use Rattle.std.proofs.Common.{ℕ, ◌+◌, ◌≤◌, ◌^◌, List, [], ◌∷◌, ◌++◌, Bool, true, false, Option, Some, None, arith}
-use Rattle.std.specs.Prelude.{suc, nat_lt, if◌then◌else◌}
+use Rattle.std.proofs.Common.{ℕ, ◌+◌, ◌≤◌, List, [], ◌∷◌, ◌++◌, Bool, true, false, Option, arith}
+use Rattle.std.specs.Prelude.{if◌then◌else◌}
 use Rattle.std.specs.List.{list_any}
 use Rattle.py_base.specs.declared.location.SourceLocation.{SourceLocation}
 use Rattle.py_base.specs.declared.operators.CmpOp.{CmpOp}
 use Rattle.py_base.specs.declared.operators.CmpOp.TheVariants as comparison
 use Rattle.py_bytecode.specs.declared.instruction.Instruction.{Instruction}
 use Rattle.py_bytecode.specs.declared.instruction.Instruction.TheVariants as op
-use Rattle.py_bytecode.specs.Equality.{const_eq, text_eq, entered}
+use Rattle.py_bytecode.specs.Equality.{text_eq}
 use Rattle.py_bytecode.specs.Nesting.{const_nesting, consts_nesting, nesting}
 use Rattle.py_bytecode.specs.Objects as const
 use Rattle.py_bytecode.specs.Objects.{Const, Object, consts_of}
@@ -22,7 +22,7 @@ use Rattle.py_emission_parts.proofs.EmissionLawLemmas.{Holds}
 use Rattle.py_emission_parts.proofs.ConstantLawLemmas.{All, Asks, stays_good}
 use Rattle.py_emission_parts.specs.Within.{Shape}
 use Rattle.py_emission_parts.specs.Context.{Context, access_kind, cell_place, is_function, mangled}
-use Rattle.py_emission_parts.specs.Emitting.{State, Outcome, Done, TooWide, Refused, Emission, LoopBlocks, ◌▸◌, add_constant, add_varname, begun, by_context, by_level, by_loops, emit, emit_constant, emit_count, emit_mangled, emit_name, emit_varname, generating, in_loop, jump, keep, located, move, one_block, pass_over, place_in, postponing, Put, refuse, three_blocks, two_blocks, with_block, with_constant, with_loops, with_name, with_postponed, with_step, with_varname}
+use Rattle.py_emission_parts.specs.Emitting.{State, Outcome, Emission, LoopBlocks, ◌▸◌, add_constant, add_varname, by_context, by_level, by_loops, emit, emit_constant, emit_count, emit_mangled, emit_name, emit_varname, generating, in_loop, jump, keep, move, one_block, pass_over, postponing, refuse, three_blocks, two_blocks}
 use Rattle.py_emission_parts.specs.EmissionParts.{emission_of_comparison, emission_of_link, only_in_function, pass_scopes, unless_debug}
 use Rattle.py_emission_parts.specs.Refused.{no_assignment, no_deletion}
 use Rattle.py_emission_parts.specs.Sealed.{Head, sealed}
@@ -42,9 +42,7 @@ deepest k (c ∷ cs) h =
 
 -- nothing is asked where nothing is done
 abbrev pub DoneNests : ℕ → Outcome → Type 0
-DoneNests k (Done s) = AllNest k s.constants
-DoneNests k TooWide = Unit {0}
-DoneNests k (Refused e at) = Unit {0}
+DoneNests k = Holds (λ s. AllNest k s.constants)
 
 -- the constants that it names nest so deep at most, and its code objects as those of scopes whose constants do
 pub record Nests (k : ℕ) (a : Emission) : Type 0 where
@@ -236,9 +234,4 @@ child_nests j within h x y = record {
 
 -- from a state whose constants nest so deep at most, it comes to one whose constants do
 pub nests_run : {k : ℕ} {a : Emission} → Nests k a → (s : State) → AllNest k s.constants → DoneNests k (run a s)
-nests_run {k = k} {a = a} x s h = as_done (run a s) (stays_good (λ n c. const_nesting c ≤ n) (λ n o. nesting o ≤ n + 1) sealed_nests a k s x.nests h)
-  where
-    as_done : (o : Outcome) → Holds (λ t. AllNest k t.constants) o → DoneNests k o
-    as_done (Done t) h = h
-    as_done TooWide h = tt
-    as_done (Refused e at) h = tt
+nests_run {k = k} {a = a} x s h = stays_good (λ n c. const_nesting c ≤ n) (λ n o. nesting o ≤ n + 1) sealed_nests a k s x.nests h

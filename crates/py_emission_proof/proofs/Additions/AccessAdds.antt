@@ -15,7 +15,8 @@ use Rattle.py_scope.specs.declared.table_type.SymbolTableType.{SymbolTableType}
 use Rattle.py_control.specs.Form.{Resolved, Scope}
 use Rattle.py_control.specs.Code.{Do}
 use Rattle.py_emission_parts.specs.Context.{Context, access_kind, cell_place, deref_kind, is_class, is_function, kind_by, mangled, place_by, scope_of}
-use Rattle.py_emission_parts.specs.Emitting.{Around, Done, emit, emit_mangled, emit_name, emit_varname, place_in, with_varname}
+use Rattle.py_emission_parts.specs.Emitting.{Around, Done, by_context, emit, emit_mangled, emit_name, emit_varname, place_in, with_varname}
+use Rattle.py_emission_parts.specs.Running.{run}
 use Rattle.py_emission_parts.specs.Accesses.{access_by, accessed, accessed_in}
 use Rattle.py_emission_proof.proofs.Additions.AddedCodeLemmas.{IsPlain, cells_of}
 use Rattle.py_emission_proof.proofs.Additions.Settled.{Settled, cell_stands, free_stands}
@@ -27,11 +28,11 @@ use Rattle.py_emission_proof.proofs.Additions.Texts.{text_eq_sound}
 -- an instruction that names a name as the innermost class writes it
 pub mangled_adds : (i : Instruction) (x : List ℕ) (f : List ℕ → Instr Scope ℕ) → ((y : List ℕ) → StepAdds (emit_name i y) (f y)) → (c : Around) → StepHere c (emit_mangled i x) (f (mangled c.context x))
 unfolding emit_mangled
-mangled_adds i x f h c n k = record { run = λ s r b g z e. (h (mangled c.context x) c n k).run s r b g z (subst (λ (a : Around). emit_name i (mangled a.context x) s ≡ Done r) (sym z.around) e) }
+mangled_adds i x f h c n k = record { does = λ s r b g z e. (h (mangled c.context x) c n k).does s r b g z (subst (λ (a : Around). run (emit_name i (mangled a.context x)) s ≡ Done r) (sym z.around) e) }
 
 -- an instruction that names one of the code's own names
 pub own_adds : (i : Instruction) (x : List ℕ) (f : List ℕ → Instr Scope ℕ) → IsPlain (Do (f x)) → ((d : ℕ → Object) (t : Tables) (n : ℕ) → instr_of t None i n ≡ for_some (slice_get t.varnames n) (λ y. instr_as d (f y))) → StepAdds (emit_varname i x) (f x)
-unfolding emit_varname with_varname
+unfolding emit_varname emit with_varname
 own_adds i x f plain is c m k = yields (λ s r h g z e.
     let n = place_in text_eq s.varnames x in
     adds_own x s r _ 0 0 (emit_step i n (f x) (with_varname x s) r plain (λ d t b. is d t n ∙ ap (λ y. for_some y (λ w. instr_as d (f w))) (entry_stays (entered text_eq s.varnames x) b.varnames t.varnames n x (entered_stands text_eq text_eq_sound s.varnames x) b.varnames_are)) e))
@@ -118,10 +119,10 @@ abbrev pub access_in : Context → Usage → List ℕ → Instr Scope ℕ
 access_in c u y = Access (access_kind c u Resolved y) u y (place_by (access_kind c u Resolved y) (cell_place c y))
 
 pub accessed_adds : (u : Usage) (x : List ℕ) (c : Around) → StepHere c (accessed u x) (access_in c.context u (mangled c.context x))
-unfolding accessed
+unfolding accessed by_context
 accessed_adds u x c n k = record {
-  run = λ s r b g z e.
+  does = λ s r b g z e.
       let y : List ℕ = mangled c.context x in
-      (by_adds u (access_kind c.context u Resolved y) y (cell_place c.context y) c (said c.context.typ u (scope_of c.context y)) (standing c z.settled u y (scope_of c.context y) refl) n k).run s r b g z
-      (subst (λ (a : Around). accessed_in a.context u (mangled a.context x) s ≡ Done r) (sym z.around) e);
+      (by_adds u (access_kind c.context u Resolved y) y (cell_place c.context y) c (said c.context.typ u (scope_of c.context y)) (standing c z.settled u y (scope_of c.context y) refl) n k).does s r b g z
+      (subst (λ (a : Around). run (accessed_in a.context u (mangled a.context x)) s ≡ Done r) (sym z.around) e);
 }

@@ -161,7 +161,7 @@ module _ (i : Interp Scope) (c : Around) where
 
   -- values before further parts
   values_before : (k x y : ℕ) (vs : List Emission) (fs : List VForm) (p : Emission) (gs : List VForm) → AllValuesAdd i c k x vs fs → PartsAdd i c (k + x) y p (parts_of gs) → PartsAdd i c k (x + y) (in_turn vs ▸ p) (parts_of (fs ++ gs))
-  values_before k x y [] [] p gs a b n = scopes_as (let e : y ≡ x + y = omega (arith, a) in e) (next_as (let e : k + x ≡ k = omega (arith, a) in e) (b n))
+  values_before k x y [] [] p gs a b n = scopes_as (let e : y ≡ x + y = omega (arith, a) in e) (after_these keep_yields (next_as (let e : k + x ≡ k = omega (arith, a) in e) (b n)))
   values_before k x y [] (f ∷ fs) p gs a b n = absurd a
   values_before k x y (v ∷ vs) [] p gs a b n = absurd a
   values_before k x y (v ∷ vs) (f ∷ fs) p gs a b n =

@@ -19,6 +19,7 @@ use Rattle.py_emission_parts.specs.Elements.{Element, Single, Spread, starred}
 use Rattle.py_emission_parts.specs.EmissionParts as emitting
 use Rattle.py_emission_parts.specs.TableParts as table
 use Rattle.py_emission_parts.specs.Emitting.{Around, Emission, State, Done, ◌▸◌, by_context, emit, emit_constant, emit_name}
+use Rattle.py_emission_parts.specs.Running.{run}
 use Rattle.py_emission_proof.proofs.Additions.AddedCodeLemmas.{Adds, settled_adds}
 use Rattle.py_emission_proof.proofs.Additions.Cells.{Quietly, load_adds, quietly_then}
 use Rattle.py_emission_proof.proofs.Additions.ControlInstructions.{global_adds}
@@ -52,28 +53,28 @@ quiet s r is a = record { added = settled_adds s r is 0 a; next_is = let n = a.n
 
 module _ (c : Around) where
   -- a cell is kept and returned
-  cell_end : (x : List ℕ) (s r : State) → Stands c s → cell_returned (x ∷ []) s ≡ Done r → Quietly s r (class_code (cells_of (cell_place c.context) (x ∷ [])))
+  cell_end : (x : List ℕ) (s r : State) → Stands c s → run (cell_returned (x ∷ [])) s ≡ Done r → Quietly s r (class_code (cells_of (cell_place c.context) (x ∷ [])))
   cell_end x s r z e =
       let keeping : Emission = emit op.Duplicate 0 ▸ emit_name op.StoreLocal (codes "__classcell__") ▸ emit op.ReturnValue 0 in
       let h = both (load_cell x) keeping s r e in
       let a = load_adds c x s h.0 z h.1 in
       let b = after_these (duplicate_adds c h.0.blocks h.0.next) (after_these (local_adds (codes "__classcell__") c h.0.blocks h.0.next) (return_value_adds c h.0.blocks h.0.next)) in
       quietly_then s h.0 r (cell_codes (cells_of (cell_place c.context) (x ∷ []))) (Do Duplicate ∷ Do (Access ByName Store classcell 0) ∷ Do ReturnValue ∷ []) a
-      (quiet h.0 r _ (b.run h.0 r refl refl (still z a.added.around_are) h.2).0)
+      (quiet h.0 r _ (b.does h.0 r refl refl (still z a.added.around_are) h.2).0)
 
   -- or None is returned
-  none_end : (s r : State) → Stands c s → cell_returned [] s ≡ Done r → Quietly s r (class_code [])
-  none_end s r z e = quiet s r _ ((return_adds const.none refl c s.blocks s.next).run s r refl refl z e).0
+  none_end : (s r : State) → Stands c s → run (cell_returned []) s ≡ Done r → Quietly s r (class_code [])
+  none_end s r z e = quiet s r _ ((return_adds const.none refl c s.blocks s.next).does s r refl refl z e).0
 
-  end_if : (b : Bool) (x : List ℕ) (s r : State) → Stands c s → cell_returned (if b then x ∷ [] else []) s ≡ Done r → Quietly s r (class_code (cells_of (cell_place c.context) (if b then x ∷ [] else [])))
+  end_if : (b : Bool) (x : List ℕ) (s r : State) → Stands c s → run (cell_returned (if b then x ∷ [] else [])) s ≡ Done r → Quietly s r (class_code (cells_of (cell_place c.context) (if b then x ∷ [] else [])))
   end_if true x s r z e = cell_end x s r z e
   end_if false x s r z e = none_end s r z e
 
   -- the end of a class
-  pub end_adds : (s r : State) → Stands c s → class_end s ≡ Done r → Quietly s r (class_code (cells_of (cell_place c.context) (class_cells c.context)))
+  pub end_adds : (s r : State) → Stands c s → run class_end s ≡ Done r → Quietly s r (class_code (cells_of (cell_place c.context) (class_cells c.context)))
   unfolding by_context
   end_adds s r z e =
-      end_if (list_any (text_eq (codes "__class__")) c.context.cells) (codes "__class__") s r z (subst (λ (u : Around). cell_returned (class_cells u.context) s ≡ Done r) (sym z.around) e)
+      end_if (list_any (text_eq (codes "__class__")) c.context.cells) (codes "__class__") s r z (subst (λ (u : Around). run (cell_returned (class_cells u.context)) s ≡ Done r) (sym z.around) e)
 
 -- two values before the elements, which make a tuple of their own where one of these is starred
 module _ (i : Interp Scope) (c : Around) where

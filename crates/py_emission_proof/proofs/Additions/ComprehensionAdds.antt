@@ -1,5 +1,5 @@
 -- The emission of a comprehension adds the code of its form: clauses around what is within, a scope that gathers or generates, and the call of a function of it.
-use Rattle.std.proofs.Common.{◌≡◌, ℕ, suc, ◌+◌, ◌<◌, ◌^◌, List, [], ◌∷◌, ◌++◌, length, Bool, false, Some, refl, ap, subst, arith}
+use Rattle.std.proofs.Common.{◌≡◌, ℕ, suc, ◌+◌, ◌<◌, ◌^◌, List, [], ◌∷◌, ◌++◌, length, Bool, false, Some, refl, ap, subst, arith, append_assoc}
 use Rattle.std.specs.Prelude.{codes}
 use Rattle.py_base.specs.declared.shapes.Malformed.TheVariants as shape
 use Rattle.py_bytecode.specs.declared.instruction.Instruction.{Instruction}
@@ -14,18 +14,19 @@ use Rattle.py_control.specs.Agree.{cells_of}
 use Rattle.py_emission_parts.specs.TableParts.{counted}
 use Rattle.py_emission_parts.specs.Context.{cell_place}
 use Rattle.py_emission_parts.specs.Children.{child, made}
-use Rattle.py_emission_parts.specs.Comprehensions.{ClauseEmissions, as_element, called_at_once, clause, clauses, comprehension, comprehension_shape, conditions, further_clauses, gathered, generated, handed_iterator, retold_in}
+use Rattle.py_emission_parts.specs.Comprehensions.{ClauseEmissions, as_element, called_at_once, clause, clauses, comprehension, comprehension_shape, conditions, further_clauses, gathered, generated, handed_iterator}
 use Rattle.py_emission_parts.specs.Within.{comprehension_inside}
-use Rattle.py_emission_parts.specs.Emitting.{Around, Emission, Outcome, State, Done, TooWide, Refused, ◌▸◌, begin, emit, emit_count, generating, jump}
+use Rattle.py_emission_parts.specs.Emitting.{Around, Emission, Outcome, State, Done, TooWide, Refused, ◌▸◌, emit, emit_count, generating, jump, keep}
+use Rattle.py_emission_parts.specs.Running.{retold_in, run}
 use Rattle.py_emission_parts.specs.EmissionParts.{Emissions}
 use Rattle.py_emission_proof.proofs.Additions.AccessAdds.{own_adds}
-use Rattle.py_emission_proof.proofs.Additions.ControlInstructions.{for_iter_adds, generating_yields, iterator_adds, yield_adds}
-use Rattle.py_emission_proof.proofs.Additions.EmissionSequenceLemmas.{Gives, Yields, after_these, counts_as, gives_as, keep_yields, next_as, refused_gives, regroup_late, scopes_as, then_these, then_yields, two_blocks_give}
+use Rattle.py_emission_proof.proofs.Additions.ControlInstructions.{for_iter_adds, iterator_adds, yield_adds}
+use Rattle.py_emission_proof.proofs.Additions.EmissionSequenceLemmas.{Gives, Yields, after_these, gives_as, keep_yields, next_as, refused_gives, regroup_late, scopes_as, so, then_these, then_yields, two_give, generating_yields}
 use Rattle.py_emission_proof.proofs.Additions.FormAdds.{PartsAdd, TestAdds, ValueAdds, one_adds, operation_adds, two_parts}
 use Rattle.py_emission_proof.proofs.Additions.Functions.{Makes, made_alone_adds}
 use Rattle.py_emission_proof.proofs.Additions.Instructions.{Appends, MakesEmpty, call_adds, going_adds, pop_adds, return_adds, return_value_adds}
 use Rattle.py_emission_proof.proofs.Additions.OperatorAdds.{if_not_gives}
-use Rattle.py_emission_proof.proofs.Additions.Steps.{StepAdds, StepHere, begin_adds}
+use Rattle.py_emission_proof.proofs.Additions.Steps.{StepAdds, StepHere}
 use Rattle.py_emission_proof.proofs.Additions.TargetAdds.{TargetAdds}
 use Rattle.py_emission_proof.proofs.Additions.Threaded.{Relation}
 
@@ -41,7 +42,7 @@ told_done (Refused d at) r e = absurd cc
 
 pub element_gives : {c : Around} {n k : ℕ} {v : Emission} {p : List (Item Scope)} {m l : ℕ} {P : Type 0} → Gives c n k v p m l P → Gives c n k (as_element v) p m l P
 unfolding as_element
-element_gives {v = v} h = record { run = λ s r b g z e. h.run s r b g z (told_done (v s) r e) }
+element_gives {v = v} h = record { does = λ s r b g z e. h.does s r b g z (told_done (run v s) r e) }
 
 module _ (i : Interp Scope) (c : Around) where
   -- conditions that go to the next turn
@@ -57,9 +58,10 @@ module _ (i : Interp Scope) (c : Around) where
   -- one clause around what is within
   clause_adds : {p : List (Item Scope)} {m z : ℕ} (k x y w : ℕ) (v : Emission) (e : ClauseEmissions) (within : Emission) (f : VForm) (t : Target) (bs : Filters) → ValueAdds i c k x v f → TargetAdds i c (k + x) y e.target t → ConditionsAdd (k + x + y) w e.conditions bs → (n : ℕ) → Yields c (2 + n + labels_v f + labels_g t + labels_bs bs) (k + x + y + w) within p m z → Yields c n k (clause v e within) (each_code n (1 + n) (code_v i f (2 + n)) (code_g i t (2 + n + labels_v f)) (code_bs i bs n (2 + n + labels_v f + labels_g t)) p) (2 + labels_v f + labels_g t + labels_bs bs + m) (x + (y + (w + z)))
   clause_adds k x y w v e within f t bs it target filter n body =
-      counts_as (omega arith) (two_blocks_give (λ start end. v ▸ begin start ▸ jump op.ForIter end ▸ e.target ▸ conditions e.conditions start ▸ within ▸ jump op.Jump start ▸ begin end)
-      (then_yields (it (2 + n)) (after_these (begin_adds n (omega arith)) (after_these (for_iter_adds (1 + n) c _ _ (omega arith)) (then_yields (target (2 + n + labels_v f)) (then_yields (filter n (2 + n + labels_v f + labels_g t) (omega arith))
-      (then_these body (after_these (going_adds n c _ _ (omega arith)) (begin_adds (1 + n) (omega arith))))))))))
+      gives_as (simp append_assoc) (omega arith) (omega arith)
+      (so (λ h. tt) (two_give (λ start end. v) (λ start end. jump op.ForIter end ▸ e.target ▸ conditions e.conditions start ▸ within ▸ jump op.Jump start) (λ start end. keep) (it (2 + n))
+      (after_these (for_iter_adds (1 + n) c _ _ (omega arith)) (then_yields (target (2 + n + labels_v f)) (then_yields (filter n (2 + n + labels_v f + labels_g t) (omega arith))
+      (then_these body (going_adds n c _ _ (omega arith)))))) keep_yields))
 
   -- Clauses that have iterables of their own, around what is within: that is told under how many iterators it stands, and from which label on.
   abbrev pub FurtherAdd : Relation (List ClauseEmissions) Clauses

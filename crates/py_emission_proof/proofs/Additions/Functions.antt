@@ -16,7 +16,8 @@ use Rattle.py_control.specs.Code.{Item, Do, closure_code, code_vs, has_cells, la
 use Rattle.py_control.specs.Agree.{AllOf, cells_of}
 use Rattle.py_emission_parts.specs.Context.{Context, cell_place, frees_among, mangled, symbols_in}
 use Rattle.py_emission_parts.specs.Emitting.{Around, Emission, Outcome, Put, State, Done, TooWide, Refused, ◌▸◌, add_constant, add_varname, begun, emit, emit_constant, keep, place_in, with_constant, with_step, with_varname}
-use Rattle.py_emission_parts.specs.Children.{behind_child, child, closure, code_head, enter_parameters, free_names, function_scope, made, on_sealed}
+use Rattle.py_emission_parts.specs.Children.{child, closure, enter_parameters, free_names, function_scope, made}
+use Rattle.py_emission_parts.specs.Running.{Action, behind_child, code_head, on_sealed, put, run}
 use Rattle.py_emission_parts.specs.Within.{Shape, some_flag}
 use Rattle.py_emission_parts.specs.Refused.{no_assignment}
 use Rattle.py_emission_parts.specs.Sealed.{sealed}
@@ -41,8 +42,8 @@ entered_codes true xs o = tt
 entered_codes false xs o = (inl refl, tt)
 
 -- the code object of a scope is loaded
-code_adds : (o : Object) (x : Scope) (s r : State) → MadeWhereFew (ground_in s) (o, x) → emit_constant op.LoadConst (const.code o) s ≡ Done r → Added s r (Do (Push (It (Child x))) ∷ []) 0 ((o, x) ∷ []) × (r.next ≡ s.next)
-unfolding emit_constant with_constant emit with_step
+code_adds : (o : Object) (x : Scope) (s r : State) → MadeWhereFew (ground_in s) (o, x) → run (emit_constant op.LoadConst (const.code o)) s ≡ Done r → Added s r (Do (Push (It (Child x))) ∷ []) 0 ((o, x) ∷ []) × (r.next ≡ s.next)
+unfolding emit_constant with_constant put with_step
 code_adds o x s r made e =
     let c : Const = const.code o in
     let u : State = with_constant c s in
@@ -88,7 +89,7 @@ flag_is place [] = refl
 flag_is place (x ∷ xs) = refl
 
 -- what follows a child
-sealed_on : (level : ℕ) (h : Rattle.py_emission_parts.specs.Sealed.Head) (s r : State) (o : Outcome) (next : Object → Emission) → on_sealed level h s o next ≡ Done r → (t : State) × (o ≡ Done t) × (next (sealed level h t) (behind_child s t) ≡ Done r)
+sealed_on : (level : ℕ) (h : Rattle.py_emission_parts.specs.Sealed.Head) (s r : State) (o : Outcome) (next : Object → Action) → on_sealed level h s o next ≡ Done r → (t : State) × (o ≡ Done t) × (next (sealed level h t) (behind_child s t) ≡ Done r)
 sealed_on level h s r (Done t) next e = (t, refl, e)
 sealed_on level h s r TooWide next e = absurd cc
 sealed_on level h s r (Refused d at) next e = absurd cc
@@ -104,11 +105,11 @@ added_as s r is m n ps e a = subst (λ z. Added s r is z ps) e a
 pub record Makes (c : Context) (inner : Context) (h : Shape) (body : Emission) (k l : ℕ) (x : Scope) : Type 0 where
   pub number : number_of x ≡ k
   pub frees : inner.frees ≡ frees_among (symbols_in c.scopes k)
-  pub run : (at : SourceLocation) (t : State) → body (begun inner at (suc k)) ≡ Done t → MadeWhereFew (ground_of c) (sealed inner.level (code_head inner h at) t, x) × (t.next ≡ suc k + l)
+  pub does : (at : SourceLocation) (t : State) → run body (begun inner at (suc k)) ≡ Done t → MadeWhereFew (ground_of c) (sealed inner.level (code_head inner h at) t, x) × (t.next ≡ suc k + l)
 
 module _ (i : Interp Scope) (c : Around) where
   -- the function of a code object, where its cells have their places
-  made_adds : (flags others : ℕ) (name : List ℕ) (o : Object) (x : Scope) (xs : List (List ℕ)) (s r : State) → Stands c s → Flagged flags others → free_names o ≡ xs → MadeWhereFew (ground_of c.context) (o, x) → made flags name o s ≡ Done r → Added s r (make_code flags (cells_of (cell_place c.context) xs) others (Child x) name) 0 ((o, x) ∷ []) × (r.next ≡ s.next)
+  made_adds : (flags others : ℕ) (name : List ℕ) (o : Object) (x : Scope) (xs : List (List ℕ)) (s r : State) → Stands c s → Flagged flags others → free_names o ≡ xs → MadeWhereFew (ground_of c.context) (o, x) → run (made flags name o) s ≡ Done r → Added s r (make_code flags (cells_of (cell_place c.context) xs) others (Child x) name) 0 ((o, x) ∷ []) × (r.next ≡ s.next)
   made_adds flags others name o x xs s r z flagged free from e =
       let cells = cells_of (cell_place c.context) xs in
       let make : Emission = emit op.MakeFunction (flags + some_flag 0x01 (free_names o)) in
@@ -117,14 +118,14 @@ module _ (i : Interp Scope) (c : Around) where
       let h1 = both (closure (free_names o)) (load ▸ text ▸ make) s r e in
       let h2 = both load (text ▸ make) h1.0 r h1.2 in
       let h3 = both text make h2.0 r h2.2 in
-      let a1 = closure_adds c xs s h1.0 z (subst (λ ys. closure ys s ≡ Done h1.0) free h1.1) in
+      let a1 = closure_adds c xs s h1.0 z (subst (λ ys. run (closure ys) s ≡ Done h1.0) free h1.1) in
       let z1 : Stands c h1.0 = still z a1.added.around_are in
       let a2 = code_adds o x h1.0 h2.0 (subst (λ (y : Around). MadeWhereFew (ground_of y.context) (o, x)) z1.around from) h2.1 in
       let z2 : Stands c h2.0 = still z1 a2.0.around_are in
-      let a3 = ((constant_adds (const.str name) refl c h2.0.blocks h2.0.next).run h2.0 h3.0 refl refl z2 h3.1).0 in
+      let a3 = ((constant_adds (const.str name) refl c h2.0.blocks h2.0.next).does h2.0 h3.0 refl refl z2 h3.1).0 in
       let z3 : Stands c h3.0 = still z2 a3.added.around_are in
       let flag : some_flag 0x01 (free_names o) ≡ (if has_cells cells then 1 else 0) = ap (some_flag 0x01) free ∙ flag_is (cell_place c.context) xs in
-      let a4 = ((emit_adds op.MakeFunction (flags + some_flag 0x01 (free_names o)) (MakeFunction flags (has_cells cells) others) (refl, refl) (λ d t. ap (λ n. instr_of t None op.MakeFunction (flags + n)) flag ∙ flagged (has_cells cells) t) c h3.0.blocks h3.0.next).run h3.0 r refl refl z3 h3.2).0 in
+      let a4 = ((emit_adds op.MakeFunction (flags + some_flag 0x01 (free_names o)) (MakeFunction flags (has_cells cells) others) (refl, refl) (λ d t. ap (λ n. instr_of t None op.MakeFunction (flags + n)) flag ∙ flagged (has_cells cells) t) c h3.0.blocks h3.0.next).does h3.0 r refl refl z3 h3.2).0 in
       let last : List (Item Scope) = Do (MakeFunction flags (has_cells cells) others) ∷ [] in
       let named : List (Item Scope) = Do (Push (It (Constant (const.str name)))) ∷ [] in
       let loaded : List (Item Scope) = Do (Push (It (Child x))) ∷ [] in
@@ -147,23 +148,24 @@ module _ (i : Interp Scope) (c : Around) where
       omega (arith, e, f)
 
   -- a scope within, further parts, and the function of them
-  pub function_adds : (within : Context → (number : ℕ) → Context) (h : Shape) (body mid : Emission) (flags others : ℕ) (name : Emission → Object → Emission) (text : List ℕ) (b : VForms) (x : Scope) (k l m : ℕ) → Makes c.context (within c.context k) h body k l x → PartsAdd i c (k + suc l) m mid b → Flagged flags others → ((o : Object) (s r : State) → Stands c s → name mid o s ≡ Done r → (mid ▸ made flags text o) s ≡ Done r) → (n : ℕ) → Yields c n k (child within h body (name mid)) (code_vs i b n ++ make_code flags (cells_of (cell_place c.context) (within c.context k).frees) others (Child x) text) (labels_vs b) (suc l + m)
+  pub function_adds : (within : Context → (number : ℕ) → Context) (h : Shape) (body mid : Emission) (flags others : ℕ) (name : Emission → Object → Emission) (text : List ℕ) (b : VForms) (x : Scope) (k l m : ℕ) → Makes c.context (within c.context k) h body k l x → PartsAdd i c (k + suc l) m mid b → Flagged flags others → ((o : Object) (s r : State) → Stands c s → run (name mid o) s ≡ Done r → run (mid ▸ made flags text o) s ≡ Done r) → (n : ℕ) → Yields c n k (child within h body (name mid)) (code_vs i b n ++ make_code flags (cells_of (cell_place c.context) (within c.context k).frees) others (Child x) text) (labels_vs b) (suc l + m)
   unfolding child
   function_adds within h body mid flags others name text b x k l m makes parts flagged goes n = yields (λ s r f g z e.
       let inner : Context = within c.context k in
       let hd = code_head inner h s.location in
-      let moved : on_sealed inner.level hd s (body (begun inner s.location (suc k))) (name mid) ≡ Done r =
-      subst (λ j. (let d = within c.context j in on_sealed d.level (code_head d h s.location) s (body (begun d s.location (suc j))) (name mid)) ≡ Done r) (sym g)
-      (subst (λ (y : Around). (let d = within y.context s.next in on_sealed d.level (code_head d h s.location) s (body (begun d s.location (suc s.next))) (name mid)) ≡ Done r) (sym z.around) e) in
-      let w = sealed_on inner.level hd s r (body (begun inner s.location (suc k))) (name mid) moved in
+      let last : Object → Action = λ o. run (name mid o) in
+      let moved : on_sealed inner.level hd s (run body (begun inner s.location (suc k))) last ≡ Done r =
+      subst (λ j. (let d = within c.context j in on_sealed d.level (code_head d h s.location) s (run body (begun d s.location (suc j))) last) ≡ Done r) (sym g)
+      (subst (λ (y : Around). (let d = within y.context s.next in on_sealed d.level (code_head d h s.location) s (run body (begun d s.location (suc s.next))) last) ≡ Done r) (sym z.around) e) in
+      let w = sealed_on inner.level hd s r (run body (begun inner s.location (suc k))) last moved in
       let t : State = w.0 in
       let o : Object = sealed inner.level hd t in
       let b0 : State = behind_child s t in
       let z0 : Stands c b0 = record { around = z.around; settled = z.settled } in
-      let done = makes.run s.location t w.1 in
+      let done = makes.does s.location t w.1 in
       let later : k + suc l ≡ b0.next = let y = done.1 in omega (arith, y) in
       let q = both mid (made flags text o) b0 r (goes o b0 r z0 w.2) in
-      let a1 = ((parts n).run b0 q.0 f later z0 q.1).0 in
+      let a1 = ((parts n).does b0 q.0 f later z0 q.1).0 in
       let z1 : Stands c q.0 = still z0 a1.added.around_are in
       let free : free_names o ≡ inner.frees = sealed_frees inner.level hd t in
       let a2 = made_adds flags others text o x inner.frees q.0 r z1 flagged free done.0 q.2 in

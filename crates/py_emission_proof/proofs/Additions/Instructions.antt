@@ -22,6 +22,7 @@ use Rattle.py_control.specs.Form.{Scope}
 use Rattle.py_control.specs.Code.{Do}
 use Rattle.py_emission_parts.specs.TableParts.{binary, binary_case, inplace, unary_operation, unary_case, conversion_case, comparison_operation, counted, named}
 use Rattle.py_emission_parts.specs.Emitting.{Around, Emission, emit, emit_count, emit_name, emit_constant, jump, place_in, with_name, with_constant}
+use Rattle.py_emission_parts.specs.Running.{run}
 use Rattle.py_emission_parts.specs.EmissionParts.{keeping_jump, testing_jump, emission_of_comparison}
 use Rattle.py_emission_proof.proofs.Additions.EmissionSequenceLemmas.{Yields, yields}
 use Rattle.py_emission_proof.proofs.Additions.AddedCodeLemmas.{IsPlain}
@@ -92,9 +93,9 @@ chosen false i e = absurd cc
 
 -- an instruction that counts values
 pub count_adds : (i : Instruction) (n : ℕ) (x : Instr Scope ℕ) → IsPlain (Do x) → ((d : ℕ → Object) (t : Tables) → n < 2 ^ 30 → instr_of t None i n ≡ Some (instr_as d x)) → StepAdds (emit_count i n) x
-unfolding emit_count
+unfolding emit_count emit
 count_adds i n x plain is c m k = yields (λ s r b g z e.
-    let q = fits_if (nat_lt n (2 ^ 30)) (emit i n s) r e in
+    let q = fits_if (nat_lt n (2 ^ 30)) (run (emit i n) s) r e in
     emit_step i n x s r plain (λ d t h. is d t (search (rules, q.0))) q.1)
 
 -- it takes so many values, and gives one
@@ -203,7 +204,7 @@ conversion_adds c = emit_adds op.FormatValue (conversion_case c) (Operate (count
 
 -- an instruction that names a name
 pub named_adds : (i : Instruction) (x : List ℕ) (f : List ℕ → Instr Scope ℕ) → IsPlain (Do (f x)) → ((d : ℕ → Object) (t : Tables) (n : ℕ) → instr_of t None i n ≡ for_some (slice_get t.names n) (λ y. instr_as d (f y))) → StepAdds (emit_name i x) (f x)
-unfolding emit_name with_name
+unfolding emit_name emit with_name
 named_adds i x f plain is c m k = yields (λ s r h g z e.
     let n = place_in text_eq s.names x in
     adds_named x s r _ 0 0 (emit_step i n (f x) (with_name x s) r plain (λ d t b. is d t n ∙ ap (λ y. for_some y (λ w. instr_as d (f w))) (entry_stays (entered text_eq s.names x) b.names t.names n x (entered_stands text_eq text_eq_sound s.names x) b.names_are)) e))
@@ -248,7 +249,7 @@ method_adds x = named_adds op.LoadMethod x (λ z. Operate (named op.LoadMethod z
 
 -- a constant that is no code is loaded, or returned
 entered_adds : (i : Instruction) (d : Const) (f : Value Object → Instr Object ℕ) (x : Instr Scope ℕ) → IsPlain (Do x) → value_of d ≡ Constant d → ((t : Tables) (n : ℕ) → instr_of t None i n ≡ for_some (slice_get t.constants n) (λ w. f (value_of w))) → ((e : ℕ → Object) → f (Constant d) ≡ instr_as e x) → StepAdds (emit_constant i d) x
-unfolding emit_constant with_constant
+unfolding emit_constant emit with_constant
 entered_adds i d f x plain v is same c m k = yields (λ s r h g z e.
     let n = place_in const_eq s.constants d in
     adds_constant d v s r _ 0 0 (emit_step i n x (with_constant d s) r plain (λ a t b. is t n ∙ ap (λ y. for_some y (λ w. f (value_of w))) (entry_stays (entered const_eq s.constants d) b.constants t.constants n d (constant_stands s.constants d) b.constants_are) ∙ ap (λ w. Some (f w)) v ∙ ap Some (same a)) e))

@@ -1,5 +1,5 @@
 -- The emission of `and`, `or`, `not`, comparisons and choices adds the code of their forms.
-use Rattle.std.proofs.Common.{◌≡◌, ◌≢◌, ℕ, ◌+◌, ◌<◌, List, [], ◌∷◌, ◌++◌, length, Bool, true, false, refl, sym, arith, rules}
+use Rattle.std.proofs.Common.{◌≡◌, ◌≢◌, ℕ, ◌+◌, ◌<◌, List, [], ◌∷◌, ◌++◌, length, Bool, true, false, refl, sym, arith, rules, append_assoc}
 use Rattle.std.specs.Prelude.{nat_eq, nat_lt, if◌then◌else◌}
 use Rattle.py_base.specs.declared.location.SourceLocation.{SourceLocation}
 use Rattle.py_base.specs.declared.operators.BoolOp.{BoolOp}
@@ -10,18 +10,16 @@ use Rattle.py_base.specs.declared.operators.UnaryOp.TheVariants as unary
 use Rattle.py_base.specs.declared.shapes.Malformed.TheVariants as shape
 use Rattle.py_bytecode.specs.declared.instruction.Instruction.TheVariants as op
 use Rattle.py_bytecode.specs.Values.{flip}
-use Rattle.py_bytecode.specs.Machine.{Rotate2, Pop, Jump}
 use Rattle.py_control.specs.Form.{Interp, Scope, VForm, VOp, VChoice, VAt, VMore, VNone, TTruth}
-use Rattle.py_control.specs.Code.{Item, Do, Label, code_v, labels_v, labels_t, labels_ts, labels_ss, labels_ls, code_t, code_ts, code_ss, code_ls, link_code}
+use Rattle.py_control.specs.Code.{Item, Label, code_v, labels_v, labels_t, labels_ts, labels_ss, labels_ls, code_t, code_ts, code_ss, code_ls, link_code}
 use Rattle.py_emission_parts.specs.TableParts as table
 use Rattle.py_emission_parts.specs.TableParts.{ExprForms, no_operand, shorts_of, part_test, tests_of, bool_forms, unary_forms, links_of, compare_form, deciding, unary_operation, comparison_operation}
 use Rattle.py_base.specs.declared.errors.CodegenErrorType.{CodegenErrorType}
 use Rattle.py_base.specs.declared.errors.CodegenErrorType.TheVariants as error
 use Rattle.py_emission_parts.specs.EmissionParts as emitting
-use Rattle.py_emission_parts.specs.Emitting.{Around, Emission, ◌▸◌, refuse, emit, jump, begin, move}
+use Rattle.py_emission_parts.specs.Emitting.{Around, Emission, ◌▸◌, refuse, emit, jump, keep, move}
 use Rattle.py_emission_parts.specs.EmissionParts.{Emissions, in_turn, shorts, bool_value, tests, bool_test, bool_emissions, unary_value, unary_emissions, emission_of_comparison, emission_of_link, links, chain, comparisons, emission_of_compare, choice}
-use Rattle.py_emission_proof.proofs.Additions.EmissionSequenceLemmas.{Gives, Yields, after_these, block_gives, counts_as, items_so, moved_gives, moved_refused, never_on, refused_gives, scopes_as, so, then_keep, then_these, then_yields, two_blocks_give}
-use Rattle.py_emission_proof.proofs.Additions.Steps.{begin_adds}
+use Rattle.py_emission_proof.proofs.Additions.EmissionSequenceLemmas.{Gives, Yields, after_these, gives_as, items_so, keep_yields, moved_gives, moved_refused, never_on, one_ends, refused_gives, scopes_as, so, then_keep, then_these, then_yields, two_give}
 use Rattle.py_emission_proof.proofs.Additions.Instructions.{unary_adds, comparison_adds, keeping_adds, duplicate_adds, rotate_two_adds, rotate_three_adds, pop_adds, going_adds, return_value_adds}
 use Rattle.py_emission_proof.proofs.Additions.Shapes.{choice_gives}
 use Rattle.py_emission_proof.proofs.Additions.FormAdds.{ValueAdds, TestAdds, ReturnAdds, AddsForms, AllAddForms, IsPushed, ordinary_adds, pushed_adds, truth_adds, moved_adds, one_adds, two_add}
@@ -73,7 +71,7 @@ module _ (i : Interp Scope) (c : Around) where
   -- the tests where a value that decides goes past the others
   past_adds : (d : BoolOp) (t : Bool) (to k a b : ℕ) (x : Emissions) (f : ExprForms) (es : List Emissions) (fs : List ExprForms) → AddsForms i c k a x f → AllAddForms i c (k + a) b es fs → (n : ℕ) → to < n → Yields c n k (emitting.past_tests (deciding d) t (x ∷ es) to) (code_ts i (tests_of d f fs) (turned d t) to n (1 + n) ++ Label n ∷ []) (1 + labels_ts (tests_of d f fs) (turned d t)) (a + b)
   past_adds d t to k a b x f es fs h g n lt =
-      block_gives (λ end. tests (deciding d) end t to (x ∷ es) ▸ begin end) (then_these (tests_add d n t to k a b x f es fs h g (1 + n) (omega arith) (omega (arith, lt))) (begin_adds n (omega arith)))
+      one_ends (λ end. tests (deciding d) end t to (x ∷ es)) (tests_add d n t to k a b x f es fs h g (1 + n) (omega arith) (omega (arith, lt)))
 
   some_test_adds : (at : SourceLocation) (d : BoolOp) (k a b : ℕ) (x : Emissions) (f : ExprForms) (es : List Emissions) (fs : List ExprForms) → AddsForms i c k a x f → AllAddForms i c (k + a) b es fs → TestAdds i c k (a + b) (λ t to. emitting.some_test (deciding d) t (x ∷ es) to) (bool_forms at d (f ∷ fs)).test
   some_test_adds at And k a b x f es fs h g false to n lt = tests_add And to false to k a b x f es fs h g n lt lt
@@ -82,7 +80,7 @@ module _ (i : Interp Scope) (c : Around) where
   some_test_adds at Or k a b x f es fs h g false to n lt = past_adds Or false to k a b x f es fs h g n lt
 
   some_values_add : (at : SourceLocation) (d : BoolOp) (k a b : ℕ) (x : Emissions) (f : ExprForms) (es : List Emissions) (fs : List ExprForms) → AddsForms i c k a x f → AllAddForms i c (k + a) b es fs → ValueAdds i c k (a + b) (emitting.some_values d (x ∷ es)) (bool_forms at d (f ∷ fs)).value
-  some_values_add at d k a b x f es fs h g n = block_gives (λ end. shorts d end (x ∷ es) ▸ begin end) (then_these (shorts_add d n k a b x f es fs h g (1 + n) (omega arith)) (begin_adds n (omega arith)))
+  some_values_add at d k a b x f es fs h g n = one_ends (λ end. shorts d end (x ∷ es)) (shorts_add d n k a b x f es fs h g (1 + n) (omega arith))
 
   pub bool_adds : (k l : ℕ) (at : SourceLocation) (d : BoolOp) (es : List Emissions) (fs : List ExprForms) → AllAddForms i c k l es fs → AddsForms i c k l (bool_emissions at d es) (bool_forms at d fs)
   bool_adds k l at d [] [] a =
@@ -129,14 +127,12 @@ module _ (i : Interp Scope) (c : Around) where
       let e = g.2 in
       scopes_as (omega (arith, e)) (then_yields (h.value n) (after_these (link_adds o out m (k + a) (omega (arith, lt))) (links_add out p ops (k + a) g.0 g.1 y w ys gs (omega (arith, z)) g.3 g.4 m (omega (arith, lt)))))
 
-  -- what a chain ends with
-  chain_end : (end out n k : ℕ) → end < n → out < n → Yields c n k (jump op.Jump end ▸ begin out ▸ emit op.Rotate2 0 ▸ emit op.Pop 0 ▸ begin end) (Do (Jump end) ∷ Label out ∷ Do Rotate2 ∷ Do Pop ∷ Label end ∷ []) 0 0
-  chain_end end out n k le lt = after_these (going_adds end c n k le) (after_these (begin_adds out lt) (after_these (rotate_two_adds c n k) (after_these (pop_adds c n k) (begin_adds end le))))
-
   chain_adds : (k x1 y1 z1 w1 : ℕ) (x : Emissions) (f : ExprForms) (o p : CmpOp) (ops : List CmpOp) (y z : Emissions) (g h : ExprForms) (es : List Emissions) (fs : List ExprForms) → length ops ≡ length es → AddsForms i c k x1 x f → AddsForms i c (k + x1) y1 y g → AddsForms i c (k + x1 + y1) z1 z h → AllAddForms i c (k + x1 + y1 + z1) w1 es fs → ValueAdds i c k (x1 + (y1 + (z1 + w1))) (chain x.value (o ∷ p ∷ ops) (y ∷ z ∷ es)) (compare_form f.value (o ∷ p ∷ ops) (g ∷ h ∷ fs))
   chain_adds k x1 y1 z1 w1 x f o p ops y z g h es fs even hx hy hz a n =
-      counts_as (omega arith) (two_blocks_give (λ out end. x.value ▸ links out (o ∷ p ∷ ops) (y ∷ z ∷ es) ▸ jump op.Jump end ▸ begin out ▸ emit op.Rotate2 0 ▸ emit op.Pop 0 ▸ begin end)
-      (then_yields (hx.value (2 + n)) (then_these (links_add n o (p ∷ ops) (k + x1) y1 (z1 + w1) y g (z ∷ es) (h ∷ fs) (omega (arith, even)) hy (z1, w1, refl, hz, a) (2 + n + labels_v f.value) (omega arith)) (chain_end (1 + n) n _ _ (omega arith) (omega arith)))))
+      gives_as (simp append_assoc) (omega arith) (omega arith)
+      (so (λ h. tt) (two_give (λ out end. x.value ▸ links out (o ∷ p ∷ ops) (y ∷ z ∷ es) ▸ jump op.Jump end) (λ out end. emit op.Rotate2 0 ▸ emit op.Pop 0) (λ out end. keep)
+      (then_yields (hx.value (2 + n)) (then_these (links_add n o (p ∷ ops) (k + x1) y1 (z1 + w1) y g (z ∷ es) (h ∷ fs) (omega (arith, even)) hy (z1, w1, refl, hz, a) (2 + n + labels_v f.value) (omega arith)) (going_adds (1 + n) c _ _ (omega arith))))
+      (after_these (rotate_two_adds c _ _) (pop_adds c _ _)) keep_yields))
 
   -- one comparison, or more
   pub compared_adds : (k a b : ℕ) (x : Emissions) (f : ExprForms) (ops : List CmpOp) (es : List Emissions) (fs : List ExprForms) → length ops ≢ 0 → length ops ≡ length es → AddsForms i c k a x f → AllAddForms i c (k + a) b es fs → ValueAdds i c k (a + b) (comparisons x.value ops es) (compare_form f.value ops fs)

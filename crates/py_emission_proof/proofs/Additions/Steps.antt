@@ -12,9 +12,10 @@ use Rattle.py_bytecode.specs.Decode.{Tables, instr_of, value_of}
 use Rattle.py_bytecode.proofs.Tables.{get_left}
 use Rattle.py_dataflow.specs.Flat.{is_jump}
 use Rattle.py_control.specs.Form.{Scope}
-use Rattle.py_control.specs.Code.{Item, Do, Label}
+use Rattle.py_control.specs.Code.{Item, Do}
 use Rattle.py_control.specs.Places.{instr_over}
-use Rattle.py_emission_parts.specs.Emitting.{Put, Begin, State, Outcome, Done, TooWide, Around, Emission, with_step, with_name, with_varname, with_constant, emit, jump, begin}
+use Rattle.py_emission_parts.specs.Emitting.{Put, State, Outcome, Done, TooWide, Around, Emission, with_step, with_name, with_varname, with_constant, emit, jump}
+use Rattle.py_emission_parts.specs.Running.{put, run}
 use Rattle.py_control.specs.CodeRuns.{loaded}
 use Rattle.py_emission_proof.proofs.Additions.DistinctNames.{entered_distinct}
 use Rattle.py_emission_proof.proofs.Additions.AddedCodeLemmas.{Added, Begins, Adds, IsPlain, added_step, adds_step}
@@ -38,8 +39,8 @@ abbrev pub instr_as : (ℕ → Object) → Instr Scope ℕ → Instr Object ℕ
 instr_as d x = instr_over (by_number d) (λ p. p) x
 
 -- an instruction that reads so in all tables that begin with those so far, and loads no child
-pub emit_read : (i : Instruction) (n : ℕ) (x : Instr Scope ℕ) (s r : State) → loaded x ≡ [] → ((d : ℕ → Object) (t : Tables) → Begins s t → instr_of t None i n ≡ Some (instr_as d x)) → emit i n s ≡ Done r → Added s r (Do x ∷ []) 0 [] × (r.next ≡ s.next)
-unfolding emit with_step
+pub emit_read : (i : Instruction) (n : ℕ) (x : Instr Scope ℕ) (s r : State) → loaded x ≡ [] → ((d : ℕ → Object) (t : Tables) → Begins s t → instr_of t None i n ≡ Some (instr_as d x)) → run (emit i n) s ≡ Done r → Added s r (Do x ∷ []) 0 [] × (r.next ≡ s.next)
+unfolding emit put with_step
 emit_read i n x s r none is e =
     let y = Put i n None s.location in
     let p = fits_if (nat_lt n (2 ^ 32)) (Done (with_step y s)) r e in
@@ -47,8 +48,8 @@ emit_read i n x s r none is e =
     (added_step y s (Do x) [] (no_codes [] s.constants (Do x ∷ []) refl (ap (λ ks. ks ++ []) none)) (λ d z t b. (record { fits = search (rules, p.0); is = is d t b; aims = λ z. refl }, tt)) tt, refl)
 
 -- an instruction that reads so in all tables that begin with those so far
-pub emit_step : (i : Instruction) (n : ℕ) (x : Instr Scope ℕ) (s r : State) → IsPlain (Do x) → ((d : ℕ → Object) (t : Tables) → Begins s t → instr_of t None i n ≡ Some (instr_as d x)) → emit i n s ≡ Done r → Adds s r (Do x ∷ []) 0 0
-unfolding emit
+pub emit_step : (i : Instruction) (n : ℕ) (x : Instr Scope ℕ) (s r : State) → IsPlain (Do x) → ((d : ℕ → Object) (t : Tables) → Begins s t → instr_of t None i n ≡ Some (instr_as d x)) → run (emit i n) s ≡ Done r → Adds s r (Do x ∷ []) 0 0
+unfolding emit put
 emit_step i n x s r plain is e =
     let y = Put i n None s.location in
     let p = fits_if (nat_lt n (2 ^ 32)) (Done (with_step y s)) r e in
@@ -62,10 +63,6 @@ unfolding jump
 jump_adds i b x plain j is c n k lt = yields (λ s r f g z e.
     let y = Put i 0 (Some b) s.location in
     subst (λ u. Adds s u (Do x ∷ []) 0 0) (done_is (with_step y s) r e) (adds_step y s (Do x) plain (λ d t h. (record { fits = omega arith; is = is d t; aims = λ w. absurd (cc (j, w)) }, tt)) (omega (arith, f, lt))))
-
-pub begin_adds : (b : ℕ) {c : Around} {n k : ℕ} → b < n → Yields c n k (begin b) (Label b ∷ []) 0 0
-unfolding begin
-begin_adds b lt = yields (λ s r f g z e. subst (λ u. Adds s u (Label b ∷ []) 0 0) (done_is (with_step (Begin b) s) r e) (adds_step (Begin b) s (Label b) (refl, refl) (λ d t h. (refl, tt)) (omega (arith, f, lt))))
 
 -- a table's entry stays where more entries follow
 within_list : {A : Type 0} (xs : List A) (n : ℕ) (x : A) → slice_get xs n ≡ Some x → n < length xs

@@ -1,11 +1,11 @@
 -- What type parameters add: each of them, the defaults that are handed, a hidden scope and its call, a function behind its parameters, and aliases.
-use Rattle.std.proofs.Common.{◌≡◌, ℕ, suc, ◌+◌, List, [], ◌∷◌, ◌++◌, length, true, false, Some, None, refl, sym, ap, subst, arith}
+use Rattle.std.proofs.Common.{◌≡◌, ℕ, suc, ◌+◌, List, [], ◌∷◌, length, true, false, Some, None, refl, sym, subst, arith}
 use Rattle.py_bytecode.specs.declared.instruction.Instruction.TheVariants as op
 use Rattle.py_bytecode.specs.Objects as const
 use Rattle.py_bytecode.specs.Values.{operation, Bare, Child}
 use Rattle.py_bytecode.specs.Machine.{Operate}
 use Rattle.py_control.specs.Form.{Interp, Scope, VForm, VForms, VConst, VLoad, VOp, VMake, VKeep, VSwap, VMore, VNone, FixedFast, Target}
-use Rattle.py_control.specs.Code.{code_vs, count, labels_v, labels_vs, make_code}
+use Rattle.py_control.specs.Code.{count, labels_v, labels_vs, make_code}
 use Rattle.py_control.specs.Agree.{cells_of}
 use Rattle.py_emission_parts.specs.Accesses.{emission_of_stored}
 use Rattle.py_emission_parts.specs.Children.{DefaultEmissions, child, emission_of_defaults, made}
@@ -14,8 +14,8 @@ use Rattle.py_emission_parts.specs.Context.{Context, cell_place}
 use Rattle.py_emission_parts.specs.Emitting.{Around, Emission, ◌▸◌, emit, emit_constant, emit_count, emit_varname, keep}
 use Rattle.py_emission_parts.specs.TableParts.{any, built, counted}
 use Rattle.py_emission_parts.specs.TypeParameters.{bounded, generic_alias, hidden, hidden_shape, kept_as, load_handed, plain, plain_alias}
-use Rattle.py_emission_proof.proofs.Additions.EmissionSequenceLemmas.{Yields, after_these, gives_as, keep_yields, next_as, regroup, regroup_late, scopes_as, then_these, then_yields, ungroup}
-use Rattle.py_emission_proof.proofs.Additions.FormAdds.{PartsAdd, ValueAdds, more_parts, one_adds, one_part, operation_adds, two_add, two_parts}
+use Rattle.py_emission_proof.proofs.Additions.EmissionSequenceLemmas.{after_these, gives_as, keep_yields, next_as, regroup, regroup_late, scopes_as, then_yields, ungroup}
+use Rattle.py_emission_proof.proofs.Additions.FormAdds.{PartsAdd, ValueAdds, more_parts, one_adds, operation_adds, two_add, two_parts}
 use Rattle.py_emission_proof.proofs.Additions.Functions.{Flagged, Makes, function_adds, made_alone_adds}
 use Rattle.py_emission_proof.proofs.Additions.Instructions.{call_adds, constant_adds, rotate_two_adds, tuple_builds}
 use Rattle.py_emission_proof.proofs.Additions.Steps.{StepHere, emit_adds}

@@ -33,7 +33,7 @@ use Rattle.py_control_proof.proofs.LaidOut.{laid_runs}
 use Rattle.py_control_proof.proofs.Laws.{scope_ends}
 use Rattle.py_control_proof.proofs.OtherChildren.{children_over}
 use Rattle.py_emission_parts.specs.Context.{Context, cells_among, frees_among, symbols_in}
-use Rattle.py_emission_parts.specs.Children.{code_head}
+use Rattle.py_emission_parts.specs.Running.{code_head, run}
 use Rattle.py_emission_parts.specs.Within.{Shape}
 use Rattle.py_emission_parts.specs.Emitting.{Emission, State, Done, begun}
 use Rattle.py_emission_parts.specs.Listed.{items_in, steps_at}
@@ -309,11 +309,11 @@ Whole inner body k l x = Gives (outside inner) 1 k body (body_code (exactly (λ 
 
 -- the same, where one cell more may be loaded
 pub record Completing (inner : Context) (body : Emission) (next count : ℕ) (x : Scope) : Type 0 where
-  pub run : (at : SourceLocation) (t : State) → Stands (outside inner) (begun inner at next) → body (begun inner at next) ≡ Done t → Completes (begun inner at next) t (body_code (exactly (λ y. y) x) (form_of x)) (labels (form_of x)) count × Looped false (form_of x)
+  pub does : (at : SourceLocation) (t : State) → Stands (outside inner) (begun inner at next) → run body (begun inner at next) ≡ Done t → Completes (begun inner at next) t (body_code (exactly (λ y. y) x) (form_of x)) (labels (form_of x)) count × Looped false (form_of x)
 
 pub whole_completes : (inner : Context) (body : Emission) (next count : ℕ) (x : Scope) → Whole inner body next count x → Completing inner body next count x
 whole_completes inner body next count x w = record {
-  run = λ at t z e. let a = w.run (begun inner at next) t refl refl z e in (completed (begun inner at next) t (body_code (exactly (λ y. y) x) (form_of x)) (labels (form_of x)) count a.0, a.1);
+  does = λ at t z e. let a = w.does (begun inner at next) t refl refl z e in (completed (begun inner at next) t (body_code (exactly (λ y. y) x) (form_of x)) (labels (form_of x)) count a.0, a.1);
 }
 
 -- so the code object of the scope is made from it, where it and those within it load few cells
@@ -321,9 +321,9 @@ pub completed_makes : (c inner : Context) (h : Shape) (body : Emission) (k l : �
 completed_makes c inner h body k l x number cells frees same source settled small completing = record {
   number = number;
   frees = frees;
-  run = λ at t e.
+  does = λ at t e.
       let says : Says inner x = record { cells = cells ∙ (λ j. cells_among (symbols_in (sym same j) (sym number j))); frees = frees ∙ (λ j. frees_among (symbols_in (sym same j) (sym number j))) } in
-      let a = completing.run at t (record { around = refl; settled = settled }) e in
+      let a = completing.does at t (record { around = refl; settled = settled }) e in
       let emitted : LoadsFew inner.scopes x → Emitted inner at (suc k) x t = λ few. record { count = l; adds = a.0; looped = a.1; small = small; loading = few; says = says } in
       let made : MadeWhereFew (ground_of inner) (sealed inner.level (code_head inner h at) t, x) = λ few. sealed_made inner at (suc k) x t (emitted few) inner.level (code_head inner h at) refl refl refl in
       (subst (λ ground. MadeWhereFew ground (sealed inner.level (code_head inner h at) t, x)) (λ j. (source j, same j)) made, a.0.next_is);

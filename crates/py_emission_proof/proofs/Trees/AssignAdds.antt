@@ -46,7 +46,7 @@ ActAdds i c k l v f = (b : Loops) (n : ℕ) → Yields c n k v (code i f b n) (l
 
 -- the scopes of parts that are only scanned
 pub passed_adds : {c : Around} {n k : ℕ} (count : (postponed : Bool) → ℕ) → Yields c n k (pass_scopes count) [] 0 (count c.context.postponed)
-passed_adds {c = c} count = context_gives (λ d. pass_over (λ x. x + count d.postponed)) (pass_yields (count c.context.postponed))
+passed_adds {c = c} count = context_gives (λ d. pass_over (count d.postponed)) (pass_yields (count c.context.postponed))
 
 module _ (i : Interp Scope) (c : Around) where
   refused_act : (k l : ℕ) (e : CodegenErrorType) (f : SForm) → ActAdds i c k l (refuse e) f

@@ -23,6 +23,7 @@ use Rattle.py_emission_parts.specs.Within.{behind_name, class_path, class_within
 use Rattle.py_emission_parts.specs.Context.{Context, cell_place, class_cells, head_of, inside, with_path, within_class}
 use Rattle.py_emission_parts.specs.Elements.{Function}
 use Rattle.py_emission_parts.specs.Emitting.{Around, Emission, State, ◌▸◌, begun, by_level, emit, emit_constant}
+use Rattle.py_emission_parts.specs.Running.{run}
 use Rattle.py_emission_parts.specs.TableParts.{call_form}
 use Rattle.py_emission_parts.specs.EmissionParts as emitting
 use Rattle.py_emission_parts.specs.TableParts as table
@@ -41,7 +42,7 @@ use Rattle.py_emission_proof.proofs.Additions.Burden.{cells_in, cells-append}
 use Rattle.py_emission_proof.proofs.Additions.CallAdds.{NamedAdds, call_form_adds}
 use Rattle.py_emission_proof.proofs.Additions.ClassAdds.{behind_adds, end_adds, names_code, names_yield}
 use Rattle.py_emission_proof.proofs.Additions.Codes.{Counted, loads_join, scopes}
-use Rattle.py_emission_proof.proofs.Additions.EmissionSequenceLemmas.{Gives, Yields, after_these, both, context_gives, grouped, keep_yields, level_gives, next_as, outside, scopes_as, still, then_yields}
+use Rattle.py_emission_proof.proofs.Additions.EmissionSequenceLemmas.{Gives, Yields, after_these, both, context_gives, grouped, keep_yields, level_gives, next_as, outside, scopes_as, still, then_yields, on_each}
 use Rattle.py_emission_proof.proofs.Additions.FormAdds.{PartsAdd, ValueAdds, all_elements_add}
 use Rattle.py_emission_proof.proofs.Additions.Functions.{Flagged, Makes, made_alone_adds}
 use Rattle.py_emission_proof.proofs.Additions.Instructions.{constant_adds}
@@ -52,7 +53,6 @@ use Rattle.py_emission_proof.proofs.Additions.TypeParameterAdds.{made_behind_add
 use Rattle.py_emission_proof.proofs.Additions.Within.{Completing, completed_makes}
 use Rattle.py_emission_proof.proofs.Sizes.ProgramSizes.{class_body_small}
 use Rattle.py_emission_proof.proofs.Trees.ExprAdds.{exprs_add, keywords_add}
-use Rattle.py_emission_proof.proofs.Trees.FunctionAdds.{on_each}
 use Rattle.py_emission_proof.proofs.Trees.Told.{outer, pathless, told}
 
 -- what stands in no loop
@@ -129,21 +129,21 @@ module _ (c : Around) (k : ℕ) (path name : List ℕ) (body : tree.Stmts) where
         ∙ sym (append-nil _)
 
     -- the end comes after the rest
-    last : (s : State) → class_scope body v s ≡ (begin_emission ▸ class_end) s
+    last : (s : State) → run (class_scope body v) s ≡ run (begin_emission ▸ class_end) s
     last s =
         let a : Emission = by_level (λ l. class_names (doc_of l body)) in
         let b : Emission = emission_of_setup (annotated (after_doc body)) in
-        on_each (a s) (b ▸ v ▸ class_end) ((b ▸ v) ▸ class_end) (λ m. grouped (b m) v class_end) ∙ grouped (a s) (b ▸ v) class_end
+        on_each (run a s) (b ▸ v ▸ class_end) ((b ▸ v) ▸ class_end) (λ m. grouped (run b m) v class_end) ∙ grouped (run a s) (b ▸ v) class_end
 
     looped : Looped false form → Looped false (form_of class_of)
     looped h = (tt, (tt, (tt, (setup_looped (annotated (after_doc body)), (h, tt)))))
 
     pub completing : Completing inner (class_scope body v) (suc k) (scopes_in_stmts inner.postponed body) class_of
     completing = record {
-      run = λ at t z e.
+      does = λ at t z e.
           let s = begun inner at (suc k) in
           let h = both begin_emission class_end s t (sym (last s) ∙ e) in
-          let p = begin_gives.run s h.0 refl refl z h.1 in
+          let p = begin_gives.does s h.0 refl refl z h.1 in
           let q = end_adds (outside inner) h.0 t (still z p.0.added.around_are) h.2 in
           let n = p.0.next_is in
           let y = q.next_is in

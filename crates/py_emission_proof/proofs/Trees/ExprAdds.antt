@@ -36,9 +36,9 @@ use Rattle.py_emission_parts.specs.Emitting.{Around, Emission, ◌▸◌, by_lev
 use Rattle.py_emission.specs.Awaits.{awaits, some_async}
 use Rattle.py_emission.specs.Emission.{clause_emissions, default_emissions, emissions, all_emissions, joined_return, keyword_emissions, keyword_only_emissions, opt_emission, opt_emissions, positional_emissions, stores, all_stores}
 use Rattle.py_emission_proof.proofs.Additions.ComprehensionAdds.{ClausesAdd, ConditionsAdd, FurtherAdd, all_clauses, handed_adds, more_conditions, more_further, no_clauses, no_conditions, no_further}
-use Rattle.py_emission_proof.proofs.Additions.EmissionSequenceLemmas.{Gives, after_these, context_gives, level_gives, moved_gives, moved_refused, never_on, outside, regroup, scopes_as}
+use Rattle.py_emission_proof.proofs.Additions.EmissionSequenceLemmas.{Gives, after_these, context_gives, level_gives, moved_gives, moved_refused, never_on, outside, regroup, scopes_as, generating_yields}
 use Rattle.py_emission_proof.proofs.Additions.Instructions.{binary_adds, conversion_adds, attribute_adds, attribute_put_adds, subscript_adds, subscript_put_adds, constant_adds, list_appends, list_builds, list_unpacks, empty_list, empty_set, return_adds, return_value_adds, set_appends, set_builds, set_unpacks, string_builds, tuple_builds, tuple_unpacks}
-use Rattle.py_emission_proof.proofs.Additions.ControlInstructions.{generating_yields, iterator_adds, yield_adds, yield_from_adds}
+use Rattle.py_emission_proof.proofs.Additions.ControlInstructions.{iterator_adds, yield_adds, yield_from_adds}
 use Rattle.py_emission_proof.proofs.Additions.AccessAdds.{accessed_adds, mangled_adds}
 use Rattle.py_emission_proof.proofs.Additions.FormAdds.{ValueAdds, PartsAdd, ReturnAdds, OptionAdds, AddsForms, AllAddForms, AllValuesAdd, pushed_adds, truth_adds, moved_adds, value_or_adds, one_part, two_parts, one_adds, two_add, all_values_add, all_elements_add}
 use Rattle.py_emission_proof.proofs.Additions.OperatorAdds.{bool_adds, if_gives, unary_forms_add, compare_adds, compared_return, choice_adds}

@@ -14,7 +14,8 @@ use Rattle.py_control.specs.Form.{Interp, Scope, MkScope, VForm, VForms, VConst,
 use Rattle.py_control.specs.Code.{Item, Do, code_v, code_vs, count, labels_v, labels_vs, make_code}
 use Rattle.py_control.specs.Agree.{cells_of}
 use Rattle.py_emission_parts.specs.Context.{Context, cell_place, head_of, inside, mangled, qualified, with_path}
-use Rattle.py_emission_parts.specs.Emitting.{Around, Emission, Outcome, State, Done, TooWide, Refused, ◌▸◌, by_context, by_level, emit_constant, emit_count, go_on}
+use Rattle.py_emission_parts.specs.Emitting.{Around, Emission, State, Done, ◌▸◌, by_context, by_level, emit_constant, emit_count}
+use Rattle.py_emission_parts.specs.Running.{run, on_done}
 use Rattle.py_emission_parts.specs.EmissionParts.{built, in_turn}
 use Rattle.py_emission_parts.specs.Children.{child, decorated, decorations, documented, emission_of_defaults, flags_of_defaults, function_made, function_scope, made, noted, some_emitted}
 use Rattle.py_emission_parts.specs.Within.{Shape, function_inside, some_flag}
@@ -34,7 +35,7 @@ use Rattle.py_meaning.specs.TableScopes.{default_flags, default_parts}
 use Rattle.py_meaning.specs.TableScopes as forms
 use Rattle.py_meaning.specs.TableStmts.{function_body}
 use Rattle.py_emission_proof.proofs.Additions.Defaults.{flags_say, part_count, parts_count, same_flag}
-use Rattle.py_emission_proof.proofs.Additions.EmissionSequenceLemmas.{Gives, Stands, Yields, after_these, both, context_gives, gives_as, grouped, keep_yields, kept_on, level_gives, next_as, regroup, scopes_as, then_keep, then_these, then_yields, ungroup}
+use Rattle.py_emission_proof.proofs.Additions.EmissionSequenceLemmas.{Stands, Yields, after_these, both, context_gives, gives_as, grouped, keep_yields, kept_on, level_gives, next_as, regroup, scopes_as, then_keep, then_these, then_yields, ungroup, alike_gives, on_each}
 use Rattle.py_emission_proof.proofs.Additions.FormAdds.{PartsAdd, ValueAdds, AllValuesAdd, more_parts, no_parts, one_part, operation_adds, two_add}
 use Rattle.py_emission_proof.proofs.Additions.Functions.{Flagged, Makes, function_adds, scope_gives}
 use Rattle.py_emission_proof.proofs.Additions.Instructions.{attribute_put_adds, call_adds, constant_adds, duplicate_adds, map_adds, rotate_two_adds}
@@ -46,30 +47,20 @@ use Rattle.py_emission_proof.proofs.Trees.ExprAdds.{defaults_add}
 use Rattle.py_emission_proof.proofs.Trees.NoteAdds.{note_value_adds}
 use Rattle.py_emission_proof.proofs.Trees.Told.{outer, pathless, told}
 
--- what runs alike adds the same
-alike_gives : {c : Around} {n k : ℕ} {v w : Emission} {p : List (Item Scope)} {m l : ℕ} {P : Type 0} → ((s : State) → v s ≡ w s) → Gives c n k w p m l P → Gives c n k v p m l P
-alike_gives same a = record { run = λ s r b g z e. a.run s r b g z (sym (same s) ∙ e) }
-
--- what follows runs alike
-pub on_each : (o : Outcome) (v w : Emission) → ((m : State) → v m ≡ w m) → go_on o v ≡ go_on o w
-on_each (Done s) v w same = same s
-on_each TooWide v w same = refl
-on_each (Refused e at) v w same = refl
-
 -- a call for each decorator, the first of them first or last
-called_last : (ds : List Emission) (s : State) → (emit_count op.CallFunctionPositional 1 ▸ decorations ds) s ≡ (decorations ds ▸ emit_count op.CallFunctionPositional 1) s
-called_last [] s = kept_on (emit_count op.CallFunctionPositional 1 s)
+called_last : (ds : List Emission) (s : State) → run (emit_count op.CallFunctionPositional 1 ▸ decorations ds) s ≡ run (decorations ds ▸ emit_count op.CallFunctionPositional 1) s
+called_last [] s = kept_on (run (emit_count op.CallFunctionPositional 1) s)
 called_last (d ∷ ds) s =
     let call : Emission = emit_count op.CallFunctionPositional 1 in
-    on_each (call s) (call ▸ decorations ds) (decorations ds ▸ call) (called_last ds) ∙ grouped (call s) (decorations ds) call
+    on_each (run call s) (call ▸ decorations ds) (decorations ds ▸ call) (called_last ds) ∙ grouped (run call s) (decorations ds) call
 
 -- the first decorator stands before what those after it give, and is called last
-called : (d : Emission) (ds : List Emission) (v : Emission) (s : State) → decorated (d ∷ ds) v s ≡ (d ▸ decorated ds v ▸ emit_count op.CallFunctionPositional 1) s
+called : (d : Emission) (ds : List Emission) (v : Emission) (s : State) → run (decorated (d ∷ ds) v) s ≡ run (d ▸ decorated ds v ▸ emit_count op.CallFunctionPositional 1) s
 called d ds v s =
     let call : Emission = emit_count op.CallFunctionPositional 1 in
-    let within : (x : State) → (v ▸ call ▸ decorations ds) x ≡ ((v ▸ decorations ds) ▸ call) x = λ x. on_each (v x) (call ▸ decorations ds) (decorations ds ▸ call) (called_last ds) ∙ grouped (v x) (decorations ds) call in
-    let before : (m : State) → (in_turn ds ▸ v ▸ call ▸ decorations ds) m ≡ (decorated ds v ▸ call) m = λ m. on_each (in_turn ds m) (v ▸ call ▸ decorations ds) ((v ▸ decorations ds) ▸ call) within ∙ grouped (in_turn ds m) (v ▸ decorations ds) call in
-    sym (grouped (d s) (in_turn ds) (v ▸ call ▸ decorations ds)) ∙ on_each (d s) (in_turn ds ▸ v ▸ call ▸ decorations ds) (decorated ds v ▸ call) before
+    let within : (x : State) → run (v ▸ call ▸ decorations ds) x ≡ run ((v ▸ decorations ds) ▸ call) x = λ x. on_each (run v x) (call ▸ decorations ds) (decorations ds ▸ call) (called_last ds) ∙ grouped (run v x) (decorations ds) call in
+    let before : (m : State) → run (in_turn ds ▸ v ▸ call ▸ decorations ds) m ≡ run (decorated ds v ▸ call) m = λ m. on_each (run (in_turn ds) m) (v ▸ call ▸ decorations ds) ((v ▸ decorations ds) ▸ call) within ∙ grouped (run (in_turn ds) m) (v ▸ decorations ds) call in
+    sym (grouped (run d s) (in_turn ds) (v ▸ call ▸ decorations ds)) ∙ on_each (run d s) (in_turn ds ▸ v ▸ call ▸ decorations ds) (decorated ds v ▸ call) before
 
 -- a map takes two values for each name
 two_for_each : (qs : List (List ℕ × VForm)) → 2 * length qs ≡ count (parts_of (name_values qs))
@@ -222,9 +213,9 @@ unfolding inside with_path
 pathless_within name c k = refl
 
 -- what the context decides, where it is this one
-in_context : (g : Context → Emission) (m r : State) (c : Around) → m.around ≡ c → by_context g m ≡ Done r → g c.context m ≡ Done r
+in_context : (g : Context → Emission) (m r : State) (c : Around) → m.around ≡ c → run (by_context g) m ≡ Done r → run (g c.context) m ≡ Done r
 unfolding by_context
-in_context g m r c same e = subst (λ (u : Around). g u.context m ≡ Done r) same e
+in_context g m r c same e = subst (λ (u : Around). run (g u.context) m ≡ Done r) same e
 
 module _ (c : Around) (k : ℕ) (name : List ℕ) where
   -- the context in the function
@@ -287,13 +278,13 @@ module _ (c : Around) (k : ℕ) (name : List ℕ) (params : tree.Arguments) (bod
       flags_are = let b = same_flag (NoteAdds (outer c) c) 0x02 (k + suc own_count) note_count (notes params returns) note_values threaded in omega (arith, same, b)
 
       -- the annotations leave the context as it is
-      goes : (o : Object) (s r : State) → Stands c s → made_after note_map o s ≡ Done r → (note_map ▸ made all_flags text o) s ≡ Done r
+      goes : (o : Object) (s r : State) → Stands c s → run (made_after note_map o) s ≡ Done r → run (note_map ▸ made all_flags text o) s ≡ Done r
       goes o s r z e =
           let g : Context → Emission = λ d. made all_early (qualified d name) o in
           let h = both note_map (by_context g) s r e in
-          let a = (notes_add (outer c) c s.next note_count (notes params returns) (note_forms (told c) s.next params returns) (all_notes_add c s.next params returns few) s.blocks).run s h.0 refl refl z h.1 in
+          let a = (notes_add (outer c) c s.next note_count (notes params returns) (note_forms (told c) s.next params returns) (all_notes_add c s.next params returns few) s.blocks).does s h.0 refl refl z h.1 in
           let there = in_context g h.0 r c (a.0.added.around_are ∙ sym z.around) h.2 in
-          ap (λ q. go_on q (made all_flags text o)) h.1 ∙ subst (λ f. made f text o h.0 ≡ Done r) flags_are there
+          ap (λ q. on_done q (run (made all_flags text o))) h.1 ∙ subst (λ f. run (made f text o) h.0 ≡ Done r) flags_are there
 
       module _ (less : stmts_size body < 2 ^ 22) (v : Emission) (whole : Whole (inner c k name) v (suc k) (scopes_in_stmts (inner c k name).postponed body) own_scope) where
         -- what emits the function's scope, its annotations and the function

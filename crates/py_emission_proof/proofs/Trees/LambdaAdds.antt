@@ -52,7 +52,7 @@ unfolding inside
 lambda_adds c k l params body flags others small h flagged n =
     let x : Scope = MkScope (head_of (lambda_inside (told c) k)) (SReturn (expr_forms (lambda_inside (told c) k) (suc k) body).value) in
     let mid : Emission = pass_scopes (λ postponed. scopes_in_annotations postponed params) in
-    let pass : PartsAdd (outer c) c (k + suc l) (scopes_in_annotations c.context.postponed params) mid VNone = λ m. context_gives (λ z. pass_over (λ j. j + scopes_in_annotations z.postponed params)) (pass_yields (scopes_in_annotations c.context.postponed params)) in
+    let pass : PartsAdd (outer c) c (k + suc l) (scopes_in_annotations c.context.postponed params) mid VNone = λ m. context_gives (λ z. pass_over (scopes_in_annotations z.postponed params)) (pass_yields (scopes_in_annotations c.context.postponed params)) in
     function_adds (outer c) c lambda_inside (function_shape params (codes "<lambda>")) (function_scope (parameters params) (emissions body).returned) mid flags others (λ v o. v ▸ made flags (codes "<lambda>") o) (codes "<lambda>") VNone x k l (scopes_in_annotations c.context.postponed params)
     (lambda_makes c k l params body small h) pass flagged (λ o s r z e. e) n
 

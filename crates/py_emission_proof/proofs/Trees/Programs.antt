@@ -92,16 +92,16 @@ module _ (x : Context) (settled : Settled x) where
   mod_adds : (t : tree.Mod) (m : Mode) → size_of t < 2 ^ 22 → ((d : Scope → Object) → burden (body_code (exactly d (scope_in x t m)) (form_of (scope_in x t m))) < 2 ^ 27) → LoadsFew x.scopes (scope_in x t m) → (o : State) → emitted t m x ≡ Done o → Emitted x first_place 1 (scope_in x t m) o
   mod_adds (tree.Module stmts) m z small few o e =
       let g = program_gives x stmts (omega (arith, z)) in
-      let a = g.1.run (nothing x) o refl refl (record { around = refl; settled = settled }) e in
+      let a = g.1.does (nothing x) o refl refl (record { around = refl; settled = settled }) e in
       record { count = g.0; adds = completed (nothing x) o _ _ _ a.0; looped = a.1; small = small; loading = few; says = record { cells = settled.cells; frees = settled.frees } }
   mod_adds (tree.Interactive stmts) m z small few o e =
       let g = interactive_whole x m stmts (omega (arith, z)) in
-      let a = g.1.run (nothing x) o refl refl (record { around = refl; settled = settled }) e in
+      let a = g.1.does (nothing x) o refl refl (record { around = refl; settled = settled }) e in
       record { count = g.0; adds = completed (nothing x) o _ _ _ a.0; looped = a.1; small = small; loading = few; says = record { cells = settled.cells; frees = settled.frees } }
   mod_adds (tree.Expression e) m z small few o h =
       let c = outside x in
       let f = expr_form (pathless x) 1 e in
-      let a = ((expr_adds c 1 e (omega (arith, z))).returned 1).run (nothing x) o refl refl (record { around = refl; settled = settled }) h in
+      let a = ((expr_adds c 1 e (omega (arith, z))).returned 1).does (nothing x) o refl refl (record { around = refl; settled = settled }) h in
       let items : List (Item Scope) = return_code (outer c) f 1 in
       record { count = scopes_in x.postponed e; adds = completed (nothing x) o _ _ _ (adds_as (nothing x) o items (items ++ []) (labels_v f) (labels_v f) (scopes_in x.postponed e) (scopes_in x.postponed e) (sym (append-nil items)) refl refl a.0); looped = tt; small = small; loading = few; says = record { cells = settled.cells; frees = settled.frees } }
   mod_adds other m z small few o h = absurd cc

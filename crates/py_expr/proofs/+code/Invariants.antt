@@ -6,7 +6,7 @@ use Rattle.py_tree.proofs.expressions.Expr.TheLaws.{the_size}
 use Rattle.py_emission_parts.specs.Running.{◌▹◌, run}
 use Rattle.py_emission_parts.specs.Comprehensions.{clauses, conditions}
 use Rattle.py_emission_parts.specs.Elements.{bare, groups}
-use Rattle.py_emission_parts.specs.Emitting.{Emission, ◌▸◌}
+use Rattle.py_emission_parts.specs.Emitting.{Emission}
 use Rattle.py_emission_parts.specs.EmissionParts.{map_of, values_in, built, elements, dict_value, in_turn, links, shorts, tests}
 use Rattle.py_emission.specs.Emission.{all_emissions, all_stores, clause_emissions, keyword_emissions, emission_of_exprs}
 use Rattle.py_emit.specs.States.{rest, state}

@@ -6,7 +6,7 @@ use Rattle.py_tree.specs.View.{expr_tree, exprs, keywords}
 use Rattle.py_tree.proofs.View.{tree_Call}
 use Rattle.py_emission_parts.specs.Running.{Action, run}
 use Rattle.py_emission_parts.specs.Emitting.{Emission}
-use Rattle.py_emission_parts.specs.EmissionParts.{elements, emission_of_call, in_turn}
+use Rattle.py_emission_parts.specs.EmissionParts.{elements, in_turn}
 use Rattle.py_emission.specs.Emission.{all_emissions, emission, emissions, keyword_emissions}
 use Rattle.py_emit.specs.States.{state}
 use Rattle.py_emit.proofs.Joined.{goes_as, went}

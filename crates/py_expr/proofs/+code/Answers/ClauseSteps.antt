@@ -4,7 +4,7 @@ use Rattle.std.specs.Prelude.{IfErr}
 use Rattle.py_tree.specs.View.{expr_tree, generators}
 use Rattle.py_tree.specs.declared.expressions.Expr.{Expr}
 use Rattle.py_emission_parts.specs.Running.{◌▹◌, run}
-use Rattle.py_emission_parts.specs.Emitting.{Done, Emission, Refused, State, ◌▸◌, with_block}
+use Rattle.py_emission_parts.specs.Emitting.{Done, Emission, Refused, State, with_block}
 use Rattle.py_emission.specs.Emission.{clause_emissions, emission}
 use Rattle.py_emit.specs.States.{rest, state}
 use Rattle.py_emit.proofs.Joined.{first_refuses, went}

@@ -12,7 +12,7 @@ use Rattle.py_emission_parts.specs.Running.{Action, ◌▹◌, run}
 use Rattle.py_emission_parts.specs.Children.{made}
 use Rattle.py_emission_parts.specs.Comprehensions.{as_element, called_at_once, comprehension, comprehension_shape, gathered, generated}
 use Rattle.py_emission_parts.specs.Refused.{retold}
-use Rattle.py_emission_parts.specs.Emitting.{Emission, Refused, ◌▸◌, emit_count, keep}
+use Rattle.py_emission_parts.specs.Emitting.{Emission, Refused, ◌▸◌, keep}
 use Rattle.py_emission.specs.Awaits.{awaits, some_async}
 use Rattle.py_emission.specs.Emission.{clause_emissions, emission}
 use Rattle.py_emit.specs.States.{state}

@@ -1,5 +1,5 @@
 -- The maps that keywords give.
-use Rattle.std.proofs.Common.{rules, arith, [], Err, refl, ◌≡◌, ◌+◌, ◌∙◌, ap, drop, length, sym}
+use Rattle.std.proofs.Common.{rules, arith, [], Err, refl, ◌≡◌, ◌+◌, ◌∙◌, ap, drop, sym}
 use Rattle.py_tree.specs.View.{expr_tree, keywords}
 use Rattle.py_bytecode.specs.declared.instruction.Instruction.TheVariants as op
 use Rattle.py_emission_parts.specs.Running.{Action, run}
@@ -10,7 +10,7 @@ use Rattle.py_emission.specs.Emission.{keyword_emissions}
 use Rattle.py_emit.specs.States.{state}
 use Rattle.py_emit.proofs.Joined.{first_refuses, goes_as, went}
 use Rattle.py_expr_parts.specs.Calls.{keyword_emission, map_rest}
-use Rattle.py_expr_parts.specs.Turns.{group_count, run_behind}
+use Rattle.py_expr_parts.specs.Turns.{group_count}
 use Rattle.py_expr_parts.proofs.Groups.{few_groups}
 use Rattle.py_expr_parts.proofs.KeywordMaps.{few_maps, joined_as, keywords_at, many_maps, maps_count, maps_rest, none_more}
 use Rattle.py_expr.proofs.+code.Goals as goal

@@ -97,7 +97,7 @@ value_refused t c = record {
       let n : i < length vs = omega (arith, c.pair_count-i-end.ensures.values, c.loop-i-test.true, ap (length {A = Expr}) c.as_slice-values.ensures) in
       let k = c.index-keys-i.result in
       let v = c.index-values-i.result in
-        let begun =
+      let begun =
       ap (λ (ys : List Expr). run (dict_value (pairs_of c.args.e.now.keys ys)) (state c.args.em.now)) (sym c.as_slice-values.ensures)
       ∙ ap (λ (xs : List (Option Expr)). run (dict_value (pairs_of xs vs)) (state c.args.em.now)) (sym c.as_slice-keys.ensures)
       ∙ c.loop-i.invariant.1 in
@@ -120,7 +120,7 @@ end_refused t c = record {
       let n : i < length vs = omega (arith, c.pair_count-i-end.ensures.values, c.loop-i-test.true, ap (length {A = Expr}) c.as_slice-values.ensures) in
       let k = c.index-keys-i.result in
       let v = c.index-values-i.result in
-        let begun =
+      let begun =
       ap (λ (ys : List Expr). run (dict_value (pairs_of c.args.e.now.keys ys)) (state c.args.em.now)) (sym c.as_slice-values.ensures)
       ∙ ap (λ (xs : List (Option Expr)). run (dict_value (pairs_of xs vs)) (state c.args.em.now)) (sym c.as_slice-keys.ensures)
       ∙ c.loop-i.invariant.1 in
