@@ -2,8 +2,8 @@
 """A machine that passes the suite, written from docs/INSTRUCTIONS.md alone. The package pyc reads files of code for it,
 and python/pyc/instructions.json is its table.
 
-usage: machine.py                  the requests on standard input, the lines of each run on standard output
-       machine.py PLACES SCRIPT    one run of the file of code on standard input
+usage: machine.py                     the requests on standard input, the lines of each run on standard output
+       machine.py SCRIPT [PLACE..]    one run of the file of code on standard input
 """
 import collections
 import json
@@ -276,21 +276,22 @@ class Run:
 def run(data, places, script):
     """The lines of the run of a file's code, from the code at these places."""
     code = codefile.read(data)
-    for place in places.split(",") if places else []:
+    for place in places:
         code = code.constants[int(place)]
     return "\n".join(Run(code, script.split(",") if script else []).told()) + "\n"
 
 
 def main():
-    if len(sys.argv) == 3:
-        sys.stdout.buffer.write(run(sys.stdin.buffer.read(), sys.argv[1], sys.argv[2]).encode("utf-8"))
+    if len(sys.argv) > 1:
+        sys.stdout.buffer.write(run(sys.stdin.buffer.read(), sys.argv[2:], sys.argv[1]).encode("utf-8"))
         return
     kept = {}
     for line in sys.stdin:
         word, _, rest = line.rstrip("\n").partition(" ")
         kept[word] = rest
         if word == "run":
-            sys.stdout.buffer.write((run(bytes.fromhex(kept["code"]), kept["begin"], rest) + "\n").encode("utf-8"))
+            places = kept["begin"].split(",") if kept["begin"] else []
+            sys.stdout.buffer.write((run(bytes.fromhex(kept["code"]), places, rest) + "\n").encode("utf-8"))
 
 
 if __name__ == "__main__":

@@ -5,10 +5,10 @@ usage: conform.py [--each] [--without OUTCOME].. [--list] [--seconds N] [--cases
 
 The command is started once, and reads requests on standard input: `code` and the hexadecimal digits of a file of code,
 `begin` and the places among constants of the code that is run, and `run` and a script. To each `run` it writes the lines
-of the run and an empty line. With --each it is started for each case, with two more words, the places and the script,
-which may be empty; it reads the bytes of the file on standard input, and writes the lines. conformance/README.md has the
-formats. How many cases pass is told, and the first that differs. The status is 0 where all pass, 1 where some differ, 2
-where the words are wrong.
+of the run and an empty line. With --each it is started for each case, with more words: the script, which may be empty, and
+each place. It reads the bytes of the file on standard input, and writes the lines, as the program pyc_trace does.
+conformance/README.md has the formats. How many cases pass is told, and the first that differs. The status is 0 where all
+pass, 1 where some differ, 2 where the words are wrong.
 """
 from __future__ import annotations
 
@@ -80,6 +80,11 @@ def cases_of(path: pathlib.Path) -> List[Case]:
     return found
 
 
+def places_of(code: Code) -> List[str]:
+    """The places that lead from the outermost code to the one that is run."""
+    return code.places.split(",") if code.places else []
+
+
 def outcome(lines: List[str]) -> str:
     """How a run ends."""
     return lines[-1].split(" ")[0]
@@ -124,7 +129,7 @@ def by_one(command: List[str], cases: List[Case], seconds: float) -> Iterator[An
 def by_each(command: List[str], cases: List[Case], seconds: float) -> Iterator[Answer]:
     """The answers of a command that is started for each case."""
     for case in cases:
-        written, fault = ended([*command, case.code.places, case.script], bytes.fromhex(case.code.digits), seconds)
+        written, fault = ended([*command, case.script, *places_of(case.code)], bytes.fromhex(case.code.digits), seconds)
         yield Answer(written.rstrip("\n").split("\n"), fault)
 
 
@@ -145,7 +150,7 @@ def shown(case: Case, answer: Answer) -> str:
 
 def parsed(words: List[str]) -> argparse.Namespace:
     parser = argparse.ArgumentParser(prog="conform.py", description=__doc__.split("\n\n")[0])
-    parser.add_argument("--each", action="store_true", help="start the command for each case, with the places and the script as words")
+    parser.add_argument("--each", action="store_true", help="start the command for each case, with the script and each place as words")
     parser.add_argument("--without", action="append", default=[], choices=OUTCOMES, help="leave out the cases that end so")
     parser.add_argument("--list", action="store_true", help="write a line for each case that differs")
     parser.add_argument("--seconds", type=float, default=300, help="how long the command may take, at each start (300)")

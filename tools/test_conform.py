@@ -1,6 +1,6 @@
 #!/usr/bin/env python3
 """Tests of the suite of conformance/: what conform.py says of a machine that is right, of wrong ones and of such as end
-too early; and, where the program is built, that it verifies the codes and tells the same lines."""
+too early; and, where the programs are built, that pyc verifies the codes and tells the same lines, and that pyc_trace passes."""
 import itertools
 import pathlib
 import subprocess
@@ -11,6 +11,7 @@ import unittest
 TOOLS = pathlib.Path(__file__).resolve().parent
 TOP = TOOLS.parent
 PROGRAM = TOP / "crates" / "pyc" / "out" / "pyc"
+TRACER = TOP / "crates" / "pyc_trace" / "out" / "pyc_trace"
 MACHINE = TOP / "conformance" / "machine.py"
 CASES = TOP / "conformance" / "cases"
 sys.path.insert(0, str(TOOLS))
@@ -135,6 +136,14 @@ class Machines(unittest.TestCase):
             status, out, told = conformed(*words)
             self.assertEqual((status, out), (2, ""))
             self.assertIn(why, told)
+
+
+@unittest.skipUnless(TRACER.exists(), "pyc_trace is not built")
+class Tracer(unittest.TestCase):
+    def test_passes(self):
+        """Each case, in a process of its own: codes that verify or not, from the outermost code or from one within it."""
+        count = sum(len(conform.cases_of(path)) for path in CASES.glob("*.txt"))
+        self.assertEqual(conformed("--each", "--", TRACER), (0, "%d of %d cases pass\n" % (count, count), ""))
 
 
 def programs():

@@ -1,19 +1,16 @@
 -- Paths, place by place: those of words, and those among the constants of codes.
-use Rattle.std.proofs.Common.{◌≡◌, ◌≢◌, ℕ, List, [], ◌∷◌, ◌++◌, map, Option, Some, None, Result, Ok, Err, refl, ap, ◌∙◌, subst, inr, option_map, IfOk}
+use Rattle.std.proofs.Common.{◌≡◌, ℕ, List, [], ◌∷◌, ◌++◌, map, Option, Some, None, Result, Ok, Err, refl, ap, ◌∙◌, subst, option_map, IfOk}
 use Rattle.std.specs.Prelude.{option_and_then, slice_get}
 use Rattle.std.proofs.lemmas.Option.{slice_get-map}
 use Rattle.py_bytecode.specs.Objects.{Const, Object, constants, consts_of, listed}
-use Rattle.py_verify.specs.declared.verdict.Flaw.{Flaw}
-use Rattle.py_verify.specs.declared.verdict.Verdict.{Verdict}
 use Rattle.py_bytecode.specs.View.{constant, object}
 use Rattle.py_bytecode.specs.declared.code.CodeObject.{CodeObject}
 use Rattle.py_bytecode.specs.declared.code.ConstantData.{ConstantData}
 use Rattle.py_bytecode.proofs.View.{object_is}
 use Rattle.py_trace.specs.Among.{code_along, code_at, code_in}
 use Rattle.py_trace.specs.declared.report.Due.{Due}
-use Rattle.py_trace.specs.Dues.{ByCode, OfCode, OfPath}
+use Rattle.py_trace.specs.Dues.{ByCode, OfCode}
 use Rattle.py_trace.specs.Words.{Asked}
-use Rattle.py_verify.specs.Nested.{Flawless}
 
 -- a path with places in front
 abbrev pub behind : (front : List ℕ) → Option (List ℕ) → Option (List ℕ)
@@ -37,15 +34,5 @@ pub at_nothing : (c : CodeObject) (place : ℕ) → slice_get c.constants place 
 at_nothing c place e = ap (option_and_then code_in) (slice_of c place ∙ ap (option_map constant) e)
 
 -- what is due for the code at the end of a path
-pub by_code : {E : Type 0} (asked : Asked) (o : Object) (path : List ℕ) (found : Option Object) (r : Result Due E) → found ≡ code_along path o → path ≡ asked.path → IfOk r (ByCode asked found) → IfOk r (OfPath asked o)
+pub by_code : {E : Type 0} (asked : Asked) (o : Object) (path : List ℕ) (found : Option Object) (r : Result Due E) → found ≡ code_along path o → path ≡ asked.path → IfOk r (ByCode asked found) → IfOk r (OfCode asked o)
 by_code asked o path found r at same due = subst (λ p. IfOk r (ByCode asked (code_along p o))) same (subst (λ f. IfOk r (ByCode asked f)) at due)
-
--- a verdict that is no No
-pub yes_of : (v : Verdict) → ((flaw : Flaw) → v ≢ Verdict.No flaw) → v ≡ Verdict.Yes
-yes_of Verdict.Yes h = refl
-yes_of (Verdict.No flaw) h = absurd (h flaw refl)
-
--- what is due at the end of the path is due of a code without a flaw
-pub sound_due : {E : Type 0} (asked : Asked) (o : Object) (r : Result Due E) → Flawless o → IfOk r (OfPath asked o) → IfOk r (OfCode asked o)
-sound_due asked o (Ok d) sound due = inr (sound, due)
-sound_due asked o (Err e) sound due = due

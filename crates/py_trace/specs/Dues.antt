@@ -1,11 +1,10 @@
 -- What is due for what the words ask for and the bytes of an input.
-use Rattle.std.specs.Prelude.{◌≡◌, ℕ, ◌<◌, ◌≤◌, ◌^◌, ◌⊎◌, List, ◌++◌, length, Option, Some, None, Result, Ok, Err, codes, decimal, string_bytes}
+use Rattle.std.specs.Prelude.{◌≡◌, ℕ, ◌<◌, ◌≤◌, ◌^◌, List, ◌++◌, length, Option, Some, None, Result, Ok, Err, codes, decimal, string_bytes}
 use Rattle.py_bytecode.specs.Objects.{Object}
 use Rattle.py_bytecode.specs.Units.{machine}
 use Rattle.py_codefile.specs.declared.error.ReadCodeError.{ReadCodeError}
 use Rattle.py_codefile.specs.declared.error.ReadCodeError.TheVariants as bad
 use Rattle.py_codefile.specs.Reading.{file_at}
-use Rattle.py_verify.specs.Nested.{Flawless}
 use Rattle.py_answers.specs.declared.answers.Answer.{Answer}
 use Rattle.py_answers.specs.Lines.{lines}
 use Rattle.py_answers.specs.Scripts.{answers_of}
@@ -54,12 +53,8 @@ abbrev pub ByCode : Asked → Option Object → Due → Type 0
 ByCode asked None d = Says (codes "no code at this path") d
 ByCode asked (Some o) d = Tells (trace_text asked.script o) d
 
-abbrev pub OfPath : Asked → Object → Due → Type 0
-OfPath asked o d = ByCode asked (code_along asked.path o) d
-
--- nothing of a code with a flaw but a line
 abbrev pub OfCode : Asked → Object → Due → Type 0
-OfCode asked o d = ((¬ Flawless o) × Says (codes "code does not verify") d) ⊎ (Flawless o × OfPath asked o d)
+OfCode asked o d = ByCode asked (code_along asked.path o) d
 
 abbrev pub OfFile : Asked → Result Object ReadCodeError → Due → Type 0
 OfFile asked (Ok o) d = OfCode asked o d

@@ -7,7 +7,7 @@ pub enum Status {
     Done = 0,
     /// The words are no script and places.
     Usage = 2,
-    /// The input is not a file of sound code, or no code stands at the path.
+    /// The input is no file of code, or no code stands at the path.
     Input = 3,
     /// A read failed.
     ReadFault = 4,

@@ -2,7 +2,7 @@
 ghost use Rattle.std.specs.Prelude.{◌≡◌, IfOk, codes};
 ghost use Rattle.py_bytecode.specs.View.{object};
 ghost use Rattle.py_codefile.specs.Reading.{file_at};
-ghost use Rattle.py_trace.specs.Dues.{IsDue, OfCode, OfFile, OfPath, Says, Tells, bad_at, file_text, trace_text};
+ghost use Rattle.py_trace.specs.Dues.{IsDue, OfCode, OfFile, Says, Tells, bad_at, file_text, trace_text};
 ghost use Rattle.py_trace.specs.Words.{asked_of};
 
 use crate::among::code_along;
@@ -13,7 +13,6 @@ use py_answers::{Script, push_trace};
 use py_bytecode::CodeObject;
 use py_codefile::{ReadCodeError, read_code};
 use py_step_machine::run_code;
-use py_verify::{Verdict, verify};
 use std::alloc::{AllocError, Global};
 
 /// What is due for a request and the bytes of the input.
@@ -66,20 +65,9 @@ fn bad_at(error: &ReadCodeError) -> u64
     }
 }
 
-/// What is due for the code of a file. No code of it is run before the whole of it is verified.
+/// What is due for the code of a file. It need not verify: each code has a run.
 fn of_code(alloc: Global, request: &Request, code: &CodeObject) -> Result<Due, AllocError>
     ensures { IfOk result (OfCode (asked_of request.now) (object code.now)) }
-{
-    if let Verdict::No(_) = verify(alloc, code)? {
-        let line = String::from_str(alloc, "input: code does not verify\n")?;
-        return Ok(Due::Input(line));
-    }
-    along(alloc, request, code)
-}
-
-/// What is due for the code of a file that is verified.
-fn along(alloc: Global, request: &Request, code: &CodeObject) -> Result<Due, AllocError>
-    ensures { IfOk result (OfPath (asked_of request.now) (object code.now)) }
 {
     match code_along(code, request.path.as_slice()) {
         Some(reached) => lines(alloc, reached, &request.script),
