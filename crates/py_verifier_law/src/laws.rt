@@ -1,5 +1,6 @@
-//! The law of the verifier. Its body does nothing but name the law that it stands on.
+//! Laws of what verifies and what is well formed. Their bodies do nothing but name the laws that they stand on.
 ghost use Rattle.py_verifier_law.specs.Flawless.{CompiledIsFlawless};
+ghost use Rattle.py_verifier_law.specs.Formed.{CompiledIsFormedInPart};
 
 use py_verify::laws::flawless_is_sound;
 
@@ -9,3 +10,9 @@ pub fn compiled_is_flawless()
 {
     flawless_is_sound();
 }
+
+/// Of a code that a compile call answers `well_formed` tells no fault of its locations, and none of names that stand twice
+/// among its cells and free names.
+pub fn compiled_is_formed_in_part()
+    ensures { CompiledIsFormedInPart }
+{}

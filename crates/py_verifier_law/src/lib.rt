@@ -3,4 +3,4 @@
 
 mod laws;
 
-pub use laws::compiled_is_flawless;
+pub use laws::{compiled_is_flawless, compiled_is_formed_in_part};
