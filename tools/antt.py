@@ -795,7 +795,7 @@ class Project:
         return None
 
 
-DECLARED = re.compile(r"^(?:(?:///|#\[)[^\n]*\n)*pub (?:enum|struct|type|trait) (\w+)\b[^;{]*?(?:;|\{(?:[^\n]*\}$|.*?^\}))", re.M | re.S)
+DECLARED = re.compile(r"^(?:(?:///|#\[)[^\n]*\n)*(?:pub(?:\([a-z]+\))? )?(?:enum|struct|type|trait) (\w+)\b[^;{]*?(?:;|\{(?:[^\n]*\}$|.*?^\}))", re.M | re.S)
 
 
 def module_paths(crate: str, modules: Sequence[str]) -> Tuple[str, ...]:

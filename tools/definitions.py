@@ -219,7 +219,7 @@ def declared(project: antt.Project, code: Iterable[antt.Name]) -> Dict[str, Dict
 
 
 def undeclared(project: antt.Project, code: Iterable[antt.Name]) -> List[str]:
-    """What is cited of the code that is no type of it, as the equality that a derive writes."""
+    """What is cited of the code that is no type of it: the equality that a derive writes."""
     return sorted("`%s` of %s" % (name.name, name.place) for name in code if project.declaration(name) is None and name.place)
 
 
@@ -272,7 +272,7 @@ def kit_lines(project: antt.Project, closure: Closure) -> List[str]:
 # ---- the pages
 
 def counted(size: Size) -> str:
-    return "{:,} definitions of {:,} files, {:,} lines".format(*size)
+    return "{:,} definitions of {:,} {}, {:,} lines".format(size.definitions, size.files, "file" if size.files == 1 else "files", size.lines)
 
 
 def headline_closure(project: antt.Project) -> Closure:
@@ -351,11 +351,10 @@ def anchor(number: int, title: str) -> str:
 
 def left_out(project: antt.Project, closure: Closure, types: List[str]) -> List[str]:
     """What is left out of a page, and why."""
-    lines = ["## What is left out", ""]
-    lines += ["### Types of the code", "", "The definitions read values of these types of the program's own code, by their fields and variants. Their text says what these are; no function of theirs is cited.", "", *types, ""]
     others = undeclared(project, closure.code)
-    if others:
-        lines += ["Beside these types it is %s." % ", ".join(others), ""]
+    but = ", but for %s, which a derive writes" % ", ".join(others) if others else ""
+    lines = ["## What is left out", ""]
+    lines += ["### Types of the code", "", "The definitions read values of these types of the program's own code, by their fields and variants. No function of the code is cited%s." % but, "", *types, ""]
     lines += ["### The kit", "", "The kit has these definitions, and its own proofs stand on them: they are the language in which contracts are written (`std`), and what its crates say of JSON, of digits in base 16 and of maps. Their text is in the kit.", ""]
     return lines + kit_lines(project, closure)
 
