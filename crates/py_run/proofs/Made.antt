@@ -34,7 +34,8 @@ use Rattle.py_run.specs.declared.preparing.Prepared.{Prepared}
 use Rattle.py_run.specs.declared.preparing.Prepared.TheVariants as made
 use Rattle.py_run.specs.Prepared.{Compiles, IsFiled, IsListed, IsVerified, Readies, RefusesTree, TellsFault}
 use Rattle.py_run.specs.Runs.{TakesTree}
-use Rattle.py_run.specs.Statuses.{Due, Misuse, Misread, Refused, Compiled, Spelled, Told, IsCodeOf, by_file, by_rows, compiled, file_text, flaw_text, lines_text, reported, rows_text, unless_refused}
+use Rattle.py_lines.specs.Lines.{rows_text}
+use Rattle.py_run.specs.Statuses.{Due, Misuse, Misread, Refused, Compiled, Spelled, Told, IsCodeOf, by_file, by_rows, compiled, file_text, flaw_text, lines_text, reported, unless_refused}
 use Rattle.py_run.specs.Words.{Command, Compilation, Compile, Pack, Unpack, Names}
 
 -- ---- lines

@@ -2,17 +2,15 @@
 use Rattle.std.specs.Prelude.{◌≡◌, ℕ, ◌^◌, nat_lt, List, [], ◌∷◌, ◌++◌, length, Option, Some, None, map, option_map, Result, Ok, Err, codes, decimal, if◌then◌else◌}
 use Rattle.std.specs.List.{flat_map}
 use Rattle.py_tree.specs.Tree as tree
-use Rattle.py_base.specs.declared.location.SourceLocation.{SourceLocation}
 use Rattle.py_bytecode.specs.Objects.{Object}
 use Rattle.py_bytecode.specs.Units.{machine}
 use Rattle.py_bytecode.specs.Values as values
 use Rattle.py_bytecode.specs.View.{object}
 use Rattle.py_bytecode.specs.declared.code.CodeObject.{CodeObject}
-use Rattle.py_base.specs.Messages.{message}
 use Rattle.py_listing.specs.Listing.{listing}
 use Rattle.py_rows_fields.specs.declared.error.RowsError.{RowsError}
-use Rattle.py_rows_fields.specs.declared.error.RowsError.TheVariants.{NotJson, NotRows, WrongRow, WideInteger, LaterRow, WrongKind, NamedTwice, TooDeep, NoMod, NotNamed, OutOfMemory}
 use Rattle.py_rows.specs.Rows.{rows_tree}
+use Rattle.py_lines.specs.Lines.{rows_text}
 use Rattle.py_codefile.specs.declared.error.ReadCodeError.{ReadCodeError}
 use Rattle.py_codefile.specs.declared.error.ReadCodeError.TheVariants as bad
 use Rattle.py_codefile.specs.Grammar.{Spells}
@@ -39,33 +37,6 @@ use Rattle.py_run.specs.Words.{Compilation, Command, Compile, Pack, Step, Unpack
 
 abbrev pub usage_line : List ℕ
 usage_line = codes "usage: pyc MODE LEVEL PATH\n"
-
-abbrev row_text : ℕ → List ℕ → List ℕ
-row_text n text = codes "row " ++ decimal n ++ codes ": " ++ text
-
--- what is wrong with the rows
-abbrev pub rows_text : RowsError → List ℕ
-rows_text NotJson = codes "not JSON"
-rows_text NotRows = codes "not rows"
-rows_text (WrongRow n) = row_text n (codes "wrong form")
-rows_text (WideInteger n) = row_text n (codes "integer too wide")
-rows_text (LaterRow n) = row_text n (codes "later row")
-rows_text (WrongKind n) = row_text n (codes "wrong kind")
-rows_text (NamedTwice n) = row_text n (codes "named twice")
-rows_text (TooDeep n) = row_text n (codes "too deep")
-rows_text NoMod = codes "no module"
-rows_text (NotNamed n) = row_text n (codes "not named")
-rows_text OutOfMemory = []
-
-abbrev pub input_line : List ℕ → List ℕ
-input_line text = codes "input: " ++ text ++ codes "\n"
-
-abbrev pub place_text : Option SourceLocation → List ℕ
-place_text None = codes "-:-"
-place_text (Some at) = decimal at.row ++ codes ":" ++ decimal at.column
-
-abbrev pub refusal_line : Fault → List ℕ
-refusal_line f = place_text f.location ++ codes " " ++ message f.error ++ codes "\n"
 
 -- what is wrong with a file that is read: where its first bad field begins
 abbrev pub bad_at : ReadCodeError → ℕ

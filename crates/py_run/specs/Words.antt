@@ -7,10 +7,10 @@ use Rattle.std.specs.Str.{bytes_eq}
 use Rattle.py_answers.specs.declared.answers.Answer.{Answer}
 use Rattle.py_answers.specs.Scripts.{script_in}
 use Rattle.py_tree.specs.declared.modules.Mode.{Mode}
+use Rattle.py_lines.specs.Words.{level_of, mode_of}
 use Rattle.py_run.specs.declared.words.Compilation as kept
 use Rattle.py_run.specs.declared.words.Command as asked
 use Rattle.py_run.specs.declared.words.Command.TheVariants as asked_for
-use Rattle.py_tree.specs.declared.modules.Mode.TheVariants.{Exec, Eval, Single, BlockExpr}
 
 -- a compilation of rows: the mode, the level of optimization, and the path of the source
 pub record Compilation : Type 0 where
@@ -70,19 +70,6 @@ IsFit (asked_for.Step c script) = is_some (script_in script.now) ≡ true
 IsFit asked_for.Unpack = Unit {0}
 IsFit asked_for.Names = Unit {0}
 IsFit (asked_for.Sample s) = s.count < 2 ^ 17
-
-abbrev pub mode_of : List ℕ → Option Mode
-mode_of word =
-    if bytes_eq word (codes "exec") then Some Exec else
-    (if bytes_eq word (codes "eval") then Some Eval else
-    (if bytes_eq word (codes "single") then Some Single else
-    (if bytes_eq word (codes "block") then Some BlockExpr else None)))
-
-abbrev pub level_of : List ℕ → Option ℕ
-level_of word =
-    if bytes_eq word (codes "0") then Some 0 else
-    (if bytes_eq word (codes "1") then Some 1 else
-    (if bytes_eq word (codes "2") then Some 2 else None))
 
 -- the number that decimal digits say behind a number
 abbrev pub number_behind : (high : ℕ) → List ℕ → ℕ

@@ -3,11 +3,11 @@ ghost use Rattle.std.specs.Prelude.{◌≡◌, ◌<◌, ◌^◌, false, length, 
 ghost use Rattle.py_rows.specs.Rows.{rows_tree};
 ghost use Rattle.py_run.specs.Prepared.{HasForm, IsListed, Prepares, Readies, ReadsOf, ReadsTree, RefusesTree, TellsFault};
 ghost use Rattle.py_run.specs.Reading.{TakesFew};
-ghost use Rattle.py_run.specs.Statuses.{answered, due_of, rows_text};
+ghost use Rattle.py_lines.specs.Lines.{rows_text};
+ghost use Rattle.py_run.specs.Statuses.{answered, due_of};
 ghost use Rattle.py_run.specs.Words.{IsFit, command_view, reads_input, words_form};
 
 use crate::compiling::{compiled, packed};
-use crate::lines::{input_line, refusal_line, too_long_line};
 use crate::naming::reported;
 use crate::reading::{ReadError, read_all};
 use crate::sampling::sampled;
@@ -17,6 +17,7 @@ use crate::words::{Command, Words, parse};
 use py_base::CodegenErrorType;
 use py_bytecode::CodeObject;
 use py_devices::Source;
+use py_lines::{input_line, refusal_line, too_long_line};
 use py_listing::listing;
 use py_rows::{RowsError, read_rows};
 use py_tree::{Mod, SourceLocation};
