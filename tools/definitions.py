@@ -23,9 +23,7 @@ import antt
 ROOT = pathlib.Path(__file__).resolve().parent.parent
 KIT_WORDS = "tools/kit_words.txt"
 RUN = "crates/py_run/src/engine.rt:run"
-# The function whose contract is the headline, and definitions that are shown beside those that it cites.
-HEADLINE = "crates/examples/src/compile.rt:code_of_file"
-BESIDE = ("py_rows/Rows:rows_tree", "py_listing/Listing:listing", "py_run/Statuses:rows_text", "py_run/Statuses:refusal_line")
+HEADLINE = "crates/headline/src/compiling.rt:compile_rows"
 TRUSTED_PAGE = "docs/TRUSTED.md"
 HEADLINE_PAGE = "docs/HEADLINE.md"
 
@@ -48,10 +46,10 @@ SECTIONS = [
     Section("Numbers of scopes", "The number of each scope of a tree, in preorder.", ("py_meaning/StmtCounts:scopes_in_stmts",)),
     Section("The table", "Which form each node of a tree is.", ("py_meaning/Meaning:body",)),
     Section("Agreement", "When a code object does what a form says.", ("py_control/Agreement:Agree",)),
-    Section("Rows", "The tree whose rows some bytes are, or what is wrong with them first.", ("py_rows/Rows:rows_tree", "py_run/Statuses:rows_text")),
+    Section("Rows", "The tree whose rows some bytes are, or what is wrong with them first.", ("py_rows/Rows:rows_tree", "headline/Headline:input_tree")),
     Section("The listing", "The text of a code object.", ("py_listing/Listing:listing",)),
     Section("Scopes", "The uses of names in a tree, in their order, and the scopes to which they resolve.", ("py_meaning/Scanned:scopes_of",)),
-    Section("Faults", "What is wrong with a tree, in order, and the line that says so.", ("py_meaning/Faults:faults", "py_run/Statuses:refusal_line")),
+    Section("Faults", "What is wrong with a tree, in order, and the line that says so.", ("py_meaning/Faults:faults", "py_lines/Lines:refusal_line")),
 ]
 
 Found = Tuple[str, str]
@@ -275,11 +273,6 @@ def counted(size: Size) -> str:
     return "{:,} definitions of {:,} {}, {:,} lines".format(size.definitions, size.files, "file" if size.files == 1 else "files", size.lines)
 
 
-def headline_closure(project: antt.Project) -> Closure:
-    """The definitions of the headline."""
-    return Closure(project).add(name for what in (HEADLINE, *BESIDE) for name in roots_of(project, what))
-
-
 def headline_sections(closure: Closure) -> List[Tuple[Section, List[Found]]]:
     """The definitions of each section. The contract's own come first, and are what no other section needs."""
     project = closure.project
@@ -291,7 +284,7 @@ def headline_sections(closure: Closure) -> List[Tuple[Section, List[Found]]]:
         seen |= set(part)
         parts.append((section, part))
     rest = [at for at in closure.found if at not in seen]
-    return [(Section("The contract", "What is promised, and the definitions that say it in short.", ()), rest)] + [part for part in parts if part[1]]
+    return [(Section("The contract", "What is owed for some bytes and three words.", ()), rest)] + [part for part in parts if part[1]]
 
 
 def section_lines(project: antt.Project, closure: Closure, found: Sequence[Found]) -> List[str]:
@@ -322,11 +315,11 @@ def contract_text(project: antt.Project, what: str) -> List[str]:
 
 def headline_page(project: antt.Project) -> str:
     """The page of the headline."""
-    closure = headline_closure(project)
+    closure = Closure(project).add(roots_of(project, HEADLINE))
     parts = headline_sections(closure)
     place, _, name = HEADLINE.rpartition(":")
     lines = ["# What the compiler promises", ""]
-    lines += ["The headline of pyc is the contract of `%s` (`%s`). This page has the contract, and the text of every definition that it cites, near or far, in an order in which they can be read: %s. %sNo proof and no other code has to be believed. `python3 tools/definitions.py --write` writes the page; `DEFINITIONS.md` tells the same in plain words, with worked lines, and `TRUSTED.md` lists what all of `run` rests on." % (name, place, counted(closure.size()), beside()), ""]
+    lines += ["The headline of pyc is the contract of `%s` (`%s`). This page has the contract, and the text of every definition that it cites, near or far, in an order in which they can be read: %s. No proof and no other code has to be believed. `python3 tools/definitions.py --write` writes the page; `DEFINITIONS.md` tells the same in plain words, with worked lines, and `TRUSTED.md` lists what all of `run` rests on." % (name, place, counted(closure.size())), ""]
     lines += ["| Section | Definitions | Lines |", "|---|---|---|"]
     lines += ["| [%d. %s](#%s) | %d | %s |" % (k, section.title, anchor(k, section.title), len(found), "{:,}".format(closure.size(found).lines)) for k, (section, found) in enumerate(parts)]
     lines += ["| [What is left out](#what-is-left-out) | | |", ""]
@@ -336,12 +329,6 @@ def headline_page(project: antt.Project) -> str:
         lines += section_lines(project, closure, found)
     lines += left_out(project, closure, code_texts(project, closure))
     return "\n".join(lines).rstrip("\n") + "\n"
-
-
-def beside() -> str:
-    """What is said of the definitions that are shown beside those of the contract."""
-    names = ["`%s`" % what.rpartition(":")[2] for what in BESIDE]
-    return "Among them are those of %s and %s, which tie the tree and the code to what is read and written. " % (", ".join(names[:-1]), names[-1]) if names else ""
 
 
 def anchor(number: int, title: str) -> str:
@@ -385,7 +372,7 @@ def trait_roots(project: antt.Project, place: str) -> List[antt.Name]:
 def trusted_page(project: antt.Project) -> str:
     """The page of all that `run` cites."""
     closure = Closure(project).add(roots_of(project, RUN))
-    headline = set(headline_closure(project).found)
+    headline = set(Closure(project).add(roots_of(project, HEADLINE)).found)
     lines = ["# What is trusted", ""]
     lines += ["The theorem of `run` (`crates/py_run/src/engine.rt`) is about these definitions, and says what is meant only where they do: those that its contract cites, those that these cite, and so on. Names are read by their scope, and no proof and no code is among them. `python3 tools/definitions.py --write` writes the list; `DEFINITIONS.md` says in plain words what they say, and `tools/definitions_index.py NAME` prints all of a crate's.", ""]
     lines += ["Whoever wants to believe the headline alone needs %s of them: `HEADLINE.md` has their text." % "{:,}".format(len(headline & set(closure.found))), ""]
