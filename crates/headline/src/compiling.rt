@@ -105,11 +105,7 @@ fn listed(alloc: Global, code: &CodeObject) -> Answer
     }
 }
 
-fn refused(
-    alloc: Global,
-    error: &CodegenErrorType,
-    location: Option<SourceLocation>,
-) -> Answer
+fn refused(alloc: Global, error: &CodegenErrorType, location: Option<SourceLocation>) -> Answer
     ensures { IsRefused (record { error = error.now; location = location }) result }
 {
     match refusal_line(alloc, error, location) {

@@ -18,13 +18,7 @@ pub struct Ended {
 
 /// Runs the program over rows in memory, with these words, into two buffers, whatever they hold now. What has no room in its
 /// buffer is not written, and then the status is `WriteFault`.
-pub fn run_rows(
-    alloc: Global,
-    words: &Words,
-    rows: List<u8>,
-    out: List<u8>,
-    err: List<u8>,
-) -> Ended
+pub fn run_rows(alloc: Global, words: &Words, rows: List<u8>, out: List<u8>, err: List<u8>) -> Ended
     ensures { OwesFor rows words.now result.report.status result.out.held result.err.held }
 {
     let mut source = CleanSource::new(rows);
