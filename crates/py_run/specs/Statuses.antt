@@ -9,7 +9,7 @@ use Rattle.py_bytecode.specs.View.{object}
 use Rattle.py_bytecode.specs.declared.code.CodeObject.{CodeObject}
 use Rattle.py_listing.specs.Listing.{listing}
 use Rattle.py_rows_fields.specs.declared.error.RowsError.{RowsError}
-use Rattle.py_rows.specs.Rows.{rows_tree}
+use Rattle.py_rows_format.specs.Rows.{rows_tree}
 use Rattle.py_lines.specs.Lines.{rows_text}
 use Rattle.py_codefile.specs.declared.error.ReadCodeError.{ReadCodeError}
 use Rattle.py_codefile.specs.declared.error.ReadCodeError.TheVariants as bad

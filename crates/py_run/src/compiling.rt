@@ -1,7 +1,7 @@
 //! Codes of rows, as listings and as files.
 ghost use Rattle.std.specs.Prelude.{◌≡◌, ◌<◌, ◌^◌, length};
 ghost use Rattle.py_tree.specs.View.{mod_tree};
-ghost use Rattle.py_rows.specs.Rows.{rows_tree};
+ghost use Rattle.py_rows_format.specs.Rows.{rows_tree};
 ghost use Rattle.py_bytecode.specs.Nesting.{nesting};
 ghost use Rattle.py_bytecode.specs.View.{object};
 ghost use Rattle.py_run.specs.Prepared.{Compiles, IsFiled, Readies};

@@ -1,7 +1,7 @@
 //! Reports on the names of trees.
 ghost use Rattle.std.specs.Prelude.{◌<◌, ◌^◌, length};
 ghost use Rattle.py_tree.specs.View.{mod_tree};
-ghost use Rattle.py_rows.specs.Rows.{rows_tree};
+ghost use Rattle.py_rows_format.specs.Rows.{rows_tree};
 ghost use Rattle.py_run.specs.Prepared.{Readies};
 ghost use Rattle.py_run.specs.Statuses.{by_rows, reported};
 ghost use Rattle.py_run.specs.Words.{Names};

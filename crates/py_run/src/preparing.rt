@@ -1,6 +1,7 @@
 //! From words and a source to the text that is due.
 ghost use Rattle.std.specs.Prelude.{◌≡◌, ◌<◌, ◌^◌, false, length, IfSome, codes};
-ghost use Rattle.py_rows.specs.Rows.{rows_tree};
+ghost use Rattle.py_rows.specs.Rows.{rows_tree as tree_read};
+ghost use Rattle.py_rows_format.specs.Rows.{rows_tree};
 ghost use Rattle.py_run.specs.Prepared.{HasForm, IsListed, Prepares, Readies, ReadsOf, ReadsTree, RefusesTree, TellsFault};
 ghost use Rattle.py_run.specs.Reading.{TakesFew};
 ghost use Rattle.py_lines.specs.Lines.{rows_text};
@@ -97,6 +98,14 @@ fn too_long(alloc: Global) -> Prepared
 pub(crate) fn tree_of(alloc: Global, bytes: &[u8]) -> Result<Mod, Prepared>
     requires { length bytes.now < 2 ^ 26 }
     ensures { ReadsTree result (rows_tree bytes.now) }
+{
+    read_tree(alloc, bytes)
+}
+
+/// The tree that `read_rows` reads, which is that of the format by the law of rows.
+fn read_tree(alloc: Global, bytes: &[u8]) -> Result<Mod, Prepared>
+    requires { length bytes.now < 2 ^ 26 }
+    ensures { ReadsTree result (tree_read bytes.now) }
 {
     match read_rows(alloc, bytes) {
         Ok(tree) => Ok(tree),

@@ -3,7 +3,7 @@ ghost use Rattle.std.specs.Prelude.{◌≡◌, ◌<◌, ◌^◌, true, length, I
 ghost use Rattle.std.specs.Option.{is_some};
 ghost use Rattle.py_tree.specs.View.{mod_tree};
 ghost use Rattle.py_bytecode.specs.View.{object};
-ghost use Rattle.py_rows.specs.Rows.{rows_tree};
+ghost use Rattle.py_rows_format.specs.Rows.{rows_tree};
 ghost use Rattle.py_answers.specs.Scripts.{answers_of, script_in};
 ghost use Rattle.py_step.specs.Reports.{report_text};
 ghost use Rattle.py_interp.specs.Statements.{tree_run};
