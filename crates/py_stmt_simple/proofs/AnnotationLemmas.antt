@@ -11,23 +11,23 @@ use Rattle.py_bytecode.specs.declared.instruction.Instruction.TheVariants as op
 use Rattle.py_bytecode.specs.Objects as const
 use Rattle.py_emission_parts.specs.Children.{noted}
 use Rattle.py_emission_parts.specs.Context.{mangled}
-use Rattle.py_emission_parts.specs.Emitting.{◌▸◌, by_context, emit_constant}
-use Rattle.py_emission_parts.specs.Running.{run}
+use Rattle.py_emission_parts.specs.Emitting.{◌▸◌, State, by_context, emit_constant}
+use Rattle.py_emission_parts.specs.Running.{Action, run}
 use Rattle.py_emission_parts.specs.EmissionParts.{in_turn}
 use Rattle.py_emission.specs.EmissionDefs.{arg_notes, emission_of_note, notes, opt_arg_note, opt_note}
 use Rattle.py_stmt_simple.proofs.EmissionGroupLemmas.{after_same}
 use Rattle.py_emit.proofs.Joined.{keep_last, turn_append}
 
-pub one_note : (name : List ℕ) (e : tree.Expr) → run (in_turn (opt_note name (tree.some_expr e))) ≡ run (by_context (λ c. emit_constant op.LoadConst (const.str (mangled c name))) ▸ emission_of_note e)
-one_note name e = keep_last (noted name (emission_of_note e))
+pub one_note : (name : List ℕ) (e : tree.Expr) (s : State) → run (in_turn (opt_note name (tree.some_expr e))) s ≡ run (by_context (λ c. emit_constant op.LoadConst (const.str (mangled c name))) ▸ emission_of_note e) s
+one_note name e s = ap (λ (a : Action). a s) (keep_last (noted name (emission_of_note e)))
 
 many_both : {A : Type 0} (xs ys : List A) → length (xs ++ ys) ≡ length xs + length ys
 many_both [] ys = omega arith
 many_both (x ∷ xs) ys = let h = many_both xs ys in omega (arith, h)
 
 -- each group after those before it
-pub notes_are : (p : ArgumentsOf Expr) (returns : tree.OptExpr) → run (in_turn (notes (arguments expr_tree p) returns)) ≡ run (in_turn (opt_note (codes "return") returns) ▸ in_turn (arg_notes (args expr_tree p.posonlyargs)) ▸ in_turn (arg_notes (args expr_tree p.args)) ▸ in_turn (arg_notes (args expr_tree p.kwonlyargs)) ▸ in_turn (opt_arg_note (opt_arg expr_tree p.vararg)) ▸ in_turn (opt_arg_note (opt_arg expr_tree p.kwarg)))
-notes_are p returns =
+notes_alike : (p : ArgumentsOf Expr) (returns : tree.OptExpr) → run (in_turn (notes (arguments expr_tree p) returns)) ≡ run (in_turn (opt_note (codes "return") returns) ▸ in_turn (arg_notes (args expr_tree p.posonlyargs)) ▸ in_turn (arg_notes (args expr_tree p.args)) ▸ in_turn (arg_notes (args expr_tree p.kwonlyargs)) ▸ in_turn (opt_arg_note (opt_arg expr_tree p.vararg)) ▸ in_turn (opt_arg_note (opt_arg expr_tree p.kwarg)))
+notes_alike p returns =
     let a = opt_note (codes "return") returns in
     let b = arg_notes (args expr_tree p.posonlyargs) in
     let c = arg_notes (args expr_tree p.args) in
@@ -39,6 +39,9 @@ notes_are p returns =
     ∙ after_same (run (in_turn b)) _ _ (turn_append c (d ++ (e ++ f))
     ∙ after_same (run (in_turn c)) _ _ (turn_append d (e ++ f)
     ∙ after_same (run (in_turn d)) _ _ (turn_append e f))))
+
+pub notes_are : (p : ArgumentsOf Expr) (returns : tree.OptExpr) (s : State) → run (in_turn (notes (arguments expr_tree p) returns)) s ≡ run (in_turn (opt_note (codes "return") returns) ▸ in_turn (arg_notes (args expr_tree p.posonlyargs)) ▸ in_turn (arg_notes (args expr_tree p.args)) ▸ in_turn (arg_notes (args expr_tree p.kwonlyargs)) ▸ in_turn (opt_arg_note (opt_arg expr_tree p.vararg)) ▸ in_turn (opt_arg_note (opt_arg expr_tree p.kwarg))) s
+notes_are p returns s = ap (λ (a : Action). a s) (notes_alike p returns)
 
 pub many_notes : (p : ArgumentsOf Expr) (returns : tree.OptExpr) → length (notes (arguments expr_tree p) returns) ≡ length (opt_note (codes "return") returns) + length (arg_notes (args expr_tree p.posonlyargs)) + length (arg_notes (args expr_tree p.args)) + length (arg_notes (args expr_tree p.kwonlyargs)) + length (opt_arg_note (opt_arg expr_tree p.vararg)) + length (opt_arg_note (opt_arg expr_tree p.kwarg))
 many_notes p returns =

@@ -9,7 +9,7 @@ use Rattle.py_emission_parts.specs.EmissionParts.{built}
 use Rattle.py_emission_parts.specs.Children.{made, some_emitted}
 use Rattle.py_emission_parts.specs.Within.{some_flag}
 use Rattle.py_emission_parts.specs.Context.{qualified}
-use Rattle.py_emission_parts.specs.Emitting.{Emission, by_context, go_on}
+use Rattle.py_emission_parts.specs.Emitting.{Emission, by_context}
 use Rattle.py_emit.specs.States.{state}
 use Rattle.py_emit.proofs.Joined.{goes_as, went}
 use Rattle.py_stmt_simple.specs.Functions.{notes_of}
