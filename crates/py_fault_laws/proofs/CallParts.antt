@@ -18,7 +18,8 @@ use Rattle.py_emission_parts.specs.Refused.{no_assignment}
 use Rattle.py_emission_parts.specs.Within.{lambda_inside}
 use Rattle.py_emission_parts.specs.Running.{Action, on_done, run}
 use Rattle.py_emit.specs.States.{state}
-use Rattle.py_emission.specs.Emission.{all_emissions, default_emissions, emissions, keyword_emissions}
+use Rattle.py_emission_parts.specs.Comprehensions.{as_element, generated}
+use Rattle.py_emission.specs.Emission.{all_emissions, clause_emissions, default_emissions, emission, emissions, keyword_emissions}
 use Rattle.py_emission.specs.EmissionFutures.{check_features}
 use Rattle.py_emission.specs.Futures.{is_feature}
 use Rattle.py_emission.specs.Parameters.{parameters}
@@ -34,9 +35,10 @@ use Rattle.py_emission_outcomes.proofs.Faults.RefusingDisplays.{bare_ends, tuple
 use Rattle.py_emission_outcomes.proofs.Faults.RefusingExprs.{defaults_ending, exprs_end, keywords_end}
 use Rattle.py_emission_outcomes.proofs.Faults.RefusingPacks.{group_step, last_grouped, maps}
 use Rattle.py_emission_outcomes.proofs.Faults.RefusingTests.{AllEnding}
-use Rattle.py_expr_scopes.specs.Comprehensions.{comprehension_of}
+use Rattle.py_expr_scopes.specs.Comprehensions.{comprehension_of, is_awaited, name_of, scope_of}
 use Rattle.py_expr_scopes.specs.declared.comprehensions.ComprehensionElement.{ComprehensionElement}
 use Rattle.py_expr_scopes.specs.declared.comprehensions.ComprehensionElement.TheVariants as element
+use Rattle.py_expr_scopes.proofs.ComprehensionScopes.{scope_alike}
 use Rattle.py_expr_parts.specs.Calls.{argument_tuple, keyworded, named_if_any, named_values, positional}
 use Rattle.py_expr_parts.specs.Turns.{closed}
 use Rattle.py_calls.specs.Entering.{entry, opening}
@@ -48,13 +50,20 @@ use Rattle.py_fault_laws.proofs.Calls.{tells}
 use Rattle.py_fault_laws.proofs.Nodes.{ends_by}
 use Rattle.py_fault_laws.proofs.Nodes as node_proof
 
--- a comprehension ends as the expression does that stands at the same place
-comprehension_ends : (class : Option (List ℕ)) (gs : tree.Generators) (e : ComprehensionElement) (s : State) → expr_shapes class (comprehension_at s.location gs e) ≡ [] → EndsBy s (expr_faults (node.in_function s) (comprehension_at s.location gs e)) (expr_end (comprehension_at s.location gs e)) (run (comprehension_of gs e) s)
+-- a comprehension by its parts does what the one does that stands there
+pub comprehension_is : (gs : tree.Generators) (e : ComprehensionElement) (s : State) → run (comprehension_of gs e) s ≡ run (emission (comprehension_at s.location gs e)) s
 unfolding move located
-comprehension_ends class gs (element.List e) s h = node_proof.exprs_end class (tree.ListComp s.location (expr_tree e.now) gs) h s
-comprehension_ends class gs (element.Set e) s h = node_proof.exprs_end class (tree.SetComp s.location (expr_tree e.now) gs) h s
-comprehension_ends class gs (element.Dict k v) s h = node_proof.exprs_end class (tree.DictComp s.location (expr_tree k.now) (expr_tree v.now) gs) h s
-comprehension_ends class gs (element.Generator e) s h = node_proof.exprs_end class (tree.GeneratorExp s.location (expr_tree e.now) gs) h s
+comprehension_is gs (element.List e) s = refl
+comprehension_is gs (element.Set e) s = refl
+comprehension_is gs (element.Dict k v) s = refl
+comprehension_is gs (element.Generator e) s =
+    let cs = clause_emissions gs in
+    let own : ComprehensionElement = element.Generator e in
+    scope_alike (is_awaited gs own) (name_of own) cs (scope_of cs own) (generated cs (as_element (emission (expr_tree e.now)))) s refl
+
+-- so it ends as the expression does
+comprehension_ends : (class : Option (List ℕ)) (gs : tree.Generators) (e : ComprehensionElement) (s : State) → expr_shapes class (comprehension_at s.location gs e) ≡ [] → EndsBy s (expr_faults (node.in_function s) (comprehension_at s.location gs e)) (expr_end (comprehension_at s.location gs e)) (run (comprehension_of gs e) s)
+comprehension_ends class gs e s h = subst (EndsBy s (expr_faults (node.in_function s) (comprehension_at s.location gs e)) (expr_end (comprehension_at s.location gs e))) (sym (comprehension_is gs e s)) (node_proof.exprs_end class (comprehension_at s.location gs e) h s)
 
 pub comprehension_calls : ComprehensionCalls
 comprehension_calls answer class gs e before after h shapes = tells answer (state before) (state after) _ _ _ h.goes (comprehension_ends class gs e (state before) shapes)

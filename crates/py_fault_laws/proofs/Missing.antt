@@ -1,8 +1,7 @@
 -- No call comes to a cell that is not there, where the emitter is over the scopes of the tree's scan.
-use Rattle.std.proofs.Common.{◌≡◌, refl, sym, ap, ◌∙◌, subst, ℕ, ◌+◌, ◌*◌, ◌<◌, ◌^◌, List, [], ◌∷◌, length}
+use Rattle.std.proofs.Common.{◌≡◌, refl, sym, ap, ◌∙◌, subst, ℕ, ◌+◌, ◌*◌, ◌<◌, ◌^◌, List, [], ◌∷◌}
 use Rattle.std.specs.Prelude.{Result, Ok, Err}
 use Rattle.py_tree.specs.Tree as tree
-use Rattle.py_tree.specs.View.{expr_tree}
 use Rattle.py_base.specs.declared.errors.CodegenErrorType.{CodegenErrorType}
 use Rattle.py_base.specs.declared.errors.CodegenErrorType.TheVariants as error
 use Rattle.py_base.specs.declared.location.LocatedError.{LocatedError}
@@ -29,9 +28,10 @@ use Rattle.py_emission_outcomes.proofs.Capacity.AvailableCellLemmas.{Here, deep_
 use Rattle.py_emission_outcomes.proofs.Capacity.ShortTables.{IsShort}
 use Rattle.py_emission_outcomes.proofs.Capacity.FitExprs.{expr_fits, stores_fit}
 use Rattle.py_emission_outcomes.proofs.Capacity.FitStmts.{stmt_fits, stmts_fit}
-use Rattle.py_expr_scopes.specs.declared.comprehensions.ComprehensionElement.TheVariants as element
-use Rattle.py_calls.specs.Placed.{deletion_at}
+use Rattle.py_expr_scopes.specs.Comprehensions.{comprehension_of}
+use Rattle.py_calls.specs.Placed.{comprehension_at, deletion_at}
 use Rattle.py_fault_laws.specs.Missing.{BodiesFindCells, ComprehensionsFindCells, DeletionsFindCells, ExpressionsFindCells, FindsCells, IsPlaced, StatementsFindCells, StoresFindCells, TestsFindCells, told}
+use Rattle.py_fault_laws.proofs.CallParts.{comprehension_is}
 
 other_error : error.MissingCell ≡ error.OutOfMemory → ⊥
 other_error e = cc
@@ -117,8 +117,6 @@ deletions_find answer e before after h p =
     finds answer (state after) _ _ _ (go_on (run (emission_of_delete e) s) keep) (unkept answer (state after) (run (emission_of_delete e) s) h.goes) (subst (FitsIn s.around _ _) (deleted_alone s e) (statement_fits s (deletion_at s.location e) p))
 
 pub comprehensions_find : ComprehensionsFindCells
-unfolding move located
-comprehensions_find answer gs (element.List e) before after h p = finds answer (state after) _ _ _ _ h.goes (expression_fits (state before) (tree.ListComp (state before).location (expr_tree e.now) gs) p)
-comprehensions_find answer gs (element.Set e) before after h p = finds answer (state after) _ _ _ _ h.goes (expression_fits (state before) (tree.SetComp (state before).location (expr_tree e.now) gs) p)
-comprehensions_find answer gs (element.Dict k v) before after h p = finds answer (state after) _ _ _ _ h.goes (expression_fits (state before) (tree.DictComp (state before).location (expr_tree k.now) (expr_tree v.now) gs) p)
-comprehensions_find answer gs (element.Generator e) before after h p = finds answer (state after) _ _ _ _ h.goes (expression_fits (state before) (tree.GeneratorExp (state before).location (expr_tree e.now) gs) p)
+comprehensions_find answer gs e before after h p =
+    let s = state before in
+    finds answer (state after) _ _ _ (run (comprehension_of gs e) s) h.goes (subst (FitsIn s.around _ _) (sym (comprehension_is gs e s)) (expression_fits s (comprehension_at s.location gs e) p))

@@ -5,19 +5,19 @@ use Rattle.std.proofs.lemmas.List.{length-map}
 use Rattle.py_ir.specs.Chain.{plain}
 use Rattle.py_tree.specs.Tree as tree
 use Rattle.py_tree.specs.View.{expr_tree}
-use Rattle.py_emission_parts.specs.Emitting.{Done, ◌▸◌, keep, located, move}
+use Rattle.py_emission_parts.specs.Emitting.{Done, State, ◌▸◌, keep, located, move}
 use Rattle.py_emission_parts.specs.Running.{Action, go_on, run}
 use Rattle.py_emission_parts.specs.EmissionParts.{elements}
 use Rattle.py_emission_parts.specs.Comprehensions.{as_element, generated}
 use Rattle.py_emission.specs.Emission.{all_emissions, clause_emissions, emission, emissions, keyword_emissions}
 use Rattle.py_emit.specs.States.{info, state}
-use Rattle.py_expr_scopes.specs.Comprehensions.{is_awaited, name_of, scope_of}
+use Rattle.py_expr_scopes.specs.Comprehensions.{comprehension_of, is_awaited, name_of, scope_of}
 use Rattle.py_expr_scopes.specs.declared.comprehensions.ComprehensionElement.{ComprehensionElement}
 use Rattle.py_expr_scopes.specs.declared.comprehensions.ComprehensionElement.TheVariants as element
 use Rattle.py_expr_scopes.proofs.ComprehensionScopes.{scope_alike}
 use Rattle.py_expr_parts.specs.Calls.{arguments, calling, is_method, taken}
 use Rattle.py_expr_parts.proofs.CallOperands.{call_is}
-use Rattle.py_calls.specs.Placed.{deletion_at}
+use Rattle.py_calls.specs.Placed.{comprehension_at, deletion_at}
 use Rattle.py_node_laws.specs.Running.{ArgumentCallsRun, BodyCallsRun, ComprehensionCallsRun, DeletionCallsRun, ExpressionCallsRun, FinishedHold, StatementCallsRun, StoreCallsRun, TestCallsRun}
 use Rattle.py_node_laws.proofs.Runs.{bodies_run, exprs_run, statements_run, targets_run, tests_run}
 
@@ -47,17 +47,19 @@ unfolding move located
 deletion_calls_run (Ok a) e before after h few ready loop = λ bs tables held. statements_run (deletion_at (state before).location e) few (state before) (state after) ready loop (ap (λ o. go_on o keep) h.goes) bs tables held
 deletion_calls_run (Err x) e before after h few ready loop = tt
 
--- a comprehension by its parts is the one that stands there
-pub comprehension_calls_run : ComprehensionCallsRun
+-- a comprehension by its parts does what the one does that stands there
+comprehension_is : (gs : tree.Generators) (e : ComprehensionElement) (s : State) → run (comprehension_of gs e) s ≡ run (emission (comprehension_at s.location gs e)) s
 unfolding move located
-comprehension_calls_run (Ok a) gs (element.List e) before after h few ready = λ bs tables held. exprs_run (tree.ListComp (state before).location (expr_tree e.now) gs) few (state before) (state after) ready h.goes bs tables held
-comprehension_calls_run (Ok a) gs (element.Set e) before after h few ready = λ bs tables held. exprs_run (tree.SetComp (state before).location (expr_tree e.now) gs) few (state before) (state after) ready h.goes bs tables held
-comprehension_calls_run (Ok a) gs (element.Dict k v) before after h few ready = λ bs tables held. exprs_run (tree.DictComp (state before).location (expr_tree k.now) (expr_tree v.now) gs) few (state before) (state after) ready h.goes bs tables held
-comprehension_calls_run (Ok a) gs (element.Generator e) before after h few ready =
+comprehension_is gs (element.List e) s = refl
+comprehension_is gs (element.Set e) s = refl
+comprehension_is gs (element.Dict k v) s = refl
+comprehension_is gs (element.Generator e) s =
     let cs = clause_emissions gs in
     let own : ComprehensionElement = element.Generator e in
-    let same = scope_alike (is_awaited gs own) (name_of own) cs (scope_of cs own) (generated cs (as_element (emission (expr_tree e.now)))) (state before) refl in
-    λ bs tables held. exprs_run (tree.GeneratorExp (state before).location (expr_tree e.now) gs) few (state before) (state after) ready (sym same ∙ h.goes) bs tables held
+    scope_alike (is_awaited gs own) (name_of own) cs (scope_of cs own) (generated cs (as_element (emission (expr_tree e.now)))) s refl
+
+pub comprehension_calls_run : ComprehensionCallsRun
+comprehension_calls_run (Ok a) gs e before after h few ready = λ bs tables held. exprs_run (comprehension_at (state before).location gs e) few (state before) (state after) ready (sym (comprehension_is gs e (state before)) ∙ h.goes) bs tables held
 comprehension_calls_run (Err x) gs e before after h few ready = tt
 
 -- what is called, its arguments and the call are what is emitted of the call
