@@ -55,7 +55,7 @@ use Rattle.py_node_laws.specs.Scopes.{BodyEndsUnrefused, ClassesAreUnrefused, Co
 module _ (inner : Context) (h : Shape) (body : Emission) (next count : ℕ) (x : Scope) (says : Says inner x) (settled : Settled inner) (small : (d : Scope → Object) → burden (body_code (exactly d x) (form_of x)) < 2 ^ 27) where
   completing_unrefused : Completing inner body next count x → BodyEndsUnrefused inner h body next x
   completing_unrefused completing few at t e =
-      let a = completing.run at t (record { around = refl; settled = settled }) e in
+      let a = completing.does at t (record { around = refl; settled = settled }) e in
       let whole : Emitted inner at next x t = record { count = count; adds = a.0; looped = a.1; small = small; loading = record { down = few }; says = says } in
       let child = child_at inner at next x t whole in
       let same : (begun inner at next).around ≡ t.around = sym a.0.added.around_are in
