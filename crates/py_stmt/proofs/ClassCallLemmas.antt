@@ -20,6 +20,7 @@ use Rattle.py_emission.specs.EmissionDefs.{class_call as emission_of_class_call,
 use Rattle.py_emission.specs.EmissionStmts.{emission_of_rest}
 use Rattle.py_emit.proofs.Joined.{joined}
 use Rattle.py_stmt_simple.proofs.EmissionGroupLemmas.{after_same, before_same}
+use Rattle.py_expr_parts.specs.Turns.{closed}
 use Rattle.py_expr_parts.specs.Calls.{argument_tuple, arguments, calling, keyworded, positional, taken, type_of}
 use Rattle.py_expr_parts.proofs.CallOperands.{call_is}
 use Rattle.py_stmt.specs.Classes.{built_emission, built_of, class_body, class_built, class_emission, class_params, function_emission, generic_emission, placed}
@@ -77,7 +78,7 @@ module _ (f x : Emission) where
     plain_tuple : starred es ≡ false → run (argument_tuple 0 plain ks) ≡ run (f ▸ x ▸ argument_tuple 2 es ks)
     plain_tuple e =
         let hs = groups (built op.BuildTuple) [] plain in
-        ap (λ (b : Bool). run (if b then in_turn hs ▸ checked ks ▸ emit_count op.BuildTupleUnpack (0 + length hs) else in_turn (f ∷ x ∷ bare es) ▸ checked ks ▸ emit_count op.BuildTuple (0 + suc (suc (length es))))) e
+        ap (λ (b : Bool). run (if b then closed 0 ▸ in_turn hs ▸ checked ks ▸ emit_count op.BuildTupleUnpack (0 + length hs) else in_turn (f ∷ x ∷ bare es) ▸ checked ks ▸ emit_count op.BuildTuple (0 + suc (suc (length es))))) e
         ∙ ap (λ n. run (in_turn (f ∷ x ∷ bare es) ▸ checked ks ▸ emit_count op.BuildTuple n)) two_more
         ∙ two_then (in_turn (bare es)) (checked ks ▸ emit_count op.BuildTuple (2 + length es))
         ∙ ap (λ b. run (f ▸ x ▸ tuple_by b)) (sym e)
