@@ -143,9 +143,18 @@ module _ (s : StmtClassDefOf Stmt) where
   at_path : (ts : tree.TypeParams) → class_params s ≡ ts → (path : List ℕ) → run (emission_of_class_call s.name (part path ts) bases ks) ≡ run (built_emission path s)
   at_path ts e path = built_is s.name (part path ts) bases ks ∙ ap (λ us. run (built_of s.name (part path us) bases ks)) (sym e)
 
+  -- nothing stands before its function where it has none
+  unled : (f : Emission) → run (built_of s.name f bases ks) ≡ run (built_of s.name (keep ▸ f) bases ks)
+  unled f = refl
+
+  plain_at : class_params s ≡ tree.no_type_params → (path : List ℕ) → run (emission_of_class_call s.name (function_emission path 0 s.name (class_body s)) bases ks) ≡ run (built_emission path s)
+  plain_at e path =
+      let f = function_emission path 0 s.name (class_body s) in
+      built_is s.name f bases ks ∙ unled f ∙ ap (λ us. run (built_of s.name (part path us) bases ks)) (sym e)
+
   by_params : (ts : tree.TypeParams) → class_params s ≡ ts → (r : State) → run (emission_of_built s.name bases ks (class_body s) ts (emission_of_rest (class_body s))) r ≡ run (placed (class_path r.around.context s.name) s ts) r
   unfolding by_context emission_of_class emission_of_generic_class
-  by_params tree.no_type_params e r = ap (λ (a : Action). a r) (at_path tree.no_type_params e (class_path r.around.context s.name))
+  by_params tree.no_type_params e r = ap (λ (a : Action). a r) (plain_at e (class_path r.around.context s.name))
   by_params (tree.more_type_params t ts) e r =
       ap (λ (a : Action). a r) (hidden_same s.name (emission_of_class_call s.name (part (class_path r.around.context s.name) (tree.more_type_params t ts)) bases ks) (built_emission (class_path r.around.context s.name) s) (at_path (tree.more_type_params t ts) e (class_path r.around.context s.name)))
 
