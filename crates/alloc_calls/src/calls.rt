@@ -22,7 +22,7 @@ const ANSWERS: &str = "g1,g1,g1,g1,g1,d,g1,g1,d,g1,g1,g1,d";
 /// What the call of this name answers, as text or as the bytes of a code file.
 ///
 /// # Errors
-/// The call's own refusal, a name that no call has, an input of 2^26 bytes or more, or want of memory.
+/// The call's own refusal, a name that no call has, an input of 2^26 bytes or more, or out of memory.
 pub fn answer(alloc: Global, call: &str, input: &[u8]) -> Result<Vec<u8>, Failure> {
     match call {
         "finalize_code" => {

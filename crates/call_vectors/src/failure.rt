@@ -36,7 +36,7 @@ impl Failure {
     }
 }
 
-/// The text of a refusal, behind the name of the feature that no Python knows.
+/// The text of a refusal, after the name of the feature that no Python knows.
 fn refusal_text(alloc: Global, error: &CodegenErrorType) -> Result<String, AllocError> {
     match error {
         CodegenErrorType::OutOfMemory => Err(AllocError),

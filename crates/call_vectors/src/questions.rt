@@ -60,7 +60,7 @@ pub enum Question {
 }
 
 impl Question {
-    /// The question with which a line begins, and the rows behind it.
+    /// The question with which a line begins, and the rows after it.
     pub fn of_line(line: &str) -> Option<(Question, &str)> {
         let (name, rest) = line.split_once(' ')?;
         match name {
@@ -77,7 +77,7 @@ impl Question {
     }
 }
 
-/// The question of this name and of the word behind it.
+/// The question of this name and of the word after it.
 fn with_word(name: &str, word: &str) -> Option<Question> {
     match name {
         "emits" => Some(Question::Emits(Call::named(word)?)),

@@ -59,7 +59,7 @@ fn scope_of(table: Option<&SymbolTable>, name: &str) -> Option<SymbolScope> {
     }
 }
 
-/// What f is in the table, and x in the scope within and in the one within that.
+/// What f is in the table, and x in the nested scope and in the one within that.
 fn kinds(table: &SymbolTable) -> [Option<SymbolScope>; 3] {
     let function = table.sub_tables.get(0);
     let lambda = match function {

@@ -85,7 +85,7 @@ fn called(
     }
 }
 
-/// The listing of a code, and the flaw of one that does not verify.
+/// The listing of a code, and the verification error of one that does not verify.
 fn judged(alloc: Global, code: &CodeObject) -> Result<String, AllocError> {
     let text = listing(alloc, code)?;
     match verify(alloc, code)? {

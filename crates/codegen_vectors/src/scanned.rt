@@ -20,7 +20,7 @@ pub fn scanned(alloc: Global, tree: &Mod) -> Result<String, AllocError> {
     }
 }
 
-/// The names of a table in a line behind its own, each with what it is and its place in a set of them.
+/// The names of a table in a line after its own, each with what it is and its place in a set of them.
 fn names_of(alloc: Global, table: &SymbolTable) -> Result<String, AllocError> {
     let mut names = NameSet::new(alloc);
     let mut line = format!(in alloc; "{}:", table.name.as_str())?;

@@ -52,7 +52,7 @@ fn over_emitter(alloc: Global, name: &str, rest: &str) -> Result<String, Failure
     made(alloc, &mut em, calls)
 }
 
-/// The table of a scope within that is entered, or dropped, each by a counted step.
+/// The table of a nested scope that is entered, or dropped, each by a counted step.
 fn over_table(alloc: Global, name: &str) -> Result<String, Failure> {
     match name {
         "entered" => entered(alloc),

@@ -14,7 +14,7 @@ use py_listing::listing;
 use py_scope::SymbolTableType;
 use std::alloc::{AllocError, Global};
 
-/// The answers to the calls, which `; ` divides, in their order, each behind the one before it.
+/// The answers to the calls, which `; ` divides, in their order, each after the one before it.
 pub fn made(alloc: Global, em: &mut Emitter, calls: &str) -> Result<String, Failure> {
     let mut answers = String::new(alloc);
     for call in calls.split("; ") {
@@ -232,7 +232,7 @@ fn close_over(alloc: Global, em: &mut Emitter, free: &str) -> Result<String, Fai
 }
 
 /// Goes into a function.
-#[tactic(auto, using(py_emit::proofs::Within::inner))]
+#[tactic(auto, using(py_emit::proofs::Within::within_inner))]
 fn open(em: &mut Emitter, head: ScopeHead) -> Result<(), CodegenError>
     ensures { OnOk result ((rest em.new).outer ≢ []) }
 {

@@ -33,7 +33,7 @@ impl<T: Drop> From<AllocFailed<T>> for Failure {
     }
 }
 
-/// The scans here are refused for want of memory alone.
+/// The scans here are refused only when memory runs out.
 impl From<SymbolTableError> for Failure {
     fn from(_error: SymbolTableError) -> Failure {
         Failure::OutOfMemory

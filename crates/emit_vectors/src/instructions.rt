@@ -140,7 +140,7 @@ pub fn operand_text(alloc: Global, rest: &str) -> Result<String, Failure> {
     )?)
 }
 
-/// The operand of an unpacking with so many targets before and behind the star.
+/// The operand of an unpacking with so many targets before and after the star.
 pub fn unpacking_text(alloc: Global, rest: &str) -> Result<String, Failure> {
     let (before, after) = pair(rest)?;
     let before = before.parse::<u8>().map_err(|_| Failure::Line)?;

@@ -43,7 +43,7 @@ fn emitter(alloc: Global) -> Result<Emitter, Failure>
     Ok(em)
 }
 
-/// Enters the scope within.
+/// Enters the nested scope.
 fn enter<L: Ledger>(em: &mut Emitter, head: ScopeHead, blank: Blank) -> Result<(), CodegenError>
     requires name { blank.name ≡ L.name }
     requires parts { blank.parts ≡ L.parts }
@@ -55,7 +55,7 @@ fn enter<L: Ledger>(em: &mut Emitter, head: ScopeHead, blank: Blank) -> Result<(
     em.enter_scope(head, &mut steps)
 }
 
-/// Drops the table of the scope within.
+/// Drops the table of the nested scope.
 fn drop_one<L: Ledger>(em: &mut Emitter, blank: Blank)
     requires name { blank.name ≡ L.name }
     requires parts { blank.parts ≡ L.parts }
@@ -72,7 +72,7 @@ fn place_text(alloc: Global, em: &Emitter) -> Result<String, AllocError> {
     format!(in alloc; "{:?}, next {}", em.scope_type(), em.next_scope())
 }
 
-/// Where an emitter is once the scope within is entered.
+/// Where an emitter is once the nested scope is entered.
 pub fn entered(alloc: Global) -> Result<String, Failure> {
     let head = head_of_function(alloc)?;
     let mut em = emitter(alloc)?;
@@ -80,7 +80,7 @@ pub fn entered(alloc: Global) -> Result<String, Failure> {
     Ok(place_text(alloc, &em)?)
 }
 
-/// Where an emitter is once the scope within is dropped.
+/// Where an emitter is once the nested scope is dropped.
 pub fn dropped(alloc: Global) -> Result<String, Failure> {
     let mut em = emitter(alloc)?;
     drop_one::<Brand>(&mut em, Blank::new(1));

@@ -49,7 +49,7 @@ pub fn lists(alloc: Global, rest: &str) -> Result<String, Failure> {
     )?)
 }
 
-/// The constant of a word: `None`, `Ellipsis`, a number, or the code of a name behind `code:`.
+/// The constant of a word: `None`, `Ellipsis`, a number, or the code of a name after `code:`.
 pub fn constant(alloc: Global, word: &str) -> Result<ConstantData, Failure> {
     if let Some(name) = word.strip_prefix("code:") {
         let mut code = code_of(alloc, "")?;
@@ -103,7 +103,7 @@ fn agree(one: &ConstantData, other: &ConstantData) -> bool {
     one != other || hash_of(one) == hash_of(other)
 }
 
-/// The place of each constant that is entered into one set, how many there are, and where the one behind `?` is found and
+/// The place of each constant that is entered into one set, how many there are, and where the one after `?` is found and
 /// whether it stands there.
 pub fn constants(alloc: Global, rest: &str) -> Result<String, Failure> {
     let (words, asked) = rest.split_once(" ? ").ok_or(Failure::Line)?;
@@ -147,7 +147,7 @@ pub fn enter(alloc: Global, names: &mut NameSet, name: &str) -> Result<usize, Al
     }
 }
 
-/// The place of each name that is entered into one set, and then where the one behind `?` is looked for and entered.
+/// The place of each name that is entered into one set, and then where the one after `?` is looked for and entered.
 pub fn names(alloc: Global, rest: &str) -> Result<String, Failure> {
     let (words, asked) = rest.split_once(" ? ").ok_or(Failure::Line)?;
     let mut names = NameSet::new(alloc);

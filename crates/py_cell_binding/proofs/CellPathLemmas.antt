@@ -21,7 +21,7 @@ use Rattle.py_scope.specs.Outward.{parents}
 use Rattle.py_scope.specs.Resolve.{around, binder_in, cell_scope, is_free_kind, needs, resolve}
 use Rattle.py_scope.proofs.Chains.{outward}
 use Rattle.py_scope.proofs.NameLemmas.{equal_names, names_same}
-use Rattle.py_scope.proofs.Truth.{left_or, never_both, right_or}
+use Rattle.py_scope.proofs.Truth.{left_or, never_both, truth_right_or}
 use Rattle.py_control.specs.Agree as told
 use Rattle.py_control.specs.Agree.{AllOf}
 use Rattle.py_control.specs.Form.{Fixed, Resolved, FixedByName, FixedGlobal, FixedFast, Head}
@@ -34,7 +34,7 @@ use Rattle.py_scope_tree.proofs.Wanted.{cell_listed, listed_cell, needed_wanted,
 use Rattle.py_emission_proof.proofs.Additions.CodeNameLemmas.{Named}
 use Rattle.py_cell_binding.specs.Chains.{Link, cell_of}
 use Rattle.py_cell_binding.specs.Captures.{EndsAt, binder_of}
-use Rattle.py_cell_binding.proofs.Events.{OfCell, Using, some_is}
+use Rattle.py_cell_binding.proofs.Events.{OfCell, Using, event_some_is}
 
 -- a kind of symbol whose names are cells
 abbrev pub OfOuter : SymbolScope → Type 0
@@ -83,27 +83,28 @@ record Says (ts : List Symbol) (n : Name) : Type 0 where
   named : n ≡ symbol.name
   outer : OfOuter symbol.scope
 
-abbrev scope_in : Option Symbol → SymbolScope
-scope_in o = elim o [ None ↦ scope.Unknown | Some s ↦ s.scope ]
+abbrev cell_path_scope_in : Option Symbol → SymbolScope
+cell_path_scope_in o = elim o [ None ↦ scope.Unknown | Some s ↦ s.scope ]
 
-says : (ts : List Symbol) (n : Name) → OfOuter (scope_in (find (λ s. same_name n s.name) ts)) → Says ts n
+says : (ts : List Symbol) (n : Name) → OfOuter (cell_path_scope_in (find (λ s. same_name n s.name) ts)) → Says ts n
 says [] n h = absurd h
 says (t ∷ ts) n h = by (same_name n t.name) refl h (says ts n)
   where
     later : Says ts n → Says (t ∷ ts) n
     later w = record { place = suc w.place; symbol = w.symbol; there = w.there; named = w.named; outer = w.outer }
 
-    by : (b : Bool) → same_name n t.name ≡ b → OfOuter (scope_in (cond b (Some t) (find (λ s. same_name n s.name) ts))) → (OfOuter (scope_in (find (λ s. same_name n s.name) ts)) → Says ts n) → Says (t ∷ ts) n
+    by : (b : Bool) → same_name n t.name ≡ b → OfOuter (cell_path_scope_in (cond b (Some t) (find (λ s. same_name n s.name) ts)))
+        → (OfOuter (cell_path_scope_in (find (λ s. same_name n s.name) ts)) → Says ts n) → Says (t ∷ ts) n
     by true e g rest = record { place = 0; symbol = t; there = refl; named = equal_names n t.name e; outer = g }
     by false e g rest = later (rest g)
 
 -- a name that is there stands at its place
-stands : (n : Name) (ns : List Name) → is_one_of n ns ≡ true → slice_get ns (position_or_len (text_eq n) ns) ≡ Some n
-stands n ns h = ap (λ b. slice_get (if b then ns else ns ++ n ∷ []) (position_or_len (text_eq n) ns)) (sym h) ∙ entered_stands text_eq equal_names ns n
+cell_path_stands : (n : Name) (ns : List Name) → is_one_of n ns ≡ true → slice_get ns (position_or_len (text_eq n) ns) ≡ Some n
+cell_path_stands n ns h = ap (λ b. slice_get (if b then ns else ns ++ n ∷ []) (position_or_len (text_eq n) ns)) (sym h) ∙ entered_stands text_eq equal_names ns n
 
-in_front : (n : Name) (xs ys : List Name) → is_one_of n xs ≡ true → is_one_of n (xs ++ ys) ≡ true
-in_front n [] ys h = absurd cc
-in_front n (x ∷ xs) ys h = go (text_eq n x) h (in_front n xs ys)
+cell_path_in_front : (n : Name) (xs ys : List Name) → is_one_of n xs ≡ true → is_one_of n (xs ++ ys) ≡ true
+cell_path_in_front n [] ys h = absurd cc
+cell_path_in_front n (x ∷ xs) ys h = go (text_eq n x) h (cell_path_in_front n xs ys)
   where
     go : (b : Bool) → b || is_one_of n xs ≡ true → (is_one_of n xs ≡ true → is_one_of n (xs ++ ys) ≡ true) → b || is_one_of n (xs ++ ys) ≡ true
     go true g rest = refl
@@ -111,31 +112,31 @@ in_front n (x ∷ xs) ys h = go (text_eq n x) h (in_front n xs ys)
 
 at_the_back : (n : Name) (xs ys : List Name) → is_one_of n ys ≡ true → is_one_of n (xs ++ ys) ≡ true
 at_the_back n [] ys h = h
-at_the_back n (x ∷ xs) ys h = right_or (text_eq n x) (is_one_of n (xs ++ ys)) (at_the_back n xs ys h)
+at_the_back n (x ∷ xs) ys h = truth_right_or (text_eq n x) (is_one_of n (xs ++ ys)) (at_the_back n xs ys h)
 
 one_there : (n : Name) (ns : List Name) (p : ℕ) → slice_get ns p ≡ Some n → is_one_of n ns ≡ true
 one_there n [] p e = absurd cc
-one_there n (x ∷ ns) zero e = left_or (text_eq n x) (is_one_of n ns) (ap (text_eq n) (some_is e) ∙ names_same n)
-one_there n (x ∷ ns) (suc p) e = right_or (text_eq n x) (is_one_of n ns) (one_there n ns p e)
+one_there n (x ∷ ns) zero e = left_or (text_eq n x) (is_one_of n ns) (ap (text_eq n) (event_some_is e) ∙ names_same n)
+one_there n (x ∷ ns) (suc p) e = truth_right_or (text_eq n x) (is_one_of n ns) (one_there n ns p e)
 
 -- a place is in the front list, or so far in the other
-abbrev Parted : (xs ys : List Name) (p : ℕ) (n : Name) → Type 0
-Parted xs ys p n = ((p < length xs) × (slice_get xs p ≡ Some n)) ⊎ ((q : ℕ) × (p ≡ length xs + q) × (slice_get ys q ≡ Some n))
+abbrev CellPathParted : (xs ys : List Name) (p : ℕ) (n : Name) → Type 0
+CellPathParted xs ys p n = ((p < length xs) × (slice_get xs p ≡ Some n)) ⊎ ((q : ℕ) × (p ≡ length xs + q) × (slice_get ys q ≡ Some n))
 
-parted : (xs ys : List Name) (p : ℕ) (n : Name) → slice_get (xs ++ ys) p ≡ Some n → Parted xs ys p n
-parted [] ys p n e = inr (p, omega arith, e)
-parted (x ∷ xs) ys zero n e = inl (omega arith, e)
-parted (x ∷ xs) ys (suc p) n e = by (parted xs ys p n e)
+cell_path_parted : (xs ys : List Name) (p : ℕ) (n : Name) → slice_get (xs ++ ys) p ≡ Some n → CellPathParted xs ys p n
+cell_path_parted [] ys p n e = inr (p, omega arith, e)
+cell_path_parted (x ∷ xs) ys zero n e = inl (omega arith, e)
+cell_path_parted (x ∷ xs) ys (suc p) n e = by (cell_path_parted xs ys p n e)
   where
-    by : Parted xs ys p n → Parted (x ∷ xs) ys (suc p) n
+    by : CellPathParted xs ys p n → CellPathParted (x ∷ xs) ys (suc p) n
     by (inl h) = inl (let l = h.0 in omega (arith, l), h.1)
     by (inr h) = inr (h.0, let e = h.1 in omega (arith, e), h.2)
 
-below : (x y : ℕ) → x < y → nat_lt x y ≡ true
-below x y h = grind (arith, common_steps)
+cell_path_below : (x y : ℕ) → x < y → nat_lt x y ≡ true
+cell_path_below x y h = grind (arith, common_steps)
 
-past : (x y : ℕ) → y ≤ x → nat_lt x y ≡ false
-past x y h = grind (arith, common_steps)
+cell_path_past : (x y : ℕ) → y ≤ x → nat_lt x y ≡ false
+cell_path_past x y h = grind (arith, common_steps)
 
 -- all names by which a link's code has cells, and the place of one
 abbrev names_of : Link → List Name
@@ -152,14 +153,14 @@ module _ (rows : List Row) (scopes : List ScopeEntry) (f : Facts rows scopes) wh
     pub there : number_of l.scope < length rows
 
   -- and of the one in which it is made
-  pub record Between (l m : Link) : Type 0 where
+  pub record CellPathBetween (l m : Link) : Type 0 where
     pub parent : parents rows (number_of l.scope) ≡ number_of m.scope
     pub below : number_of m.scope < number_of l.scope
     pub closure : l.closure ≡ map (told.head_of m.scope).cell_place (told.head_of l.scope).free
 
   abbrev pub AllLinked : Link → List Link → Type 0
   AllLinked l [] = Linked l × (number_of l.scope ≡ 0)
-  AllLinked l (m ∷ ls) = Linked l × Between l m × AllLinked m ls
+  AllLinked l (m ∷ ls) = Linked l × CellPathBetween l m × AllLinked m ls
 
   pub first_linked : (l : Link) (ls : List Link) → AllLinked l ls → Linked l
   first_linked l [] a = a.0
@@ -170,32 +171,32 @@ module _ (rows : List Row) (scopes : List ScopeEntry) (f : Facts rows scopes) wh
   below_all b m [] a h = (λ e. absurd (omega (arith, h, e)), tt)
   below_all b m (x ∷ ls) a h = (λ e. absurd (omega (arith, h, e)), below_all b x ls a.2 (let k = a.1.below in omega (arith, h, k)))
 
-  others : (l : Link) (ls : List Link) → AllLinked l ls → AllOf (λ (x : Link). number_of x.scope ≢ number_of l.scope) ls
-  others l [] a = tt
-  others l (m ∷ ls) a = below_all (number_of l.scope) m ls a.2 a.1.below
+  cell_path_others : (l : Link) (ls : List Link) → AllLinked l ls → AllOf (λ (x : Link). number_of x.scope ≢ number_of l.scope) ls
+  cell_path_others l [] a = tt
+  cell_path_others l (m ∷ ls) a = below_all (number_of l.scope) m ls a.2 a.1.below
 
   module _ (n : Name) where
     abbrev number : Link → ℕ
     number l = number_of l.scope
 
-    follows : (l : Link) → Linked l → SymbolsFollow rows (number l) (symbols_in scopes (number l))
-    follows l k = f.follows (number l) k.there
+    cell_path_follows : (l : Link) → Linked l → SymbolsFollow rows (number l) (symbols_in scopes (number l))
+    cell_path_follows l k = f.follows (number l) k.there
 
     cells_there : (l : Link) → Linked l → is_one_of n (head l.code).cellvars ≡ true → (resolve rows (number l) n).kind ≡ scope.Cell
-    cells_there l k h = listed_cell rows (number l) (symbols_in scopes (number l)) (follows l k) n (ap (is_one_of n) (sym k.named.cells) ∙ h)
+    cells_there l k h = listed_cell rows (number l) (symbols_in scopes (number l)) (cell_path_follows l k) n (ap (is_one_of n) (sym k.named.cells) ∙ h)
 
     frees_there : (l : Link) → Linked l → is_one_of n (head l.code).freevars ≡ true → needs rows (number l) n ≡ true
-    frees_there l k h = wanted_needed rows (number l) (symbols_in scopes (number l)) (follows l k) n (ap (is_one_of n) (sym k.named.frees) ∙ h)
+    frees_there l k h = wanted_needed rows (number l) (symbols_in scopes (number l)) (cell_path_follows l k) n (ap (is_one_of n) (sym k.named.frees) ∙ h)
 
     cell_named : (l : Link) → Linked l → (resolve rows (number l) n).kind ≡ scope.Cell → is_one_of n (names_of l) ≡ true
     cell_named l k h =
-        in_front n (head l.code).cellvars (head l.code).freevars
-        (ap (is_one_of n) k.named.cells ∙ cell_listed rows (number l) (symbols_in scopes (number l)) (follows l k) n ((f.stands.needed (number l) n).0 h).0 h)
+        cell_path_in_front n (head l.code).cellvars (head l.code).freevars
+        (ap (is_one_of n) k.named.cells ∙ cell_listed rows (number l) (symbols_in scopes (number l)) (cell_path_follows l k) n ((f.stands.needed (number l) n).0 h).0 h)
 
     free_named : (l : Link) → Linked l → needs rows (number l) n ≡ true → is_one_of n (names_of l) ≡ true
     free_named l k h =
         at_the_back n (head l.code).cellvars (head l.code).freevars
-        (ap (is_one_of n) k.named.frees ∙ needed_wanted rows (number l) (symbols_in scopes (number l)) (follows l k) n h)
+        (ap (is_one_of n) k.named.frees ∙ needed_wanted rows (number l) (symbols_in scopes (number l)) (cell_path_follows l k) n h)
 
     -- what leads on from a link is named there
     lead_named : (l : Link) → Linked l → (es : List ℕ) (b : ℕ) → LeadsTo rows n (number l ∷ es) b → is_one_of n (names_of l) ≡ true
@@ -203,35 +204,36 @@ module _ (rows : List Row) (scopes : List ScopeEntry) (f : Facts rows scopes) wh
     lead_named l k es b (inr h) = free_named l k h.0
 
     -- how the code of a link places names is how its scope does
-    placed : (l : Link) → Linked l → (told.head_of l.scope).cell_place n ≡ place_in l n
-    placed l k =
+    cell_path_placed : (l : Link) → Linked l → (told.head_of l.scope).cell_place n ≡ place_in l n
+    cell_path_placed l k =
         ap (λ (h : Head). h.cell_place n) k.head.tells
         ∙ ap (λ ns. position_or_len (text_eq n) ns) (λ j. (k.head.cells_are ∙ sym k.named.cells) j ++ (k.head.frees_are ∙ sym k.named.frees) j)
 
     -- where the name's place ends, by a binder that is no further in
-    pub record Comes (b : ℕ) (l : Link) (ls : List Link) : Type 0 where
+    pub record CellPathComes (b : ℕ) (l : Link) (ls : List Link) : Type 0 where
       pub ends : EndsAt b (l ∷ ls) n (place_in l n)
       pub cell_is : ends.cell ≡ place_in ends.link n
       pub further : b ≤ number l
 
     -- a place among a code's cells ends there
-    stays : (l : Link) (ls : List Link) (p : ℕ) → p < length (head l.code).cellvars → cell_of (l ∷ ls) p ≡ Some (l ∷ ls, p)
-    stays l ls p h = by (nat_lt p (length (head l.code).cellvars)) (below p (length (head l.code).cellvars) h)
+    cell_path_stays : (l : Link) (ls : List Link) (p : ℕ) → p < length (head l.code).cellvars → cell_of (l ∷ ls) p ≡ Some (l ∷ ls, p)
+    cell_path_stays l ls p h = by (nat_lt p (length (head l.code).cellvars)) (cell_path_below p (length (head l.code).cellvars) h)
       where
         by : (c : Bool) → c ≡ true → (if c then Some (l ∷ ls, p) else (elim (slice_get l.closure (p - length (head l.code).cellvars)) [ None ↦ None | Some q ↦ cell_of ls q ])) ≡ Some (l ∷ ls, p)
         by true e = refl
         by false e = absurd cc
 
     -- that of a free name goes on
-    goes : (l : Link) (ls : List Link) (p q r : ℕ) → p ≡ length (head l.code).cellvars + q → slice_get l.closure q ≡ Some r → cell_of (l ∷ ls) p ≡ cell_of ls r
-    goes l ls p q r e g = by (nat_lt p (length (head l.code).cellvars)) (past p (length (head l.code).cellvars) (omega (arith, e))) (slice_get l.closure (p - length (head l.code).cellvars)) (ap (slice_get l.closure) (omega (arith, e)) ∙ g)
+    cell_path_goes : (l : Link) (ls : List Link) (p q r : ℕ) → p ≡ length (head l.code).cellvars + q → slice_get l.closure q ≡ Some r → cell_of (l ∷ ls) p ≡ cell_of ls r
+    cell_path_goes l ls p q r e g = by (nat_lt p (length (head l.code).cellvars)) (cell_path_past p (length (head l.code).cellvars) (omega (arith, e))) (slice_get l.closure (p - length (head l.code).cellvars)) (ap (slice_get l.closure) (omega (arith, e)) ∙ g)
       where
         by : (c : Bool) → c ≡ false → (o : Option ℕ) → o ≡ Some r → (if c then Some (l ∷ ls, p) else (elim o [ None ↦ None | Some x ↦ cell_of ls x ])) ≡ cell_of ls r
         by true e o h = absurd cc
         by false e None h = absurd cc
-        by false e (Some x) h = ap (cell_of ls) (some_is h)
+        by false e (Some x) h = ap (cell_of ls) (event_some_is h)
 
-    ends_here : (l : Link) (ls : List Link) → AllLinked l ls → (b : ℕ) → number l ≡ b → place_in l n < length (head l.code).cellvars → slice_get (head l.code).cellvars (place_in l n) ≡ Some n → Comes b l ls
+    ends_here : (l : Link) (ls : List Link) → AllLinked l ls → (b : ℕ) → number l ≡ b → place_in l n < length (head l.code).cellvars
+        → slice_get (head l.code).cellvars (place_in l n) ≡ Some n → CellPathComes b l ls
     ends_here l ls a b e lt g = record {
       ends = record {
         within = [];
@@ -239,24 +241,25 @@ module _ (rows : List Row) (scopes : List ScopeEntry) (f : Facts rows scopes) wh
         around = ls;
         cell = place_in l n;
         parts = refl;
-        ends = stays l ls (place_in l n) lt;
+        ends = cell_path_stays l ls (place_in l n) lt;
         binds = e;
-        alone = (tt, subst (λ x. AllOf (λ (m : Link). number_of m.scope ≢ x) ls) e (others l ls a));
+        alone = (tt, subst (λ x. AllOf (λ (m : Link). number_of m.scope ≢ x) ls) e (cell_path_others l ls a));
         named = g;
       };
       cell_is = refl;
       further = omega (arith, e);
     }
 
-    goes_on : (l m : Link) (ls : List Link) → Between l m → (b q : ℕ) → place_in l n ≡ length (head l.code).cellvars + q → slice_get l.closure q ≡ Some (place_in m n) → Comes b m ls → Comes b l (m ∷ ls)
-    goes_on l m ls t b q far entry c = record {
+    cell_path_goes_on : (l m : Link) (ls : List Link) → CellPathBetween l m → (b q : ℕ) → place_in l n ≡ length (head l.code).cellvars + q
+        → slice_get l.closure q ≡ Some (place_in m n) → CellPathComes b m ls → CellPathComes b l (m ∷ ls)
+    cell_path_goes_on l m ls t b q far entry c = record {
       ends = record {
         within = l ∷ c.ends.within;
         link = c.ends.link;
         around = c.ends.around;
         cell = c.ends.cell;
         parts = ap (λ xs. l ∷ xs) c.ends.parts;
-        ends = goes l (m ∷ ls) (place_in l n) q (place_in m n) far entry ∙ c.ends.ends;
+        ends = cell_path_goes l (m ∷ ls) (place_in l n) q (place_in m n) far entry ∙ c.ends.ends;
         binds = c.ends.binds;
         alone = ((λ e. absurd (let x = t.below in let y = c.further in omega (arith, e, x, y)), c.ends.alone.0), c.ends.alone.1);
         named = c.ends.named;
@@ -269,32 +272,33 @@ module _ (rows : List Row) (scopes : List ScopeEntry) (f : Facts rows scopes) wh
     never : (l : Link) → (resolve rows (number l) n).kind ≡ scope.Cell → needs rows (number l) n ≡ true → ⊥
     never l c w = never_both (needs rows (number l) n) w (f.stands.apart (number l) n c)
 
-    part : (l : Link) → Linked l → (es : List ℕ) (b : ℕ) → LeadsTo rows n (number l ∷ es) b → Parted (head l.code).cellvars (head l.code).freevars (place_in l n) n
-    part l k es b h = parted (head l.code).cellvars (head l.code).freevars (place_in l n) n (stands n (names_of l) (lead_named l k es b h))
+    cell_path_part : (l : Link) → Linked l → (es : List ℕ) (b : ℕ) → LeadsTo rows n (number l ∷ es) b → CellPathParted (head l.code).cellvars (head l.code).freevars (place_in l n) n
+    cell_path_part l k es b h = cell_path_parted (head l.code).cellvars (head l.code).freevars (place_in l n) n (cell_path_stands n (names_of l) (lead_named l k es b h))
 
-    entry_of : (l m : Link) → Linked l → Linked m → Between l m → (q : ℕ) → slice_get (head l.code).freevars q ≡ Some n → slice_get l.closure q ≡ Some (place_in m n)
+    entry_of : (l m : Link) → Linked l → Linked m → CellPathBetween l m → (q : ℕ) → slice_get (head l.code).freevars q ≡ Some n → slice_get l.closure q ≡ Some (place_in m n)
     entry_of l m k j t q g =
         ap (λ xs. slice_get xs q) t.closure
         ∙ slice_get-map (told.head_of m.scope).cell_place (told.head_of l.scope).free q
         ∙ ap (option_map (told.head_of m.scope).cell_place) (ap (λ xs. slice_get xs q) (ap (λ (h : Head). h.free) k.head.tells ∙ k.head.frees_are ∙ sym k.named.frees) ∙ g)
-        ∙ ap Some (placed m j)
+        ∙ ap Some (cell_path_placed m j)
 
-    comes : (l : Link) (ls : List Link) → AllLinked l ls → (b : ℕ) → LeadsTo rows n (number l ∷ around rows (number l)) b → Comes b l ls
-    comes l [] a b h = go (part l a.0 (around rows (number l)) b h) h
+    comes : (l : Link) (ls : List Link) → AllLinked l ls → (b : ℕ) → LeadsTo rows n (number l ∷ around rows (number l)) b → CellPathComes b l ls
+    comes l [] a b h = go (cell_path_part l a.0 (around rows (number l)) b h) h
       where
-        go : Parted (head l.code).cellvars (head l.code).freevars (place_in l n) n → LeadsTo rows n (number l ∷ around rows (number l)) b → Comes b l []
+        go : CellPathParted (head l.code).cellvars (head l.code).freevars (place_in l n) n → LeadsTo rows n (number l ∷ around rows (number l)) b → CellPathComes b l []
         go (inl x) (inl y) = ends_here l [] a b y.1 x.0 x.1
         go (inl x) (inr y) = absurd (never l (cells_there l a.0 (one_there n (head l.code).cellvars (place_in l n) x.1)) y.0)
         go (inr x) (inl y) = absurd (never l y.0 (frees_there l a.0 (one_there n (head l.code).freevars x.0 x.2)))
         go (inr x) (inr y) = absurd (subst (λ k. LeadsTo rows n (around rows k) b) a.1 y.1)
-    comes l (m ∷ ls) a b h = go (part l a.0 (around rows (number l)) b h) h (comes m ls a.2 b)
+    comes l (m ∷ ls) a b h = go (cell_path_part l a.0 (around rows (number l)) b h) h (comes m ls a.2 b)
       where
-        go : Parted (head l.code).cellvars (head l.code).freevars (place_in l n) n → LeadsTo rows n (number l ∷ around rows (number l)) b → (LeadsTo rows n (number m ∷ around rows (number m)) b → Comes b m ls) → Comes b l (m ∷ ls)
+        go : CellPathParted (head l.code).cellvars (head l.code).freevars (place_in l n) n → LeadsTo rows n (number l ∷ around rows (number l)) b
+            → (LeadsTo rows n (number m ∷ around rows (number m)) b → CellPathComes b m ls) → CellPathComes b l (m ∷ ls)
         go (inl x) (inl y) rest = ends_here l (m ∷ ls) a b y.1 x.0 x.1
         go (inl x) (inr y) rest = absurd (never l (cells_there l a.0 (one_there n (head l.code).cellvars (place_in l n) x.1)) y.0)
         go (inr x) (inl y) rest = absurd (never l y.0 (frees_there l a.0 (one_there n (head l.code).freevars x.0 x.2)))
         go (inr x) (inr y) rest =
-            goes_on l m ls a.1 b x.0 x.1 (entry_of l m a.0 (first_linked m ls a.2) a.1 x.0 x.2)
+            cell_path_goes_on l m ls a.1 b x.0 x.1 (entry_of l m a.0 (first_linked m ls a.2) a.1 x.0 x.2)
             (rest (subst (λ es. LeadsTo rows n es b) (outward (parents rows) (number l) (number m) a.1.parent a.1.below) y.1))
 
     -- a use of the name in the innermost code comes to the binder
@@ -302,7 +306,7 @@ module _ (rows : List Row) (scopes : List ScopeEntry) (f : Facts rows scopes) wh
       pub binder : ℕ
       pub resolves : binder_of rows l n ≡ Some binder
       pub place_is : p ≡ place_in l n
-      pub comes : Comes binder l ls
+      pub comes : CellPathComes binder l ls
 
     pub use_comes : (l : Link) (ls : List Link) → AllLinked l ls → (p : ℕ) → Using l.scope n p → UseComes l ls p
     use_comes l ls a p u = by w.symbol.scope refl w.outer
@@ -317,13 +321,13 @@ module _ (rows : List Row) (scopes : List ScopeEntry) (f : Facts rows scopes) wh
         celled = subst (λ (h : Head). OfCell (h.kind u.usage u.fixed n)) k.head.tells u.celled
 
         w : Says (symbols_in scopes (number l)) n
-        w = says (symbols_in scopes (number l)) n (subst (λ ts. OfOuter (scope_in (find (λ s. same_name n s.name) ts))) (λ j. symbols_in (k.head.scopes_are j) (k.head.here_is j)) (outer_access c u.usage u.fixed n celled))
+        w = says (symbols_in scopes (number l)) n (subst (λ ts. OfOuter (cell_path_scope_in (find (λ s. same_name n s.name) ts))) (λ j. symbols_in (k.head.scopes_are j) (k.head.here_is j)) (outer_access c u.usage u.fixed n celled))
 
         place : p ≡ place_in l n
-        place = u.placed ∙ ap (λ (h : Head). h.place u.usage u.fixed n) k.head.tells ∙ placed_cell (access_kind c u.usage u.fixed n) (cell_place c n) celled ∙ sym (ap (λ (h : Head). h.cell_place n) k.head.tells) ∙ placed l k
+        place = u.placed ∙ ap (λ (h : Head). h.place u.usage u.fixed n) k.head.tells ∙ placed_cell (access_kind c u.usage u.fixed n) (cell_place c n) celled ∙ sym (ap (λ (h : Head). h.cell_place n) k.head.tells) ∙ cell_path_placed l k
 
         kind : (resolve rows (number l) n).kind ≡ w.symbol.scope
-        kind = ap (λ x. (resolve rows (number l) x).kind) w.named ∙ sym ((follows l k).kinds w.place w.symbol w.there)
+        kind = ap (λ x. (resolve rows (number l) x).kind) w.named ∙ sym ((cell_path_follows l k).kinds w.place w.symbol w.there)
 
         by : (z : SymbolScope) → w.symbol.scope ≡ z → OfOuter z → UseComes l ls p
         by scope.Unknown e h = absurd h
@@ -338,7 +342,7 @@ module _ (rows : List Row) (scopes : List ScopeEntry) (f : Facts rows scopes) wh
         }
         by scope.Free e h =
             let need : needs rows (number l) n ≡ true =
-            ap (needs rows (number l)) w.named ∙ sym ((follows l k).outside w.place w.symbol w.there) ∙ left_or (is_free_kind w.symbol.scope) (intersects w.symbol.flags.0 0x100) (ap is_free_kind e) in
+            ap (needs rows (number l)) w.named ∙ sym ((cell_path_follows l k).outside w.place w.symbol w.there) ∙ left_or (is_free_kind w.symbol.scope) (intersects w.symbol.flags.0 0x100) (ap is_free_kind e) in
             let v = f.stands.lead (number l) n need in record {
               binder = v.0;
               resolves = ap (λ z. cell_scope z (number l) (binder_in rows (number l) n)) (kind ∙ e) ∙ v.1;

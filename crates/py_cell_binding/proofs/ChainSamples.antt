@@ -26,16 +26,16 @@ use Rattle.py_emission_parts.specs.Context.{inside, with_path, within_class}
 use Rattle.py_meaning.specs.Meaning.{body}
 use Rattle.py_cell_binding.specs.Chains.{IsChain, Link, Uses, cell_of, event_at, made_in, outermost}
 use Rattle.py_cell_binding.specs.Captures.{Captures, binder_of}
-use Rattle.py_cell_binding.proofs.Events.{some_is}
+use Rattle.py_cell_binding.proofs.Events.{event_some_is}
 
-abbrev at : SourceLocation
-at = record { row = 1; column = 1 }
+abbrev chain_sample_at : SourceLocation
+chain_sample_at = record { row = 1; column = 1 }
 
-abbrev unit : Instruction → ℕ → CodeUnit
-unit i n = record { op = i; arg = n }
+abbrev chain_sample_unit : Instruction → ℕ → CodeUnit
+chain_sample_unit i n = record { op = i; arg = n }
 
-abbrev coded : (name : Name) → (depth : ℕ) → List CodeUnit → (names varnames cells frees : List Name) → List Const → Object
-coded name depth units names varnames cells frees constants = const.object_of (record {
+abbrev chain_sample_coded : (name : Name) → (depth : ℕ) → List CodeUnit → (names varnames cells frees : List Name) → List Const → Object
+chain_sample_coded name depth units names varnames cells frees constants = const.object_of (record {
   flags = 33;
   posonlyarg_count = 0;
   arg_count = 0;
@@ -53,8 +53,8 @@ coded name depth units names varnames cells frees constants = const.object_of (r
   cell2arg = None;
 }) (const.consts_of constants)
 
-abbrev symbol : Name → SymbolScope → (flags : ℕ) → Symbol
-symbol name scope flags = record { name = name; scope = scope; flags = record { 0 = flags } }
+abbrev chain_sample_symbol : Name → SymbolScope → (flags : ℕ) → Symbol
+chain_sample_symbol name scope flags = record { name = name; scope = scope; flags = record { 0 = flags } }
 
 abbrev entry : SymbolTableType → List Symbol → ScopeEntry
 entry typ symbols = record { typ = typ; symbols = symbols; next = 0 }
@@ -63,14 +63,14 @@ entry typ symbols = record { typ = typ; symbols = symbols; next = 0 }
 abbrev scope_made : Scope → List Answer → (n : ℕ) → Scope
 scope_made s answers n = elim (made_in (event_at (meaning_by fully s answers) n)) [ None ↦ s | Some t ↦ t ]
 
-abbrev one : tree.Stmt → tree.Stmts
-one s = tree.more_stmts s tree.no_stmts
+abbrev chain_sample_one : tree.Stmt → tree.Stmts
+chain_sample_one s = tree.more_stmts s tree.no_stmts
 
-abbrev parameter : Name → tree.Arguments
-parameter n = tree.arguments tree.no_args (tree.more_args (tree.arg at n tree.no_expr) tree.no_expr tree.no_args) tree.no_arg tree.no_args tree.no_arg
+abbrev chain_sample_parameter : Name → tree.Arguments
+chain_sample_parameter n = tree.arguments tree.no_args (tree.more_args (tree.arg chain_sample_at n tree.no_expr) tree.no_expr tree.no_args) tree.no_arg tree.no_args tree.no_arg
 
-abbrev function : Name → tree.Arguments → tree.Stmts → tree.Stmt
-function n params statements = tree.FunctionDef at n params statements tree.no_exprs tree.no_expr tree.no_type_params
+abbrev chain_sample_function : Name → tree.Arguments → tree.Stmts → tree.Stmt
+chain_sample_function n params statements = tree.FunctionDef chain_sample_at n params statements tree.no_exprs tree.no_expr tree.no_type_params
 
 -- the scopes that a scan enters
 abbrev rows_of : Outcome → List Row
@@ -79,28 +79,28 @@ rows_of (Refused fault loc) = []
 
 -- def f(x): return lambda: x
 abbrev lambda_stmts : tree.Stmts
-lambda_stmts = one (function (codes "f") (parameter (codes "x")) (one (tree.Return at (tree.some_expr (tree.Lambda at (tree.arguments tree.no_args tree.no_args tree.no_arg tree.no_args tree.no_arg) (tree.Name at (codes "x")))))))
+lambda_stmts = chain_sample_one (chain_sample_function (codes "f") (chain_sample_parameter (codes "x")) (chain_sample_one (tree.Return chain_sample_at (tree.some_expr (tree.Lambda chain_sample_at (tree.arguments tree.no_args tree.no_args tree.no_arg tree.no_args tree.no_arg) (tree.Name chain_sample_at (codes "x")))))))
 
 abbrev lambda_tree : tree.Mod
 lambda_tree = tree.Module lambda_stmts
 
 abbrev lambda_scopes : List ScopeEntry
 lambda_scopes =
-    entry kinds.Module (symbol (codes "f") symbols.Local 2 ∷ [])
-    ∷ entry kinds.Function (symbol (codes "x") symbols.Cell 4 ∷ [])
-    ∷ entry kinds.Function (symbol (codes "x") symbols.Free 1 ∷ [])
+    entry kinds.Module (chain_sample_symbol (codes "f") symbols.Local 2 ∷ [])
+    ∷ entry kinds.Function (chain_sample_symbol (codes "x") symbols.Cell 4 ∷ [])
+    ∷ entry kinds.Function (chain_sample_symbol (codes "x") symbols.Free 1 ∷ [])
     ∷ []
 
 abbrev lambda_code : Object
-lambda_code = coded (codes "<lambda>") 1 (unit op.LoadDeref 0 ∷ unit op.ReturnValue 0 ∷ []) [] [] [] (codes "x" ∷ []) (const.none ∷ [])
+lambda_code = chain_sample_coded (codes "<lambda>") 1 (chain_sample_unit op.LoadDeref 0 ∷ chain_sample_unit op.ReturnValue 0 ∷ []) [] [] [] (codes "x" ∷ []) (const.none ∷ [])
 
 abbrev around_lambda : Object
 around_lambda =
-    coded (codes "f") 3 (unit op.LoadClosure 0 ∷ unit op.BuildTuple 1 ∷ unit op.LoadConst 1 ∷ unit op.LoadConst 2 ∷ unit op.MakeFunction 1 ∷ unit op.ReturnValue 0 ∷ []) [] (codes "x" ∷ []) (codes "x" ∷ []) [] (const.none ∷ const.code lambda_code ∷ const.str (codes "<lambda>") ∷ [])
+    chain_sample_coded (codes "f") 3 (chain_sample_unit op.LoadClosure 0 ∷ chain_sample_unit op.BuildTuple 1 ∷ chain_sample_unit op.LoadConst 1 ∷ chain_sample_unit op.LoadConst 2 ∷ chain_sample_unit op.MakeFunction 1 ∷ chain_sample_unit op.ReturnValue 0 ∷ []) [] (codes "x" ∷ []) (codes "x" ∷ []) [] (const.none ∷ const.code lambda_code ∷ const.str (codes "<lambda>") ∷ [])
 
 abbrev module_of : Object → Object
 module_of o =
-    coded (codes "<module>") 2 (unit op.LoadConst 0 ∷ unit op.LoadConst 1 ∷ unit op.MakeFunction 0 ∷ unit op.StoreLocal 0 ∷ unit op.ReturnConst 2 ∷ []) (codes "f" ∷ []) [] [] [] (const.code o ∷ const.str (codes "f") ∷ const.none ∷ [])
+    chain_sample_coded (codes "<module>") 2 (chain_sample_unit op.LoadConst 0 ∷ chain_sample_unit op.LoadConst 1 ∷ chain_sample_unit op.MakeFunction 0 ∷ chain_sample_unit op.StoreLocal 0 ∷ chain_sample_unit op.ReturnConst 2 ∷ []) (codes "f" ∷ []) [] [] [] (const.code o ∷ const.str (codes "f") ∷ const.none ∷ [])
 
 abbrev lambda_whole : Scope
 lambda_whole = body lambda_scopes lambda_tree mode.Exec 0
@@ -138,12 +138,12 @@ lambda_binder = refl
 --             return y
 abbrev class_stmts : tree.Stmts
 class_stmts =
-    one (function (codes "f") (parameter (codes "y"))
-    (one (tree.ClassDef at (codes "A") tree.no_exprs tree.no_keywords
-    (tree.more_stmts (tree.Assign at (tree.more_exprs (tree.Name at (codes "y")) tree.no_exprs) (tree.Constant at (literal.Int (pos 1))))
-    (one (function (codes "g") (parameter (codes "self"))
-    (tree.more_stmts (tree.StmtExpr at (tree.Call at (tree.Name at (codes "super")) tree.no_exprs tree.no_keywords))
-    (one (tree.Return at (tree.some_expr (tree.Name at (codes "y")))))))))
+    chain_sample_one (chain_sample_function (codes "f") (chain_sample_parameter (codes "y"))
+    (chain_sample_one (tree.ClassDef chain_sample_at (codes "A") tree.no_exprs tree.no_keywords
+    (tree.more_stmts (tree.Assign chain_sample_at (tree.more_exprs (tree.Name chain_sample_at (codes "y")) tree.no_exprs) (tree.Constant chain_sample_at (literal.Int (pos 1))))
+    (chain_sample_one (chain_sample_function (codes "g") (chain_sample_parameter (codes "self"))
+    (tree.more_stmts (tree.StmtExpr chain_sample_at (tree.Call chain_sample_at (tree.Name chain_sample_at (codes "super")) tree.no_exprs tree.no_keywords))
+    (chain_sample_one (tree.Return chain_sample_at (tree.some_expr (tree.Name chain_sample_at (codes "y")))))))))
     tree.no_exprs tree.no_type_params)))
 
 abbrev class_tree : tree.Mod
@@ -151,26 +151,26 @@ class_tree = tree.Module class_stmts
 
 abbrev class_scopes : List ScopeEntry
 class_scopes =
-    entry kinds.Module (symbol (codes "f") symbols.Local 2 ∷ [])
-    ∷ entry kinds.Function (symbol (codes "y") symbols.Cell 4 ∷ symbol (codes "A") symbols.Local 2 ∷ [])
-    ∷ entry kinds.Class (symbol (codes "__module__") symbols.Local 2 ∷ symbol (codes "__qualname__") symbols.Local 2 ∷ symbol (codes "__doc__") symbols.Local 2 ∷ symbol (codes "__class__") symbols.Cell 2 ∷ symbol (codes "y") symbols.Local 258 ∷ symbol (codes "g") symbols.Local 2 ∷ [])
-    ∷ entry kinds.Function (symbol (codes "self") symbols.Local 4 ∷ symbol (codes "super") symbols.GlobalImplicit 1 ∷ symbol (codes "__class__") symbols.Free 1 ∷ symbol (codes "y") symbols.Free 1 ∷ [])
+    entry kinds.Module (chain_sample_symbol (codes "f") symbols.Local 2 ∷ [])
+    ∷ entry kinds.Function (chain_sample_symbol (codes "y") symbols.Cell 4 ∷ chain_sample_symbol (codes "A") symbols.Local 2 ∷ [])
+    ∷ entry kinds.Class (chain_sample_symbol (codes "__module__") symbols.Local 2 ∷ chain_sample_symbol (codes "__qualname__") symbols.Local 2 ∷ chain_sample_symbol (codes "__doc__") symbols.Local 2 ∷ chain_sample_symbol (codes "__class__") symbols.Cell 2 ∷ chain_sample_symbol (codes "y") symbols.Local 258 ∷ chain_sample_symbol (codes "g") symbols.Local 2 ∷ [])
+    ∷ entry kinds.Function (chain_sample_symbol (codes "self") symbols.Local 4 ∷ chain_sample_symbol (codes "super") symbols.GlobalImplicit 1 ∷ chain_sample_symbol (codes "__class__") symbols.Free 1 ∷ chain_sample_symbol (codes "y") symbols.Free 1 ∷ [])
     ∷ []
 
 abbrev method_code : Object
 method_code =
-    coded (codes "g") 1 (unit op.LoadGlobal 0 ∷ unit op.CallFunctionPositional 0 ∷ unit op.Pop 0 ∷ unit op.LoadDeref 1 ∷ unit op.ReturnValue 0 ∷ []) (codes "super" ∷ []) (codes "self" ∷ []) [] (codes "__class__" ∷ codes "y" ∷ []) (const.none ∷ [])
+    chain_sample_coded (codes "g") 1 (chain_sample_unit op.LoadGlobal 0 ∷ chain_sample_unit op.CallFunctionPositional 0 ∷ chain_sample_unit op.Pop 0 ∷ chain_sample_unit op.LoadDeref 1 ∷ chain_sample_unit op.ReturnValue 0 ∷ []) (codes "super" ∷ []) (codes "self" ∷ []) [] (codes "__class__" ∷ codes "y" ∷ []) (const.none ∷ [])
 
 -- the class, with the places of which the method is made
 abbrev class_code : (first second : ℕ) → Object
 class_code a b =
-    coded (codes "A") 3 (unit op.LoadGlobal 0 ∷ unit op.StoreLocal 1 ∷ unit op.LoadConst 0 ∷ unit op.StoreLocal 2 ∷ unit op.LoadConst 1 ∷ unit op.StoreLocal 3 ∷ unit op.LoadConst 2 ∷ unit op.StoreLocal 4 ∷ unit op.LoadClosure a ∷ unit op.LoadClosure b ∷ unit op.BuildTuple 2 ∷ unit op.LoadConst 3 ∷ unit op.LoadConst 4 ∷ unit op.MakeFunction 1 ∷ unit op.StoreLocal 5 ∷ unit op.LoadClosure 0 ∷ unit op.Duplicate 0 ∷ unit op.StoreLocal 6 ∷ unit op.ReturnValue 0 ∷ [])
+    chain_sample_coded (codes "A") 3 (chain_sample_unit op.LoadGlobal 0 ∷ chain_sample_unit op.StoreLocal 1 ∷ chain_sample_unit op.LoadConst 0 ∷ chain_sample_unit op.StoreLocal 2 ∷ chain_sample_unit op.LoadConst 1 ∷ chain_sample_unit op.StoreLocal 3 ∷ chain_sample_unit op.LoadConst 2 ∷ chain_sample_unit op.StoreLocal 4 ∷ chain_sample_unit op.LoadClosure a ∷ chain_sample_unit op.LoadClosure b ∷ chain_sample_unit op.BuildTuple 2 ∷ chain_sample_unit op.LoadConst 3 ∷ chain_sample_unit op.LoadConst 4 ∷ chain_sample_unit op.MakeFunction 1 ∷ chain_sample_unit op.StoreLocal 5 ∷ chain_sample_unit op.LoadClosure 0 ∷ chain_sample_unit op.Duplicate 0 ∷ chain_sample_unit op.StoreLocal 6 ∷ chain_sample_unit op.ReturnValue 0 ∷ [])
     (codes "__name__" ∷ codes "__module__" ∷ codes "__qualname__" ∷ codes "__doc__" ∷ codes "y" ∷ codes "g" ∷ codes "__classcell__" ∷ []) [] (codes "__class__" ∷ []) (codes "y" ∷ [])
     (const.str (codes "f.<locals>.A") ∷ const.none ∷ const.integer (pos 1) ∷ const.code method_code ∷ const.str (codes "f.<locals>.A.g") ∷ [])
 
 abbrev around_class : (first second : ℕ) → Object
 around_class a b =
-    coded (codes "f") 4 (unit op.LoadBuildClass 0 ∷ unit op.LoadClosure 0 ∷ unit op.BuildTuple 1 ∷ unit op.LoadConst 1 ∷ unit op.LoadConst 2 ∷ unit op.MakeFunction 1 ∷ unit op.LoadConst 2 ∷ unit op.CallFunctionPositional 2 ∷ unit op.StoreFast 1 ∷ unit op.ReturnConst 0 ∷ []) [] (codes "y" ∷ codes "A" ∷ []) (codes "y" ∷ []) [] (const.none ∷ const.code (class_code a b) ∷ const.str (codes "A") ∷ [])
+    chain_sample_coded (codes "f") 4 (chain_sample_unit op.LoadBuildClass 0 ∷ chain_sample_unit op.LoadClosure 0 ∷ chain_sample_unit op.BuildTuple 1 ∷ chain_sample_unit op.LoadConst 1 ∷ chain_sample_unit op.LoadConst 2 ∷ chain_sample_unit op.MakeFunction 1 ∷ chain_sample_unit op.LoadConst 2 ∷ chain_sample_unit op.CallFunctionPositional 2 ∷ chain_sample_unit op.StoreFast 1 ∷ chain_sample_unit op.ReturnConst 0 ∷ []) [] (codes "y" ∷ codes "A" ∷ []) (codes "y" ∷ []) [] (const.none ∷ const.code (class_code a b) ∷ const.str (codes "A") ∷ [])
 
 abbrev class_whole : Scope
 class_whole = body class_scopes class_tree mode.Exec 0
@@ -217,8 +217,8 @@ class_binder = refl
 refuted : (rows : List Row) (o : Object) (s : Scope) (l : Link) (ls : List Link) (k : Link) (ks : List Link) → IsChain o s (l ∷ ls) → Uses l.code (codes "y") 1 → cell_of (l ∷ ls) 1 ≡ Some (k ∷ ks, 0) → slice_get (head k.code).cellvars 0 ≡ Some (codes "__class__") → Captures rows o s → ⊥
 refuted rows o s l ls k ks chain uses ends named h =
     let e = (h.binders l ls chain (codes "y") 1 uses).ends in
-    let q : (e.link ∷ e.around, e.cell) ≡ (k ∷ ks, 0) = some_is (sym e.ends ∙ ends) in
-    let n : codes "y" ≡ codes "__class__" = some_is (sym e.named ∙ (λ j. slice_get (cells_of_first (q j).0) (q j).1) ∙ named) in
+    let q : (e.link ∷ e.around, e.cell) ≡ (k ∷ ks, 0) = event_some_is (sym e.ends ∙ ends) in
+    let n : codes "y" ≡ codes "__class__" = event_some_is (sym e.named ∙ (λ j. slice_get (cells_of_first (q j).0) (q j).1) ∙ named) in
     let z : 1 ≡ 9 = ap (length {A = ℕ}) n in
     omega (arith, z)
 

@@ -2,9 +2,9 @@
 use Rattle.py_bytecode.specs.Objects as const
 use Rattle.std.proofs.Common.{ℕ, zero, suc, List, [], ◌∷◌, ◌++◌, length, Bool, true, false, Option, Some, None}
 use Rattle.std.specs.Prelude.{nat_eq, if◌then◌else◌}
-use Rattle.py_bytecode.specs.Values.{Operation, raise_again, match_exception, enter_with, exit_with, Value, Constant, Given, Child, Cell, Answer, Gives, Truth, End, Raised, Usage, Load, Store, Delete, Event, Operates, Makes, StoresCells, AsksTruth, AsksNext, World, Got, Fine, Raises, Stops, then_get, ask_of, ask, ask_for, fits, fits_truth, fits_next, given, gives_of, for_one, for_two, for_none, one_of, two_of, none_of, truth_of, next_of, on_some, Leave, Breaks, Continues, Returns, Throws, Ended, Normal, Leaves, Halts, on_ended, then_do, use_it, effect, choose, meets}
+use Rattle.py_bytecode.specs.Values.{Operation, raise_again, match_exception, enter_with, exit_with, Value, Constant, Given, Child, Cell, Answer, Gives, Truth, End, Raised, Usage, Load, Store, Delete, Event, Operates, Makes, StoresCells, AsksTruth, AsksNext, World, Got, Fine, Raises, Stops, then_get, ask_of, ask, ask_for, fits, fits_truth, fits_next, given_values, gives_of, for_one, for_two, for_none, one_of, two_of, none_of, truth_of, next_of, on_some, Leave, Breaks, Continues, Returns, Throws, Ended, Normal, Leaves, Halts, on_ended, then_do, use_it, effect, choose, meets}
 use Rattle.py_bytecode.specs.Machine.{start}
-use Rattle.py_control.specs.Form.{VForm, VConst, VLoad, VOp, VMake, VShort, VChain, VChoice, VKeep, VSwap, VAt, VForms, VNone, VMore, VMethod, Shorts, OneShort, MoreShort, Links, LastLink, MoreLink, TForm, TTruth, TNot, TAll, Tests, OneTest, MoreTest, Target, GStore, GPut, GUnder, GUnpack, GDrop, Targets, NoTarget, MoreTarget, SForm, SSkip, SThen, SDo, SInto, SRemove, SIf, SIfElse, SWhile, SFor, SBreak, SContinue, SReturn, SClassEnd, SReraise, SAugment, SAugmentTwo, STry, STryFinal, SFinally, SWith, SGather, SGenerate, SAt, Handlers, HNone, HAny, HTyped, Clauses, CLast, CEach, Filters, NoFilter, MoreFilter, Scope, Fixed, Interp, targets, decide, stop_test, link, kept, after_turn, turns, assigned, rounds, clause_turn, circles, in_hand, handle, try_run, typed_run, finally_run, exit_run, exit_leave, class_end, reraised, access, run_value, run_values, run_shorts, run_links, run_test, run_tests, run_target, run_targets, run_filters, run_clauses, append_run, drop_run, run, run_handlers, ended_so, left_so}
+use Rattle.py_control.specs.Form.{VForm, VConst, VLoad, VOp, VMake, VShort, VChain, VChoice, VKeep, VSwap, VAt, VForms, VNone, VMore, VMethod, Shorts, OneShort, MoreShort, Links, LastLink, MoreLink, TForm, TTruth, TNot, TAll, Tests, OneTest, MoreTest, Target, GStore, GPut, GUnder, GUnpack, GDrop, Targets, NoTarget, MoreTarget, SForm, SSkip, SThen, SDo, SInto, SRemove, SIf, SIfElse, SWhile, SFor, SBreak, SContinue, SReturn, SClassEnd, SReraise, SAugment, SAugmentTwo, STry, STryFinal, SFinally, SWith, SGather, SGenerate, SAt, Handlers, HNone, HAny, HTyped, Clauses, CLast, CEach, Filters, NoFilter, MoreFilter, Scope, Fixed, Interp, targets, decide, stop_test, link, keep_value, after_turn, turns, assign_then, rounds, clause_turn, circles, in_hand, handle, try_run, typed_run, finally_run, exit_run, exit_leave, class_end, reraise_end, access, run_value, run_values, run_shorts, run_links, run_test, run_tests, run_target, run_targets, run_filters, run_clauses, append_run, drop_run, run, run_handlers, ended_so, left_so}
 use Rattle.py_control.specs.Agree.{AllOf}
 
 -- what is so of each event that may be listed
@@ -30,9 +30,9 @@ module _ {K : Type 0} (P : Event K → Type 0) where
   EndedSo (Leaves r w) = So w
   EndedSo (Halts es) = AllOf P es
 
-  one_more : (es : List (Event K)) (e : Event K) → AllOf P es → P e → AllOf P (es ++ e ∷ [])
-  one_more [] e a p = (p, tt)
-  one_more (x ∷ es) e a p = (a.0, one_more es e a.1 p)
+  event_one_more : (es : List (Event K)) (e : Event K) → AllOf P es → P e → AllOf P (es ++ e ∷ [])
+  event_one_more [] e a p = (p, tt)
+  event_one_more (x ∷ es) e a p = (a.0, event_one_more es e a.1 p)
 
   -- going on
   then_so : {A B : Type 0} (r : Got K A) (k : A → World K → Got K B) → GotSo r → ((a : A) (w : World K) → So w → GotSo (k a w)) → GotSo (then_get r k)
@@ -45,7 +45,8 @@ module _ {K : Type 0} (P : Event K → Type 0) where
   use_so (Raises e w) k s h = s
   use_so (Stops es) k s h = s
 
-  on_so : (r : Ended K) (n : World K → Ended K) (k : Leave K → World K → Ended K) → EndedSo r → ((w : World K) → So w → EndedSo (n w)) → ((why : Leave K) (w : World K) → So w → EndedSo (k why w)) → EndedSo (on_ended r n k Halts)
+  on_so : (r : Ended K) (n : World K → Ended K) (k : Leave K → World K → Ended K) → EndedSo r → ((w : World K) → So w → EndedSo (n w))
+      → ((why : Leave K) (w : World K) → So w → EndedSo (k why w)) → EndedSo (on_ended r n k Halts)
   on_so (Normal w) n k s hn hk = hn w s
   on_so (Leaves why w) n k s hn hk = hk why w s
   on_so (Halts es) n k s hn hk = s
@@ -56,9 +57,9 @@ module _ {K : Type 0} (P : Event K → Type 0) where
   effect_so : (r : Got K (Unit {0})) → GotSo r → EndedSo (effect r)
   effect_so r s = use_so r (λ d w. Normal w) s (λ d w t. t)
 
-  if_so : {A : Type 0} (b : Bool) (r t : Got K A) → GotSo r → GotSo t → GotSo (if b then r else t)
-  if_so true r t x y = x
-  if_so false r t x y = y
+  event_if_so : {A : Type 0} (b : Bool) (r t : Got K A) → GotSo r → GotSo t → GotSo (if b then r else t)
+  event_if_so true r t x y = x
+  event_if_so false r t x y = y
 
   choose_so : {A : Type 0} (b : Bool) (r t : Got K A) → GotSo r → GotSo t → GotSo (choose b r t)
   choose_so true r t x y = x
@@ -77,14 +78,14 @@ module _ {K : Type 0} (P : Event K → Type 0) where
   ask_so e w k p s h = go w.answers
     where
       more : AllOf P (w.events ++ e ∷ [])
-      more = one_more w.events e s p
+      more = event_one_more w.events e s p
 
       go : (answers : List Answer) → GotSo (ask_of (w.events ++ e ∷ []) answers w.taken k)
       go [] = more
       go (a ∷ rest) = h a w.taken _ more
 
   fits_so : (k : Option ℕ) (a : Answer) (i : ℕ) (w : World K) → So w → GotSo (fits k a i w)
-  fits_so (Some n) (Gives k) i w s = if_so (nat_eq n k) (Fine (given n i 0) w) (Stops w.events) s s
+  fits_so (Some n) (Gives k) i w s = event_if_so (nat_eq n k) (Fine (given_values n i 0) w) (Stops w.events) s s
   fits_so (Some n) (Truth b) i w s = s
   fits_so (Some n) End i w s = s
   fits_so (Some n) Raised i w s = s
@@ -100,7 +101,7 @@ module _ {K : Type 0} (P : Event K → Type 0) where
   fits_truth_so Raised i w s = s
 
   fits_next_so : (a : Answer) (i : ℕ) (w : World K) → So w → GotSo (fits_next a i w)
-  fits_next_so (Gives k) i w s = if_so (nat_eq 1 k) (Fine (Some (Given i 0)) w) (Stops w.events) s s
+  fits_next_so (Gives k) i w s = event_if_so (nat_eq 1 k) (Fine (Some (Given i 0)) w) (Stops w.events) s s
   fits_next_so (Truth b) i w s = s
   fits_next_so End i w s = s
   fits_next_so Raised i w s = s
@@ -127,8 +128,8 @@ module _ {K : Type 0} (P : Event K → Type 0) where
   for_none_so e r w p s = then_so (ask_for e (gives_of r) w) none_of (ask_for_so e (gives_of r) w p s) (λ vs w1 t. t)
 
   -- parts that keep it
-  abbrev Keeps : {A : Type 0} → (World K → Got K A) → Type 0
-  Keeps m = (w : World K) → So w → GotSo (m w)
+  abbrev EventKeeps : {A : Type 0} → (World K → Got K A) → Type 0
+  EventKeeps m = (w : World K) → So w → GotSo (m w)
 
   abbrev KeepsOn : {A : Type 0} → (Value K → World K → Got K A) → Type 0
   KeepsOn m = (v : Value K) (w : World K) → So w → GotSo (m v w)
@@ -140,29 +141,29 @@ module _ {K : Type 0} (P : Event K → Type 0) where
   StaysOn m = (v : Value K) (w : World K) → So w → EndedSo (m v w)
 
   module _ (i : Interp K) (h : Tells P i) where
-    truth_so : (v : Value K) → Keeps (truth_of v)
+    truth_so : (v : Value K) → EventKeeps (truth_of v)
     truth_so v w s = ask_so (AsksTruth v) w fits_truth (h.truth v) s fits_truth_so
 
-    next_so : (v : Value K) → Keeps (next_of v)
+    next_so : (v : Value K) → EventKeeps (next_of v)
     next_so v w s = ask_so (AsksNext v) w fits_next (h.next v) s fits_next_so
 
-    op_one : (o : Operation) (vs : List (Value K)) → Keeps (for_one (Operates o vs))
+    op_one : (o : Operation) (vs : List (Value K)) → EventKeeps (for_one (Operates o vs))
     op_one o vs w s = for_one_so (Operates o vs) w (h.operates o vs) s
 
-    op_none : (o : Operation) (r : Bool) (vs : List (Value K)) → Keeps (for_none (Operates o vs) r)
+    op_none : (o : Operation) (r : Bool) (vs : List (Value K)) → EventKeeps (for_none (Operates o vs) r)
     op_none o r vs w s = for_none_so (Operates o vs) r w (h.operates o vs) s
 
-    decide_so : (d : Bool) (a b : World K → Got K (Value K)) → Keeps a → Keeps b → Keeps (decide d a b)
+    decide_so : (d : Bool) (a b : World K → Got K (Value K)) → EventKeeps a → EventKeeps b → EventKeeps (decide d a b)
     decide_so d a b ha hb w s = then_so (a w) _ (ha w s) (λ v w1 s1. then_so (truth_of v w1) _ (truth_so v w1 s1) (λ t w2 s2. meets_so d t (Fine v w2) (b w2) s2 (hb w2 s2)))
 
-    stop_so : (d : Bool) (a b : World K → Got K Bool) → Keeps a → Keeps b → Keeps (stop_test d a b)
+    stop_so : (d : Bool) (a b : World K → Got K Bool) → EventKeeps a → EventKeeps b → EventKeeps (stop_test d a b)
     stop_so d a b ha hb w s = then_so (a w) _ (ha w s) (λ t w1 s1. meets_so d t (Fine t w1) (b w1) s1 (hb w1 s1))
 
-    link_so : (o : Operation) (l x : Value K) (rest : World K → Got K (Value K)) → Keeps rest → Keeps (link o l x rest)
+    link_so : (o : Operation) (l x : Value K) (rest : World K → Got K (Value K)) → EventKeeps rest → EventKeeps (link o l x rest)
     link_so o l x rest hr w s =
         then_so (for_one (Operates o (l ∷ x ∷ [])) w) _ (op_one o (l ∷ x ∷ []) w s) (λ r w1 s1. then_so (truth_of r w1) _ (truth_so r w1 s1) (λ t w2 s2. meets_so false t (Fine r w2) (rest w2) s2 (hr w2 s2)))
 
-    kept_so : (how : Option Operation) → KeepsOn (kept how)
+    kept_so : (how : Option Operation) → KeepsOn (keep_value how)
     kept_so None v w s = s
     kept_so (Some o) v w s = op_one o (v ∷ []) w s
 
@@ -172,31 +173,32 @@ module _ {K : Type 0} (P : Event K → Type 0) where
     after_so (Returns e) w again s ha = s
     after_so (Throws e) w again s ha = s
 
-    turns_so : (n : ℕ) (t : World K → Got K Bool) (a b : World K → Ended K) → Keeps t → Stays a → Stays b → Stays (turns n t a b)
+    turns_so : (n : ℕ) (t : World K → Got K Bool) (a b : World K → Ended K) → EventKeeps t → Stays a → Stays b → Stays (turns n t a b)
     turns_so zero t a b ht ha hb w s = s
     turns_so (suc n) t a b ht ha hb w s =
         let ih = turns_so n t a b ht ha hb in
         use_so (t w) _ (ht w s) (λ c w1 s1. pick_so c _ (b w1) (on_so (a w1) _ _ (ha w1 s1) ih (λ why w2 s2. after_so why w2 _ s2 ih)) (hb w1 s1))
 
-    assigned_so : (t : Value K → World K → Got K (Unit {0})) (a : World K → Ended K) → KeepsOn t → Stays a → StaysOn (assigned t a)
+    assigned_so : (t : Value K → World K → Got K (Unit {0})) (a : World K → Ended K) → KeepsOn t → Stays a → StaysOn (assign_then t a)
     assigned_so t a ht ha v w s = use_so (t v w) _ (ht v w s) (λ d w1 s1. ha w1 s1)
 
     rounds_so : (n : ℕ) (it : Value K) (t : Value K → World K → Ended K) (b : World K → Ended K) → StaysOn t → Stays b → Stays (rounds n it t b)
     rounds_so zero it t b ht hb w s = s
     rounds_so (suc n) it t b ht hb w s = use_so (next_of it w) _ (next_so it w s) (go (rounds_so n it t b ht hb))
       where
-        go : Stays (rounds n it t b) → (x : Option (Value K)) (w1 : World K) → So w1 → EndedSo (on_some x (λ y. on_ended (t y w1) (rounds n it t b) (λ r w2. after_turn r w2 (rounds n it t b)) Halts) (b w1))
+        go : Stays (rounds n it t b) → (x : Option (Value K)) (w1 : World K) → So w1
+            → EndedSo (on_some x (λ y. on_ended (t y w1) (rounds n it t b) (λ r w2. after_turn r w2 (rounds n it t b)) Halts) (b w1))
         go ih (Some y) w1 s1 = on_so (t y w1) _ _ (ht y w1 s1) ih (λ why w2 s2. after_so why w2 _ s2 ih)
         go ih None w1 s1 = hb w1 s1
 
-    turn_so : (t : Value K → World K → Got K (Unit {0})) (f : World K → Got K Bool) (b : World K → Got K (Unit {0})) → KeepsOn t → Keeps f → Keeps b → KeepsOn (clause_turn t f b)
+    turn_so : (t : Value K → World K → Got K (Unit {0})) (f : World K → Got K Bool) (b : World K → Got K (Unit {0})) → KeepsOn t → EventKeeps f → EventKeeps b → KeepsOn (clause_turn t f b)
     turn_so t f b ht hf hb v w s = then_so (t v w) _ (ht v w s) (λ d w1 s1. then_so (f w1) _ (hf w1 s1) (λ c w2 s2. choose_so c (b w2) (Fine tt w2) (hb w2 s2) s2))
 
-    circles_so : (n : ℕ) (it : Value K) (t : Value K → World K → Got K (Unit {0})) → KeepsOn t → Keeps (circles n it t)
+    circles_so : (n : ℕ) (it : Value K) (t : Value K → World K → Got K (Unit {0})) → KeepsOn t → EventKeeps (circles n it t)
     circles_so zero it t ht w s = s
     circles_so (suc n) it t ht w s = then_so (next_of it w) _ (next_so it w s) (go (circles_so n it t ht))
       where
-        go : Keeps (circles n it t) → (x : Option (Value K)) (w1 : World K) → So w1 → GotSo (on_some x (λ y. then_get (t y w1) (λ d w2. circles n it t w2)) (Fine tt w1))
+        go : EventKeeps (circles n it t) → (x : Option (Value K)) (w1 : World K) → So w1 → GotSo (on_some x (λ y. then_get (t y w1) (λ d w2. circles n it t w2)) (Fine tt w1))
         go ih (Some y) w1 s1 = then_so (t y w1) _ (ht y w1 s1) (λ d w2 s2. ih w2 s2)
         go ih None w1 s1 = s1
 
@@ -209,7 +211,7 @@ module _ {K : Type 0} (P : Event K → Type 0) where
     try_so : (a : World K → Ended K) (hs : Value K → World K → Ended K) (b : World K → Ended K) → Stays a → StaysOn hs → Stays b → Stays (try_run a hs b)
     try_so a hs b ha hh hb w s = on_so (a w) b _ (ha w s) hb (λ why w1 s1. handle_so why w1 hs s1 hh)
 
-    typed_so : (f : World K → Got K (Value K)) (b o : Value K → World K → Ended K) → Keeps f → StaysOn b → StaysOn o → StaysOn (typed_run f b o)
+    typed_so : (f : World K → Got K (Value K)) (b o : Value K → World K → Ended K) → EventKeeps f → StaysOn b → StaysOn o → StaysOn (typed_run f b o)
     typed_so f b o hf hb ho e w s =
         use_so (f w) _ (hf w s) (λ v w1 s1. use_so (for_one (Operates match_exception (e ∷ v ∷ [])) w1) _ (op_one match_exception (e ∷ v ∷ []) w1 s1) (λ m w2 s2. use_so (truth_of m w2) _ (truth_so m w2 s2) (λ c w3 s3. pick_so c (b e w3) (o e w3) (hb e w3 s3) (ho e w3 s3))))
 
@@ -227,14 +229,14 @@ module _ {K : Type 0} (P : Event K → Type 0) where
 
     class_so : (cs : List Cell) → Stays (class_end cs)
     class_so [] w s = s
-    class_so (c ∷ cs) w s = one_more w.events (StoresCells (c ∷ cs)) s (h.stores (c ∷ cs))
+    class_so (c ∷ cs) w s = event_one_more w.events (StoresCells (c ∷ cs)) s (h.stores (c ∷ cs))
 
-    reraised_so : (slot : Option (Value K)) → Stays (reraised slot)
+    reraised_so : (slot : Option (Value K)) → Stays (reraise_end slot)
     reraised_so None w s = effect_so (for_none (Operates raise_again []) true w) (op_none raise_again true [] w s)
     reraised_so (Some e) w s = s
 
     mutual
-      value_so : (f : VForm) → Keeps (run_value i f)
+      value_so : (f : VForm) → EventKeeps (run_value i f)
       value_so (VConst n) w s = s
       value_so (VLoad x n) w s = for_one_so (access i Load x n []) w (h.accesses Load x n []) s
       value_so (VOp o fs) w s = then_so (run_values i fs w) _ (values_so fs w s) (λ vs w1 s1. op_one o vs w1 s1)
@@ -242,31 +244,31 @@ module _ {K : Type 0} (P : Event K → Type 0) where
       value_so (VShort d ss) w s = shorts_so ss d w s
       value_so (VChain f o g ls) w s = then_so (run_value i f w) _ (value_so f w s) (λ l w1 s1. then_so (run_value i g w1) _ (value_so g w1 s1) (λ x w2 s2. link_so o l x (run_links i ls x) (links_so ls x) w2 s2))
       value_so (VChoice t a b) w s = then_so (run_test i t w) _ (test_so t w s) (λ c w1 s1. choose_so c (run_value i a w1) (run_value i b w1) (value_so a w1 s1) (value_so b w1 s1))
-      value_so (VKeep f how t) w s = then_so (run_value i f w) _ (value_so f w s) (λ v w1 s1. then_so (kept how v w1) _ (kept_so how v w1 s1) (λ u w2 s2. then_so (run_target i t u w2) _ (target_so t u w2 s2) (λ d w3 s3. s3)))
+      value_so (VKeep f how t) w s = then_so (run_value i f w) _ (value_so f w s) (λ v w1 s1. then_so (keep_value how v w1) _ (kept_so how v w1 s1) (λ u w2 s2. then_so (run_target i t u w2) _ (target_so t u w2 s2) (λ d w3 s3. s3)))
       value_so (VSwap o a b fs) w s =
           then_so (run_value i a w) _ (value_so a w s) (λ u w1 s1. then_so (run_value i b w1) _ (value_so b w1 s1) (λ v w2 s2. then_so (run_values i fs w2) _ (values_so fs w2 s2) (λ vs w3 s3. op_one o (v ∷ u ∷ vs) w3 s3)))
       value_so (VAt p f) w s = value_so f w s
 
-      values_so : (fs : VForms) → Keeps (run_values i fs)
+      values_so : (fs : VForms) → EventKeeps (run_values i fs)
       values_so VNone w s = s
       values_so (VMore f fs) w s = then_so (run_value i f w) _ (value_so f w s) (λ v w1 s1. then_so (run_values i fs w1) _ (values_so fs w1 s1) (λ vs w2 s2. s2))
       values_so (VMethod o f fs) w s =
           then_so (run_value i f w) _ (value_so f w s) (λ v w1 s1. then_so (ask_for (Operates o (v ∷ [])) (Some 3) w1) _ (ask_for_so (Operates o (v ∷ [])) (Some 3) w1 (h.operates o (v ∷ [])) s1) (λ us w2 s2. then_so (run_values i fs w2) _ (values_so fs w2 s2) (λ vs w3 s3. s3)))
 
-      shorts_so : (ss : Shorts) (d : Bool) → Keeps (run_shorts i ss d)
+      shorts_so : (ss : Shorts) (d : Bool) → EventKeeps (run_shorts i ss d)
       shorts_so (OneShort f) d w s = value_so f w s
       shorts_so (MoreShort f ss) d w s = decide_so d (run_value i f) (run_shorts i ss d) (value_so f) (shorts_so ss d) w s
 
-      links_so : (ls : Links) (l : Value K) → Keeps (run_links i ls l)
+      links_so : (ls : Links) (l : Value K) → EventKeeps (run_links i ls l)
       links_so (LastLink o f) l w s = then_so (run_value i f w) _ (value_so f w s) (λ x w1 s1. op_one o (l ∷ x ∷ []) w1 s1)
       links_so (MoreLink o f ls) l w s = then_so (run_value i f w) _ (value_so f w s) (λ x w1 s1. link_so o l x (run_links i ls x) (links_so ls x) w1 s1)
 
-      test_so : (t : TForm) → Keeps (run_test i t)
+      test_so : (t : TForm) → EventKeeps (run_test i t)
       test_so (TTruth f) w s = then_so (run_value i f w) truth_of (value_so f w s) truth_so
       test_so (TNot t) w s = then_so (run_test i t w) _ (test_so t w s) (λ c w1 s1. s1)
       test_so (TAll ts) w s = tests_so ts w s
 
-      tests_so : (ts : Tests) → Keeps (run_tests i ts)
+      tests_so : (ts : Tests) → EventKeeps (run_tests i ts)
       tests_so (OneTest t) w s = test_so t w s
       tests_so (MoreTest t ts) w s = stop_so false (run_test i t) (run_tests i ts) (test_so t) (tests_so ts) w s
 
@@ -277,16 +279,16 @@ module _ {K : Type 0} (P : Event K → Type 0) where
       target_so (GUnpack o ts) v w s = then_so (ask_for (Operates o (v ∷ [])) (Some (targets ts)) w) _ (ask_for_so (Operates o (v ∷ [])) (Some (targets ts)) w (h.operates o (v ∷ [])) s) (λ vs w1 s1. targets_so ts vs w1 s1)
       target_so GDrop v w s = s
 
-      targets_so : (ts : Targets) (vs : List (Value K)) → Keeps (run_targets i ts vs)
+      targets_so : (ts : Targets) (vs : List (Value K)) → EventKeeps (run_targets i ts vs)
       targets_so NoTarget vs w s = s
       targets_so (MoreTarget t ts) [] w s = s
       targets_so (MoreTarget t ts) (v ∷ vs) w s = then_so (run_target i t v w) _ (target_so t v w s) (λ d w1 s1. targets_so ts vs w1 s1)
 
-    filters_so : (bs : Filters) → Keeps (run_filters i bs)
+    filters_so : (bs : Filters) → EventKeeps (run_filters i bs)
     filters_so NoFilter w s = s
     filters_so (MoreFilter t bs) w s = stop_so false (run_test i t) (run_filters i bs) (test_so t) (filters_so bs) w s
 
-    clauses_so : (cs : Clauses) (m : World K → Got K (Unit {0})) → Keeps m → Keeps (run_clauses i cs m)
+    clauses_so : (cs : Clauses) (m : World K → Got K (Unit {0})) → EventKeeps m → EventKeeps (run_clauses i cs m)
     clauses_so CLast m hm w s = hm w s
     clauses_so (CEach f t bs cs) m hm w s =
         then_so (run_value i f w) _ (value_so f w s) (λ it w1 s1. circles_so (suc (length w1.answers)) it (clause_turn (run_target i t) (run_filters i bs) (run_clauses i cs m)) (turn_so (run_target i t) (run_filters i bs) (run_clauses i cs m) (target_so t) (filters_so bs) (clauses_so cs m hm)) w1 s1)
@@ -302,7 +304,7 @@ module _ {K : Type 0} (P : Event K → Type 0) where
       form_so (SIfElse t a b) slot w s = use_so (run_test i t w) _ (test_so t w s) (λ c w1 s1. pick_so c (run i a slot w1) (run i b slot w1) (form_so a slot w1 s1) (form_so b slot w1 s1))
       form_so (SWhile t a b) slot w s = turns_so (suc (length w.answers)) (run_test i t) (run i a slot) (run i b slot) (test_so t) (form_so a slot) (form_so b slot) w s
       form_so (SFor f t a b) slot w s =
-          use_so (run_value i f w) _ (value_so f w s) (λ it w1 s1. rounds_so (suc (length w1.answers)) it (assigned (run_target i t) (run i a slot)) (run i b slot) (assigned_so (run_target i t) (run i a slot) (target_so t) (form_so a slot)) (form_so b slot) w1 s1)
+          use_so (run_value i f w) _ (value_so f w s) (λ it w1 s1. rounds_so (suc (length w1.answers)) it (assign_then (run_target i t) (run i a slot)) (run i b slot) (assigned_so (run_target i t) (run i a slot) (target_so t) (form_so a slot)) (form_so b slot) w1 s1)
       form_so SBreak slot w s = s
       form_so SContinue slot w s = s
       form_so (SReturn f) slot w s = use_so (run_value i f w) _ (value_so f w s) (λ v w1 s1. s1)
@@ -317,7 +319,7 @@ module _ {K : Type 0} (P : Event K → Type 0) where
           finally_so (try_run (run i a slot) (run_handlers i hs) (run i b slot)) (run i e) (try_so (run i a slot) (run_handlers i hs) (run i b slot) (form_so a slot) (handlers_so hs) (form_so b slot)) (form_so e) slot w s
       form_so (SFinally a e) slot w s = finally_so (run i a slot) (run i e) (form_so a slot) (form_so e) slot w s
       form_so (SWith f t a) slot w s =
-          use_so (run_value i f w) _ (value_so f w s) (λ v w1 s1. use_so (for_two (Operates enter_with (v ∷ [])) w1) _ (for_two_so (Operates enter_with (v ∷ [])) w1 (h.operates enter_with (v ∷ [])) s1) (λ xu w2 s2. on_so (assigned (run_target i t) (run i a slot) xu.1 w2) _ _ (assigned_so (run_target i t) (run i a slot) (target_so t) (form_so a slot) xu.1 w2 s2) (λ w3 s3. exit_so xu.0 (Constant const.none) (λ t w4. Normal w4) (λ t w4 s4. s4) w3 s3) (λ why w3 s3. exit_leave_so xu.0 why w3 s3)))
+          use_so (run_value i f w) _ (value_so f w s) (λ v w1 s1. use_so (for_two (Operates enter_with (v ∷ [])) w1) _ (for_two_so (Operates enter_with (v ∷ [])) w1 (h.operates enter_with (v ∷ [])) s1) (λ xu w2 s2. on_so (assign_then (run_target i t) (run i a slot) xu.1 w2) _ _ (assigned_so (run_target i t) (run i a slot) (target_so t) (form_so a slot) xu.1 w2 s2) (λ w3 s3. exit_so xu.0 (Constant const.none) (λ t w4. Normal w4) (λ t w4 s4. s4) w3 s3) (λ why w3 s3. exit_leave_so xu.0 why w3 s3)))
       form_so (SGather o cs p fs) slot w s =
           use_so (for_one (Operates o []) w) _ (op_one o [] w s) (λ x w1 s1. use_so (run_clauses i cs (append_run i p fs x) w1) _ (clauses_so cs (append_run i p fs x) (λ w2 s2. then_so (run_values i fs w2) _ (values_so fs w2 s2) (λ vs w3 s3. op_none p false (x ∷ vs) w3 s3)) w1 s1) (λ d w2 s2. s2))
       form_so (SGenerate cs f) slot w s = effect_so _ (clauses_so cs (drop_run i f) (λ w1 s1. then_so (run_value i f w1) _ (value_so f w1 s1) (λ v w2 s2. s2)) w s)
@@ -327,7 +329,7 @@ module _ {K : Type 0} (P : Event K → Type 0) where
       handlers_so HNone e w s = s
       handlers_so (HAny t b hs) e w s = assigned_so (run_target i t) (run i b (Some e)) (target_so t) (form_so b (Some e)) e w s
       handlers_so (HTyped f t b hs) e w s =
-          typed_so (run_value i f) (λ x w1. assigned (run_target i t) (run i b (Some e)) x w1) (run_handlers i hs) (value_so f) (λ x w1 s1. assigned_so (run_target i t) (run i b (Some e)) (target_so t) (form_so b (Some e)) x w1 s1) (handlers_so hs) e w s
+          typed_so (run_value i f) (λ x w1. assign_then (run_target i t) (run i b (Some e)) x w1) (run_handlers i hs) (value_so f) (λ x w1 s1. assigned_so (run_target i t) (run i b (Some e)) (target_so t) (form_so b (Some e)) x w1 s1) (handlers_so hs) e w s
 
     left_well : (r : Leave K) (w : World K) → So w → AllOf P (left_so r w).events
     left_well Breaks w s = s

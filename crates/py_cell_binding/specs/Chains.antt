@@ -6,8 +6,8 @@ use Rattle.py_bytecode.specs.Values.{Value, Constant, Given, Child, Event, Makes
 use Rattle.py_control.specs.Form.{Scope}
 use Rattle.py_control.specs.Agree.{fully, meaning_by}
 
--- a code object and its scope; the places, in the code around, of the cells that its function is made of, one for each of its free names; and
--- the event that made it: the answers of a run of the code around, and the number of the event in that run
+-- a code object and its scope; the places, in the enclosing code, of the cells that its function is made of, one for each of its free names; and
+-- the event that made it: the answers of a run of the enclosing code, and the number of the event in that run
 pub record Link : Type 0 where
   pub code : Object
   pub scope : Scope

@@ -23,15 +23,15 @@ use Rattle.py_scope_tree.proofs.Wanted.{wanted_needed}
 use Rattle.py_emission_proof.specs.Loads.{AreNumbered, LoadsUpTo, loads}
 use Rattle.py_emission_proof.proofs.Additions.Codes.{LoadsFew}
 use Rattle.py_emission_proof.proofs.Additions.WellMade.{all_so}
-use Rattle.py_cell_loads.specs.Uses.{CodesLoadFew, used}
+use Rattle.py_cell_loads.specs.Uses.{CodesLoadFew, use_count}
 use Rattle.py_cell_loads.proofs.Distinct.{those_distinct}
 use Rattle.py_cell_loads.proofs.SharedUseLemmas.{names_for, needed_within, shared, top, total}
 use Rattle.py_cell_loads.proofs.Whole.{uses_are_few}
 
 module _ (rows : List Row) (scopes : List ScopeEntry) (f : Facts rows scopes) (outer : ℕ) where
   -- each of these stands directly in this scope
-  abbrev AllStand : List Scope → Type 0
-  AllStand ss = AllOf (λ s. Standing rows outer (head_of s).number) ss
+  abbrev CellLoadAllStand : List Scope → Type 0
+  CellLoadAllStand ss = AllOf (λ s. Standing rows outer (head_of s).number) ss
 
   -- what one has from outside is used within it
   names_within : (k : ℕ) → Standing rows outer k → length (frees_among (symbols_in scopes k)) ≤ length (names_for (top rows f.stands.numbered outer) k 0 rows)
@@ -39,14 +39,14 @@ module _ (rows : List Row) (scopes : List ScopeEntry) (f : Facts rows scopes) (o
       let follow = f.follows k at.there in
       needed_within rows f.stands.numbered outer k at.above at.around (frees_among (symbols_in scopes k)) (those_distinct frees_here (symbols_in scopes k) follow.apart) (λ n h. wanted_needed rows k (symbols_in scopes k) follow n h)
 
-  within_total : (ss : List Scope) → AllStand ss → loads scopes ss ≤ total (λ k. length (names_for (top rows f.stands.numbered outer) k 0 rows)) ss
+  within_total : (ss : List Scope) → CellLoadAllStand ss → loads scopes ss ≤ total (λ k. length (names_for (top rows f.stands.numbered outer) k 0 rows)) ss
   within_total [] h = omega arith
   within_total (s ∷ ss) h =
       let a = names_within (head_of s).number h.0 in
       let b = within_total ss h.1 in
       omega (arith, a, b)
 
-  few_together : (ss : List Scope) → AllStand ss → AreNumbered ss → loads scopes ss ≤ used rows
+  few_together : (ss : List Scope) → CellLoadAllStand ss → AreNumbered ss → loads scopes ss ≤ use_count rows
   few_together ss h apart =
       let a = within_total ss h in
       let b = shared (top rows f.stands.numbered outer) 0 rows ss apart in
@@ -57,21 +57,21 @@ module _ (t : tree.Mod) (m : Mode) (level : ℕ) (h : faults t m level ≡ []) (
   OwnIn here n x = OwnUpTo (scopes_of t) (owners_of t m) here n x
 
   -- a scope whose own scopes are their nodes' loads few cells, and so do those
-  down : (n here : ℕ) (x : Scope) → AllOf (OwnIn here n) (kids (form_of x)) → LoadsUpTo (scopes_of t) (3 * size_of t) n x
-  down zero here x own = tt
-  down (suc n) here x own = (
+  cell_load_down : (n here : ℕ) (x : Scope) → AllOf (OwnIn here n) (kids (form_of x)) → LoadsUpTo (scopes_of t) (3 * size_of t) n x
+  cell_load_down zero here x own = tt
+  cell_load_down (suc n) here x own = (
     λ apart.
         let standing = all_so (OwnIn here (suc n)) (λ y. Standing s.scopes.rows here (head_of y).number) (λ y o. own_standing t m level s h e here y o.0) (kids (form_of x)) own in
         let a = few_together s.scopes.rows (scopes_of t) (facts t m level s h e) here (kids (form_of x)) standing apart in
         let b = uses_are_few t s e in
         omega (arith, a, b),
-    all_so (OwnIn here (suc n)) (LoadsUpTo (scopes_of t) (3 * size_of t) n) (λ y o. down n (number_of y) y o.1) (kids (form_of x)) own,
+    all_so (OwnIn here (suc n)) (LoadsUpTo (scopes_of t) (3 * size_of t) n) (λ y o. cell_load_down n (number_of y) y o.1) (kids (form_of x)) own,
   )
 
 pub codes_load_few : CodesLoadFew
 codes_load_few t m level n h =
     let d = scan_done t m level h in
-    down t m level h d.0 d.1 n 0 (body (scopes_of t) t m level) (each_is_its_own (scopes_of t) t m level n)
+    cell_load_down t m level h d.0 d.1 n 0 (body (scopes_of t) t m level) (each_is_its_own (scopes_of t) t m level n)
 
 -- more may be loaded
 loads_more : (entries : List ScopeEntry) (a b n : ℕ) → a ≤ b → (s : Scope) → LoadsUpTo entries a n s → LoadsUpTo entries b n s

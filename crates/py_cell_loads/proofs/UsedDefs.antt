@@ -26,7 +26,8 @@ params_use earlier tree.no_type_params = nothing_uses
 params_use earlier (tree.more_type_params p ps) = at_most (then_uses (param_uses earlier p) (params_use (earlier ++ type_name p ∷ []) ps)) (omega arith)
 
 -- the scope of a function, with its annotations
-function_scope_uses : {body : Step} {n : ℕ} (at : SourceLocation) (name : Name) (a : tree.Arguments) (returns : tree.OptExpr) → Uses body n → Uses (scan_function_scope at name a body returns) (count_params a + n + (3 * opt_expr_size returns + 3 * all_notes a))
+function_scope_uses : {body : Step} {n : ℕ} (at : SourceLocation) (name : Name) (a : tree.Arguments) (returns : tree.OptExpr) → Uses body n
+    → Uses (scan_function_scope at name a body returns) (count_params a + n + (3 * opt_expr_size returns + 3 * all_notes a))
 function_scope_uses at name a returns h = then_uses (inside_uses scope.Function name at (then_uses (parameters_use a) h)) (then_uses (postponed_uses (opt_uses Load returns)) (annotations_use a))
 
 handed_function_uses : {body : Step} {n : ℕ} (b : Bool) (at : SourceLocation) (name : Name) (a : tree.Arguments) (returns : tree.OptExpr) (ps : tree.TypeParams) → Uses body n
@@ -37,8 +38,9 @@ handed_function_uses b at name a returns ps h = then_uses (when_uses b (handed_u
 never_uses : (f : Step) → Uses (when false f) 0
 never_uses f = record { ends = λ s. omega arith }
 
--- defaults stand before the scope of the function, or behind that of its type parameters
-by_generic : (b : Bool) {body : Step} {n m : ℕ} (at : SourceLocation) (name : Name) (a : tree.Arguments) (decorators : tree.Exprs) (returns : tree.OptExpr) (ps : tree.TypeParams) → Uses body n → n + 3 * head_size a decorators returns ps ≤ m
+-- defaults stand before the scope of the function, or after that of its type parameters
+by_generic : (b : Bool) {body : Step} {n m : ℕ} (at : SourceLocation) (name : Name) (a : tree.Arguments) (decorators : tree.Exprs) (returns : tree.OptExpr) (ps : tree.TypeParams)
+    → Uses body n → n + 3 * head_size a decorators returns ps ≤ m
     → Uses (check_type_params ps ▸ scan_exprs Load decorators ▸ when (not b) (scan_defaults a) ▸ in_type_params b name at (scan_handed_function b at name a body returns ps) ▸ when b (scan_defaults a) ▸ use_name role.Assigned name at) m
 by_generic true at name a decorators returns ps h le =
     let shared = params_shared a in
@@ -49,7 +51,8 @@ by_generic false at name a decorators returns ps h le =
     at_most (then_uses (check_params_use ps) (then_uses (exprs_use Load decorators) (then_uses (when_uses true (defaults_use a)) (then_uses (generic_uses false name at (handed_function_uses false at name a returns ps h)) (then_uses (never_uses (scan_defaults a)) (use_uses role.Assigned name at))))))
     (omega (arith, shared, le))
 
-pub function_uses : {body : Step} {n m : ℕ} (at : SourceLocation) (name : Name) (a : tree.Arguments) (decorators : tree.Exprs) (returns : tree.OptExpr) (ps : tree.TypeParams) → Uses body n → n + 3 * head_size a decorators returns ps ≤ m
+pub function_uses : {body : Step} {n m : ℕ} (at : SourceLocation) (name : Name) (a : tree.Arguments) (decorators : tree.Exprs) (returns : tree.OptExpr) (ps : tree.TypeParams)
+    → Uses body n → n + 3 * head_size a decorators returns ps ≤ m
     → Uses (scan_function at name a body decorators returns ps) m
 function_uses at name a decorators returns ps h le = by_generic (is_generic ps) at name a decorators returns ps h le
 
@@ -60,7 +63,8 @@ class_parts_use : {body : Step} {n : ℕ} (at : SourceLocation) (name : Name) (b
     → Uses (scan_class_parts at name bases keywords body ps) (3 * type_params_size ps + (4 + n + (3 * exprs_size bases + 3 * keywords_size keywords)))
 class_parts_use at name bases keywords ps h = then_uses (params_use [] ps) (then_uses (class_scope_uses at name h) (then_uses (exprs_use Load bases) (keywords_use keywords)))
 
-pub class_uses : {body : Step} {n m : ℕ} (at : SourceLocation) (name : Name) (bases : tree.Exprs) (keywords : tree.Keywords) (decorators : tree.Exprs) (ps : tree.TypeParams) → Uses body n → n + 3 * class_head_size bases keywords decorators ps ≤ m
+pub class_uses : {body : Step} {n m : ℕ} (at : SourceLocation) (name : Name) (bases : tree.Exprs) (keywords : tree.Keywords) (decorators : tree.Exprs) (ps : tree.TypeParams)
+    → Uses body n → n + 3 * class_head_size bases keywords decorators ps ≤ m
     → Uses (scan_class at name bases keywords body decorators ps) m
 class_uses at name bases keywords decorators ps h le =
     at_most (then_uses (check_params_use ps) (then_uses (exprs_use Load decorators) (then_uses (generic_uses (is_generic ps) name at (class_parts_use at name bases keywords ps h)) (use_uses role.Assigned name at)))) (omega (arith, le))

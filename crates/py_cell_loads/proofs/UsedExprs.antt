@@ -26,7 +26,8 @@ pairwise_uses [] gs m n a b = at_most nothing_uses (omega arith)
 pairwise_uses (f ∷ fs) [] m n a b = at_most nothing_uses (omega arith)
 pairwise_uses (f ∷ fs) (g ∷ gs) m n a b = let p = a.4 in let q = b.4 in at_most (then_uses a.2 (then_uses b.2 (pairwise_uses fs gs a.1 b.1 a.3 b.3))) (omega (arith, p, q))
 
-comprehension_uses : {f g : Step} {m n : ℕ} (at : SourceLocation) (gs : tree.Generators) → Uses f m → Uses g n → Uses (scan_outermost gs) (3 * first_in gs) → Uses (comprehension at f g (scan_outermost gs)) (1 + (m + n) + 3 * first_in gs)
+comprehension_uses : {f g : Step} {m n : ℕ} (at : SourceLocation) (gs : tree.Generators) → Uses f m → Uses g n → Uses (scan_outermost gs) (3 * first_in gs)
+    → Uses (comprehension at f g (scan_outermost gs)) (1 + (m + n) + 3 * first_in gs)
 comprehension_uses at gs a b h = then_uses (inside_uses scope.Comprehension (codes "genexpr") at (then_uses (use_uses role.Parameter (codes ".0") at) (then_uses a b))) h
 
 -- every expression has a size

@@ -13,9 +13,9 @@ use Rattle.py_scope.specs.Names.{Name, class_cell, same_name}
 use Rattle.py_scope.specs.Scanned.{holder_here, is_function, kind_here}
 use Rattle.py_name_uses.specs.declared.usage.Usage.{Usage}
 use Rattle.py_name_uses.specs.declared.usage.Usage.TheVariants.{Load, Iterable, Store, Delete, Target, Walrus}
-use Rattle.py_name_uses.specs.Steps.{State, Done, Step, check_holder, check_iterable, check_yield, is_type_params, postpone, super_cell, use_as, use_name, written}
+use Rattle.py_name_uses.specs.Steps.{State, Done, Step, check_holder, check_iterable, check_yield, is_type_params, postpone, super_cell, use_as, use_name, written_name}
 use Rattle.py_name_uses.specs.Parts.{annotated_target, bound_name, check_future, check_new, check_type_params, generic_name, has_default, in_type_params, is_among, is_future, names_annotations, use_aliases, use_each, use_first_names, use_handed_defaults, use_opt_name, walrus_target}
-use Rattle.py_cell_loads.specs.Uses.{used}
+use Rattle.py_cell_loads.specs.Uses.{use_count}
 use Rattle.py_cell_loads.proofs.Used.{EndsUsing, Uses, asked_ends, at_most, enter_uses, leave_uses, nothing_uses, refuse_uses, then_uses, use_uses, when_uses}
 
 pub check_iterable_uses : (u : Usage) (at : SourceLocation) → Uses (check_iterable u at) 0
@@ -33,12 +33,12 @@ pub check_yield_uses : (at : SourceLocation) → Uses (check_yield at) 0
 check_yield_uses at = record { ends = λ s. asked_ends (is_type_params (kind_here s.scopes)) refusal.YieldInTypeParams at s }
 
 pub check_new_uses : (earlier : List Name) (n : Name) (at : SourceLocation) → Uses (check_new earlier n at) 0
-check_new_uses earlier n at = record { ends = λ s. asked_ends (is_among s earlier n) (refusal.SameTypeParam (written s n)) at s }
+check_new_uses earlier n at = record { ends = λ s. asked_ends (is_among s earlier n) (refusal.SameTypeParam (written_name s n)) at s }
 
 super_uses : (n : Name) (at : SourceLocation) → Uses (super_cell n at) 1
 super_uses n at = record { ends = λ s. go s (same_name n (codes "super") && is_function (kind_here s.scopes)) }
   where
-    go : (s : State) (b : Bool) → EndsUsing (used s.scopes.rows + 1) (if b then use_name role.Used class_cell at s else Done s)
+    go : (s : State) (b : Bool) → EndsUsing (use_count s.scopes.rows + 1) (if b then use_name role.Used class_cell at s else Done s)
     go s true = (use_uses role.Used class_cell at).ends s
     go s false = omega arith
 

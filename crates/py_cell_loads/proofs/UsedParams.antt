@@ -1,4 +1,4 @@
--- The parts of the size of parameters and of clauses, of which some stand in a scope within and some outside.
+-- The parts of the size of parameters and of clauses, of which some stand in a nested scope and some outside.
 use Rattle.std.proofs.Common.{ℕ, ◌+◌, ◌≤◌, arith}
 use Rattle.py_tree.specs.Tree as tree
 use Rattle.py_limits.specs.Size.{arg_size, args_size, arguments_size, expr_size, exprs_size, generators_size, opt_arg_size, opt_expr_size}
@@ -61,7 +61,7 @@ params_shared (tree.arguments posonly args vararg kwonly kwarg) =
     let k = opt_arg_shared kwarg in
     omega (arith, p, q, r, v, k)
 
--- the first iterable of clauses, and what stands behind it
+-- the first iterable of clauses, and what stands after it
 abbrev pub first_in : tree.Generators → ℕ
 first_in tree.no_generators = 0
 first_in (tree.more_generators target iter ifs is_async gs) = expr_size iter

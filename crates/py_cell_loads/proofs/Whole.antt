@@ -5,19 +5,19 @@ use Rattle.py_limits.specs.Size.{expr_size, stmts_size}
 use Rattle.py_name_uses.specs.declared.usage.Usage.TheVariants.{Load}
 use Rattle.py_name_uses.specs.Steps.{Done, State, begun_state}
 use Rattle.py_scan.specs.Scan.{scan_program, scan_value}
-use Rattle.py_cell_loads.specs.Uses.{UsesAreFew, used}
+use Rattle.py_cell_loads.specs.Uses.{UsesAreFew, use_count}
 use Rattle.py_cell_loads.proofs.Used.{EndsUsing}
 use Rattle.py_cell_loads.proofs.UsedExprs.{expr_uses}
 use Rattle.py_cell_loads.proofs.UsedStmts.{stmts_use}
 
-program_uses : (body : tree.Stmts) (s : State) → scan_program body ≡ Done s → used s.scopes.rows ≤ 3 * (stmts_size body + 1)
+program_uses : (body : tree.Stmts) (s : State) → scan_program body ≡ Done s → use_count s.scopes.rows ≤ 3 * (stmts_size body + 1)
 program_uses body s e =
-    let h : used s.scopes.rows ≤ used begun_state.scopes.rows + 3 * stmts_size body = subst (EndsUsing (used begun_state.scopes.rows + 3 * stmts_size body)) e ((stmts_use body).ends begun_state) in
+    let h : use_count s.scopes.rows ≤ use_count begun_state.scopes.rows + 3 * stmts_size body = subst (EndsUsing (use_count begun_state.scopes.rows + 3 * stmts_size body)) e ((stmts_use body).ends begun_state) in
     omega (arith, h)
 
-value_uses : (value : tree.Expr) (s : State) → scan_value value ≡ Done s → used s.scopes.rows ≤ 3 * (expr_size value + 1)
+value_uses : (value : tree.Expr) (s : State) → scan_value value ≡ Done s → use_count s.scopes.rows ≤ 3 * (expr_size value + 1)
 value_uses value s e =
-    let h : used s.scopes.rows ≤ used begun_state.scopes.rows + 3 * expr_size value = subst (EndsUsing (used begun_state.scopes.rows + 3 * expr_size value)) e ((expr_uses Load value).ends begun_state) in
+    let h : use_count s.scopes.rows ≤ use_count begun_state.scopes.rows + 3 * expr_size value = subst (EndsUsing (use_count begun_state.scopes.rows + 3 * expr_size value)) e ((expr_uses Load value).ends begun_state) in
     omega (arith, h)
 
 pub uses_are_few : UsesAreFew

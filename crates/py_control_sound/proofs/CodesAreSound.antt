@@ -13,19 +13,20 @@ use Rattle.py_control_proof.proofs.CodesWalk.{shape_at, known_within, body_walks
 use Rattle.py_control_proof.proofs.Heights.{Bounded, body_high}
 use Rattle.py_control_sound.specs.Sound.{Sees, CodesAreSound}
 use Rattle.py_control_sound.proofs.Seats.{Laid}
-use Rattle.py_control_sound.proofs.Refusals.{sound}
+use Rattle.py_control_sound.proofs.Refusals.{refusal_sound}
 
-one_of : (top : ℕ) (us : List Shape) (k : ℕ) (u : Shape) → AllOf (Bounded top) us → slice_get us k ≡ Some u → Bounded top u
-one_of top [] k u h e = absurd cc
-one_of top (v ∷ us) zero u h e = let q : v ≡ u = cc in subst (Bounded top) q h.0
-one_of top (v ∷ us) (suc k) u h e = one_of top us k u h.1 e
+codes_are_sound_one_of : (top : ℕ) (us : List Shape) (k : ℕ) (u : Shape) → AllOf (Bounded top) us → slice_get us k ≡ Some u → Bounded top u
+codes_are_sound_one_of top [] k u h e = absurd cc
+codes_are_sound_one_of top (v ∷ us) zero u h e = let q : v ≡ u = cc in subst (Bounded top) q h.0
+codes_are_sound_one_of top (v ∷ us) (suc k) u h e = codes_are_sound_one_of top us k u h.1 e
 
 known_bounded : (top : ℕ) (us : List Shape) (l : ℕ) (u : Shape) → AllOf (Bounded top) us → shape_at us l ≡ Some u → Bounded top u
 known_bounded top us zero u h e = absurd cc
-known_bounded top us (suc k) u h e = one_of top us k u h e
+known_bounded top us (suc k) u h e = codes_are_sound_one_of top us k u h e
 
 -- the code of a body, wherever it stands
-pub laid_out : {K P : Type 0} (i : Interp K) (f : SForm) (look : P → Option (Seen P)) (spot : ℕ → P) (p q : P) → Sees look spot (body_code i f) p q → look q ≡ None → Looped false f → Laid look spot (shape_at (shapes f 0 [])) (body_code i f) p q
+pub laid_out : {K P : Type 0} (i : Interp K) (f : SForm) (look : P → Option (Seen P)) (spot : ℕ → P) (p q : P) → Sees look spot (body_code i f) p q
+    → look q ≡ None → Looped false f → Laid look spot (shape_at (shapes f 0 [])) (body_code i f) p q
 laid_out i f look spot p q st none g = record {
   sees = st;
   nothing = none;
@@ -36,4 +37,4 @@ laid_out i f look spot p q st none g = record {
 
 pub codes_are_sound : CodesAreSound
 codes_are_sound look spot child s p q st none g limit lt =
-    sound look spot (shape_at (shapes (form_of s) 0 [])) (body_code (exactly child s) (form_of s)) p q (laid_out (exactly child s) (form_of s) look spot p q st none g) limit lt
+    refusal_sound look spot (shape_at (shapes (form_of s) 0 [])) (body_code (exactly child s) (form_of s)) p q (laid_out (exactly child s) (form_of s) look spot p q st none g) limit lt

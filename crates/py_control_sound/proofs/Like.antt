@@ -4,7 +4,7 @@ use Rattle.std.specs.Prelude.{nat_eq, not, ◌&&◌, if◌then◌else◌}
 use Rattle.py_dataflow.specs.declared.flow.Kind.{Kind}
 use Rattle.py_dataflow.specs.declared.flow.Mark as theirs
 use Rattle.py_dataflow.specs.Walks as walks
-use Rattle.py_control_proof.specs.Walks.{Sort, LoopSort, ExceptSort, FinallySort, ExitSort, HandlerSort, LastSort, CleanupSort, OpenSort, Mark, Shape, floor, loop_at, at_loop, cut_sort, resting, cut_height, rest_of, Tops, Entered, Handles, Lasts, EndsFinally, EndsWith, opened_as, top_as, Joins}
+use Rattle.py_control_proof.specs.Walks.{Sort, LoopSort, ExceptSort, FinallySort, ExitSort, HandlerSort, LastSort, CleanupSort, OpenSort, Mark, Shape, floor, loop_at, at_loop, cut_sort, resting_height, cut_height, rest_of, Tops, Entered, Handles, Lasts, EndsFinally, EndsWith, opened_as, top_as, Joins}
 
 abbrev pub kind_of : Sort → Kind
 kind_of LoopSort = Kind.Loop
@@ -55,7 +55,8 @@ like_rest (m ∷ ms) [] h = absurd h
 like_rest (m ∷ ms) (x ∷ xs) h = h.1
 
 -- a block of some sort on top
-pub like_top : (Q : Sort → Type 0) (test : theirs.Mark → Bool) → ((s : Sort) (h : ℕ) (x : theirs.Mark) → Q s → LikeMark s h x → test x ≡ true) → (ms : List Mark) (xs : List theirs.Mark) → Tops Q ms → LikeMarks ms xs → walks.tops test xs ≡ true
+pub like_top : (Q : Sort → Type 0) (test : theirs.Mark → Bool) → ((s : Sort) (h : ℕ) (x : theirs.Mark) → Q s → LikeMark s h x → test x ≡ true)
+    → (ms : List Mark) (xs : List theirs.Mark) → Tops Q ms → LikeMarks ms xs → walks.tops test xs ≡ true
 like_top Q test f [] xs q h = absurd q
 like_top Q test f (m ∷ ms) [] q h = absurd h
 like_top Q test f (m ∷ ms) (x ∷ xs) q h = f m.sort m.height x q h.0
@@ -128,14 +129,16 @@ of_with FinallySort p e h f = absurd h
 of_with ExitSort p e h f = absurd h
 of_with HandlerSort p e h f = absurd h
 
-pub finally_on_top : (ms : List Mark) (xs : List theirs.Mark) (h : ℕ) → Tops EndsFinally ms → floor ms ≡ h → LikeMarks ms xs → walks.tops (λ m. walks.is_final m.kind && nat_eq m.height h && not m.exit) xs ≡ true
+pub finally_on_top : (ms : List Mark) (xs : List theirs.Mark) (h : ℕ) → Tops EndsFinally ms → floor ms ≡ h → LikeMarks ms xs
+    → walks.tops (λ m. walks.is_final m.kind && nat_eq m.height h && not m.exit) xs ≡ true
 finally_on_top [] xs h q e l = absurd q
 finally_on_top (m ∷ ms) [] h q e l = absurd l
 finally_on_top (m ∷ ms) (x ∷ xs) h q e l =
     let r = of_finally m.sort x.plain x.exit q l.0.flags in
     all_three (walks.is_final x.kind) (nat_eq x.height h) x.exit (ap walks.is_final l.0.kind ∙ r.0) (same_nat x.height h (l.0.height ∙ e)) r.1
 
-pub with_on_top : (ms : List Mark) (xs : List theirs.Mark) (h : ℕ) → Tops EndsWith ms → floor ms ≡ h → LikeMarks ms xs → walks.tops (λ m. walks.is_final m.kind && nat_eq m.height h && not m.plain) xs ≡ true
+pub with_on_top : (ms : List Mark) (xs : List theirs.Mark) (h : ℕ) → Tops EndsWith ms → floor ms ≡ h → LikeMarks ms xs
+    → walks.tops (λ m. walks.is_final m.kind && nat_eq m.height h && not m.plain) xs ≡ true
 with_on_top [] xs h q e l = absurd q
 with_on_top (m ∷ ms) [] h q e l = absurd l
 with_on_top (m ∷ ms) (x ∷ xs) h q e l =
@@ -156,7 +159,8 @@ loop_like [] xs h x e = absurd cc
 loop_like (m ∷ ms) [] h x e = absurd h
 loop_like (m ∷ ms) (y ∷ ys) h x e = go (loop_like ms ys h.1 x) m.sort e h.0.kind
   where
-    past : (loop_at ms ≡ Some x → LikeMarks (x.0 ∷ x.1) (walks.from_loop ys)) → (s : Sort) → walks.is_loop (kind_of s) ≡ false → loop_at ms ≡ Some x → y.kind ≡ kind_of s → LikeMarks (x.0 ∷ x.1) (walks.from_loop (y ∷ ys))
+    past : (loop_at ms ≡ Some x → LikeMarks (x.0 ∷ x.1) (walks.from_loop ys)) → (s : Sort) → walks.is_loop (kind_of s) ≡ false → loop_at ms ≡ Some x
+        → y.kind ≡ kind_of s → LikeMarks (x.0 ∷ x.1) (walks.from_loop (y ∷ ys))
     past ih s n e k = subst (LikeMarks (x.0 ∷ x.1)) (sym (if_false (walks.is_loop y.kind) (y ∷ ys) (walks.from_loop ys) (ap walks.is_loop k ∙ n))) (ih e)
 
     here : (z : Mark × List Mark) → ◌≡◌ {A = Option (Mark × List Mark)} (Some (m, ms)) (Some z) → LikeMarks (z.0 ∷ z.1) (y ∷ ys)
@@ -183,13 +187,14 @@ cut_like [] (x ∷ xs) h l = absurd l
 cut_like (m ∷ ms) [] h l = absurd l
 cut_like (m ∷ ms) (y ∷ ys) h l = go (λ k. cut_like ms ys k l.1) m.sort l.0.kind l.0.height
   where
-    past : ((k : ℕ) → walks.cut_to k ys ≡ cut_height ms k) → (s : Sort) (w : Bool) → walks.is_loop (kind_of s) ≡ false → walks.is_with (kind_of s) ≡ w → y.kind ≡ kind_of s → walks.cut_to h (y ∷ ys) ≡ cut_height ms (if w then y.height - 1 else y.height)
+    past : ((k : ℕ) → walks.cut_to k ys ≡ cut_height ms k) → (s : Sort) (w : Bool) → walks.is_loop (kind_of s) ≡ false → walks.is_with (kind_of s) ≡ w
+        → y.kind ≡ kind_of s → walks.cut_to h (y ∷ ys) ≡ cut_height ms (if w then y.height - 1 else y.height)
     past ih s w n e k =
         if_false (walks.is_loop y.kind) h (walks.cut_to (walks.left_by y) ys) (ap walks.is_loop k ∙ n)
         ∙ ih (walks.left_by y)
         ∙ ap (λ b. cut_height ms (if b then y.height - 1 else y.height)) (ap walks.is_with k ∙ e)
 
-    go : ((k : ℕ) → walks.cut_to k ys ≡ cut_height ms k) → (s : Sort) → y.kind ≡ kind_of s → y.height ≡ m.height → walks.cut_to h (y ∷ ys) ≡ cut_sort s h (cut_height ms (resting s m.height))
+    go : ((k : ℕ) → walks.cut_to k ys ≡ cut_height ms k) → (s : Sort) → y.kind ≡ kind_of s → y.height ≡ m.height → walks.cut_to h (y ∷ ys) ≡ cut_sort s h (cut_height ms (resting_height s m.height))
     go ih LoopSort k e = if_true (walks.is_loop y.kind) h (walks.cut_to (walks.left_by y) ys) (ap walks.is_loop k)
     go ih ExceptSort k e = past ih ExceptSort false refl refl k ∙ ap (cut_height ms) e
     go ih FinallySort k e = past ih FinallySort false refl refl k ∙ ap (cut_height ms) e
@@ -221,13 +226,13 @@ join_like u v t (inr (inl e)) l = subst (λ x. Like x t) e (record { height = l.
 join_like u v t (inr (inr e)) l = subst (λ x. Like x t) e (record { height = l.height; marks = top_like CleanupSort u.marks t.shape refl (λ p e a b. a) l.marks })
 
 -- what is like the same is alike, and does not clash
-pub alike : (ms : List Mark) (xs ys : List theirs.Mark) → LikeMarks ms xs → LikeMarks ms ys → walks.Alike xs ys
-alike [] [] [] h g = tt
-alike [] [] (y ∷ ys) h g = absurd g
-alike [] (x ∷ xs) ys h g = absurd h
-alike (m ∷ ms) [] ys h g = absurd h
-alike (m ∷ ms) (x ∷ xs) [] h g = absurd g
-alike (m ∷ ms) (x ∷ xs) (y ∷ ys) h g = ((h.0.kind ∙ sym g.0.kind, h.0.height ∙ sym g.0.height), alike ms xs ys h.1 g.1)
+pub like_alike : (ms : List Mark) (xs ys : List theirs.Mark) → LikeMarks ms xs → LikeMarks ms ys → walks.Alike xs ys
+like_alike [] [] [] h g = tt
+like_alike [] [] (y ∷ ys) h g = absurd g
+like_alike [] (x ∷ xs) ys h g = absurd h
+like_alike (m ∷ ms) [] ys h g = absurd h
+like_alike (m ∷ ms) (x ∷ xs) [] h g = absurd g
+like_alike (m ∷ ms) (x ∷ xs) (y ∷ ys) h g = ((h.0.kind ∙ sym g.0.kind, h.0.height ∙ sym g.0.height), like_alike ms xs ys h.1 g.1)
 
 no_clash_here : (s : Sort) (p e q f : Bool) → Flags s p e → Flags s q f → p ≡ true → f ≡ true → ⊥
 no_clash_here LoopSort p e q f a b h g = absurd cc

@@ -2,9 +2,9 @@
 use Rattle.std.proofs.Common.{◌≡◌, List, [], ◌∷◌, Some, refl, ap, ◌∙◌}
 use Rattle.py_bytecode.specs.Machine.{Instr, Push, Access, Operate, MakeFunction, Import, Append, Unpack, Nop, Pop, Rotate2, Rotate3, Duplicate, Duplicate2, JumpIf, JumpIfOrPop, Jump, SetupLoop, PopBlock, Break, Continue, ReturnValue, ReturnConst, SetupExcept, SetupFinally, PopException, EnterFinally, EndFinally, Reraise, ForIter, SetupWith, WithCleanupStart, WithCleanupFinish, at_places}
 use Rattle.py_dataflow.specs.Flow.{flow_of, target_of}
-use Rattle.py_dataflow.specs.Walks.{seen}
+use Rattle.py_dataflow.specs.Walks.{seen_instr}
 use Rattle.py_control.specs.Code.{Item, Do, Label}
-use Rattle.py_control_proof.proofs.Moves.{Stands}
+use Rattle.py_control_proof.proofs.Moves.{MoveStands}
 use Rattle.py_control_proof.proofs.Reach.{Ground}
 use Rattle.py_control_sound.specs.Sound.{Sees}
 
@@ -43,8 +43,8 @@ flow_at_places f (SetupWith p) = refl
 flow_at_places f WithCleanupStart = refl
 flow_at_places f WithCleanupFinish = refl
 
-pub stands_seen : {K P : Type 0} (g : Ground K P) (is : List (Item K)) (p q : P) → Stands g is p q → Sees (λ x. seen (g.fetch x)) g.spot is p q
+pub stands_seen : {K P : Type 0} (g : Ground K P) (is : List (Item K)) (p q : P) → MoveStands g is p q → Sees (λ x. seen_instr (g.fetch x)) g.spot is p q
 stands_seen g [] p q h = h
 stands_seen g (Do i ∷ is) p q h =
-    (h.0, ap seen h.1 ∙ ap (λ f. Some (record { flow = f; next = h.0; target = target_of (at_places g.spot i) })) (flow_at_places g.spot i), stands_seen g is h.0 q h.2)
+    (h.0, ap seen_instr h.1 ∙ ap (λ f. Some (record { flow = f; next = h.0; target = target_of (at_places g.spot i) })) (flow_at_places g.spot i), stands_seen g is h.0 q h.2)
 stands_seen g (Label l ∷ is) p q h = (h.0, stands_seen g is p q h.1)

@@ -11,10 +11,10 @@ use Rattle.py_control_proof.proofs.CodesWalk.{from_label, state_after, after_app
 use Rattle.py_control_proof.proofs.Heights.{rises-append}
 use Rattle.py_control_proof.proofs.Moves.{size-append}
 use Rattle.py_control_sound.specs.Sound.{seen_as, Sees}
-use Rattle.py_control_sound.proofs.Like.{Like, alike, no_clash}
+use Rattle.py_control_sound.proofs.Like.{Like, like_alike, no_clash}
 use Rattle.py_control_sound.proofs.Moves.{Moves, moves, Falling, Jumping}
 use Rattle.py_control_sound.proofs.Steady.{height_then, rise_after, LowThen, low_after, place_of, target_at}
-use Rattle.py_control_sound.proofs.Seats.{walks_after, sees_after, Placed, placed_at, Laid, Seat, Ready, ready, begin}
+use Rattle.py_control_sound.proofs.Seats.{walks_after, sees_after, Placed, placed_at, Laid, Seat, SeatReady, seat_ready, begin}
 
 -- two rests that stand at one place are one
 same_size : {K P : Type 0} (look : P → Option (Seen P)) (spot : ℕ → P) (xs ys : List (Item K)) (p q : P) → look q ≡ None → Sees look spot xs p q → Sees look spot ys p q → size xs ≡ size ys
@@ -28,8 +28,8 @@ same_size look spot (Do i ∷ xs) (Do j ∷ ys) p q e h g =
     let same : seen_as spot i h.0 ≡ seen_as spot j g.0 = same_Some _ _ (sym h.1 ∙ g.1) in
     ap suc (same_size look spot xs ys h.0 q e h.2 (subst (λ x. Sees look spot ys x q) (sym (ap (λ (x : Seen _). x.next) same)) g.2))
 
-first_of : {A : Type 0} (a b : A) (xs ys : List A) → a ∷ xs ≡ b ∷ ys → a ≡ b
-first_of a b xs ys e = cc
+refusal_first_of : {A : Type 0} (a b : A) (xs ys : List A) → a ∷ xs ≡ b ∷ ys → a ≡ b
+refusal_first_of a b xs ys e = cc
 
 rest_of : {A : Type 0} (a b : A) (xs ys : List A) → a ∷ xs ≡ b ∷ ys → xs ≡ ys
 rest_of a b xs ys e = cc
@@ -39,7 +39,7 @@ same_before [] [] i j r s e n = refl
 same_before [] (y ∷ b) i j r s e n = let z : size r ≡ size (b ++ Do j ∷ s) = ap size (rest_of (Do i) y r (b ++ Do j ∷ s) e) in absurd (omega (arith, z, size-append b (Do j ∷ s), n))
 same_before (x ∷ a) [] i j r s e n = let z : size (a ++ Do i ∷ r) ≡ size s = ap size (rest_of x (Do j) (a ++ Do i ∷ r) s e) in absurd (omega (arith, z, size-append a (Do i ∷ r), n))
 same_before (x ∷ a) (y ∷ b) i j r s e n =
-    ap (λ z. z ∷ a) (first_of x y (a ++ Do i ∷ r) (b ++ Do j ∷ s) e) ∙ ap (λ l. y ∷ l) (same_before a b i j r s (rest_of x y (a ++ Do i ∷ r) (b ++ Do j ∷ s) e) n)
+    ap (λ z. z ∷ a) (refusal_first_of x y (a ++ Do i ∷ r) (b ++ Do j ∷ s) e) ∙ ap (λ l. y ∷ l) (same_before a b i j r s (rest_of x y (a ++ Do i ∷ r) (b ++ Do j ∷ s) e) n)
 
 falls_one : (u v : Shape) → Falls u ≡ Falls v → u ≡ v
 falls_one u v e = cc
@@ -48,8 +48,8 @@ module _ {K P : Type 0} (look : P → Option (Seen P)) (spot : ℕ → P) (at : 
   abbrev Sits : P → walks.State → List (Item K) → Type 0
   Sits p t rest = Seat look spot at is p0 q laid p t rest
 
-  abbrev Stands : P → walks.State → Type 0
-  Stands p t = Ready look spot at is p0 q laid p t
+  abbrev RefusalStands : P → walks.State → Type 0
+  RefusalStands p t = SeatReady look spot at is p0 q laid p t
 
   record Somewhere (p : P) (t : walks.State) : Type 0 where
     pub rest : List (Item K)
@@ -59,17 +59,17 @@ module _ {K P : Type 0} (look : P → Option (Seen P)) (spot : ℕ → P) (at : 
   zero_shape = Falls (shape 0 [])
 
   -- what is seen of the instruction
-  sees_it : (p : P) (t : walks.State) (r : Stands p t) → look p ≡ Some (seen_as spot r.instr r.seat.stands.0)
+  sees_it : (p : P) (t : walks.State) (r : RefusalStands p t) → look p ≡ Some (seen_as spot r.instr r.seat.stands.0)
   sees_it p t r = r.seat.stands.1
 
-  fine : (p : P) (t : walks.State) (r : Stands p t) → IsFine at r.instr r.seat.shape
-  fine p t r = r.seat.walk.0
+  refusal_fine : (p : P) (t : walks.State) (r : RefusalStands p t) → IsFine at r.instr r.seat.shape
+  refusal_fine p t r = r.seat.walk.0
 
-  its_moves : (p : P) (t : walks.State) (r : Stands p t) → Moves at r.seat.shape t (flow.flow_of r.instr) (flow.target_of r.instr) (after r.instr r.seat.shape)
-  its_moves p t r = moves at r.seat.shape t r.seat.low r.seat.like r.instr (fine p t r)
+  its_moves : (p : P) (t : walks.State) (r : RefusalStands p t) → Moves at r.seat.shape t (flow.flow_of r.instr) (flow.target_of r.instr) (after r.instr r.seat.shape)
+  its_moves p t r = moves at r.seat.shape t r.seat.low r.seat.like r.instr (refusal_fine p t r)
 
   -- where the next instruction follows
-  fall_seat : (p : P) (t : walks.State) (r : Stands p t) → (flow.flow_of r.instr).falls ≡ true → Somewhere r.seat.stands.0 (walks.falls_to (flow.flow_of r.instr) t)
+  fall_seat : (p : P) (t : walks.State) (r : RefusalStands p t) → (flow.flow_of r.instr).falls ≡ true → Somewhere r.seat.stands.0 (walks.falls_to (flow.flow_of r.instr) t)
   fall_seat p t r e = go (after r.instr r.seat.shape) refl (subst (λ b. Falling at r.seat.shape t (flow.flow_of r.instr) b (after r.instr r.seat.shape)) e (its_moves p t r).falls)
     where
       next : (v : Shape) → after r.instr r.seat.shape ≡ Falls v → Like v (walks.falls_to (flow.flow_of r.instr) t) → Sits r.seat.stands.0 (walks.falls_to (flow.flow_of r.instr) t) r.rest
@@ -81,7 +81,7 @@ module _ {K P : Type 0} (look : P → Option (Seen P)) (spot : ℕ → P) (at : 
         known = after_append at r.seat.before (Do r.instr ∷ []) (Falls (shape 0 [])) ∙ ap (state_after at (Do r.instr ∷ [])) r.seat.known ∙ a;
         walk = subst (λ n. Walks at r.rest n Never) a r.seat.walk.1;
         like = l;
-        low = subst LowThen a (low_after at r.instr r.seat.shape r.seat.low (fine p t r));
+        low = subst LowThen a (low_after at r.instr r.seat.shape r.seat.low (refusal_fine p t r));
         height =
             let h : v.height ≤ r.seat.shape.height + rise r.instr = subst (λ n. height_then n ≤ r.seat.shape.height + rise r.instr) a (rise_after r.instr r.seat.shape) in
             let b : rises (r.seat.before ++ Do r.instr ∷ []) ≡ rises r.seat.before + (rise r.instr + 0) = rises-append r.seat.before (Do r.instr ∷ []) in
@@ -89,7 +89,8 @@ module _ {K P : Type 0} (look : P → Option (Seen P)) (spot : ℕ → P) (at : 
             omega (arith, h, b, s);
       }
 
-      go : (n : Then) → after r.instr r.seat.shape ≡ n → Falling at r.seat.shape t (flow.flow_of r.instr) true (after r.instr r.seat.shape) → Somewhere r.seat.stands.0 (walks.falls_to (flow.flow_of r.instr) t)
+      go : (n : Then) → after r.instr r.seat.shape ≡ n → Falling at r.seat.shape t (flow.flow_of r.instr) true (after r.instr r.seat.shape)
+          → Somewhere r.seat.stands.0 (walks.falls_to (flow.flow_of r.instr) t)
       go (Falls v) a f = record { rest = r.rest; seat = next v a (subst (Falling at r.seat.shape t (flow.flow_of r.instr) true) a f) }
       go Never a f = absurd (subst (Falling at r.seat.shape t (flow.flow_of r.instr) true) a f)
 
@@ -116,7 +117,7 @@ module _ {K P : Type 0} (look : P → Option (Seen P)) (spot : ℕ → P) (at : 
       }
 
   -- one edge
-  edge_seat : (p : P) (t : walks.State) (r : Stands p t) (x : Seen P) → look p ≡ Some x → (p1 : P) (t1 : walks.State) → Edge x t p1 t1 → Somewhere p1 t1
+  edge_seat : (p : P) (t : walks.State) (r : RefusalStands p t) (x : Seen P) → look p ≡ Some x → (p1 : P) (t1 : walks.State) → Edge x t p1 t1 → Somewhere p1 t1
   edge_seat p t r x e p1 t1 d =
       go p1 t1 (subst (λ y. Edge y t p1 t1) (same_Some x (seen_as spot r.instr r.seat.stands.0) (sym e ∙ sees_it p t r)) d)
     where
@@ -131,24 +132,25 @@ module _ {K P : Type 0} (look : P → Option (Seen P)) (spot : ℕ → P) (at : 
       go p1 t1 (Edge.Falls f) = fall_seat p t r f
       go p1 t1 (Edge.Jumps p2 f) = jumped (flow.target_of r.instr) refl p2 (sym (target_at spot r.instr) ∙ f)
 
-  pub reached : (n : ℕ) (p : P) (t : walks.State) → walks.Walk look p0 n p t → Stands p t
-  reached zero p t w = subst (λ x. Stands x t) (sym w.0) (ready look spot at is p0 q laid p0 t is (begin look spot at is p0 q laid t w.1))
-  reached (suc n) p t w =
-      let r = reached n w.0 w.2 w.3 in
+  pub refusal_reached : (n : ℕ) (p : P) (t : walks.State) → walks.Walk look p0 n p t → RefusalStands p t
+  refusal_reached zero p t w = subst (λ x. RefusalStands x t) (sym w.0) (seat_ready look spot at is p0 q laid p0 t is (begin look spot at is p0 q laid t w.1))
+  refusal_reached (suc n) p t w =
+      let r = refusal_reached n w.0 w.2 w.3 in
       let s = edge_seat w.0 w.2 r w.1 w.4 p t w.5 in
-      ready look spot at is p0 q laid p t s.rest s.seat
+      seat_ready look spot at is p0 q laid p t s.rest s.seat
 
   -- walks that meet have one shape
-  same_shape : (p : P) (t s : walks.State) (a : Stands p t) (b : Stands p s) → a.seat.shape ≡ b.seat.shape
+  same_shape : (p : P) (t s : walks.State) (a : RefusalStands p t) (b : RefusalStands p s) → a.seat.shape ≡ b.seat.shape
   same_shape p t s a b =
       let n : size (Do a.instr ∷ a.rest) ≡ size (Do b.instr ∷ b.rest) = same_size look spot (Do a.instr ∷ a.rest) (Do b.instr ∷ b.rest) p q laid.nothing a.seat.stands b.seat.stands in
       let e : a.seat.before ≡ b.seat.before = same_before a.seat.before b.seat.before a.instr b.instr a.rest b.rest (a.seat.joined ∙ sym b.seat.joined) n in
       falls_one a.seat.shape b.seat.shape (sym a.seat.known ∙ ap (λ x. state_after at x zero_shape) e ∙ b.seat.known)
 
-  seen_is : (p : P) (t : walks.State) (r : Stands p t) (x : Seen P) → look p ≡ Some x → x ≡ seen_as spot r.instr r.seat.stands.0
+  seen_is : (p : P) (t : walks.State) (r : RefusalStands p t) (x : Seen P) → look p ≡ Some x → x ≡ seen_as spot r.instr r.seat.stands.0
   seen_is p t r x e = same_Some x (seen_as spot r.instr r.seat.stands.0) (sym e ∙ sees_it p t r)
 
-  jumps_well : (p : P) (t : walks.State) (r : Stands p t) → (o : Option ℕ) → flow.target_of r.instr ≡ o → (place_of spot o ≢ None) → walks.jumps_enough (flow.flow_of r.instr).branch t.height t.shape ≡ true
+  jumps_well : (p : P) (t : walks.State) (r : RefusalStands p t) → (o : Option ℕ) → flow.target_of r.instr ≡ o → (place_of spot o ≢ None)
+      → walks.jumps_enough (flow.flow_of r.instr).branch t.height t.shape ≡ true
   jumps_well p t r None e n = absurd (n refl)
   jumps_well p t r (Some l) e n = (subst (Jumping at r.seat.shape t (flow.flow_of r.instr).branch) e (its_moves p t r).jumps).0
 
@@ -160,18 +162,18 @@ module _ {K P : Type 0} (look : P → Option (Seen P)) (spot : ℕ → P) (at : 
       let k = s.seat.like.height in
       omega (arith, b, h, k)
 
-  pub sound : (limit : ℕ) → 2 * rises is < limit → walks.Sound look p0 limit
-  sound limit lt = record {
-    ends = λ p e. let r = reached e.reached.0 p e.at e.reached.1 in let z = sees_it p e.at r in let y = e.nothing in absurd cc;
+  pub refusal_sound : (limit : ℕ) → 2 * rises is < limit → walks.Sound look p0 limit
+  refusal_sound limit lt = record {
+    ends = λ p e. let r = refusal_reached e.reached.0 p e.at e.reached.1 in let z = sees_it p e.at r in let y = e.nothing in absurd cc;
     even = λ p e.
-        let a = reached e.one_reached.0 p e.one e.one_reached.1 in
-        let b = reached e.other_reached.0 p e.other e.other_reached.1 in
+        let a = refusal_reached e.one_reached.0 p e.one e.one_reached.1 in
+        let b = refusal_reached e.other_reached.0 p e.other e.other_reached.1 in
         e.uneven (a.seat.like.height ∙ ap (λ (u : Shape). u.height) (same_shape p e.one e.other a b) ∙ sym b.seat.like.height);
-    within = λ p e. in_range p e.at (reached e.reached.0 p e.at e.reached.1) e.sees e.sees_is e.outside;
+    within = λ p e. in_range p e.at (refusal_reached e.reached.0 p e.at e.reached.1) e.sees e.sees_is e.outside;
     matched = λ p e. no_mismatch p e;
   }
     where
-      in_range : (p : P) (t : walks.State) (r : Stands p t) (x : Seen P) → look p ≡ Some x → walks.OutOfRange look p0 limit x t → ⊥
+      in_range : (p : P) (t : walks.State) (r : RefusalStands p t) (x : Seen P) → look p ≡ Some x → walks.OutOfRange look p0 limit x t → ⊥
       in_range p t r x e (inl h) =
           let y : walks.falls_enough (flow.flow_of r.instr) t.height t.shape ≡ true = (its_moves p t r).enough in
           let z : walks.falls_enough (flow.flow_of r.instr) t.height t.shape ≡ false = subst (λ (s : Seen P). walks.falls_enough s.flow t.height t.shape ≡ false) (seen_is p t r x e) h in
@@ -185,17 +187,18 @@ module _ {K P : Type 0} (look : P → Option (Seen P)) (spot : ℕ → P) (at : 
 
       no_mismatch : (p : P) → walks.BlockMismatch look p0 p → ⊥
       no_mismatch p (inl e) =
-          let r = reached e.reached.0 p e.at e.reached.1 in
+          let r = refusal_reached e.reached.0 p e.at e.reached.1 in
           let y : walks.has_block (flow.flow_of r.instr).needs e.at.height e.at.shape ≡ true = (its_moves p e.at r).block in
           let z : walks.has_block (flow.flow_of r.instr).needs e.at.height e.at.shape ≡ false = subst (λ (s : Seen P). walks.has_block s.flow.needs e.at.height e.at.shape ≡ false) (seen_is p e.at r e.sees e.sees_is) e.lacks in
           absurd cc
       no_mismatch p (inr e) =
-          let a = reached e.one_reached.0 p e.one e.one_reached.1 in
-          let b = reached e.other_reached.0 p e.other e.other_reached.1 in
+          let a = refusal_reached e.one_reached.0 p e.one e.one_reached.1 in
+          let b = refusal_reached e.other_reached.0 p e.other e.other_reached.1 in
           let same = same_shape p e.one e.other a b in
           let g = subst (λ (u : Shape). Rattle.py_control_sound.proofs.Like.LikeMarks u.marks e.other.shape) (sym same) b.seat.like.marks in
           go a.seat.shape.marks a.seat.like.marks g e.differ
         where
-          go : (ms : List Rattle.py_control_proof.specs.Walks.Mark) → Rattle.py_control_sound.proofs.Like.LikeMarks ms e.one.shape → Rattle.py_control_sound.proofs.Like.LikeMarks ms e.other.shape → walks.Differ e.one.shape e.other.shape → ⊥
-          go ms h g (inl d) = d (alike ms e.one.shape e.other.shape h g)
+          go : (ms : List Rattle.py_control_proof.specs.Walks.Mark) → Rattle.py_control_sound.proofs.Like.LikeMarks ms e.one.shape
+              → Rattle.py_control_sound.proofs.Like.LikeMarks ms e.other.shape → walks.Differ e.one.shape e.other.shape → ⊥
+          go ms h g (inl d) = d (like_alike ms e.one.shape e.other.shape h g)
           go ms h g (inr d) = no_clash ms e.one.shape e.other.shape h g d

@@ -31,13 +31,13 @@ pub record Placed {K : Type 0} (l : ℕ) (is : List (Item K)) : Type 0 where
   pub rest : List (Item K)
   pub joined : before ++ Label l ∷ rest ≡ is
 
-counted : (b : Bool) (n : ℕ) → b ≡ false → (if b then 1 else 0) + n ≡ 1 → n ≡ 1
-counted true n e h = absurd cc
-counted false n e h = omega (arith, h)
+seat_counted : (b : Bool) (n : ℕ) → b ≡ false → (if b then 1 else 0) + n ≡ 1 → n ≡ 1
+seat_counted true n e h = absurd cc
+seat_counted false n e h = omega (arith, h)
 
 placed_step : {K : Type 0} (l k : ℕ) (is : List (Item K)) → (occurs l is ≡ 1 → Placed l is) → (b : Bool) → nat_eq k l ≡ b → occurs l (Label k ∷ is) ≡ 1 → Placed l (Label k ∷ is)
 placed_step l k is ih true d e = let q : k ≡ l = grind (arith, nat_tests) in record { before = []; rest = is; joined = ap (λ x. Label x ∷ is) (sym q) }
-placed_step l k is ih false d e = let r = ih (counted (nat_eq k l) (occurs l is) d e) in record { before = Label k ∷ r.before; rest = r.rest; joined = ap (λ x. Label k ∷ x) r.joined }
+placed_step l k is ih false d e = let r = ih (seat_counted (nat_eq k l) (occurs l is) d e) in record { before = Label k ∷ r.before; rest = r.rest; joined = ap (λ x. Label k ∷ x) r.joined }
 
 pub placed_at : {K : Type 0} (l : ℕ) (is : List (Item K)) → occurs l is ≡ 1 → Placed l is
 placed_at l [] e = absurd (omega (arith, e))
@@ -66,7 +66,7 @@ module _ {K P : Type 0} (look : P → Option (Seen P)) (spot : ℕ → P) (at : 
     pub height : shape.height ≤ rises is + rises before
 
   -- an instruction stands at the place
-  pub record Ready (p : P) (t : walks.State) : Type 0 where
+  pub record SeatReady (p : P) (t : walks.State) : Type 0 where
     pub instr : Instr K ℕ
     pub rest : List (Item K)
     pub seat : Seat p t (Do instr ∷ rest)
@@ -85,10 +85,10 @@ module _ {K P : Type 0} (look : P → Option (Seen P)) (spot : ℕ → P) (at : 
     height = let b = laid.bounded l s.walk.0 s.walk.1 in omega (arith, b.1);
   }
 
-  pub ready : (p : P) (t : walks.State) (rest : List (Item K)) → Seat p t rest → Ready p t
-  ready p t [] s = absurd cc
-  ready p t (Do i ∷ rest) s = record { instr = i; rest = rest; seat = s }
-  ready p t (Label l ∷ rest) s = ready p t rest (label_seat p t l rest s)
+  pub seat_ready : (p : P) (t : walks.State) (rest : List (Item K)) → Seat p t rest → SeatReady p t
+  seat_ready p t [] s = absurd cc
+  seat_ready p t (Do i ∷ rest) s = record { instr = i; rest = rest; seat = s }
+  seat_ready p t (Label l ∷ rest) s = seat_ready p t rest (label_seat p t l rest s)
 
   pub begin : (t : walks.State) → t ≡ walks.state 0 [] → Seat p0 t is
   begin t e = record {

@@ -2,14 +2,14 @@
 use Rattle.std.proofs.Common.{◌≡◌, ◌≢◌, ℕ, ◌<◌, ◌≤◌, List, [], ◌∷◌, ◌++◌, Option, inl, inr, refl, ap, ◌∙◌, subst, arith}
 use Rattle.py_base.specs.declared.location.SourceLocation.{SourceLocation}
 use Rattle.py_bytecode.specs.declared.instruction.Instruction.{Instruction}
-use Rattle.py_emission_parts.specs.Emitting.{Around, Step, Put, Begin, State, Outcome, Done, Emission, with_step, with_block, with_name, with_varname, with_constant, located, with_loops, with_postponed}
+use Rattle.py_emission_parts.specs.Emitting.{Around, Step, Put, Begin, State, Outcome, Done, Emission, with_step, with_block, with_name, with_varname, with_constant, with_location, with_loops, with_postponed}
 use Rattle.py_emission_parts.specs.Listed.{Begun}
 use Rattle.py_emission_parts.specs.Running.{run}
-use Rattle.py_emission_parts.proofs.EmissionLawLemmas.{Holds, Law, all_hold, next_law}
+use Rattle.py_emission_parts.proofs.EmissionLawLemmas.{EmissionLawHolds, Law, all_hold, next_law}
 
 -- where an emission is done
-pub of_done : (P : State → Type 0) (o : Outcome) (r : State) → o ≡ Done r → Holds P o → P r
-of_done P o r e h = subst (Holds P) e h
+pub of_done : (P : State → Type 0) (o : Outcome) (r : State) → o ≡ Done r → EmissionLawHolds P o → P r
+of_done P o r e h = subst (EmissionLawHolds P) e h
 
 -- no block that was made before begins since
 pub record Grows (s r : State) : Type 0 where
@@ -31,7 +31,7 @@ begun_other b c (Begin d ∷ xs) n (inr h) = inr (begun_other b c xs n h)
 
 -- blocks grow, and begin where they are made
 pub grow_law : Law Grows
-unfolding with_step with_name with_varname with_constant located with_block with_loops with_postponed
+unfolding with_step with_name with_varname with_constant with_location with_block with_loops with_postponed
 grow_law = record {
   same = λ s. record { blocks = omega arith; begun = λ b l h. h };
   behind = λ s t u g h. record { blocks = (let x = g.blocks in let y = h.blocks in omega (arith, x, y)); begun = λ b l i. g.begun b l (h.begun b (let x = g.blocks in omega (arith, l, x)) i) };
@@ -58,7 +58,7 @@ numbers_grow a s r e = of_done (λ t. s.next ≤ t.next) (run a s) r e (all_hold
 
 -- what stands around stays
 around_law : Law (λ s t. t.around ≡ s.around)
-unfolding with_step with_name with_varname with_constant located with_block with_loops with_postponed
+unfolding with_step with_name with_varname with_constant with_location with_block with_loops with_postponed
 around_law = record {
   same = λ s. refl;
   behind = λ s t u h k. k ∙ h;

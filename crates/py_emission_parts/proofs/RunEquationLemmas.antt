@@ -10,11 +10,11 @@ use Rattle.py_bytecode.specs.declared.instruction.Instruction.TheVariants as op
 use Rattle.py_bytecode.specs.Equality.{const_eq, text_eq}
 use Rattle.py_bytecode.specs.Objects.{Const, Object}
 use Rattle.py_bytecode.specs.Values.{Usage}
-use Rattle.py_emission_parts.specs.Accesses.{accessed, accessed_in}
+use Rattle.py_emission_parts.specs.Accesses.{name_access, accessed_in}
 use Rattle.py_emission_parts.specs.Children.{child, load_cell}
 use Rattle.py_emission_parts.specs.Comprehensions.{as_element}
-use Rattle.py_emission_parts.specs.Context.{Context, cell_place, mangled}
-use Rattle.py_emission_parts.specs.Emitting.{Put, State, Done, TooWide, Refused, LoopBlocks, Emission, ◌▸◌, add_constant, add_varname, begun, by_context, by_level, by_loops, emit, emit_constant, emit_count, emit_mangled, emit_name, emit_varname, generating, in_loop, jump, keep, located, move, one_block, pass_over, place_in, postponing, refuse, three_blocks, two_blocks, with_block, with_constant, with_loops, with_name, with_postponed, with_step, with_varname}
+use Rattle.py_emission_parts.specs.Context.{Context, cell_place, mangled_by}
+use Rattle.py_emission_parts.specs.Emitting.{Put, State, Done, TooWide, Refused, LoopBlocks, Emission, ◌▸◌, add_constant, add_varname, initial_state, by_context, by_level, by_loops, emit, emit_constant, emit_count, emit_mangled, emit_name, emit_varname, generator_mark, in_loop, jump, keep, with_location, move, one_block, pass_over, place_in, postponed_part, refuse, three_blocks, two_blocks, with_block, with_constant, with_loops, with_name, with_postponed, with_step, with_varname}
 use Rattle.py_emission_parts.specs.Running.{Action, ◌▹◌, begin, code_head, on_done, on_sealed, put, retold_in, run}
 use Rattle.py_emission_parts.specs.Within.{Shape}
 
@@ -36,9 +36,9 @@ jump_is : (i : Instruction) (b : ℕ) (s : State) → run (jump i b) s ≡ Done 
 unfolding jump
 jump_is i b s = refl
 
-count_is : (i : Instruction) (n : ℕ) (s : State) → run (emit_count i n) s ≡ (if nat_lt n (2 ^ 30) then run (emit i n) s else TooWide)
+run_equation_count_is : (i : Instruction) (n : ℕ) (s : State) → run (emit_count i n) s ≡ (if nat_lt n (2 ^ 30) then run (emit i n) s else TooWide)
 unfolding emit_count emit
-count_is i n s = refl
+run_equation_count_is i n s = refl
 
 name_is : (i : Instruction) (x : List ℕ) (s : State) → run (emit_name i x) s ≡ run (emit i (place_in text_eq s.names x)) (with_name x s)
 unfolding emit_name emit
@@ -52,7 +52,7 @@ constant_is : (i : Instruction) (c : Const) (s : State) → run (emit_constant i
 unfolding emit_constant emit
 constant_is i c s = refl
 
-mangled_is : (i : Instruction) (x : List ℕ) (s : State) → run (emit_mangled i x) s ≡ run (emit_name i (mangled s.around.context x)) s
+mangled_is : (i : Instruction) (x : List ℕ) (s : State) → run (emit_mangled i x) s ≡ run (emit_name i (mangled_by s.around.context x)) s
 unfolding emit_mangled
 mangled_is i x s = refl
 
@@ -60,7 +60,7 @@ refuse_is : (e : CodegenErrorType) (s : State) → run (refuse e) s ≡ Refused 
 unfolding refuse
 refuse_is e s = refl
 
-added_is : (x : List ℕ) (s : State) → run (add_varname x) s ≡ Done (with_varname (mangled s.around.context x) s)
+added_is : (x : List ℕ) (s : State) → run (add_varname x) s ≡ Done (with_varname (mangled_by s.around.context x) s)
 unfolding add_varname
 added_is x s = refl
 
@@ -68,15 +68,15 @@ entered_is : (c : Const) (s : State) → run (add_constant c) s ≡ Done (with_c
 unfolding add_constant
 entered_is c s = refl
 
-generating_is : (s : State) → run generating s ≡ Done (record s { generator = true })
-unfolding generating
+generating_is : (s : State) → run generator_mark s ≡ Done (record s { generator = true })
+unfolding generator_mark
 generating_is s = refl
 
 passed_is : (n : ℕ) (s : State) → run (pass_over n) s ≡ Done (record s { next = s.next + n })
 unfolding pass_over
 passed_is n s = refl
 
-move_is : (at : SourceLocation) (s : State) → run (move at) s ≡ Done (located at s)
+move_is : (at : SourceLocation) (s : State) → run (move at) s ≡ Done (with_location at s)
 unfolding move
 move_is at s = refl
 
@@ -96,28 +96,29 @@ loop_is : (x : LoopBlocks) (a : Emission) (s : State) → run (in_loop x a) s �
 unfolding in_loop
 loop_is x a s = refl
 
-postponing_is : (a : Emission) (s : State) → run (postponing a) s ≡ on_done (run a (with_postponed true s)) (λ t. Done (with_postponed s.around.context.postponed t))
-unfolding postponing
+postponing_is : (a : Emission) (s : State) → run (postponed_part a) s ≡ on_done (run a (with_postponed true s)) (λ t. Done (with_postponed s.around.context.postponed t))
+unfolding postponed_part
 postponing_is a s = refl
 
 element_is : (a : Emission) (s : State) → run (as_element a) s ≡ retold_in (run a s)
 unfolding as_element
 element_is a s = refl
 
-accessed_is : (u : Usage) (x : List ℕ) (s : State) → run (accessed u x) s ≡ run (accessed_in s.around.context u (mangled s.around.context x)) s
-unfolding accessed by_context
+accessed_is : (u : Usage) (x : List ℕ) (s : State) → run (name_access u x) s ≡ run (accessed_in s.around.context u (mangled_by s.around.context x)) s
+unfolding name_access by_context
 accessed_is u x s = refl
 
-chosen : (b : Bool) (v w : Emission) (s : State) → run (if b then v else w) s ≡ (if b then run v s else run w s)
-chosen true v w s = refl
-chosen false v w s = refl
+run_equation_chosen : (b : Bool) (v w : Emission) (s : State) → run (if b then v else w) s ≡ (if b then run v s else run w s)
+run_equation_chosen true v w s = refl
+run_equation_chosen false v w s = refl
 
-cell_is : (x : List ℕ) (s : State) → run (load_cell x) s ≡ (if list_any (text_eq x) (s.around.context.cells ++ s.around.context.frees) then run (emit op.LoadClosure (cell_place s.around.context x)) s else run (refuse error.MissingCell) s)
+run_equation_cell_is : (x : List ℕ) (s : State)
+    → run (load_cell x) s ≡ (if list_any (text_eq x) (s.around.context.cells ++ s.around.context.frees) then run (emit op.LoadClosure (cell_place s.around.context x)) s else run (refuse error.MissingCell) s)
 unfolding load_cell by_context
-cell_is x s = chosen (list_any (text_eq x) (s.around.context.cells ++ s.around.context.frees)) (emit op.LoadClosure (cell_place s.around.context x)) (refuse error.MissingCell) s
+run_equation_cell_is x s = run_equation_chosen (list_any (text_eq x) (s.around.context.cells ++ s.around.context.frees)) (emit op.LoadClosure (cell_place s.around.context x)) (refuse error.MissingCell) s
 
 child_is : (within : Context → (number : ℕ) → Context) (h : Shape) (body : Emission) (k : Object → Emission) (s : State) →
-    run (child within h body k) s ≡ (let c = within s.around.context s.next in on_sealed c.level (code_head c h s.location) s (run body (begun c s.location (suc s.next))) (λ o. run (k o)))
+    run (child within h body k) s ≡ (let c = within s.around.context s.next in on_sealed c.level (code_head c h s.location) s (run body (initial_state c s.location (suc s.next))) (λ o. run (k o)))
 unfolding child
 child_is within h body k s = refl
 

@@ -1,8 +1,8 @@
 -- Tables, like the steps, only get longer, so a place in one stays where it is: an instance of the law of all emissions.
 use Rattle.std.proofs.Common.{◌≡◌, List, [], ◌∷◌, ◌++◌, Bool, true, false, refl, sym, ap, ◌∙◌, append-nil, append_assoc}
 use Rattle.std.specs.Prelude.{if◌then◌else◌}
-use Rattle.py_bytecode.specs.Equality.{const_eq, entered, text_eq}
-use Rattle.py_emission_parts.specs.Emitting.{State, Done, Emission, with_step, with_block, with_name, with_varname, with_constant, located, with_loops, with_postponed}
+use Rattle.py_bytecode.specs.Equality.{const_eq, insert_if_new, text_eq}
+use Rattle.py_emission_parts.specs.Emitting.{State, Done, Emission, with_step, with_block, with_name, with_varname, with_constant, with_location, with_loops, with_postponed}
 use Rattle.py_emission_parts.specs.Running.{run}
 use Rattle.py_emission_parts.proofs.EmissionLawLemmas.{Law, all_hold}
 use Rattle.py_emission_parts.proofs.GrowthLemmas.{of_done}
@@ -26,7 +26,7 @@ module _ {A : Type 0} where
   extends_chosen true xs x = extends_same xs
   extends_chosen false xs x = extends_one xs xs x (extends_same xs)
 
-  extends_entered : (equal : A → A → Bool) (xs : List A) (x : A) → Extends xs (entered equal xs x)
+  extends_entered : (equal : A → A → Bool) (xs : List A) (x : A) → Extends xs (insert_if_new equal xs x)
   extends_entered equal xs x = extends_chosen _ xs x
 
 pub record Longer (s r : State) : Type 0 where
@@ -36,7 +36,7 @@ pub record Longer (s r : State) : Type 0 where
   pub constants : Extends s.constants r.constants
 
 longer_law : Law Longer
-unfolding with_step with_name with_varname with_constant located with_block with_loops with_postponed
+unfolding with_step with_name with_varname with_constant with_location with_block with_loops with_postponed
 longer_law = record {
   same = λ s. record { steps = extends_same s.steps; names = extends_same s.names; varnames = extends_same s.varnames; constants = extends_same s.constants };
   behind = λ s t u g h. record { steps = extends_then s.steps t.steps u.steps g.steps h.steps; names = extends_then s.names t.names u.names g.names h.names; varnames = extends_then s.varnames t.varnames u.varnames g.varnames h.varnames; constants = extends_then s.constants t.constants u.constants g.constants h.constants };

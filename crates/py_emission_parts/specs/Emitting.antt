@@ -4,9 +4,9 @@ use Rattle.std.specs.List.{position_or_len}
 use Rattle.py_base.specs.declared.location.SourceLocation.{SourceLocation}
 use Rattle.py_bytecode.specs.declared.instruction.Instruction.{Instruction}
 use Rattle.py_bytecode.specs.Objects.{Const, Object}
-use Rattle.py_bytecode.specs.Equality.{const_eq, text_eq, entered}
+use Rattle.py_bytecode.specs.Equality.{const_eq, text_eq, insert_if_new}
 use Rattle.py_base.specs.declared.errors.CodegenErrorType.{CodegenErrorType}
-use Rattle.py_emission_parts.specs.Context.{Context, mangled}
+use Rattle.py_emission_parts.specs.Context.{Context, mangled_by}
 use Rattle.py_emission_parts.specs.Within.{Shape}
 
 -- an instruction with its operand or the block that it jumps to, and where it stands in the source; or the place where a block begins
@@ -19,7 +19,7 @@ pub record LoopBlocks : Type 0 where
   pub on_break : ℕ
   pub on_continue : ℕ
 
--- what stands around the present node, and the innermost loop of its scope
+-- the context of the present node, and the innermost loop of its scope
 pub record Around : Type 0 where
   pub context : Context
   pub loops : Option LoopBlocks
@@ -92,16 +92,16 @@ unfoldable pub with_block : State → State
 with_block s = record s { blocks = suc s.blocks }
 
 unfoldable pub with_name : List ℕ → State → State
-with_name x s = record s { names = entered text_eq s.names x }
+with_name x s = record s { names = insert_if_new text_eq s.names x }
 
 unfoldable pub with_varname : List ℕ → State → State
-with_varname x s = record s { varnames = entered text_eq s.varnames x }
+with_varname x s = record s { varnames = insert_if_new text_eq s.varnames x }
 
 unfoldable pub with_constant : Const → State → State
-with_constant c s = record s { constants = entered const_eq s.constants c }
+with_constant c s = record s { constants = insert_if_new const_eq s.constants c }
 
-unfoldable pub located : SourceLocation → State → State
-located at s = record s { location = at }
+unfoldable pub with_location : SourceLocation → State → State
+with_location at s = record s { location = at }
 
 unfoldable pub with_loops : Option LoopBlocks → State → State
 with_loops x s = record s { around = record s.around { loops = x } }
@@ -148,7 +148,7 @@ by_loops a = ByLoops a
 
 -- a name as the innermost class writes it
 unfoldable pub emit_mangled : Instruction → List ℕ → Emission
-emit_mangled i x = ByContext (λ c. emit_name i (mangled c x))
+emit_mangled i x = ByContext (λ c. emit_name i (mangled_by c x))
 
 -- the name of a parameter, as the innermost class writes it, and a constant, which no instruction names yet
 unfoldable pub add_varname : List ℕ → Emission
@@ -158,8 +158,8 @@ unfoldable pub add_constant : Const → Emission
 add_constant c = AddsConstant c
 
 -- the scope's code is a generator
-unfoldable pub generating : Emission
-generating = Generates
+unfoldable pub generator_mark : Emission
+generator_mark = Generates
 
 -- so many scopes of parts that are scanned and not compiled are passed over
 unfoldable pub pass_over : (count : ℕ) → Emission
@@ -173,8 +173,8 @@ unfoldable pub in_loop : LoopBlocks → Emission → Emission
 in_loop x a = InLoop x a
 
 -- what is emitted where annotations are postponed
-unfoldable pub postponing : Emission → Emission
-postponing a = Postpones a
+unfoldable pub postponed_part : Emission → Emission
+postponed_part a = Postpones a
 
 -- one block, which begins between these
 unfoldable pub one_block : (before behind : (block : ℕ) → Emission) → Emission
@@ -188,9 +188,9 @@ unfoldable pub three_blocks : (before between further behind : (first second thi
 three_blocks f g h i = Three f g h i
 
 -- before anything is emitted of a scope there is one block, and it stands in no loop
-abbrev pub begun : Context → SourceLocation → (next : ℕ) → State
-begun c at n = record { steps = []; blocks = 1; names = []; varnames = []; constants = []; generator = false; location = at; next = n; around = record { context = c; loops = None } }
+abbrev pub initial_state : Context → SourceLocation → (next : ℕ) → State
+initial_state c at n = record { steps = []; blocks = 1; names = []; varnames = []; constants = []; generator = false; location = at; next = n; around = record { context = c; loops = None } }
 
 -- the outermost scope begins at row 1 and column 1; scope 1 is the first within
 abbrev pub nothing : Context → State
-nothing c = begun c (record { row = 1; column = 1 }) 1
+nothing c = initial_state c (record { row = 1; column = 1 }) 1

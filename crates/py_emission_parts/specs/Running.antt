@@ -4,10 +4,10 @@ use Rattle.py_base.specs.declared.location.SourceLocation.{SourceLocation}
 use Rattle.py_bytecode.specs.declared.instruction.Instruction.{Instruction}
 use Rattle.py_bytecode.specs.Equality.{const_eq, text_eq}
 use Rattle.py_bytecode.specs.Objects.{Object}
-use Rattle.py_emission_parts.specs.Context.{Context, mangled}
-use Rattle.py_emission_parts.specs.Emitting.{Put, Begin, State, Outcome, Done, TooWide, Refused, Emission, Idle, Then, Op, Counted, To, OfName, OfVarname, OfConstant, AddsVarname, AddsConstant, Generates, Passes, Moves, Refuses, Faults, One, Two, Three, ByContext, ByLoops, InLoop, Postpones, Retold, Within, begun, place_in, with_step, with_block, with_name, with_varname, with_constant, located, with_loops, with_postponed}
+use Rattle.py_emission_parts.specs.Context.{Context, mangled_by}
+use Rattle.py_emission_parts.specs.Emitting.{Put, Begin, State, Outcome, Done, TooWide, Refused, Emission, Idle, Then, Op, Counted, To, OfName, OfVarname, OfConstant, AddsVarname, AddsConstant, Generates, Passes, Moves, Refuses, Faults, One, Two, Three, ByContext, ByLoops, InLoop, Postpones, Retold, Within, initial_state, place_in, with_step, with_block, with_name, with_varname, with_constant, with_location, with_loops, with_postponed}
 use Rattle.py_emission_parts.specs.Refused.{retold}
-use Rattle.py_emission_parts.specs.Sealed.{Head, sealed}
+use Rattle.py_emission_parts.specs.Sealed.{Head, assembled_object}
 use Rattle.py_emission_parts.specs.Within.{Shape}
 
 -- what is done to a state
@@ -50,7 +50,7 @@ behind_child s t = record s { location = t.location; next = t.next }
 
 -- what a child comes to is sealed, and what follows goes on with its code object
 abbrev pub on_sealed : (level : ℕ) → Head → (parent : State) → Outcome → (Object → Action) → Outcome
-on_sealed level h s (Done t) k = k (sealed level h t) (behind_child s t)
+on_sealed level h s (Done t) k = k (assembled_object level h t) (behind_child s t)
 on_sealed level h s TooWide k = TooWide
 on_sealed level h s (Refused e at) k = Refused e at
 
@@ -74,11 +74,11 @@ run (To i b) s = Done (with_step (Put i 0 (Some b) s.location) s)
 run (OfName i x) s = put i (place_in text_eq s.names x) (with_name x s)
 run (OfVarname i x) s = put i (place_in text_eq s.varnames x) (with_varname x s)
 run (OfConstant i c) s = put i (place_in const_eq s.constants c) (with_constant c s)
-run (AddsVarname x) s = Done (with_varname (mangled s.around.context x) s)
+run (AddsVarname x) s = Done (with_varname (mangled_by s.around.context x) s)
 run (AddsConstant c) s = Done (with_constant c s)
 run Generates s = Done (record s { generator = true })
 run (Passes n) s = Done (record s { next = s.next + n })
-run (Moves at) s = Done (located at s)
+run (Moves at) s = Done (with_location at s)
 run (Refuses e) s = Refused e (Some s.location)
 run (Faults e) s = Refused e None
 run (One f g) s = (run (f s.blocks) ▹ begin s.blocks ▹ run (g s.blocks)) (with_block s)
@@ -98,7 +98,7 @@ run (Postpones a) s = on_done (run a (with_postponed true s)) (λ t. Done (with_
 run (Retold a) s = retold_in (run a s)
 run (Within within h body k) s =
     let c = within s.around.context s.next in
-    on_sealed c.level (code_head c h s.location) s (run body (begun c s.location (suc s.next))) (λ o. run (k o))
+    on_sealed c.level (code_head c h s.location) s (run body (initial_state c s.location (suc s.next))) (λ o. run (k o))
 
 -- what comes next goes on from what is emitted, unless that is refused
 abbrev pub go_on : Outcome → Emission → Outcome

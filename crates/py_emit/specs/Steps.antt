@@ -36,19 +36,19 @@ EndsAtBegin (Begin b ∷ []) = Unit {0}
 EndsAtBegin (x ∷ y ∷ xs) = EndsAtBegin (y ∷ xs)
 
 -- a load of a constant becomes its return; what else stands last is followed by a return of the value on top
-abbrev pub closed : SourceLocation → Step → List Step
-closed at (Put op.LoadConst n to there) = Put op.ReturnConst n to there ∷ []
-closed at x = x ∷ Put op.ReturnValue 0 None at ∷ []
+abbrev pub closed_step : SourceLocation → Step → List Step
+closed_step at (Put op.LoadConst n to there) = Put op.ReturnConst n to there ∷ []
+closed_step at x = x ∷ Put op.ReturnValue 0 None at ∷ []
 
-abbrev pub returned : SourceLocation → List Step → List Step
-returned at [] = Put op.ReturnValue 0 None at ∷ []
-returned at (x ∷ []) = closed at x
-returned at (x ∷ y ∷ xs) = x ∷ returned at (y ∷ xs)
+abbrev pub returned_steps : SourceLocation → List Step → List Step
+returned_steps at [] = Put op.ReturnValue 0 None at ∷ []
+returned_steps at (x ∷ []) = closed_step at x
+returned_steps at (x ∷ y ∷ xs) = x ∷ returned_steps at (y ∷ xs)
 
 -- the value on top is returned
 unfoldable pub with_return : State → State
-with_return s = record s { steps = returned s.location s.steps }
+with_return s = record s { steps = returned_steps s.location s.steps }
 
 -- the value on top is returned after this last step
 unfoldable pub with_closed : Step → State → State
-with_closed x s = record s { steps = s.steps ++ closed s.location x }
+with_closed x s = record s { steps = s.steps ++ closed_step s.location x }

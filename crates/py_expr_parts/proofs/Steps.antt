@@ -4,18 +4,18 @@ use Rattle.py_tree.specs.declared.expressions.Expr.{Expr}
 use Rattle.py_tree.specs.View.{expr_tree, exprs}
 use Rattle.py_base.specs.declared.location.SourceLocation.{SourceLocation}
 use Rattle.py_base.specs.declared.errors.CodegenErrorType.{CodegenErrorType}
-use Rattle.py_emission_parts.specs.Emitting.{Done, Emission, Refused, State, by_level, located, move, one_block, refuse, three_blocks, two_blocks, with_block}
+use Rattle.py_emission_parts.specs.Emitting.{Done, Emission, Refused, State, by_level, with_location, move, one_block, refuse, three_blocks, two_blocks, with_block}
 use Rattle.py_emission_parts.specs.Running.{◌▹◌, begin, run}
 use Rattle.py_emission.specs.Emission.{all_emissions}
 
-pub move_goes : (at : SourceLocation) (s : State) → run (move at) s ≡ Done (located at s)
+pub move_goes : (at : SourceLocation) (s : State) → run (move at) s ≡ Done (with_location at s)
 unfolding move
 move_goes at s = refl
 
 -- where the location is this
-pub stays : (at : SourceLocation) (s : State) → s.location ≡ at → run (move at) s ≡ Done s
-unfolding move located
-stays at s h = ap (λ x. Done (record s { location = x })) (sym h)
+pub step_stays : (at : SourceLocation) (s : State) → s.location ≡ at → run (move at) s ≡ Done s
+unfolding move with_location
+step_stays at s h = ap (λ x. Done (record s { location = x })) (sym h)
 
 -- a block more is made
 pub block_counted : (s : State) → (with_block s).blocks ≡ suc s.blocks
@@ -45,12 +45,12 @@ pub level_goes : (a : ℕ → Emission) (s : State) → run (by_level a) s ≡ r
 unfolding by_level
 level_goes a s = refl
 
-pub located_at : (at : SourceLocation) (s : State) → (located at s).location ≡ at
-unfolding located
+pub located_at : (at : SourceLocation) (s : State) → (with_location at s).location ≡ at
+unfolding with_location
 located_at at s = refl
 
 pub many_emissions : (xs : List Expr) → length (all_emissions (exprs expr_tree xs)) ≡ length xs
 many_emissions [] = refl
 many_emissions (x ∷ xs) = ap suc (many_emissions xs)
 
-pub ruleset steps = (move_goes, block_counted, one_goes, two_goes, three_goes, refuse_goes, level_goes, located_at, many_emissions, stays)
+pub ruleset step_steps = (move_goes, block_counted, one_goes, two_goes, three_goes, refuse_goes, level_goes, located_at, many_emissions, step_stays)

@@ -2,7 +2,7 @@
 use Rattle.std.proofs.Common.{◌≡◌, ◌≢◌, ℕ, sym, subst, arith}
 use Rattle.py_base.specs.declared.location.SourceLocation.{SourceLocation}
 use Rattle.py_bytecode.specs.declared.instruction.Instruction.{Instruction}
-use Rattle.py_emission_parts.specs.Emitting.{Begin, State, Done, Emission, with_step, with_block, located, jump}
+use Rattle.py_emission_parts.specs.Emitting.{Begin, State, Done, Emission, with_step, with_block, with_location, jump}
 use Rattle.py_emission_parts.specs.Running.{run}
 use Rattle.py_emission_parts.proofs.GrowthLemmas.{Grows, all_grow, begun_other, grow_law}
 use Rattle.py_emit.specs.Steps.{IsOpen}
@@ -26,12 +26,12 @@ pub block_opens : (s r : State) (b : ℕ) → r ≡ with_block s → IsOpen b s 
 block_opens s r b e i = subst (IsOpen b) (sym e) (still_open s (with_block s) b (grow_law.blocked s) i)
 
 -- a block that is made after one that is open is another one
-pub apart : (s : State) (b c : ℕ) → IsOpen b s → c ≡ s.blocks → b ≢ c
-apart s b c i e f = let m = i.made in absurd (omega (arith, m, e, f))
+pub open_block_apart : (s : State) (b c : ℕ) → IsOpen b s → c ≡ s.blocks → b ≢ c
+open_block_apart s b c i e f = let m = i.made in absurd (omega (arith, m, e, f))
 
 -- another block begins
 pub begin_opens : (s r : State) (b c : ℕ) → b ≢ c → r ≡ with_step (Begin c) s → IsOpen b s → IsOpen b r
 begin_opens s r b c n e i = subst (IsOpen b) (sym e) (begun_opens s b c n i)
 
-pub moved_opens : (at : SourceLocation) (s r : State) (b : ℕ) → r ≡ located at s → IsOpen b s → IsOpen b r
-moved_opens at s r b e i = subst (IsOpen b) (sym e) (still_open s (located at s) b (grow_law.placed s at) i)
+pub moved_opens : (at : SourceLocation) (s r : State) (b : ℕ) → r ≡ with_location at s → IsOpen b s → IsOpen b r
+moved_opens at s r b e i = subst (IsOpen b) (sym e) (still_open s (with_location at s) b (grow_law.placed s at) i)

@@ -1,4 +1,4 @@
--- What is emitted of the parameters of functions and their defaults, and what a scope within comes to.
+-- What is emitted of the parameters of functions and their defaults, and what a nested scope comes to.
 use Rattle.std.specs.Prelude.{◌≡◌, ◌≢◌, ℕ, zero, suc, List, [], ◌∷◌, Bool, true, false, Result, Ok, Err}
 use Rattle.py_base.specs.declared.location.LocatedError.{LocatedError}
 use Rattle.py_tree.specs.Tree as tree
@@ -38,7 +38,7 @@ abbrev pub default_name : (named : Bool) → (name : List ℕ) → Emission
 default_name false name = keep
 default_name true name = emit_constant op.LoadConst (const.str name)
 
--- the value of a default, behind its name, where defaults are named
+-- the value of a default, after its name, where defaults are named
 abbrev pub default_given : (named : Bool) → (name : List ℕ) → Emission → Emission
 default_given false name v = v
 default_given true name v = emit_constant op.LoadConst (const.str name) ▸ v
@@ -72,7 +72,7 @@ abbrev pub flag_if : (flag : ℕ) → Bool → ℕ
 flag_if flag false = 0
 flag_if flag true = flag
 
--- where a scope within is left, what was emitted of it and what follows go on with its code object; where it is not, it is refused so, unless
+-- where a nested scope is left, what was emitted of it and what follows go on with its code object; where it is not, it is refused so, unless
 -- memory is wanting
 abbrev pub Gives : Result CodeObject (LocatedError CodegenErrorType) → State → ((Object → Emission) → Outcome) → Type 0
 Gives (Ok code) s o = (k : Object → Emission) → o k ≡ run (k (object code)) s

@@ -18,34 +18,36 @@ use Rattle.py_fault_laws.specs.Nodes.{EndsBy, in_function}
 use Rattle.py_fault_laws.specs.Calls.{BodyCalls, DeleteCalls, DeletionCalls, ExpressionCalls, StatementCalls, StoreCalls, TellsFirst, TestCalls}
 use Rattle.py_fault_laws.proofs.Nodes.{bodies_end, deletes_end, ends_by, exprs_end, statements_end, targets_end, tests_end}
 
-pub tells : {A : Type 0} (answer : Result A (LocatedError CodegenErrorType)) (before after : State) (fs : List Fault) (q : SourceLocation) (o : Outcome) → Goes answer after o → EndsBy before fs q o → TellsFirst answer fs
-tells (Ok a) before after fs q o goes h = (subst (EndsBy before fs q) goes h).0
-tells (Err e) before after fs q o goes h = λ n. subst (EndsBy before fs q) (goes n) h
+pub call_tells : {A : Type 0} (answer : Result A (LocatedError CodegenErrorType)) (before after : State) (fs : List Fault) (q : SourceLocation) (o : Outcome)
+    → Goes answer after o → EndsBy before fs q o → TellsFirst answer fs
+call_tells (Ok a) before after fs q o goes h = (subst (EndsBy before fs q) goes h).0
+call_tells (Err e) before after fs q o goes h = λ n. subst (EndsBy before fs q) (goes n) h
 
 pub expression_calls : ExpressionCalls
-expression_calls answer class e before after h shapes = tells answer (state before) (state after) _ _ _ h.goes (exprs_end class e shapes (state before))
+expression_calls answer class e before after h shapes = call_tells answer (state before) (state after) _ _ _ h.goes (exprs_end class e shapes (state before))
 
 pub test_calls : TestCalls
-test_calls answer class e truth block before after h shapes = tells answer (state before) (state after) _ _ _ h.goes (tests_end class e shapes truth block (state before))
+test_calls answer class e truth block before after h shapes = call_tells answer (state before) (state after) _ _ _ h.goes (tests_end class e shapes truth block (state before))
 
 pub store_calls : StoreCalls
-store_calls answer class e before after h shapes = tells answer (state before) (state after) _ _ _ h.goes (targets_end class e shapes (state before))
+store_calls answer class e before after h shapes = call_tells answer (state before) (state after) _ _ _ h.goes (targets_end class e shapes (state before))
 
 -- one target is the only one of its deletions
-deletion_ends : (class : Option (List ℕ)) (e : tree.Expr) → expr_shapes class e ≡ [] → (s : State) → EndsBy s (delete_faults (in_function s) s.location e) (delete_end s.location e) (run (emission_of_delete e) s)
+deletion_ends : (class : Option (List ℕ)) (e : tree.Expr) → expr_shapes class e ≡ [] → (s : State)
+    → EndsBy s (delete_faults (in_function s) s.location e) (delete_end s.location e) (run (emission_of_delete e) s)
 deletion_ends class e h s =
     let alone = tree.more_exprs e tree.no_exprs in
     let one = ends_so (append-nil (delete_faults (in_function s) s.location e)) (deletions_end class s.around s.location alone (ap (λ l. l ++ []) h)) in
     ends_by s _ _ _ ((unkept_ends (emission_of_delete e) one).ends s refl refl)
 
 pub deletion_calls : DeletionCalls
-deletion_calls answer class e before after h shapes = tells answer (state before) (state after) _ _ _ h.goes (deletion_ends class e shapes (state before))
+deletion_calls answer class e before after h shapes = call_tells answer (state before) (state after) _ _ _ h.goes (deletion_ends class e shapes (state before))
 
 pub delete_calls : DeleteCalls
-delete_calls answer class es before after h shapes = tells answer (state before) (state after) _ _ _ h.goes (deletes_end class es shapes (state before))
+delete_calls answer class es before after h shapes = call_tells answer (state before) (state after) _ _ _ h.goes (deletes_end class es shapes (state before))
 
 pub statement_calls : StatementCalls
-statement_calls answer class t before after h shapes = tells answer (state before) (state after) _ _ _ h.goes (statements_end class t shapes (state before))
+statement_calls answer class t before after h shapes = call_tells answer (state before) (state after) _ _ _ h.goes (statements_end class t shapes (state before))
 
 pub body_calls : BodyCalls
-body_calls answer class ts before after h shapes = tells answer (state before) (state after) _ _ _ h.goes (bodies_end class ts shapes (state before))
+body_calls answer class ts before after h shapes = call_tells answer (state before) (state after) _ _ _ h.goes (bodies_end class ts shapes (state before))

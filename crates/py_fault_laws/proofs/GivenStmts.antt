@@ -22,14 +22,14 @@ use Rattle.py_meaning.specs.Ends.{ends_of, expr_end, items_end, last_of}
 use Rattle.py_meaning.specs.StmtEnds.{Setting, declared_end, function_start, param_ends, rest_end, scope_setting, stmt_end}
 use Rattle.py_meaning.specs.ExprFaults.{Fault, assign_faults, debug_faults, declared_faults, expr_faults, exprs_faults, fault_at, faults_to, opt_expr_faults, when}
 use Rattle.py_meaning.specs.Scanned.{fault_as, scan_faults}
-use Rattle.py_meaning.specs.Faults.{annotated_faults, class_faults, compile_faults, def_faults, faults_behind, first_setting, future_faults, handlers_faults, interactive_faults, items_faults, malformed, match_faults, prompt_faults, rest_faults, setting_after, stmt_faults, stmts_faults, too_deep, too_large, whole}
+use Rattle.py_meaning.specs.Faults.{annotated_faults, class_faults, compile_faults, def_faults, faults_behind, first_setting, future_faults, handlers_faults, interactive_faults, items_faults, malformed_faults, match_faults, prompt_faults, rest_faults, setting_after, stmt_faults, stmts_faults, too_deep, too_large, whole}
 use Rattle.py_fault_laws.specs.Given.{AreGiven, IsGiven, NeverGiven}
-use Rattle.py_fault_laws.proofs.Givens.{debug_given, joined, one_if, three}
+use Rattle.py_fault_laws.proofs.Givens.{debug_given, given_joined, one_if, three}
 use Rattle.py_fault_laws.proofs.GivenExprs.{to_given}
 use Rattle.py_fault_laws.proofs.GivenParts.{alias_given, annotated_given, asserted_given, assigned_given, augmented_given, class_given, declared_given, def_given, deletes_given, exprs_given, from_given, future_given, imported_given, items_given, looped_given, matched_given, opt_value_given, raised_given, value_given}
 
 four : (ws xs ys zs : List Fault) → AreGiven ws → AreGiven xs → AreGiven ys → AreGiven zs → AreGiven (ws ++ xs ++ ys ++ zs)
-four ws xs ys zs a b c d = joined (ws ++ xs ++ ys) zs (three ws xs ys a b c) d
+four ws xs ys zs a b c d = given_joined (ws ++ xs ++ ys) zs (three ws xs ys a b c) d
 
 but_doc_given : (text : Option (List ℕ)) (xs ys : List Fault) → AreGiven xs → AreGiven ys → AreGiven (but_doc text xs ys)
 but_doc_given None xs ys a b = b
@@ -42,22 +42,22 @@ mutual
       let q = rest_end (scope_setting true c) (function_start p params generic) body in
       let own = rest_faults (scope_setting true c) body in
       let e = stmt_end c (tree.FunctionDef at name params body decorators returns generic) in
-      joined (exprs_faults c.in_function decorators) (def_faults c.postponed c.in_function p q params returns generic own ++ debug_faults no_assignment e name) (exprs_given c.in_function decorators)
-      (joined (def_faults c.postponed c.in_function p q params returns generic own) (debug_faults no_assignment e name) (def_given c.postponed c.in_function p q params returns generic own (rest_given (scope_setting true c) body)) (debug_given no_assignment e name))
+      given_joined (exprs_faults c.in_function decorators) (def_faults c.postponed c.in_function p q params returns generic own ++ debug_faults no_assignment e name) (exprs_given c.in_function decorators)
+      (given_joined (def_faults c.postponed c.in_function p q params returns generic own) (debug_faults no_assignment e name) (def_given c.postponed c.in_function p q params returns generic own (rest_given (scope_setting true c) body)) (debug_given no_assignment e name))
   stmt_given c b (tree.ClassDef at name bases keywords body decorators generic) =
       let p = last_of at (ends_of decorators) in
       let q = rest_end (scope_setting false c) (last_of p (param_ends generic)) body in
       let own = rest_faults (scope_setting false c) body in
       let e = stmt_end c (tree.ClassDef at name bases keywords body decorators generic) in
-      joined (exprs_faults c.in_function decorators) (class_faults c.in_function p q bases keywords generic own ++ debug_faults no_assignment e name) (exprs_given c.in_function decorators)
-      (joined (class_faults c.in_function p q bases keywords generic own) (debug_faults no_assignment e name) (class_given c.in_function p q bases keywords generic own (rest_given (scope_setting false c) body)) (debug_given no_assignment e name))
+      given_joined (exprs_faults c.in_function decorators) (class_faults c.in_function p q bases keywords generic own ++ debug_faults no_assignment e name) (exprs_given c.in_function decorators)
+      (given_joined (class_faults c.in_function p q bases keywords generic own) (debug_faults no_assignment e name) (class_given c.in_function p q bases keywords generic own (rest_given (scope_setting false c) body)) (debug_given no_assignment e name))
   stmt_given c b (tree.TypeAlias at name generic value) = alias_given c.in_function at name generic value
-  stmt_given c b (tree.Return at value) = joined (when (not c.in_function) (fault_at error.InvalidReturn at)) (opt_expr_faults c.in_function value) (one_if (not c.in_function) (fault_at error.InvalidReturn at) tt) (opt_value_given c.in_function value)
+  stmt_given c b (tree.Return at value) = given_joined (when (not c.in_function) (fault_at error.InvalidReturn at)) (opt_expr_faults c.in_function value) (one_if (not c.in_function) (fault_at error.InvalidReturn at) tt) (opt_value_given c.in_function value)
   stmt_given c b (tree.Delete at targets) = deletes_given c.in_function at targets
-  stmt_given c b (tree.Assign at targets value) = joined (expr_faults c.in_function value) (assign_faults c.in_function (expr_end value) targets) (value_given c.in_function value) (assigned_given c.in_function (expr_end value) targets)
+  stmt_given c b (tree.Assign at targets value) = given_joined (expr_faults c.in_function value) (assign_faults c.in_function (expr_end value) targets) (value_given c.in_function value) (assigned_given c.in_function (expr_end value) targets)
   stmt_given c b (tree.AugAssign at target o value) = augmented_given c.in_function at target value
   stmt_given c b (tree.AnnAssign at target annotation value simple) =
-      joined (declared_faults c.in_function target value) (annotated_faults c.postponed c.in_function (declared_end at target value) annotation) (declared_given c.in_function target value) (annotated_given c.postponed c.in_function (declared_end at target value) annotation)
+      given_joined (declared_faults c.in_function target value) (annotated_faults c.postponed c.in_function (declared_end at target value) annotation) (declared_given c.in_function target value) (annotated_given c.postponed c.in_function (declared_end at target value) annotation)
   stmt_given c b (tree.If at t body orelse) = three (expr_faults c.in_function t) (stmts_faults c b body) (stmts_faults c b orelse) (value_given c.in_function t) (stmts_given c b body) (stmts_given c b orelse)
   stmt_given c b (tree.While at t body orelse) = three (expr_faults c.in_function t) (stmts_faults c true body) (stmts_faults c b orelse) (value_given c.in_function t) (stmts_given c true body) (stmts_given c b orelse)
   stmt_given c b (tree.For at target iter body orelse) =
@@ -80,29 +80,30 @@ mutual
 
   pub stmts_given : (c : Setting) (b : Bool) (ts : tree.Stmts) → AreGiven (stmts_faults c b ts)
   stmts_given c b tree.no_stmts = tt
-  stmts_given c b (tree.more_stmts s ss) = joined (stmt_faults c b s) (stmts_faults c b ss) (stmt_given c b s) (stmts_given c b ss)
+  stmts_given c b (tree.more_stmts s ss) = given_joined (stmt_faults c b s) (stmts_faults c b ss) (stmt_given c b s) (stmts_given c b ss)
 
   rest_given : (c : Setting) (ts : tree.Stmts) → AreGiven (rest_faults c ts)
   rest_given c tree.no_stmts = tt
-  rest_given c (tree.more_stmts s ss) = but_doc_given (stmt_text s) (stmts_faults c false ss) (stmt_faults c false s ++ stmts_faults c false ss) (stmts_given c false ss) (joined (stmt_faults c false s) (stmts_faults c false ss) (stmt_given c false s) (stmts_given c false ss))
+  rest_given c (tree.more_stmts s ss) = but_doc_given (stmt_text s) (stmts_faults c false ss) (stmt_faults c false s ++ stmts_faults c false ss) (stmts_given c false ss) (given_joined (stmt_faults c false s) (stmts_faults c false ss) (stmt_given c false s) (stmts_given c false ss))
 
   handlers_given : (c : Setting) (b : Bool) (hs : tree.Handlers) → AreGiven (handlers_faults c b hs)
   handlers_given c b tree.no_handlers = tt
   handlers_given c b (tree.more_handlers type name body rest) = three (match_faults c.in_function type name) (stmts_faults c b body) (handlers_faults c b rest) (matched_given c.in_function type name) (stmts_given c b body) (handlers_given c b rest)
 
 -- future imports before the other statements
-behind : (c : Setting) (o : Option Future) (xs : List Fault) (ys : Setting → List Fault) → AreGiven xs → ((d : Setting) → AreGiven (ys d)) → AreGiven (elim o [ None ↦ xs | Some f ↦ future_faults c.in_function f ++ ys (setting_after f c) ])
-behind c None xs ys a h = a
-behind c (Some f) xs ys a h = joined (future_faults c.in_function f) (ys (setting_after f c)) (future_given c.in_function f) (h (setting_after f c))
+given_stmt_behind : (c : Setting) (o : Option Future) (xs : List Fault) (ys : Setting → List Fault) → AreGiven xs → ((d : Setting) → AreGiven (ys d))
+    → AreGiven (elim o [ None ↦ xs | Some f ↦ future_faults c.in_function f ++ ys (setting_after f c) ])
+given_stmt_behind c None xs ys a h = a
+given_stmt_behind c (Some f) xs ys a h = given_joined (future_faults c.in_function f) (ys (setting_after f c)) (future_given c.in_function f) (h (setting_after f c))
 
 behind_given : (c : Setting) (ts : tree.Stmts) → AreGiven (faults_behind c ts)
 behind_given c tree.no_stmts = tt
-behind_given c (tree.more_stmts s ss) = behind c (future_of s) (stmts_faults c false (tree.more_stmts s ss)) (λ d. faults_behind d ss) (stmts_given c false (tree.more_stmts s ss)) (λ d. behind_given d ss)
+behind_given c (tree.more_stmts s ss) = given_stmt_behind c (future_of s) (stmts_faults c false (tree.more_stmts s ss)) (λ d. faults_behind d ss) (stmts_given c false (tree.more_stmts s ss)) (λ d. behind_given d ss)
 
 prompt_given : (c : Setting) (ts : tree.Stmts) → AreGiven (prompt_faults c ts)
 prompt_given c tree.no_stmts = tt
-prompt_given c (tree.more_stmts (tree.StmtExpr at value) ss) = joined (expr_faults c.in_function value) (prompt_faults c ss) (value_given c.in_function value) (prompt_given c ss)
-prompt_given c (tree.more_stmts s ss) = behind c (future_of s) (stmts_faults c false (tree.more_stmts s ss)) (λ d. prompt_faults d ss) (stmts_given c false (tree.more_stmts s ss)) (λ d. prompt_given d ss)
+prompt_given c (tree.more_stmts (tree.StmtExpr at value) ss) = given_joined (expr_faults c.in_function value) (prompt_faults c ss) (value_given c.in_function value) (prompt_given c ss)
+prompt_given c (tree.more_stmts s ss) = given_stmt_behind c (future_of s) (stmts_faults c false (tree.more_stmts s ss)) (λ d. prompt_faults d ss) (stmts_given c false (tree.more_stmts s ss)) (λ d. prompt_given d ss)
 
 interactive_given : (m : Mode) (c : Setting) (ts : tree.Stmts) → AreGiven (interactive_faults m c ts)
 interactive_given mode.Single c ts = prompt_given c ts
@@ -138,7 +139,7 @@ whole_given f limit n h = by (nat_lt n limit)
     by true = tt
     by false = (h, tt)
 
-shapes_given : (ms : List Malformed) → AreGiven (malformed ms)
+shapes_given : (ms : List Malformed) → AreGiven (malformed_faults ms)
 shapes_given [] = tt
 shapes_given (m ∷ ms) = (tt, shapes_given ms)
 
@@ -146,7 +147,7 @@ pub never_given : NeverGiven
 never_given t m level =
     let deep = whole too_deep (2 ^ 10) (nesting t) in
     let large = whole too_large (2 ^ 22) (size_of t) in
-    let shaped = malformed (shapes t m) in
-    joined (deep ++ large ++ shaped ++ scan_faults t) (compile_faults m level t)
+    let shaped = malformed_faults (shapes t m) in
+    given_joined (deep ++ large ++ shaped ++ scan_faults t) (compile_faults m level t)
     (four deep large shaped (scan_faults t) (whole_given too_deep (2 ^ 10) (nesting t) tt) (whole_given too_large (2 ^ 22) (size_of t) tt) (shapes_given (shapes t m)) (scanned_given t))
     (compiled_given m level t)

@@ -12,12 +12,12 @@ use Rattle.py_emission_parts.specs.TableParts.{is_debug}
 use Rattle.py_meaning.specs.ExprFaults.{ExprFaults, Fault, TargetFaults, debug_faults, elements, fault_at, if_any, in_order, joined_faults, keyword_faults, parameter_faults, retold_faults, values, when}
 use Rattle.py_fault_laws.specs.Given.{AreGiven, IsGiven}
 
-pub joined : (xs ys : List Fault) → AreGiven xs → AreGiven ys → AreGiven (xs ++ ys)
-joined [] ys a b = b
-joined (x ∷ xs) ys a b = (a.0, joined xs ys a.1 b)
+pub given_joined : (xs ys : List Fault) → AreGiven xs → AreGiven ys → AreGiven (xs ++ ys)
+given_joined [] ys a b = b
+given_joined (x ∷ xs) ys a b = (a.0, given_joined xs ys a.1 b)
 
 pub three : (xs ys zs : List Fault) → AreGiven xs → AreGiven ys → AreGiven zs → AreGiven (xs ++ ys ++ zs)
-three xs ys zs a b d = joined (xs ++ ys) zs (joined xs ys a b) d
+three xs ys zs a b d = given_joined (xs ++ ys) zs (given_joined xs ys a b) d
 
 pub one_if : (b : Bool) (f : Fault) → IsGiven f.error → AreGiven (when b f)
 one_if true f h = (h, tt)
@@ -33,11 +33,11 @@ debug_given text p name = one_if (is_debug name) (fault_at (error.SyntaxError te
 pub keywords_given : (p : SourceLocation) (ks : tree.Keywords) → AreGiven (keyword_faults p ks)
 keywords_given p tree.no_keywords = tt
 keywords_given p (tree.more_keywords None e ks) = keywords_given p ks
-keywords_given p (tree.more_keywords (Some name) e ks) = joined (debug_faults no_assignment p name) (keyword_faults p ks) (debug_given no_assignment p name) (keywords_given p ks)
+keywords_given p (tree.more_keywords (Some name) e ks) = given_joined (debug_faults no_assignment p name) (keyword_faults p ks) (debug_given no_assignment p name) (keywords_given p ks)
 
 pub parameters_given : (p : SourceLocation) (names : List (List ℕ)) → AreGiven (parameter_faults p names)
 parameters_given p [] = tt
-parameters_given p (x ∷ xs) = joined (debug_faults no_assignment p x) (parameter_faults p xs) (debug_given no_assignment p x) (parameters_given p xs)
+parameters_given p (x ∷ xs) = given_joined (debug_faults no_assignment p x) (parameter_faults p xs) (debug_given no_assignment p x) (parameters_given p xs)
 
 told_so : (e : CodegenErrorType) → IsGiven e → IsGiven (retold e)
 told_so error.InvalidStarExpr h = tt
@@ -74,7 +74,7 @@ OptsGiven fs = AllOf OptGiven fs
 
 pub order_given : (fs : List (List Fault)) → AllGiven fs → AreGiven (in_order fs)
 order_given [] h = tt
-order_given (f ∷ fs) h = joined f (in_order fs) h.0 (order_given fs h.1)
+order_given (f ∷ fs) h = given_joined f (in_order fs) h.0 (order_given fs h.1)
 
 pub values_given : (fs : List ExprFaults) → AllWell fs → AllGiven (values fs)
 values_given [] h = tt

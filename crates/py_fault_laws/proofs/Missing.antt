@@ -11,7 +11,7 @@ use Rattle.py_bytecode.specs.Objects as const
 use Rattle.py_bytecode.specs.Objects.{Const, codes_in}
 use Rattle.py_control.specs.Agree.{AllOf, kids, kids_v}
 use Rattle.py_control.specs.Form.{Scope}
-use Rattle.py_emission_parts.specs.Emitting.{Around, Outcome, State, keep, located, move}
+use Rattle.py_emission_parts.specs.Emitting.{Around, Outcome, State, keep, with_location, move}
 use Rattle.py_emission_parts.specs.Everywhere.{Everywhere}
 use Rattle.py_emission_parts.specs.Running.{go_on, run}
 use Rattle.py_emit.specs.States.{Goes, state}
@@ -22,15 +22,15 @@ use Rattle.py_meaning.specs.StmtCounts.{scopes_in_stmt}
 use Rattle.py_meaning.specs.TableStmts.{stmt_form}
 use Rattle.py_scope_tree.specs.Cells.{StandUpTo}
 use Rattle.py_emission_outcomes.specs.Fitting.{HasShortTables}
-use Rattle.py_emission_outcomes.proofs.Capacity.Fits.{FitsIn, IsOfTree, Stands, taken}
-use Rattle.py_emission_outcomes.proofs.Capacity.Accesses.{Ready}
+use Rattle.py_emission_outcomes.proofs.Capacity.Fits.{FitsIn, IsOfTree, FitStands, fit_taken}
+use Rattle.py_emission_outcomes.proofs.Capacity.Accesses.{AccessReady}
 use Rattle.py_emission_outcomes.proofs.Capacity.AvailableCellLemmas.{Here, deep_all}
 use Rattle.py_emission_outcomes.proofs.Capacity.ShortTables.{IsShort}
 use Rattle.py_emission_outcomes.proofs.Capacity.FitExprs.{expr_fits, stores_fit}
 use Rattle.py_emission_outcomes.proofs.Capacity.FitStmts.{stmt_fits, stmts_fit}
 use Rattle.py_expr_scopes.specs.Comprehensions.{comprehension_of}
 use Rattle.py_calls.specs.Placed.{comprehension_at, deletion_at}
-use Rattle.py_fault_laws.specs.Missing.{BodiesFindCells, ComprehensionsFindCells, DeletionsFindCells, ExpressionsFindCells, FindsCells, IsPlaced, StatementsFindCells, StoresFindCells, TestsFindCells, told}
+use Rattle.py_fault_laws.specs.Missing.{BodiesFindCells, ComprehensionsFindCells, DeletionsFindCells, ExpressionsFindCells, FindsCells, IsPlaced, StatementsFindCells, StoresFindCells, TestsFindCells, form_context}
 use Rattle.py_fault_laws.proofs.CallParts.{comprehension_is}
 
 other_error : error.MissingCell ≡ error.OutOfMemory → ⊥
@@ -54,31 +54,33 @@ short_of (const.ellipsis ∷ cs) h = (tt, short_of cs h)
 short_of (const.code o ∷ cs) h = (h.0, short_of cs h.1)
 
 module _ (s : State) (within : List Scope) (w : ℕ) (p : IsPlaced s within w) where
-  ready : Ready s.around
-  ready = record { cells = p.cells; frees = p.frees; few = p.few }
+  missing_ready : AccessReady s.around
+  missing_ready = record { cells = p.cells; frees = p.frees; few = p.few }
 
-  here : AllOf (Here s.around) within
-  here = deep_all (λ n x. StandUpTo s.around.context.scopes s.around.context.here n x) within p.stand
+  missing_here : AllOf (Here s.around) within
+  missing_here = deep_all (λ n x. StandUpTo s.around.context.scopes s.around.context.here n x) within p.stand
 
-  stands : Stands s.around s.next s
-  stands = record { around = refl; next = refl; short = short_of s.constants p.short }
+  missing_stands : FitStands s.around s.next s
+  missing_stands = record { around = refl; next = refl; short = short_of s.constants p.short }
 
-  room : taken s + w < 2 ^ 30
-  unfolding taken
-  room = p.room
+  missing_room : fit_taken s + w < 2 ^ 30
+  unfolding fit_taken
+  missing_room = p.room
 
 -- an expression and a statement that stand there
-expression_fits : (s : State) (e : tree.Expr) → IsPlaced s (kids_v (expr_form (told s) s.next e)) (64 * expr_size e) → FitsIn s.around (s.next + scopes_in s.around.context.postponed e) (taken s + 64 * expr_size e) (run (emission e) s)
+expression_fits : (s : State) (e : tree.Expr) → IsPlaced s (kids_v (expr_form (form_context s) s.next e)) (64 * expr_size e)
+    → FitsIn s.around (s.next + scopes_in s.around.context.postponed e) (fit_taken s + 64 * expr_size e) (run (emission e) s)
 expression_fits s e p =
-    let ws = kids_v (expr_form (told s) s.next e) in
+    let ws = kids_v (expr_form (form_context s) s.next e) in
     let n = 64 * expr_size e in
-    (expr_fits s.around (ready s ws n p) s.next e (here s ws n p)).value.fits s (stands s ws n p) (room s ws n p)
+    (expr_fits s.around (missing_ready s ws n p) s.next e (missing_here s ws n p)).value.fits s (missing_stands s ws n p) (missing_room s ws n p)
 
-statement_fits : (s : State) (t : tree.Stmt) → IsPlaced s (kids (stmt_form (told s) s.next t)) (192 * stmt_size t) → FitsIn s.around (s.next + scopes_in_stmt s.around.context.postponed t) (taken s + 192 * stmt_size t) (run (emission_of_stmt t) s)
+statement_fits : (s : State) (t : tree.Stmt) → IsPlaced s (kids (stmt_form (form_context s) s.next t)) (192 * stmt_size t)
+    → FitsIn s.around (s.next + scopes_in_stmt s.around.context.postponed t) (fit_taken s + 192 * stmt_size t) (run (emission_of_stmt t) s)
 statement_fits s t p =
-    let ws = kids (stmt_form (told s) s.next t) in
+    let ws = kids (stmt_form (form_context s) s.next t) in
     let n = 192 * stmt_size t in
-    (stmt_fits t s.around (ready s ws n p) s.next (here s ws n p)).fits s (stands s ws n p) (room s ws n p)
+    (stmt_fits t s.around (missing_ready s ws n p) s.next (missing_here s ws n p)).fits s (missing_stands s ws n p) (missing_room s ws n p)
 
 pub expressions_find : ExpressionsFindCells
 expressions_find answer e before after h p = finds answer (state after) _ _ _ (run (emission e) (state before)) h.goes (expression_fits (state before) e p)
@@ -86,12 +88,12 @@ expressions_find answer e before after h p = finds answer (state after) _ _ _ (r
 pub tests_find : TestsFindCells
 tests_find answer e truth block before after h p =
     let s = state before in
-    finds answer (state after) _ _ _ _ h.goes (((expr_fits s.around (ready s _ _ p) s.next e (here s _ _ p)).test truth block).fits s (stands s _ _ p) (room s _ _ p))
+    finds answer (state after) _ _ _ _ h.goes (((expr_fits s.around (missing_ready s _ _ p) s.next e (missing_here s _ _ p)).test truth block).fits s (missing_stands s _ _ p) (missing_room s _ _ p))
 
 pub stores_find : StoresFindCells
 stores_find answer e before after h p =
     let s = state before in
-    finds answer (state after) _ _ _ _ h.goes ((stores_fit s.around (ready s _ _ p) s.next e (here s _ _ p)).alone.fits s (stands s _ _ p) (room s _ _ p))
+    finds answer (state after) _ _ _ _ h.goes ((stores_fit s.around (missing_ready s _ _ p) s.next e (missing_here s _ _ p)).alone.fits s (missing_stands s _ _ p) (missing_room s _ _ p))
 
 pub statements_find : StatementsFindCells
 statements_find answer t before after h p = finds answer (state after) _ _ _ (run (emission_of_stmt t) (state before)) h.goes (statement_fits (state before) t p)
@@ -99,16 +101,16 @@ statements_find answer t before after h p = finds answer (state after) _ _ _ (ru
 pub bodies_find : BodiesFindCells
 bodies_find answer ts before after h p =
     let s = state before in
-    finds answer (state after) _ _ _ _ h.goes ((stmts_fit ts s.around (ready s _ _ p) s.next (here s _ _ p)).fits s (stands s _ _ p) (room s _ _ p))
+    finds answer (state after) _ _ _ _ h.goes ((stmts_fit ts s.around (missing_ready s _ _ p) s.next (missing_here s _ _ p)).fits s (missing_stands s _ _ p) (missing_room s _ _ p))
 
--- what is done or refused is so with nothing behind it
+-- what is done or refused is so with nothing after it
 unkept : {A : Type 0} (answer : Result A (LocatedError CodegenErrorType)) (after : State) (o : Outcome) → Goes answer after o → Goes answer after (go_on o keep)
 unkept (Ok a) after o g = ap (λ x. go_on x keep) g
 unkept (Err e) after o g = λ n. ap (λ x. go_on x keep) (g n)
 
 -- one target is the only one of its statement
 deleted_alone : (s : State) (e : tree.Expr) → run (emission_of_stmt (deletion_at s.location e)) s ≡ go_on (run (emission_of_delete e) s) keep
-unfolding move located
+unfolding move with_location
 deleted_alone s e = refl
 
 pub deletions_find : DeletionsFindCells

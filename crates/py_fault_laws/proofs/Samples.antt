@@ -7,7 +7,7 @@ use Rattle.py_base.specs.declared.location.SourceLocation.{SourceLocation}
 use Rattle.py_shapes.specs.Valid.{arguments_shapes, keywords_shapes}
 use Rattle.py_scope.specs.declared.table_type.SymbolTableType.TheVariants as kind
 use Rattle.py_emission_parts.specs.Context.{Context}
-use Rattle.py_emission_parts.specs.Emitting.{Refused, State, begun, by_loops, located, move, refuse}
+use Rattle.py_emission_parts.specs.Emitting.{Refused, State, initial_state, by_loops, with_location, move, refuse}
 use Rattle.py_emission_parts.specs.Refused.{no_assignment}
 use Rattle.py_emission_parts.specs.Running.{run}
 use Rattle.py_emission.specs.EmissionStmts.{emission_of_stmt}
@@ -17,47 +17,47 @@ use Rattle.py_fault_laws.specs.CallParts.{argument_faults, entry_faults}
 use Rattle.py_fault_laws.specs.Nodes.{EndsBy, in_function, in_loop, setting_in}
 use Rattle.py_fault_laws.proofs.Nodes.{statements_end}
 
-abbrev there : SourceLocation
-there = record { row = 2; column = 5 }
+abbrev sample_there : SourceLocation
+sample_there = record { row = 2; column = 5 }
 
-abbrev file : Context
-file = record { level = 0; source = []; class = None; path = []; postponed = false; typ = kind.Module; scopes = []; here = 0; cells = []; frees = [] }
+abbrev sample_file : Context
+sample_file = record { level = 0; source = []; class = None; path = []; postponed = false; typ = kind.Module; scopes = []; here = 0; cells = []; frees = [] }
 
-abbrev before : State
-before = begun file (record { row = 1; column = 1 }) 1
+abbrev sample_before : State
+sample_before = initial_state sample_file (record { row = 1; column = 1 }) 1
 
 -- break
-refused : run (emission_of_stmt (tree.Break there)) before ≡ Refused error.InvalidBreak (Some there)
-unfolding move located by_loops refuse
+refused : run (emission_of_stmt (tree.Break sample_there)) sample_before ≡ Refused error.InvalidBreak (Some sample_there)
+unfolding move with_location by_loops refuse
 refused = refl
 
-faulty : stmt_faults (setting_in before) (in_loop before) (tree.Break there) ≡ fault_at error.InvalidBreak there ∷ []
+faulty : stmt_faults (setting_in sample_before) (in_loop sample_before) (tree.Break sample_there) ≡ fault_at error.InvalidBreak sample_there ∷ []
 faulty = refl
 
 -- as the law says
-told : EndsBy before (fault_at error.InvalidBreak there ∷ []) there (run (emission_of_stmt (tree.Break there)) before)
-told = statements_end None (tree.Break there) refl before
+sample_told : EndsBy sample_before (fault_at error.InvalidBreak sample_there ∷ []) sample_there (run (emission_of_stmt (tree.Break sample_there)) sample_before)
+sample_told = statements_end None (tree.Break sample_there) refl sample_before
 
 -- None
-faultless : expr_faults (in_function before) (tree.Constant there literal.None) ≡ []
-faultless = refl
+sample_faultless : expr_faults (in_function sample_before) (tree.Constant sample_there literal.None) ≡ []
+sample_faultless = refl
 
 -- (__debug__=None), whose fault stands where the arguments begin
 abbrev keyword : tree.Keywords
-keyword = tree.more_keywords (Some (codes "__debug__")) (tree.Constant there literal.None) tree.no_keywords
+keyword = tree.more_keywords (Some (codes "__debug__")) (tree.Constant sample_there literal.None) tree.no_keywords
 
 keyword_shaped : keywords_shapes None keyword ≡ []
 keyword_shaped = refl
 
-keyword_faulty : argument_faults false there tree.no_exprs keyword ≡ fault_at (error.SyntaxError no_assignment) there ∷ []
+keyword_faulty : argument_faults false sample_there tree.no_exprs keyword ≡ fault_at (error.SyntaxError no_assignment) sample_there ∷ []
 keyword_faulty = refl
 
 -- (__debug__), whose fault stands where the defaults leave off
-abbrev parameter : tree.Arguments
-parameter = tree.arguments tree.no_args (tree.more_args (tree.arg there (codes "__debug__") tree.no_expr) tree.no_expr tree.no_args) tree.no_arg tree.no_args tree.no_arg
+abbrev sample_parameter : tree.Arguments
+sample_parameter = tree.arguments tree.no_args (tree.more_args (tree.arg sample_there (codes "__debug__") tree.no_expr) tree.no_expr tree.no_args) tree.no_arg tree.no_args tree.no_arg
 
-parameter_shaped : arguments_shapes None parameter ≡ []
+parameter_shaped : arguments_shapes None sample_parameter ≡ []
 parameter_shaped = refl
 
-parameter_faulty : entry_faults false there parameter ≡ fault_at (error.SyntaxError no_assignment) there ∷ []
+parameter_faulty : entry_faults false sample_there sample_parameter ≡ fault_at (error.SyntaxError no_assignment) sample_there ∷ []
 parameter_faulty = refl

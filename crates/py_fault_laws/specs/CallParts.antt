@@ -29,7 +29,7 @@ use Rattle.py_calls.specs.Placed.{comprehension_at}
 use Rattle.py_fault_laws.specs.Calls.{TellsFirst}
 use Rattle.py_fault_laws.specs.Nodes.{in_function}
 
--- arguments that begin there, the names of the keywords, and their values, as behind what is called
+-- arguments that begin there, the names of the keywords, and their values, as after what is called
 abbrev pub argument_faults : (in_function : Bool) → SourceLocation → tree.Exprs → tree.Keywords → List Fault
 argument_faults b p args keywords = in_order (fault.elements (all_faults b args)) ++ (keyword_faults (last_of p (ends_of args)) keywords ++ in_order (keyword_values b keywords))
 
@@ -42,7 +42,7 @@ abbrev pub ComprehensionCalls : Type 0
 ComprehensionCalls =
     (answer : Result (Unit {0}) (LocatedError CodegenErrorType)) (class : Option (List ℕ)) (gs : tree.Generators) (e : ComprehensionElement) (before after : Emitter) → Emits answer (comprehension_of gs e) before after → expr_shapes class (comprehension_at (state before).location gs e) ≡ [] → TellsFirst answer (expr_faults (in_function (state before)) (comprehension_at (state before).location gs e))
 
--- `compile_call_inner`, behind as many values as may be
+-- `compile_call_inner`, after as many values as may be
 abbrev pub ArgumentCalls : Type 0
 ArgumentCalls =
     (answer : Result CallType (LocatedError CodegenErrorType)) (class : Option (List ℕ)) (additional : ℕ) (args : tree.Exprs) (keywords : tree.Keywords) (before after : Emitter) → Emits answer (arguments additional (elements (all_emissions args)) (keyword_emissions keywords)) before after → exprs_shapes class args ≡ [] → keywords_shapes class keywords ≡ [] → TellsFirst answer (argument_faults (in_function (state before)) (state before).location args keywords)

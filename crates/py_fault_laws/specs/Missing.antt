@@ -23,9 +23,9 @@ use Rattle.py_expr_scopes.specs.Comprehensions.{comprehension_of}
 use Rattle.py_expr_scopes.specs.declared.comprehensions.ComprehensionElement.{ComprehensionElement}
 use Rattle.py_calls.specs.Placed.{comprehension_at, deletion_at}
 
--- what the form of a node is told: what stands around it, but for the path of the source
-abbrev pub told : State → Context
-told s = record s.around.context { source = [] }
+-- what the form of a node is told: its context, but for the path of the source
+abbrev pub form_context : State → Context
+form_context s = record s.around.context { source = [] }
 
 -- A node stands there whose form has these scopes, and which takes no more than w.
 pub record IsPlaced (s : State) (within : List Scope) (w : ℕ) : Type 0 where
@@ -50,29 +50,29 @@ Answer = Result (Unit {0}) (LocatedError CodegenErrorType)
 -- `compile_expression` and its like, `compile_jump_if`, `compile_store`, `compile_delete`, `compile_statement` and `compile_statements`
 abbrev pub ExpressionsFindCells : Type 0
 ExpressionsFindCells =
-    (answer : Answer) (e : tree.Expr) (before after : Emitter) → Emits answer (emission e) before after → IsPlaced (state before) (kids_v (expr_form (told (state before)) (state before).next e)) (64 * expr_size e) → FindsCells answer
+    (answer : Answer) (e : tree.Expr) (before after : Emitter) → Emits answer (emission e) before after → IsPlaced (state before) (kids_v (expr_form (form_context (state before)) (state before).next e)) (64 * expr_size e) → FindsCells answer
 
 abbrev pub TestsFindCells : Type 0
 TestsFindCells =
-    (answer : Answer) (e : tree.Expr) (truth : Bool) (block : ℕ) (before after : Emitter) → Emits answer (emission_of_test e truth block) before after → IsPlaced (state before) (kids_v (expr_form (told (state before)) (state before).next e)) (64 * expr_size e) → FindsCells answer
+    (answer : Answer) (e : tree.Expr) (truth : Bool) (block : ℕ) (before after : Emitter) → Emits answer (emission_of_test e truth block) before after → IsPlaced (state before) (kids_v (expr_form (form_context (state before)) (state before).next e)) (64 * expr_size e) → FindsCells answer
 
 abbrev pub StoresFindCells : Type 0
 StoresFindCells =
-    (answer : Answer) (e : tree.Expr) (before after : Emitter) → Emits answer (emission_of_store e) before after → IsPlaced (state before) (kids_g (target_form (told (state before)) (state before).next e)) (64 * expr_size e) → FindsCells answer
+    (answer : Answer) (e : tree.Expr) (before after : Emitter) → Emits answer (emission_of_store e) before after → IsPlaced (state before) (kids_g (target_form (form_context (state before)) (state before).next e)) (64 * expr_size e) → FindsCells answer
 
 abbrev pub DeletionsFindCells : Type 0
 DeletionsFindCells =
-    (answer : Answer) (e : tree.Expr) (before after : Emitter) → Emits answer (emission_of_delete e) before after → IsPlaced (state before) (kids (stmt_form (told (state before)) (state before).next (deletion_at (state before).location e))) (192 * stmt_size (deletion_at (state before).location e)) → FindsCells answer
+    (answer : Answer) (e : tree.Expr) (before after : Emitter) → Emits answer (emission_of_delete e) before after → IsPlaced (state before) (kids (stmt_form (form_context (state before)) (state before).next (deletion_at (state before).location e))) (192 * stmt_size (deletion_at (state before).location e)) → FindsCells answer
 
 abbrev pub StatementsFindCells : Type 0
 StatementsFindCells =
-    (answer : Answer) (t : tree.Stmt) (before after : Emitter) → Emits answer (emission_of_stmt t) before after → IsPlaced (state before) (kids (stmt_form (told (state before)) (state before).next t)) (192 * stmt_size t) → FindsCells answer
+    (answer : Answer) (t : tree.Stmt) (before after : Emitter) → Emits answer (emission_of_stmt t) before after → IsPlaced (state before) (kids (stmt_form (form_context (state before)) (state before).next t)) (192 * stmt_size t) → FindsCells answer
 
 abbrev pub BodiesFindCells : Type 0
 BodiesFindCells =
-    (answer : Answer) (ts : tree.Stmts) (before after : Emitter) → Emits answer (emission_of_stmts ts) before after → IsPlaced (state before) (kids (stmts_form (told (state before)) (state before).next ts)) (192 * stmts_size ts) → FindsCells answer
+    (answer : Answer) (ts : tree.Stmts) (before after : Emitter) → Emits answer (emission_of_stmts ts) before after → IsPlaced (state before) (kids (stmts_form (form_context (state before)) (state before).next ts)) (192 * stmts_size ts) → FindsCells answer
 
 -- `compile_comprehension`, as the expression that stands where the emitter does
 abbrev pub ComprehensionsFindCells : Type 0
 ComprehensionsFindCells =
-    (answer : Answer) (gs : tree.Generators) (e : ComprehensionElement) (before after : Emitter) → Emits answer (comprehension_of gs e) before after → IsPlaced (state before) (kids_v (expr_form (told (state before)) (state before).next (comprehension_at (state before).location gs e))) (64 * expr_size (comprehension_at (state before).location gs e)) → FindsCells answer
+    (answer : Answer) (gs : tree.Generators) (e : ComprehensionElement) (before after : Emitter) → Emits answer (comprehension_of gs e) before after → IsPlaced (state before) (kids_v (expr_form (form_context (state before)) (state before).next (comprehension_at (state before).location gs e))) (64 * expr_size (comprehension_at (state before).location gs e)) → FindsCells answer

@@ -1,4 +1,4 @@
-//! What the walk of a tree over a script of answers does, and the laws that it does what the tree means.
+//! What the interpreter of a tree over a script of answers does, and the laws that it does what the tree means.
 #![tactic(auto)]
 
 mod around;

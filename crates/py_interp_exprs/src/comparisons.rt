@@ -4,7 +4,7 @@ ghost use Rattle.py_tree.specs.View.{compare_tree, expr_tree, exprs};
 ghost use Rattle.py_emission_parts.specs.TableParts.{comparison_operation};
 ghost use Rattle.py_answers.specs.Log.{Gets, world_of};
 ghost use Rattle.py_answers.specs.Told.{value_of};
-ghost use Rattle.py_interp.specs.Doing.{comparable, compared, does, links};
+ghost use Rattle.py_interp.specs.Doing.{comparable, comparison_of, does, links};
 ghost use Rattle.py_interp.specs.Walks.{all_walks, walk_expr};
 ghost use Rattle.py_interp_exprs.specs.Parts.{get_truth};
 
@@ -43,7 +43,7 @@ fn walk_compared(
     ops: &[CmpOp],
     others: &[Expr],
 ) -> Result<StepValue, Halt>
-    ensures { Gets value_of result (world_of log.new) (compared (walk_expr around (expr_tree left.now)) ops.now (all_walks around (exprs expr_tree others.now)) (world_of log.old)) }
+    ensures { Gets value_of result (world_of log.new) (comparison_of (walk_expr around (expr_tree left.now)) ops.now (all_walks around (exprs expr_tree others.now)) (world_of log.old)) }
 {
     if !is_comparable(ops, others) {
         return Ok(none());

@@ -2,7 +2,7 @@
 ghost use Rattle.std.specs.Prelude.{◌≡◌};
 ghost use Rattle.py_bytecode.specs.Values.{then_get, truth_of};
 ghost use Rattle.py_tree.specs.View.{bool_op_tree, expr_tree, exprs, unary_op_tree};
-ghost use Rattle.py_emission_parts.specs.TableParts.{deciding};
+ghost use Rattle.py_emission_parts.specs.TableParts.{deciding_truth};
 ghost use Rattle.py_answers.specs.Log.{Gets, world_of};
 ghost use Rattle.py_answers.specs.Told.{value_of};
 ghost use Rattle.py_interp.specs.Doing.{shorts, tests};
@@ -25,7 +25,7 @@ pub(crate) struct Asked {
 
 // The truth at which a value decides.
 fn deciding(op: BoolOp) -> bool
-    ensures { result ≡ deciding op }
+    ensures { result ≡ deciding_truth op }
 {
     match op {
         BoolOp::And => false,

@@ -67,7 +67,7 @@ fn pair_count(keys: &[Option<Expr>], values: &[Expr]) -> usize
     if count < most { count } else { most }
 }
 
-// Gets a key and its value behind others.
+// Gets a key and its value after others.
 #[cycle(walk)]
 fn walk_pair(
     log: &mut Log<'_>,

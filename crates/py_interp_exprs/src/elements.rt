@@ -53,7 +53,7 @@ pub fn walk_all(log: &mut Log<'_>, around: Around, items: &[Expr]) -> Result<Vec
     Ok(values)
 }
 
-/// Gets the value of an expression behind others.
+/// Gets the value of an expression after others.
 ///
 /// # Errors
 /// What ends the run, or OutOfMemory.

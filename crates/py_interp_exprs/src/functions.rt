@@ -106,7 +106,7 @@ fn walk_positionals(
     walk_positional(log, around, values, params.args.as_slice())
 }
 
-// Gets the defaults of some parameters behind others.
+// Gets the defaults of some parameters after others.
 #[cycle(walk)]
 fn walk_positional(
     log: &mut Log<'_>,

@@ -60,7 +60,7 @@ fn store_alias(
     Ok(())
 }
 
-// The value of an alias, which with type parameters is made in a hidden scope.
+// The value of an alias, which with type parameters is made in a type-parameter scope.
 fn alias_value(
     log: &mut Log<'_>,
     around: Around,

@@ -1,7 +1,7 @@
 //! Expressions as statements, and assignments.
 ghost use Rattle.std.specs.Prelude.{◌≡◌, codes};
 ghost use Rattle.py_tree.specs.View.{attribute_tree, expr_tree, exprs, name_tree, opt_box, subscript_tree};
-ghost use Rattle.py_emission_parts.specs.TableParts.{inplace, named};
+ghost use Rattle.py_emission_parts.specs.TableParts.{inplace, named_operation};
 ghost use Rattle.py_bytecode.specs.Values.{then_do};
 ghost use Rattle.py_answers.specs.Log.{Gets, operation_of, world_of};
 ghost use Rattle.py_answers.specs.Told.{value_of};
@@ -167,7 +167,7 @@ fn change(op: Operator) -> Operation<'static>
 
 // An operation with a name.
 fn named(op: Instruction, name: &Text) -> Operation<'_>
-    ensures { operation_of result ≡ named op name.now }
+    ensures { operation_of result ≡ named_operation op name.now }
 {
     Operation {
         op,

@@ -64,7 +64,7 @@ pub fn walk_function(
     call_decorators(log, decorators, function)
 }
 
-// With type parameters a function is made in a hidden scope.
+// With type parameters a function is made in a type-parameter scope.
 fn define(log: &mut Log<'_>, around: Around, s: &StmtFunctionDef) -> Result<StepValue, Halt>
     ensures { Gets value_of result (world_of log.new) (define around s.now.name (arguments expr_tree s.now.args.value) (stmts stmt_tree s.now.body) (opt_box expr_tree s.now.returns) (type_params s.now.type_params) (world_of log.old)) }
 {

@@ -90,7 +90,7 @@ fn get_notes(
     walk_param_notes(log, around, notes, params)
 }
 
-// The names and values of the annotations of parameters, behind others.
+// The names and values of the annotations of parameters, after others.
 #[tactic(auto, using(crate::proofs::AnnotationLemmas::params_joined))]
 fn walk_param_notes(
     log: &mut Log<'_>,
@@ -146,7 +146,7 @@ fn walk_opt_arg_note(
     }
 }
 
-// The name and the value of an annotation behind others, where there is one.
+// The name and the value of an annotation after others, where there is one.
 fn walk_opt_note(
     log: &mut Log<'_>,
     around: Around,

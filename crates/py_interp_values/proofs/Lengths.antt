@@ -7,6 +7,6 @@ pub lengths : (xs : List StepValue) → length (values_of xs) ≡ length xs
 lengths [] = refl
 lengths (x ∷ xs) = ap suc (lengths xs)
 
-pub behind : (xs ys : List StepValue) → values_of (xs ++ ys) ≡ values_of xs ++ values_of ys
-behind [] ys = refl
-behind (x ∷ xs) ys = ap (λ l. value_of x ∷ l) (behind xs ys)
+pub length_behind : (xs ys : List StepValue) → values_of (xs ++ ys) ≡ values_of xs ++ values_of ys
+length_behind [] ys = refl
+length_behind (x ∷ xs) ys = ap (λ l. value_of x ∷ l) (length_behind xs ys)

@@ -37,7 +37,7 @@ pub fn copy_value(alloc: Global, value: &StepValue) -> Result<StepValue, Halt>
     }
 }
 
-/// Puts a value behind others.
+/// Puts a value after others.
 ///
 /// # Errors
 /// OutOfMemory alone.

@@ -1,7 +1,7 @@
 //! Operations on values, each of which gives one or none.
 ghost use Rattle.std.specs.Prelude.{◌≡◌, ◌∷◌, [], false, IfErr, IfOk};
 ghost use Rattle.py_bytecode.specs.Values.{Bare, Operates, for_none, operation as operation_with, truth_of};
-ghost use Rattle.py_emission_parts.specs.TableParts.{comparison_operation, counted};
+ghost use Rattle.py_emission_parts.specs.TableParts.{comparison_operation, counted_operation};
 ghost use Rattle.py_answers.specs.Log.{Gets, operation_of, world_of};
 ghost use Rattle.py_answers.specs.Told.{value_of, values_of};
 ghost use Rattle.py_interp.specs.Doing.{add_map, build, build_map, does};
@@ -15,7 +15,7 @@ use py_tree::CmpOp;
 
 /// An operation with a number.
 pub fn numbered(op: Instruction, number: u32) -> Operation<'static>
-    ensures { operation_of result ≡ counted op number }
+    ensures { operation_of result ≡ counted_operation op number }
 {
     Operation {
         op,
@@ -46,7 +46,7 @@ pub fn bare(op: Instruction) -> Operation<'static>
 /// # Errors
 /// OutOfMemory alone: more values than 32 bits count are that.
 pub fn counted(op: Instruction, count: usize) -> Result<Operation<'static>, Halt>
-    ensures ok { IfOk result (λ o. operation_of o ≡ counted op count) }
+    ensures ok { IfOk result (λ o. operation_of o ≡ counted_operation op count) }
     ensures err { IfErr result (λ h. h ≡ Halt.OutOfMemory) }
 {
     match u32::try_from(count) {

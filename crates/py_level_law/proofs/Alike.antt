@@ -91,9 +91,9 @@ module _ {K L M : Type 0} (R : K → M → Type 0) (S : L → M → Type 0) (T :
   same_ran x y z p q = record { events = same_events x.events y.events z.events p.events q.events; outcome = same_outcome x.outcome y.outcome z.outcome p.outcome q.outcome }
 
 -- code objects that agree with one scope
-alike : (n : ℕ) (o p : Object) (s : Scope) → Agrees plain plainly n o s → Agrees plain plainly n p s → RunAlike n o p
-alike zero o p s a b = tt
-alike (suc n) o p s a b = λ answers. same_ran (Agrees plain plainly n) (Agrees plain plainly n) (RunAlike n) (alike n) _ _ _ (a.0 answers) (b.0 answers)
+levels_alike : (n : ℕ) (o p : Object) (s : Scope) → Agrees plain plainly n o s → Agrees plain plainly n p s → RunAlike n o p
+levels_alike zero o p s a b = tt
+levels_alike (suc n) o p s a b = λ answers. same_ran (Agrees plain plainly n) (Agrees plain plainly n) (RunAlike n) (levels_alike n) _ _ _ (a.0 answers) (b.0 answers)
 
 pub levels_run_alike : LevelsRunAlike
-levels_run_alike scopes t m l k o p h a b n = alike n o p (body scopes t m l) (a n) (subst (λ s. Agree p s) (sym (levels_agree scopes t m l k h)) b n)
+levels_run_alike scopes t m l k o p h a b n = levels_alike n o p (body scopes t m l) (a n) (subst (λ s. Agree p s) (sym (levels_agree scopes t m l k h)) b n)

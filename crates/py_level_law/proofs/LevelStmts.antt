@@ -3,7 +3,7 @@ use Rattle.std.proofs.Common.{◌≡◌, refl, ℕ, suc, ◌+◌}
 use Rattle.py_tree.specs.Tree as tree
 use Rattle.py_emission_parts.specs.Within.{class_path, class_within, function_inside, hidden_inside}
 use Rattle.py_meaning.specs.TableParams.{own_number}
-use Rattle.py_emission_parts.specs.Context.{Context, inside, mangled, with_path, within_class}
+use Rattle.py_emission_parts.specs.Context.{Context, inside, mangled_by, with_path, within_class}
 use Rattle.py_emission.specs.Texts.{stmt_text}
 use Rattle.py_control.specs.Form.{Resolved, GDrop, GStore, SThen, SInto, SIf, SIfElse, SWhile, SFor, STry, STryFinal, SAt, HAny, HTyped}
 use Rattle.py_emission_parts.specs.TableParts.{values}
@@ -12,7 +12,7 @@ use Rattle.py_meaning.specs.StmtCounts.{scopes_in_handlers, scopes_in_items}
 use Rattle.py_meaning.specs.StmtParts.{after_stmt, after_stmts, handler_target, named_form, unless_last}
 use Rattle.py_emission.specs.Predicates.{but_doc, is_last_return}
 use Rattle.py_meaning.specs.Table.{after, after_all, after_defaults, after_opt, expr_form}
-use Rattle.py_meaning.specs.TableScopes.{decorated, iterator}
+use Rattle.py_meaning.specs.TableScopes.{decorated_form, iterator}
 use Rattle.py_meaning.specs.TableStmts.{ended_form, function_body, handler_forms, rest_form, stmt_form, stmts_form}
 use Rattle.py_level_law.proofs.LevelExprs.{at_level, same_all, same_expr, same_target}
 use Rattle.py_level_law.proofs.LevelParts.{same_alias, same_annotated, same_assign, same_augment, same_built, same_declared, same_defined, same_raise, same_removals, same_return, same_with}
@@ -23,16 +23,16 @@ mutual
   pub same_stmt : (k : ℕ) (c : Context) (n : ℕ) (s : tree.Stmt) → FreeStmt s → stmt_form c n s ≡ stmt_form (at_level k c) n s
   same_stmt k c n (tree.FunctionDef at name params body decorators returns tree.no_type_params) h =
       let m = after_all c n decorators in let j = after_defaults c m params in let b = function_inside name c j in
-      λ i. SAt at (SInto (decorated (values (same_all k c n decorators h.3 i)) (same_defined k c m name params body returns tree.no_type_params (function_body b (suc j) body) (function_body (at_level k b) (suc j) body) h.0 h.2 h.4 h.5 (same_function k b (suc j) body h.1) i)) (GStore Resolved (mangled c name)))
+      λ i. SAt at (SInto (decorated_form (values (same_all k c n decorators h.3 i)) (same_defined k c m name params body returns tree.no_type_params (function_body b (suc j) body) (function_body (at_level k b) (suc j) body) h.0 h.2 h.4 h.5 (same_function k b (suc j) body h.1) i)) (GStore Resolved (mangled_by c name)))
   same_stmt k c n (tree.FunctionDef at name params body decorators returns (tree.more_type_params x xs)) h =
       let ts = tree.more_type_params x xs in let m = after_all c n decorators in let j = own_number c m ts in let b = function_inside name (hidden_inside c m) j in
-      λ i. SAt at (SInto (decorated (values (same_all k c n decorators h.3 i)) (same_defined k c m name params body returns ts (function_body b (suc j) body) (function_body (at_level k b) (suc j) body) h.0 h.2 h.4 h.5 (same_function k b (suc j) body h.1) i)) (GStore Resolved (mangled c name)))
+      λ i. SAt at (SInto (decorated_form (values (same_all k c n decorators h.3 i)) (same_defined k c m name params body returns ts (function_body b (suc j) body) (function_body (at_level k b) (suc j) body) h.0 h.2 h.4 h.5 (same_function k b (suc j) body h.1) i)) (GStore Resolved (mangled_by c name)))
   same_stmt k c n (tree.ClassDef at name bases keywords body decorators tree.no_type_params) h =
       let m = after_all c n decorators in let b = class_within (class_path c name) name c m in
-      λ i. SAt at (SInto (decorated (values (same_all k c n decorators h.4 i)) (same_built k c m name bases keywords body tree.no_type_params (rest_form b (suc m) body) (rest_form (at_level k b) (suc m) body) h.0 h.1 h.3 h.5 (same_rest k b (suc m) body h.2) i)) (GStore Resolved (mangled c name)))
+      λ i. SAt at (SInto (decorated_form (values (same_all k c n decorators h.4 i)) (same_built k c m name bases keywords body tree.no_type_params (rest_form b (suc m) body) (rest_form (at_level k b) (suc m) body) h.0 h.1 h.3 h.5 (same_rest k b (suc m) body h.2) i)) (GStore Resolved (mangled_by c name)))
   same_stmt k c n (tree.ClassDef at name bases keywords body decorators (tree.more_type_params x xs)) h =
       let ts = tree.more_type_params x xs in let m = after_all c n decorators in let j = own_number c m ts in let b = class_within (class_path c name) name (hidden_inside c m) j in
-      λ i. SAt at (SInto (decorated (values (same_all k c n decorators h.4 i)) (same_built k c m name bases keywords body ts (rest_form b (suc j) body) (rest_form (at_level k b) (suc j) body) h.0 h.1 h.3 h.5 (same_rest k b (suc j) body h.2) i)) (GStore Resolved (mangled c name)))
+      λ i. SAt at (SInto (decorated_form (values (same_all k c n decorators h.4 i)) (same_built k c m name bases keywords body ts (rest_form b (suc j) body) (rest_form (at_level k b) (suc j) body) h.0 h.1 h.3 h.5 (same_rest k b (suc j) body h.2) i)) (GStore Resolved (mangled_by c name)))
   same_stmt k c n (tree.TypeAlias at name generic value) h = λ i. SAt at (same_alias k c n name generic value h.1 h.2 i)
   same_stmt k c n (tree.Return at value) h = λ i. SAt at (same_return k c n value h i)
   same_stmt k c n (tree.Delete at targets) h = λ i. SAt at (same_removals k c n targets h i)

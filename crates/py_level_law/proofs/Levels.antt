@@ -10,11 +10,11 @@ use Rattle.py_emission.specs.Texts.{after_doc, unless_text}
 use Rattle.py_control.specs.Form.{VConst, SForm, SThen, SReturn, SAt, MkScope}
 use Rattle.py_emission.specs.Futures.{Future, after_future, future_of, postpones}
 use Rattle.py_meaning.specs.TableImports.{behind_futures, future_form}
-use Rattle.py_meaning.specs.Interactive.{block_form, interactive_form, last_form, printed, prompt_form, returned, single_form}
+use Rattle.py_meaning.specs.Interactive.{block_form, interactive_form, last_form, printed_form, prompt_form, returned_form, single_form}
 use Rattle.py_level_law.specs.Levels.{FreeStmt, FreeStmts, IsLevelFree, LevelsAgree, Undocumented}
 use Rattle.py_meaning.specs.Meaning.{body, mod_form}
 use Rattle.py_meaning.specs.StmtParts.{after_stmt}
-use Rattle.py_emission.specs.Predicates.{annotated, none}
+use Rattle.py_emission.specs.Predicates.{any_annotates, none}
 use Rattle.py_meaning.specs.Table.{after}
 use Rattle.py_meaning.specs.TableScopes.{setup_form}
 use Rattle.py_meaning.specs.TableStmts.{doc_form, program_form, stmts_form}
@@ -26,7 +26,7 @@ use Rattle.py_level_law.proofs.LevelStmts.{same_stmt, same_stmts}
 all_stay : (body : tree.Stmts) → Undocumented body → after_doc body ≡ body
 all_stay body u = ap (λ text. unless_text text body) u
 
--- what stands behind a future import, which is read so at every level
+-- what stands after a future import, which is read so at every level
 after_level : (k : ℕ) (f : Future) (c : Context) → after_future f (at_level k c) ≡ at_level k (after_future f c)
 after_level k f c = go (postpones f)
   where
@@ -34,8 +34,9 @@ after_level k f c = go (postpones f)
     go true = refl
     go false = refl
 
--- statements behind future imports, where their forms are the same
-same_behind : (k : ℕ) (form : Context → tree.Stmts → SForm) → ((c : Context) (ss : tree.Stmts) → FreeStmts ss → form c ss ≡ form (at_level k c) ss) → (c : Context) (ss : tree.Stmts) → FreeStmts ss → behind_futures form c ss ≡ behind_futures form (at_level k c) ss
+-- statements after future imports, where their forms are the same
+same_behind : (k : ℕ) (form : Context → tree.Stmts → SForm) → ((c : Context) (ss : tree.Stmts) → FreeStmts ss → form c ss ≡ form (at_level k c) ss)
+    → (c : Context) (ss : tree.Stmts) → FreeStmts ss → behind_futures form c ss ≡ behind_futures form (at_level k c) ss
 same_behind k form same c tree.no_stmts h = same c tree.no_stmts h
 same_behind k form same c (tree.more_stmts s ss) h = go (future_of s) (λ f. same_behind k form same (after_future f c) ss h.1)
   where
@@ -46,16 +47,16 @@ same_behind k form same c (tree.more_stmts s ss) h = go (future_of s) (λ f. sam
 same_program : (k : ℕ) (c : Context) (body : tree.Stmts) → FreeStmts body → Undocumented body → program_form c body ≡ program_form (at_level k c) body
 same_program k c body h u =
     let after = subst FreeStmts (sym (all_stay body u)) h in
-    λ i. SThen (doc_form (same_doc c.level k body u i)) (SThen (setup_form (annotated (after_doc body))) (SThen (same_behind k (λ d. stmts_form d 1) (λ d ss f. same_stmts k d 1 ss f) c (after_doc body) after i) (SReturn (VConst const.none))))
+    λ i. SThen (doc_form (same_doc c.level k body u i)) (SThen (setup_form (any_annotates (after_doc body))) (SThen (same_behind k (λ d. stmts_form d 1) (λ d ss f. same_stmts k d 1 ss f) c (after_doc body) after i) (SReturn (VConst const.none))))
 
 same_single : (k : ℕ) (c : Context) (n : ℕ) (ss : tree.Stmts) → FreeStmts ss → single_form c n ss ≡ single_form (at_level k c) n ss
 same_single k c n tree.no_stmts h = refl
-same_single k c n (tree.more_stmts (tree.StmtExpr at value) ss) h = λ i. printed (none ss) (same_expr k c n value h.0 i).value (same_single k c (after c n value) ss h.1 i)
+same_single k c n (tree.more_stmts (tree.StmtExpr at value) ss) h = λ i. printed_form (none ss) (same_expr k c n value h.0 i).value (same_single k c (after c n value) ss h.1 i)
 same_single k c n (tree.more_stmts s ss) h = λ i. SThen (same_stmt k c n s h.0 i) (same_single k c (after_stmt c n s) ss h.1 i)
 
 same_prompt : (k : ℕ) (c : Context) (n : ℕ) (ss : tree.Stmts) → FreeStmts ss → prompt_form c n ss ≡ prompt_form (at_level k c) n ss
 same_prompt k c n tree.no_stmts h = refl
-same_prompt k c n (tree.more_stmts (tree.StmtExpr at value) ss) h = λ i. printed (none ss) (same_expr k c n value h.0 i).value (same_prompt k c (after c n value) ss h.1 i)
+same_prompt k c n (tree.more_stmts (tree.StmtExpr at value) ss) h = λ i. printed_form (none ss) (same_expr k c n value h.0 i).value (same_prompt k c (after c n value) ss h.1 i)
 same_prompt k c n (tree.more_stmts s ss) h = go (future_of s) (λ f. same_prompt k (after_future f c) n ss h.1)
   where
     go : (o : Option Future) → ((f : Future) → prompt_form (after_future f c) n ss ≡ prompt_form (at_level k (after_future f c)) n ss) → ◌≡◌ {A = SForm} (elim o [ None ↦ single_form c n (tree.more_stmts s ss) | Some f ↦ SThen (future_form c f) (prompt_form (after_future f c) n ss) ]) (elim o [ None ↦ single_form (at_level k c) n (tree.more_stmts s ss) | Some f ↦ SThen (future_form (at_level k c) f) (prompt_form (after_future f (at_level k c)) n ss) ])
@@ -64,8 +65,8 @@ same_prompt k c n (tree.more_stmts s ss) h = go (future_of s) (λ f. same_prompt
 
 same_last : (k : ℕ) (c : Context) (n : ℕ) (s : tree.Stmt) → FreeStmt s → last_form c n s ≡ last_form (at_level k c) n s
 same_last k c n (tree.StmtExpr at value) h = λ i. SAt at (SReturn (same_expr k c n value h i).value)
-same_last k c n (tree.FunctionDef at name params body decorators returns generic) h = ap returned (same_stmt k c n (tree.FunctionDef at name params body decorators returns generic) h)
-same_last k c n (tree.ClassDef at name bases keywords body decorators generic) h = ap returned (same_stmt k c n (tree.ClassDef at name bases keywords body decorators generic) h)
+same_last k c n (tree.FunctionDef at name params body decorators returns generic) h = ap returned_form (same_stmt k c n (tree.FunctionDef at name params body decorators returns generic) h)
+same_last k c n (tree.ClassDef at name bases keywords body decorators generic) h = ap returned_form (same_stmt k c n (tree.ClassDef at name bases keywords body decorators generic) h)
 same_last k c n other h = ap (λ f. SThen f (SReturn (VConst const.none))) (same_stmt k c n other h)
 
 same_block : (k : ℕ) (c : Context) (n : ℕ) (ss : tree.Stmts) → FreeStmts ss → block_form c n ss ≡ block_form (at_level k c) n ss

@@ -150,7 +150,8 @@ module _ (made : List Made) (rows : List Row) (alike : AreAlike made rows) where
   kinds_alike A [] g xs = refl
   kinds_alike A (f ∷ fs) g xs = list_all-append (reader.fits rows) (parts_of f xs.0) (parts_in fs xs.1) ∙ rw (field_there f xs.0) (by (field_value made f xs.0) (λ x. kinds_alike A fs (g x) xs.1))
     where
-      by : (o : Option (FieldValue f)) → ((x : FieldValue f) → fit (parts_in fs xs.1) ≡ is_some (made_of made fs (g x) xs.1)) → is_some o && fit (parts_in fs xs.1) ≡ is_some (o >>= λ x. made_of made fs (g x) xs.1)
+      by : (o : Option (FieldValue f)) → ((x : FieldValue f) → fit (parts_in fs xs.1) ≡ is_some (made_of made fs (g x) xs.1))
+          → is_some o && fit (parts_in fs xs.1) ≡ is_some (o >>= λ x. made_of made fs (g x) xs.1)
       by None rest = refl
       by (Some x) rest = rest x
 

@@ -29,7 +29,8 @@ module _ (made : List format.Made) (n : ℕ) where
   Filled nodes names v go r true = (left : Nodes) × (r ≡ go v left) × Ties names made left × (left.rows ≡ nodes.rows)
   Filled nodes names v go r false = r ≡ Err (NamedTwice n)
 
-  filled_after : {A B : Type 0} (nodes left : Nodes) (names : List ℕ) (v : B) (go : B → Nodes → Made A) (r : Made A) (b : Bool) → left.rows ≡ nodes.rows → Filled left names v go r b → Filled nodes names v go r b
+  filled_after : {A B : Type 0} (nodes left : Nodes) (names : List ℕ) (v : B) (go : B → Nodes → Made A) (r : Made A) (b : Bool) → left.rows ≡ nodes.rows
+      → Filled left names v go r b → Filled nodes names v go r b
   filled_after nodes left names v go r false e t = t
   filled_after nodes left names v go r true e t = (t.0, t.1, t.2, t.3 ∙ e)
 
@@ -38,16 +39,19 @@ module _ (made : List format.Made) (n : ℕ) where
   filled_then nodes names after v w go on r false c t rest = t
   filled_then nodes names after v w go on r true c t rest = rw (t.1) (filled_after nodes t.0 after w on (go v t.0) c t.3 (rest t.0 t.2))
 
-  plain_filled : {A B : Type 0} (nodes : Nodes) (names : List ℕ) (x v : B) (go : B → Nodes → Made A) (r : Result B RowsError) → Ties names made nodes → r ≡ Ok x → Some x ≡ Some v → Filled nodes names v go (r >>= λ x. go x nodes) true
+  plain_filled : {A B : Type 0} (nodes : Nodes) (names : List ℕ) (x v : B) (go : B → Nodes → Made A) (r : Result B RowsError) → Ties names made nodes → r ≡ Ok x
+      → Some x ≡ Some v → Filled nodes names v go (r >>= λ x. go x nodes) true
   plain_filled nodes names x v go r ties e f = let g : x ≡ v = cc in (nodes, rw (e, g) refl, ties, refl)
 
-  node_filled : {A B V : Type 0} (s : Sort) (part : is_part s ≡ true) (nodes : Nodes) (names ks : List ℕ) (ties : Ties names made nodes) → AreOf s made ks → (y : B) (h : B → V) (v : V) (go : V → Nodes → Made A)
+  node_filled : {A B V : Type 0} (s : Sort) (part : is_part s ≡ true) (nodes : Nodes) (names ks : List ℕ) (ties : Ties names made nodes) → AreOf s made ks
+      → (y : B) (h : B → V) (v : V) (go : V → Nodes → Made A)
       (r : Result (B × List (Option (Node s))) RowsError) (b : Bool) → h y ≡ v → Took made nodes.rows ties.same s part n (behind ks names) y r b
       → Filled nodes (behind ks names) v go ((r >>= λ (x, rest). Ok (h x, with_list s rest nodes)) >>= λ (x, nodes). go x nodes) b
   node_filled s part nodes names ks ties are y h v go r false e t = rw t refl
   node_filled s part nodes names ks ties are y h v go r true e t = (with_list s t.0 nodes, rw (t.1, e) refl, ties_with s part made nodes names ks t.0 ties are t.2, rows_with s t.0 nodes)
 
-  field_filled : {A : Type 0} (f : Field) → is_read f ≡ true → (d : Data) (x : Content f) (v : FieldValue f) (nodes : Nodes) (names : List ℕ) (go : FieldValue f → Nodes → Made A) → Ties names made nodes
+  field_filled : {A : Type 0} (f : Field) → is_read f ≡ true
+      → (d : Data) (x : Content f) (v : FieldValue f) (nodes : Nodes) (names : List ℕ) (go : FieldValue f → Nodes → Made A) → Ties names made nodes
       → content_of f d ≡ Some x → field_value made f x ≡ Some v → Filled nodes (behind (names_by f x) names) v go (with_field n f d nodes go) (are_new names (names_by f x))
   field_filled (one text) i d x v nodes names go ties e g = plain_filled nodes names x v go _ ties (ap (or_fault (WrongRow n)) e) g
   field_filled (one truth) i d x v nodes names go ties e g = plain_filled nodes names x v go _ ties (ap (or_fault (WrongRow n)) e) g
@@ -60,7 +64,8 @@ module _ (made : List format.Made) (n : ℕ) where
       node_filled s i nodes names (k ∷ []) ties ((v, g), tt) v (λ x. x) v go _ _ refl (took_one made nodes.rows ties.same s i n names (list_of s nodes) (ties.lists s i) d k v e g)
   field_filled (maybe text) i d x v nodes names go ties e g = by x (optional_text_as n d x (reads_maybe as_str d x e)) g
     where
-      by : (x : Option (List ℕ)) → optional_text_at n d ≡ Ok x → Some x ≡ Some v → Filled nodes (behind (names_or_none text x) names) v go (optional_text_at n d >>= λ x. go x nodes) (are_new names (names_or_none text x))
+      by : (x : Option (List ℕ)) → optional_text_at n d ≡ Ok x → Some x ≡ Some v
+          → Filled nodes (behind (names_or_none text x) names) v go (optional_text_at n d >>= λ x. go x nodes) (are_new names (names_or_none text x))
       by None e g = plain_filled nodes names None v go _ ties e g
       by (Some x) e g = plain_filled nodes names (Some x) v go _ ties e g
   field_filled (maybe (node s)) i d x v nodes names go ties e g =
@@ -97,7 +102,9 @@ module _ (made : List format.Made) (n : ℕ) where
   Says [] ds xs = Unit {0}
   Says (f ∷ fs) ds xs = (content_of f ds.0 ≡ Some xs.0) × Says fs ds.1 xs.1
 
-  pub all_filled : (A : Type 0) (fs : List Field) → are_read fs ≡ true → (g : Of fs A) (ds : Datas fs) (xs : Contents fs) (y : A) (nodes : Nodes) (names : List ℕ) → Says fs ds xs → made_of made fs g xs ≡ Some y → Ties names made nodes
+  pub all_filled : (A : Type 0) (fs : List Field) → are_read fs ≡ true
+      → (g : Of fs A) (ds : Datas fs) (xs : Contents fs) (y : A) (nodes : Nodes) (names : List ℕ) → Says fs ds xs → made_of made fs g xs ≡ Some y
+      → Ties names made nodes
       → Filled nodes (behind (names_in fs xs) names) y (λ y left. Ok (y, left)) (filled n fs g ds nodes) (are_new names (names_in fs xs))
   all_filled A [] i g ds xs y nodes names says e ties = let f : g ≡ y = cc in (nodes, ap (λ y. Ok (y, nodes)) f, ties, refl)
   all_filled A (f ∷ fs) i g ds xs y nodes names says e ties =

@@ -110,12 +110,14 @@ are_of_maybe s made None v g = tt
 are_of_maybe s made (Some k) None g = absurd g
 are_of_maybe s made (Some k) (Some x) g = ((x, g), tt)
 
-pub are_of_each_maybe : (s : Sort) (made : List format.Made) (os : List (Option ℕ)) (vs : List (Option (Node s))) → EachPair (GivesMaybe (node_at made s)) os vs → AreOf s made (flat_map (names_or_none (node s)) os)
+pub are_of_each_maybe : (s : Sort) (made : List format.Made) (os : List (Option ℕ)) (vs : List (Option (Node s))) → EachPair (GivesMaybe (node_at made s)) os vs
+    → AreOf s made (flat_map (names_or_none (node s)) os)
 are_of_each_maybe s made [] vs g = tt
 are_of_each_maybe s made (o ∷ os) [] g = absurd g
 are_of_each_maybe s made (o ∷ os) (v ∷ vs) g = are_of-append s made (names_or_none (node s) o) (flat_map (names_or_none (node s)) os) (are_of_maybe s made o v g.0) (are_of_each_maybe s made os vs g.1)
 
-tied_behind : (s t : Sort) (made : List format.Made) (rows : List Row) (xs : List (Option (Node t))) → (number s == number t) ≡ false → (ks names : List ℕ) → AreOf s made ks → Tied t names made rows xs → Tied t (behind ks names) made rows xs
+tied_behind : (s t : Sort) (made : List format.Made) (rows : List Row) (xs : List (Option (Node t))) → (number s == number t) ≡ false → (ks names : List ℕ)
+    → AreOf s made ks → Tied t names made rows xs → Tied t (behind ks names) made rows xs
 tied_behind s t made rows xs other [] names a tied = tied
 tied_behind s t made rows xs other (k ∷ ks) names a tied = tied_behind s t made rows xs other ks (k ∷ names) a.1 (tied_other s t names made rows xs other tied k a.0.0 a.0.1)
 

@@ -38,7 +38,7 @@ abbrev pub parts_in : (fs : List Field) → Contents fs → List Part
 parts_in [] xs = []
 parts_in (f ∷ fs) xs = parts_of f xs.0 ++ parts_in fs xs.1
 
--- what is found to be named behind what was, where a field has its form
+-- what is found to be named after what was, where a field has its form
 abbrev pub Behind : (n : ℕ) → List Part → {A : Type 0} → (A → List Part) → Option A → Result (List Part) RowsError
 Behind n before f None = Err (WrongRow n)
 Behind n before f (Some x) = Ok (before ++ f x)

@@ -166,7 +166,8 @@ module _ (made : List Made) (left : Nodes) (s : Sort) (y : Node s) (depth : ℕ)
         let x = made_at made left.rows ties.same.alike s k r e f in
         rw (index_part s left part) (slice_get_within (list_of s left) r.index _ (ties.lists s part k x.0 r x.1 e))
 
-    grown_apart : (j k : ℕ) (p q : Row) → slice_get (left.rows ++ last_row ∷ []) j ≡ Some p → slice_get (left.rows ++ last_row ∷ []) k ≡ Some q → p.sort ≡ q.sort → (sort_number p.sort == 0) ≡ false → p.index ≡ q.index → j ≡ k
+    grown_apart : (j k : ℕ) (p q : Row) → slice_get (left.rows ++ last_row ∷ []) j ≡ Some p → slice_get (left.rows ++ last_row ∷ []) k ≡ Some q
+        → p.sort ≡ q.sort → (sort_number p.sort == 0) ≡ false → p.index ≡ q.index → j ≡ k
     grown_apart j k p q ej ek f part g = by (j == length made) (k == length made) refl refl (sym (row_more left.rows counted j) ∙ ej) (sym (row_more left.rows counted k) ∙ ek)
       where
         new : (k : ℕ) (p q : Row) → last_row ≡ p → slice_get left.rows k ≡ Some q → p.sort ≡ q.sort → (sort_number p.sort == 0) ≡ false → p.index ≡ q.index → ⊥

@@ -30,7 +30,8 @@ in_run c i a (suc n) ys = by (a == c) refl (in_run c (i + 1) (a + 1) n ys)
         rw in_it (ap Some at)
     by false e rest = rest ∙ of (nat_le (a + 1) c && nat_lt c (a + 1 + n)) refl
       where
-        of : (t : Bool) → (nat_le (a + 1) c && nat_lt c (a + 1 + n)) ≡ t → cond t (Some (i + 1 + (c - (a + 1)))) (position_from (λ d. d == c) (i + 1 + n) ys) ≡ cond (nat_le a c && nat_lt c (a + suc n)) (Some (i + (c - a))) (position_from (λ d. d == c) (i + suc n) ys)
+        of : (t : Bool) → (nat_le (a + 1) c && nat_lt c (a + 1 + n)) ≡ t
+            → cond t (Some (i + 1 + (c - (a + 1)))) (position_from (λ d. d == c) (i + 1 + n) ys) ≡ cond (nat_le a c && nat_lt c (a + suc n)) (Some (i + (c - a))) (position_from (λ d. d == c) (i + suc n) ys)
         of true f =
             let in_it : (nat_le a c && nat_lt c (a + suc n)) ≡ true = grind (arith, nat_tests) in
             let at : i + 1 + (c - (a + 1)) ≡ i + (c - a) = grind (arith, nat_tests) in
@@ -109,7 +110,8 @@ hexadecimal c = position_from-zero (λ d. d == c) (range_with_len 48 10 ++ (rang
         let d : (nat_le 48 c && nat_le c 57) ≡ false = grind (arith, nat_tests) in
         rw (a, b, d) refl
 
-    by : (d l : Bool) → (nat_le 48 c && nat_lt c (48 + 10)) ≡ d → (nat_le 97 c && nat_lt c (97 + 6)) ≡ l → cond d (Some (0 + (c - 48))) (cond l (Some (0 + 10 + (c - 97))) None) ≡ cond (is_ascii_uppercase c) None (hex_digit_value c)
+    by : (d l : Bool) → (nat_le 48 c && nat_lt c (48 + 10)) ≡ d → (nat_le 97 c && nat_lt c (97 + 6)) ≡ l
+        → cond d (Some (0 + (c - 48))) (cond l (Some (0 + 10 + (c - 97))) None) ≡ cond (is_ascii_uppercase c) None (hex_digit_value c)
     by true l e f =
         let u : is_ascii_uppercase c ≡ false = grind (arith, nat_tests) in
         let a : (nat_le 65 c && nat_le c 70) ≡ false = grind (arith, nat_tests) in
@@ -171,6 +173,7 @@ pairs n i (c ∷ d ∷ rest) = rw (hexadecimal c, hexadecimal d) (by (is_ascii_u
 pub bytes_as : (n : ℕ) (w : List ℕ) → bytes_at n w ≡ or_fault (WrongRow n) (bytes_of w)
 bytes_as n w = by (length w % 2 == 1) refl
   where
-    by : (b : Bool) → (length w % 2 == 1) ≡ b → (if list_any is_ascii_uppercase w then Err (WrongRow n) else decoded n (if b then Err OddLength else decode_pairs 0 w)) ≡ or_fault (WrongRow n) (bytes_of w)
+    by : (b : Bool) → (length w % 2 == 1) ≡ b
+        → (if list_any is_ascii_uppercase w then Err (WrongRow n) else decoded n (if b then Err OddLength else decode_pairs 0 w)) ≡ or_fault (WrongRow n) (bytes_of w)
     by false e = pairs n 0 w
     by true e = ap (λ r. if list_any is_ascii_uppercase w then Err (WrongRow n) else r) (sym (odd n 0 w e)) ∙ pairs n 0 w

@@ -127,12 +127,14 @@ module _ (made : List Made) (rows : List Row) (same : Same made rows) (s : Sort)
   took_as names x r f false t = rw t refl
   took_as names x r f true t = (t.0, rw (t.1) refl, t.2)
 
-  pub took_one : (names : List ℕ) (xs : Nodes) → Tied s names made rows xs → (d : Data) (k : ℕ) (x : Node s) → entry_of (node s) d ≡ Some k → node_at made s k ≡ Some x → Took (k ∷ names) x (list.take n d rows xs) (are_new names (k ∷ []))
+  pub took_one : (names : List ℕ) (xs : Nodes) → Tied s names made rows xs → (d : Data) (k : ℕ) (x : Node s) → entry_of (node s) d ≡ Some k
+      → node_at made s k ≡ Some x → Took (k ∷ names) x (list.take n d rows xs) (are_new names (k ∷ []))
   took_one names xs tied d k x e f = by (row_at made rows same.alike s k x f)
     where
-      of : (r : Row) (b : Bool) → slice_get xs r.index ≡ Some (if b then None else Some x) → Tied s (k ∷ names) made rows (list.emptied r.index xs) → Took (k ∷ names) x (list.taken n r.index xs) (not b && true)
+      of : (r : Row) (b : Bool) → slice_get xs r.index ≡ Some (if b then None else Some x) → Tied s (k ∷ names) made rows (list.emptied_nodes r.index xs)
+          → Took (k ∷ names) x (list.taken_node n r.index xs) (not b && true)
       of r true g t = rw g refl
-      of r false g t = (list.emptied r.index xs, rw g refl, t)
+      of r false g t = (list.emptied_nodes r.index xs, rw g refl, t)
 
       by : (r : Row) × (slice_get rows k ≡ Some r) × (r.sort ≡ sort_as s) → Took (k ∷ names) x (list.take n d rows xs) (are_new names (k ∷ []))
       by (r, g, h) = rw (e, g) (of r (is_among k names) (tied k x r f g) (tied_without s part names made rows same xs tied k x r f g h))
@@ -158,7 +160,8 @@ module _ (made : List Made) (rows : List Row) (same : Same made rows) (s : Sort)
   took_maybe names xs tied d (Some k) None r g = absurd g
   took_maybe names xs tied d (Some k) (Some x) r g = rw (r.0) (took_as (k ∷ names) x (list.take n d rows xs) Some _ (took_one names xs tied d k x r.1 g))
 
-  pub took_each_maybe : (names : List ℕ) (xs : Nodes) → Tied s names made rows xs → (ds : Items) (os : List (Option ℕ)) (vs : List (Option (Node s))) → Each (ReadsMaybe (entry_of (node s))) ds os → EachPair (GivesMaybe (node_at made s)) os vs
+  pub took_each_maybe : (names : List ℕ) (xs : Nodes) → Tied s names made rows xs → (ds : Items) (os : List (Option ℕ)) (vs : List (Option (Node s)))
+      → Each (ReadsMaybe (entry_of (node s))) ds os → EachPair (GivesMaybe (node_at made s)) os vs
       → Took (behind (flat_map (names_or_none (node s)) os) names) vs (list.take_each_optional n ds rows xs) (are_new names (flat_map (names_or_none (node s)) os))
   took_each_maybe names xs tied no_items [] [] r g = (xs, refl, tied)
   took_each_maybe names xs tied no_items [] (v ∷ vs) r g = absurd g

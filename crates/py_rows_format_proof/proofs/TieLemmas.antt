@@ -9,7 +9,7 @@ use Rattle.py_rows_fields.specs.Sorts.{sort_number}
 use Rattle.py_rows_format.specs.Fields.{◌>>=◌, Node, Sort}
 use Rattle.py_rows_format.specs.Making.{Made, are_new, is_among, node_as, node_at}
 use Rattle.py_rows_slots.specs.Nodes.{Nodes}
-use Rattle.py_rows_slots.specs.Taking.{emptied}
+use Rattle.py_rows_slots.specs.Taking.{emptied_nodes}
 use Rattle.py_rows_format_proof.proofs.CheckLemmas.{Alike, AreAlike, fits_as}
 use Rattle.py_rows_format_proof.proofs.FormLemmas.{is_part}
 use Rattle.py_rows_format_proof.proofs.TableLemmas.{sort_as}
@@ -93,7 +93,7 @@ part_number s e = refl
 
 -- ---- names
 
--- numbers behind others, the last first
+-- numbers after others, the last first
 abbrev pub behind : List ℕ → List ℕ → List ℕ
 behind [] names = names
 behind (k ∷ ks) names = behind ks (k ∷ names)
@@ -175,12 +175,12 @@ other_row made s t j k x y other e f = by (k == j) refl
 
 -- ---- taking a node
 
-pub emptied_at : {A : Type 0} (i : ℕ) (xs : List (Option A)) (x : Option A) → slice_get xs i ≡ Some x → slice_get (emptied i xs) i ≡ Some None
+pub emptied_at : {A : Type 0} (i : ℕ) (xs : List (Option A)) (x : Option A) → slice_get xs i ≡ Some x → slice_get (emptied_nodes i xs) i ≡ Some None
 emptied_at i [] x e = absurd (cc)
 emptied_at zero (y ∷ ys) x e = refl
 emptied_at (suc i) (y ∷ ys) x e = emptied_at i ys x e
 
-pub emptied_off : {A : Type 0} (i j : ℕ) (xs : List (Option A)) → (i ≡ j → ⊥) → slice_get (emptied i xs) j ≡ slice_get xs j
+pub emptied_off : {A : Type 0} (i j : ℕ) (xs : List (Option A)) → (i ≡ j → ⊥) → slice_get (emptied_nodes i xs) j ≡ slice_get xs j
 emptied_off i j [] e = refl
 emptied_off zero zero (y ∷ ys) e = absurd (e refl)
 emptied_off zero (suc j) (y ∷ ys) e = refl
@@ -188,15 +188,15 @@ emptied_off (suc i) zero (y ∷ ys) e = refl
 emptied_off (suc i) (suc j) (y ∷ ys) e = emptied_off i j ys (λ f. e (ap suc f))
 
 pub tied_without : (s : Sort) → is_part s ≡ true → (names : List ℕ) (made : List Made) (rows : List Row) → Same made rows → (xs : List (Option (Node s))) → Tied s names made rows xs
-    → (k : ℕ) (x : Node s) (r : Row) → node_at made s k ≡ Some x → slice_get rows k ≡ Some r → r.sort ≡ sort_as s → Tied s (k ∷ names) made rows (emptied r.index xs)
+    → (k : ℕ) (x : Node s) (r : Row) → node_at made s k ≡ Some x → slice_get rows k ≡ Some r → r.sort ≡ sort_as s → Tied s (k ∷ names) made rows (emptied_nodes r.index xs)
 tied_without s part names made rows same xs tied k x r e f g j y q ej fj = by (k == j) refl
   where
-    by : (b : Bool) → (k == j) ≡ b → slice_get (emptied r.index xs) q.index ≡ Some (if b || is_among j names then None else Some y)
+    by : (b : Bool) → (k == j) ≡ b → slice_get (emptied_nodes r.index xs) q.index ≡ Some (if b || is_among j names then None else Some y)
     by true h =
         let kj : k ≡ j = grind (arith, nat_tests) in
         let rq : Some r ≡ Some q = sym f ∙ ap (slice_get rows) kj ∙ fj in
         let i : r ≡ q = cc in
-        subst (λ (q : Row). slice_get (emptied r.index xs) q.index ≡ Some None) i (emptied_at r.index xs _ (tied k x r e f))
+        subst (λ (q : Row). slice_get (emptied_nodes r.index xs) q.index ≡ Some None) i (emptied_at r.index xs _ (tied k x r e f))
     by false h =
         let off : r.index ≡ q.index → ⊥ = λ i.
         let qs = row_at made rows same.alike s j y ej in
@@ -208,5 +208,6 @@ tied_without s part names made rows same xs tied k x r e f g j y q ej fj = by (k
         emptied_off r.index q.index xs off ∙ tied j y q ej fj
 
 -- another list is as it was
-pub tied_other : (s t : Sort) (names : List ℕ) (made : List Made) (rows : List Row) (xs : List (Option (Node t))) → (number s == number t) ≡ false → Tied t names made rows xs → (k : ℕ) (x : Node s) → node_at made s k ≡ Some x → Tied t (k ∷ names) made rows xs
+pub tied_other : (s t : Sort) (names : List ℕ) (made : List Made) (rows : List Row) (xs : List (Option (Node t))) → (number s == number t) ≡ false
+    → Tied t names made rows xs → (k : ℕ) (x : Node s) → node_at made s k ≡ Some x → Tied t (k ∷ names) made rows xs
 tied_other s t names made rows xs other tied k x e j y q ej fj = rw (other_row made s t j k x y other e ej) (tied j y q ej fj)

@@ -105,8 +105,8 @@ side_of status.ReadFault begun = Nothing
 side_of status.WriteFault begun = begun
 side_of status.Memory begun = Nothing
 
-abbrev pub written : List (List ℕ) → Option (List ℕ) → Report → Written
-written words left r = side_of r.status (side (words_form words) r.code (due_of words left))
+abbrev pub written_sides : List (List ℕ) → Option (List ℕ) → Report → Written
+written_sides words left r = side_of r.status (side (words_form words) r.code (due_of words left))
 
 -- ---- what is written
 

@@ -15,7 +15,7 @@ use Rattle.py_codefile.specs.declared.error.ReadCodeError.{ReadCodeError}
 use Rattle.py_codefile.specs.declared.error.ReadCodeError.TheVariants as bad
 use Rattle.py_codefile.specs.Grammar.{Spells}
 use Rattle.py_codefile.specs.Reading.{file_at}
-use Rattle.py_codefile.specs.Spelling.{spelling}
+use Rattle.py_codefile.specs.Spelling.{file_spelling}
 use Rattle.py_verify.specs.Nested.{Flawless}
 use Rattle.py_names.specs.Lines.{report_lines}
 use Rattle.py_names.specs.Trees.{report_faults}
@@ -67,7 +67,7 @@ pub data Due : Type 0 where
   Refused : Fault → Due
   -- the code that the compiler owes for this tree, which has no fault
   Compiled : Compilation → tree.Mod → Due
-  -- the code that these bytes spell, unless it has a flaw: then the input is at fault
+  -- the code that these bytes spell, unless it has a verification error: then the input is at fault
   Spelled : List ℕ → Object → Due
   -- this text, and no code
   Told : List ℕ → Due
@@ -76,15 +76,15 @@ abbrev pub unless_refused : Due → List Fault → Due
 unless_refused d [] = d
 unless_refused d (f ∷ fs) = Refused f
 
-abbrev pub compiled : Compilation → tree.Mod → Due
-compiled c t = unless_refused (Compiled c t) (faults t c.mode c.level)
+abbrev pub due_code : Compilation → tree.Mod → Due
+due_code c t = unless_refused (Compiled c t) (faults t c.mode c.level)
 
 -- each line with its end
 abbrev pub lines_text : List (List ℕ) → List ℕ
 lines_text lines = flat_map (λ line. line ++ codes "\n") lines
 
-abbrev pub reported : tree.Mod → Due
-reported t = unless_refused (Told (lines_text (report_lines t))) (map fault_as (report_faults t))
+abbrev pub due_report : tree.Mod → Due
+due_report t = unless_refused (Told (lines_text (report_lines t))) (map fault_as (report_faults t))
 
 -- what is due for the tree that rows are
 abbrev pub by_rows : (tree.Mod → Due) → Result tree.Mod RowsError → Due
@@ -99,25 +99,25 @@ by_file bytes (Err e) = Misread (file_text e)
 abbrev pub sample_compilation : (level : ℕ) → Compilation
 sample_compilation level = record { mode = Exec; level = level; path = codes "sample" }
 
-abbrev pub sampled : (count level : ℕ) → Due
-sampled count level = Compiled (sample_compilation level) (program count)
+abbrev pub due_sample : (count level : ℕ) → Due
+due_sample count level = Compiled (sample_compilation level) (program count)
 
 -- what a command makes of the bytes; a sample is made of none
-abbrev pub answered : Command → List ℕ → Due
-answered (Compile c) bytes = by_rows (compiled c) (rows_tree bytes)
-answered (Pack c) bytes = by_rows (compiled c) (rows_tree bytes)
-answered (Step c script) bytes = by_rows (compiled c) (rows_tree bytes)
-answered Unpack bytes = by_file bytes (file_at bytes)
-answered Names bytes = by_rows reported (rows_tree bytes)
-answered (Sample count level) bytes = sampled count level
+abbrev pub due_answer : Command → List ℕ → Due
+due_answer (Compile c) bytes = by_rows (due_code c) (rows_tree bytes)
+due_answer (Pack c) bytes = by_rows (due_code c) (rows_tree bytes)
+due_answer (Step c script) bytes = by_rows (due_code c) (rows_tree bytes)
+due_answer Unpack bytes = by_file bytes (file_at bytes)
+due_answer Names bytes = by_rows due_report (rows_tree bytes)
+due_answer (Sample count level) bytes = due_sample count level
 
 abbrev pub due : Command → List ℕ → Due
-due c bytes = if nat_lt (length bytes) (2 ^ 26) then answered c bytes else Misread (codes "too long")
+due c bytes = if nat_lt (length bytes) (2 ^ 26) then due_answer c bytes else Misread (codes "too long")
 
 -- the bytes count where the command takes input
 abbrev pub due_by : Option Command → Option (List ℕ) → Option Due
 due_by None left = Some Misuse
-due_by (Some c) left = if takes_input c then option_map (due c) left else Some (answered c [])
+due_by (Some c) left = if takes_input c then option_map (due c) left else Some (due_answer c [])
 
 -- so it is known where the words need no bytes, or the bytes are told
 abbrev pub due_of : List (List ℕ) → Option (List ℕ) → Option Due
@@ -141,7 +141,7 @@ code_run o answers = short (machine o answers)
 -- what a command writes of the code that it reports
 abbrev pub code_text : Command → Object → List ℕ
 code_text (Compile c) o = listing o
-code_text (Pack c) o = spelling o
+code_text (Pack c) o = file_spelling o
 code_text (Step c script) o = report_text (code_run o (answers_of script)) (code_run o (answers_of script))
 code_text Unpack o = listing o
 code_text Names o = []
@@ -150,7 +150,7 @@ code_text (Sample count level) o = summary count o
 -- what is so of that code whatever the source tells; the report on names reports no code
 abbrev pub IsReported : Command → Object → Type 0
 IsReported (Compile c) o = Unit {0}
-IsReported (Pack c) o = Spells (spelling o) o
+IsReported (Pack c) o = Spells (file_spelling o) o
 IsReported (Step c script) o = Unit {0}
 IsReported Unpack o = Flawless o
 IsReported Names o = ⊥

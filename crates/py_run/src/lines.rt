@@ -37,7 +37,7 @@ fn bad_at(error: &ReadCodeError) -> u64
     }
 }
 
-/// The line that says that the code in a file has a flaw.
+/// The line that says that the code in a file has a verification error.
 ///
 /// # Errors
 /// There is no memory for the line.

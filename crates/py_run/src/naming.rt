@@ -3,7 +3,7 @@ ghost use Rattle.std.specs.Prelude.{◌<◌, ◌^◌, length};
 ghost use Rattle.py_tree.specs.View.{mod_tree};
 ghost use Rattle.py_rows_format.specs.Rows.{rows_tree};
 ghost use Rattle.py_run.specs.Prepared.{Readies};
-ghost use Rattle.py_run.specs.Statuses.{by_rows, reported};
+ghost use Rattle.py_run.specs.Statuses.{by_rows, due_report};
 ghost use Rattle.py_run.specs.Words.{Names};
 
 use crate::lines::lines_text;
@@ -17,7 +17,7 @@ use symboltable::into_codegen_error;
 /// The report on the tree of the rows, or why there is none.
 pub fn reported(alloc: Global, bytes: &[u8]) -> Prepared
     requires { length bytes.now < 2 ^ 26 }
-    ensures { Readies Names result (by_rows reported (rows_tree bytes.now)) }
+    ensures { Readies Names result (by_rows due_report (rows_tree bytes.now)) }
 {
     match tree_of(alloc, bytes) {
         Ok(tree) => {
@@ -30,7 +30,7 @@ pub fn reported(alloc: Global, bytes: &[u8]) -> Prepared
 }
 
 fn report_on(alloc: Global, tree: &Mod) -> Prepared
-    ensures { Readies Names result (reported (mod_tree tree.now)) }
+    ensures { Readies Names result (due_report (mod_tree tree.now)) }
 {
     match report_lines(alloc, tree) {
         Ok(lines) => match lines_text(alloc, lines.as_slice()) {

@@ -5,7 +5,7 @@ ghost use Rattle.py_rows_format.specs.Rows.{rows_tree};
 ghost use Rattle.py_run.specs.Prepared.{HasForm, IsListed, Prepares, Readies, ReadsOf, ReadsTree, RefusesTree, TellsFault};
 ghost use Rattle.py_run.specs.Reading.{TakesFew};
 ghost use Rattle.py_lines.specs.Lines.{rows_text};
-ghost use Rattle.py_run.specs.Statuses.{answered, due_of};
+ghost use Rattle.py_run.specs.Statuses.{due_answer, due_of};
 ghost use Rattle.py_run.specs.Words.{IsFit, command_view, reads_input, words_form};
 
 use crate::compiling::{compiled, packed};
@@ -70,7 +70,7 @@ pub fn prepare<S: Source>(alloc: Global, words: &Words, source: &mut S) -> Prepa
 fn answered(alloc: Global, command: &Command<'_>, bytes: &[u8]) -> Prepared
     requires short { length bytes.now < 2 ^ 26 }
     requires fit { IsFit command.now }
-    ensures { Readies (command_view command.now) result (answered (command_view command.now) bytes.now) }
+    ensures { Readies (command_view command.now) result (due_answer (command_view command.now) bytes.now) }
 {
     match command {
         Command::Compile(compilation) => compiled(alloc, compilation, bytes),

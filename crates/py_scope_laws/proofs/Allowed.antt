@@ -19,9 +19,9 @@ use Rattle.py_scope_laws.specs.Laws.{AreAllowed}
 use Rattle.py_scope_laws.specs.Refused.{first_refused, refused_name, refused_names, refused_walrus, refused_walruses}
 use Rattle.py_scope_laws.proofs.Firsts.{all_names_none, all_scopes_none, none_of_names, none_of_scopes}
 
-listed_is : (n : Name) (es : List (Name × Entry)) → list_any (same_name n) (keys_of es) ≡ is_some (lookup n es)
-listed_is n [] = refl
-listed_is n (e ∷ es) = by (same_name n e.0) (listed_is n es)
+allowed_listed_is : (n : Name) (es : List (Name × Entry)) → list_any (same_name n) (keys_of es) ≡ is_some (lookup n es)
+allowed_listed_is n [] = refl
+allowed_listed_is n (e ∷ es) = by (same_name n e.0) (allowed_listed_is n es)
   where
     by : (b : Bool) → list_any (same_name n) (keys_of es) ≡ is_some (lookup n es) → b || list_any (same_name n) (keys_of es) ≡ is_some (if b then Some e.1 else lookup n es)
     by true ih = refl
@@ -32,10 +32,10 @@ used_is rows k n = by (slice_get rows k)
   where
     by : (o : Option Row) → list_any (same_name n) (names_of o) ≡ is_some (entry_of n o)
     by None = refl
-    by (Some r) = listed_is n r.entries
+    by (Some r) = allowed_listed_is n r.entries
 
-used_there : (rows : List Row) (k : ℕ) (n : Name) → is_some (entry_at rows k n) ≡ true → k < length rows
-used_there rows k n h = by (slice_get rows k) refl h
+allowed_used_there : (rows : List Row) (k : ℕ) (n : Name) → is_some (entry_at rows k n) ≡ true → k < length rows
+allowed_used_there rows k n h = by (slice_get rows k) refl h
   where
     by : (o : Option Row) → slice_get rows k ≡ o → is_some (entry_of n o) ≡ true → k < length rows
     by None e g = cc
@@ -49,10 +49,10 @@ stored_there rows q n h = by (slice_get rows q) refl h
     by (Some r) e g = slice_get_within rows q r e
 
 module _ (s : Scanned) (old : IsScanned s) where
-  pub allowed : first_refused s.rows (order_of s) ≡ None → AreAllowed s.rows
-  allowed h = record {
+  pub allowed_use : first_refused s.rows (order_of s) ≡ None → AreAllowed s.rows
+  allowed_use h = record {
     walruses = λ q n a. none_of_names (refused_walrus s.rows q) (walruses_of (slice_get s.rows q)) (none_of_scopes (refused_walruses s.rows) (order_of s) (none_first _ _ h) q (old.complete q (stored_there s.rows q n a))) n a;
-    names = λ k n a. none_of_names (refused_name s.rows k) (names_of (slice_get s.rows k)) (none_of_scopes (refused_names s.rows) (order_of s) (none_second _ _ h) k (old.complete k (used_there s.rows k n a))) n (used_is s.rows k n ∙ a);
+    names = λ k n a. none_of_names (refused_name s.rows k) (names_of (slice_get s.rows k)) (none_of_scopes (refused_names s.rows) (order_of s) (none_second _ _ h) k (old.complete k (allowed_used_there s.rows k n a))) n (used_is s.rows k n ∙ a);
   }
 
   pub none_refused : AreAllowed s.rows → first_refused s.rows (order_of s) ≡ None

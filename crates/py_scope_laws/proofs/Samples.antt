@@ -8,18 +8,18 @@ use Rattle.py_scope.specs.declared.table_type.SymbolTableType.TheVariants.{Class
 use Rattle.py_scope.specs.Names.{Name}
 use Rattle.py_scope.specs.Resolved.{first_fault}
 use Rattle.py_scope.specs.Scanned.{order_of}
-use Rattle.py_scope.specs.Worked.{Call, Enters, Leaves, Uses, played}
+use Rattle.py_scope.specs.Worked.{Call, Enters, Leaves, Uses, scan_of_calls}
 use Rattle.py_scope_laws.specs.Refused.{first_refused, refused_name, refused_walrus}
 
 -- what is refused by the uses, and by the passes
 abbrev BothRefuse : List Call → Option Refusal → Type 0
-BothRefuse calls r = (first_refused (played calls).rows (order_of (played calls)) ≡ r) × (first_fault (played calls) ≡ r)
+BothRefuse calls r = (first_refused (scan_of_calls calls).rows (order_of (scan_of_calls calls)) ≡ r) × (first_fault (scan_of_calls calls) ≡ r)
 
 abbrev name_in : List Call → ℕ → Name → Option Refusal
-name_in calls k n = refused_name (played calls).rows k n
+name_in calls k n = refused_name (scan_of_calls calls).rows k n
 
 abbrev walrus_in : List Call → ℕ → Name → Option Refusal
-walrus_in calls q n = refused_walrus (played calls).rows q n
+walrus_in calls q n = refused_walrus (scan_of_calls calls).rows q n
 
 -- def f(): nonlocal x
 abbrev unbound : List Call
@@ -40,10 +40,10 @@ at_top = (refl, refl)
 --     def g():
 --         nonlocal x
 --         return lambda: x
-abbrev bound : List Call
-bound = Enters Function (codes "f") ∷ Uses Parameter (codes "x") ∷ Enters Function (codes "g") ∷ Uses Nonlocal (codes "x") ∷ Enters Function (codes "lambda") ∷ Uses Used (codes "x") ∷ Leaves ∷ Leaves ∷ Uses Assigned (codes "g") ∷ Leaves ∷ Uses Assigned (codes "f") ∷ []
+abbrev sample_bound : List Call
+sample_bound = Enters Function (codes "f") ∷ Uses Parameter (codes "x") ∷ Enters Function (codes "g") ∷ Uses Nonlocal (codes "x") ∷ Enters Function (codes "lambda") ∷ Uses Used (codes "x") ∷ Leaves ∷ Leaves ∷ Uses Assigned (codes "g") ∷ Leaves ∷ Uses Assigned (codes "f") ∷ []
 
-bound_allowed : BothRefuse bound None
+bound_allowed : BothRefuse sample_bound None
 bound_allowed = (refl, refl)
 
 -- class A:
@@ -79,10 +79,10 @@ rebinding_refused : BothRefuse rebinding (Some (RebindsIterated (codes "x")))
 rebinding_refused = (refl, refl)
 
 -- class A: [x := v for v in z]
-abbrev in_class : List Call
-in_class = Enters Class (codes "A") ∷ Enters Comprehension (codes "genexpr") ∷ Uses Parameter (codes ".0") ∷ Uses Iterated (codes "v") ∷ Uses Used (codes "v") ∷ Uses Walrus (codes "x") ∷ Leaves ∷ Uses Used (codes "z") ∷ Leaves ∷ Uses Assigned (codes "A") ∷ []
+abbrev sample_in_class : List Call
+sample_in_class = Enters Class (codes "A") ∷ Enters Comprehension (codes "genexpr") ∷ Uses Parameter (codes ".0") ∷ Uses Iterated (codes "v") ∷ Uses Used (codes "v") ∷ Uses Walrus (codes "x") ∷ Leaves ∷ Uses Used (codes "z") ∷ Leaves ∷ Uses Assigned (codes "A") ∷ []
 
-in_class_refused : BothRefuse in_class (Some InClassBody)
+in_class_refused : BothRefuse sample_in_class (Some InClassBody)
 in_class_refused = (refl, refl)
 
 -- class A: [[(x := v) for v in z] for x in w], where the nearer scope decides

@@ -23,17 +23,17 @@ abbrev pub iterates : List Row → Name → ℕ → Bool
 iterates rows n e = iterated_opt (entry_at rows e n)
 
 -- a walrus in a comprehension stores no name of a class, and none of a scope of type parameters
-abbrev pub misplaced : SymbolTableType → Option Refusal
-misplaced Module = None
-misplaced Class = Some InClassBody
-misplaced Function = None
-misplaced Comprehension = None
-misplaced TypeParams = Some InTypeParams
+abbrev pub misplaced_walrus : SymbolTableType → Option Refusal
+misplaced_walrus Module = None
+misplaced_walrus Class = Some InClassBody
+misplaced_walrus Function = None
+misplaced_walrus Comprehension = None
+misplaced_walrus TypeParams = Some InTypeParams
 
 -- Why no walrus in the comprehension q may store n: n stands in a target of a comprehension around q, before the first scope that is none; or that
 -- scope, which holds the name, is no place for it.
 abbrev pub refused_walrus : List Row → (q : ℕ) → Name → Option Refusal
-refused_walrus rows q n = if list_any (iterates rows n) (way rows (around rows q)) then Some (RebindsIterated n) else misplaced (kind_at rows (holder rows (around rows q)))
+refused_walrus rows q n = if list_any (iterates rows n) (way rows (around rows q)) then Some (RebindsIterated n) else misplaced_walrus (kind_at rows (holder rows (around rows q)))
 
 -- the last declaration is nonlocal, and no walrus lifts the name
 abbrev pub is_nonlocal : Holds → Bool

@@ -5,7 +5,7 @@ use Rattle.py_tree.specs.Tree as tree
 use Rattle.py_tree.specs.declared.modules.Mode.{Mode}
 use Rattle.py_scope.specs.Names.{Name}
 use Rattle.py_scope.proofs.NameLemmas.{names_same}
-use Rattle.py_scope.proofs.Truth.{left_or, right_or}
+use Rattle.py_scope.proofs.Truth.{left_or, truth_right_or}
 use Rattle.py_name_uses.specs.Steps.{State}
 use Rattle.py_control.specs.Agree.{AllOf, form_of, head_of, kids}
 use Rattle.py_control.specs.Form.{Scope}
@@ -28,7 +28,7 @@ use Rattle.py_scope_tree.proofs.NodeScopeLemmas.{own_standing}
 all_of_those : (P : Name → Type 0) (names : List Name) → ((x : Name) → is_one_of x names ≡ true → P x) → AllOf P names
 all_of_those P [] h = tt
 all_of_those P (y ∷ names) h =
-    (h y (left_or (text_eq y y) (is_one_of y names) (names_same y)), all_of_those P names (λ x e. h x (right_or (text_eq x y) (is_one_of x names) e)))
+    (h y (left_or (text_eq y y) (is_one_of y names) (names_same y)), all_of_those P names (λ x e. h x (truth_right_or (text_eq x y) (is_one_of x names) e)))
 
 -- the names that a node's scope has from outside are those that the scan tells
 abbrev FreeOf : Context → (number : ℕ) → Option Scope → Type 0
@@ -76,12 +76,12 @@ module _ (t : tree.Mod) (m : Mode) (level : ℕ) (h : faults t m level ≡ []) (
       (all_of_those (AtHand here) (wanted_at (scopes_of t) k) (λ y w. subst (λ j. AtHand j y) at.around (free_names_stand t m level s h e k at.above at.there y w)))
 
   -- and of those within it
-  down : (n here : ℕ) (x : Scope) → OwnUpTo (scopes_of t) (owners_of t m) here n x → StandUpTo (scopes_of t) here n x
-  down zero here x own = tt
-  down (suc n) here x own =
-      let k = number_of x in (own_stands here x own.0, all_as (OwnUpTo (scopes_of t) (owners_of t m) k n) (StandUpTo (scopes_of t) k n) (λ y o. down n k y o) (kids (form_of x)) own.1)
+  cells_of_scope_down : (n here : ℕ) (x : Scope) → OwnUpTo (scopes_of t) (owners_of t m) here n x → StandUpTo (scopes_of t) here n x
+  cells_of_scope_down zero here x own = tt
+  cells_of_scope_down (suc n) here x own =
+      let k = number_of x in (own_stands here x own.0, all_as (OwnUpTo (scopes_of t) (owners_of t m) k n) (StandUpTo (scopes_of t) k n) (λ y o. cells_of_scope_down n k y o) (kids (form_of x)) own.1)
 
 pub cells_stand : CellsStand
 cells_stand t m level n h =
     let d = scan_done t m level h in
-    all_as (OwnUpTo (scopes_of t) (owners_of t m) 0 n) (StandUpTo (scopes_of t) 0 n) (λ s own. down t m level h d.0 d.1 n 0 s own) (kids (form_of (body (scopes_of t) t m level))) (each_is_its_own (scopes_of t) t m level n)
+    all_as (OwnUpTo (scopes_of t) (owners_of t m) 0 n) (StandUpTo (scopes_of t) 0 n) (λ s own. cells_of_scope_down t m level h d.0 d.1 n 0 s own) (kids (form_of (body (scopes_of t) t m level))) (each_is_its_own (scopes_of t) t m level n)

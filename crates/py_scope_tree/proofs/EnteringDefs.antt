@@ -15,7 +15,7 @@ use Rattle.py_scope_tree.specs.StmtOwners.{around, around_function, owners_in_al
 use Rattle.py_scope_tree.specs.Entered.{told_at, told_owner}
 use Rattle.py_scope_tree.proofs.ScanEntryLemmas.{Enters, in_class_enters, inside_enters, last_leads, leads_so, nothing_enters, skipped_enters, taken_enters, then_leads, unless_postponed_enters, use_enters}
 use Rattle.py_scope_tree.proofs.EnteringNames.{check_new_enters, check_type_params_enters, first_names_enter, generic_enters, handed_defaults_enter, parameters_enter, plain_enters}
-use Rattle.py_scope_tree.proofs.EnteringParts.{both_none}
+use Rattle.py_scope_tree.proofs.EnteringParts.{entering_part_both_none}
 use Rattle.py_scope_tree.proofs.EnteringExprs.{annotations_enter, defaults_enter, expr_enters, exprs_enter, keywords_enter, opt_enters}
 
 -- no annotation that is postponed has a scope
@@ -33,18 +33,19 @@ same_notes false (tree.arguments posonly args vararg kwonly kwarg) = refl
 
 module _ (class : Option (List ℕ)) where
   param_enters : (p : Bool) (earlier : List Name) (t : tree.TypeParam) → type_param_shapes class t ≡ [] → Enters p (owners_in_param p t) (scan_type_param earlier t)
-  param_enters p earlier (tree.TypeVar at name bound) h = last_leads (opt_enters class p Load bound (both_none (name_shapes name) (opt_expr_shapes class bound) h).1) (then_leads (check_new_enters earlier name at) (use_enters role.Assigned name at))
+  param_enters p earlier (tree.TypeVar at name bound) h = last_leads (opt_enters class p Load bound (entering_part_both_none (name_shapes name) (opt_expr_shapes class bound) h).1) (then_leads (check_new_enters earlier name at) (use_enters role.Assigned name at))
   param_enters p earlier (tree.ParamSpec at name) h = nothing_enters
   param_enters p earlier (tree.TypeVarTuple at name) h = nothing_enters
 
   pub params_enter : (p : Bool) (earlier : List Name) (ts : tree.TypeParams) → type_params_shapes class ts ≡ [] → Enters p (owners_in_params p ts) (scan_type_params earlier ts)
   params_enter p earlier tree.no_type_params h = nothing_enters
   params_enter p earlier (tree.more_type_params t ts) h =
-      let q = both_none (type_param_shapes class t) (type_params_shapes class ts) h in
+      let q = entering_part_both_none (type_param_shapes class t) (type_params_shapes class ts) h in
       then_leads (param_enters p earlier t q.0) (params_enter p (earlier ++ type_name t ∷ []) ts q.1)
 
   -- the scope of a function, and then its annotations
-  function_scope_enters : (p : Bool) (own : Owner) (at : SourceLocation) (n : Name) (params : tree.Arguments) (returns : tree.OptExpr) {bs : Grove} {body : Step} → told_owner own ≡ told_at scope.Function n at
+  function_scope_enters : (p : Bool) (own : Owner) (at : SourceLocation) (n : Name) (params : tree.Arguments) (returns : tree.OptExpr) {bs : Grove} {body : Step}
+      → told_owner own ≡ told_at scope.Function n at
       → arguments_shapes class params ≡ [] → opt_expr_shapes class returns ≡ [] → Enters p bs body → Enters p (Grown own bs (owners_in_returns p returns & owners_in_all_notes p params)) (scan_function_scope at n params body returns)
   function_scope_enters p own at n params returns e h k b =
       then_leads (inside_enters own scope.Function n at e (then_leads (parameters_enter params) b))
@@ -69,7 +70,8 @@ module _ (class : Option (List ℕ)) where
       (last_leads (taken_enters (defaults_enter class p params h)) (use_enters role.Assigned n at)))))
 
   -- the scope of a class, after its type parameters, and then its bases
-  class_parts_enter : (p : Bool) (own : Owner) (at : SourceLocation) (n : Name) (bases : tree.Exprs) (keywords : tree.Keywords) (generic : tree.TypeParams) {bs : Grove} {body : Step} → told_owner own ≡ told_at scope.Class n at
+  class_parts_enter : (p : Bool) (own : Owner) (at : SourceLocation) (n : Name) (bases : tree.Exprs) (keywords : tree.Keywords) (generic : tree.TypeParams) {bs : Grove} {body : Step}
+      → told_owner own ≡ told_at scope.Class n at
       → exprs_shapes class bases ≡ [] → keywords_shapes class keywords ≡ [] → type_params_shapes class generic ≡ [] → Enters p bs body
       → Enters p (owners_in_params p generic & Grown own bs (owners_in_all p bases & owners_in_keywords p keywords)) (scan_class_parts at n bases keywords body generic)
   class_parts_enter p own at n bases keywords generic e h i k b =
@@ -89,7 +91,8 @@ module _ (class : Option (List ℕ)) where
       (then_leads (exprs_enter class p Load decorators j)
       (last_leads (generic_enters hidden n at d (class_parts_enter p own at n bases keywords (tree.more_type_params t ts) e h i k b)) (use_enters role.Assigned n at)))
 
-  pub alias_enters : (p : Bool) (hidden : Owner) (at : SourceLocation) (name : tree.Expr) (generic : tree.TypeParams) (value : tree.Expr) → told_owner hidden ≡ told_at scope.TypeParams (generic_name (alias_name (plain_name name))) at
+  pub alias_enters : (p : Bool) (hidden : Owner) (at : SourceLocation) (name : tree.Expr) (generic : tree.TypeParams) (value : tree.Expr)
+      → told_owner hidden ≡ told_at scope.TypeParams (generic_name (alias_name (plain_name name))) at
       → expr_shapes class name ≡ [] → type_params_shapes class generic ≡ [] → expr_shapes class value ≡ []
       → Enters p (around hidden (owners_in_params p generic) (owners_in p value) generic & owners_in p name)
       (check_type_params generic ▸ in_type_params (is_generic generic) (alias_name (plain_name name)) at (scan_type_params [] generic ▸ scan_expr Load value) ▸ scan_expr Store name)

@@ -12,7 +12,7 @@ use Rattle.py_scope.specs.Names.{Name, same_name, class_cell}
 use Rattle.py_scope.specs.Scanned.{is_function, kind_here}
 use Rattle.py_name_uses.specs.declared.usage.Usage.{Usage}
 use Rattle.py_name_uses.specs.declared.usage.Usage.TheVariants.{Load, Iterable, Store, Delete, Target, Walrus}
-use Rattle.py_name_uses.specs.Steps.{State, Done, Step, check_holder, check_iterable, check_yield, enter, leave, super_cell, use_as, use_name, written}
+use Rattle.py_name_uses.specs.Steps.{State, Done, Step, check_holder, check_iterable, check_yield, enter, leave, super_cell, use_as, use_name, written_name}
 use Rattle.py_name_uses.specs.Parts.{bound_name, check_new, check_type_params, generic_name, in_type_params, is_among, role_of_parameter, use_aliases, use_each, use_first_names, use_handed_defaults, use_opt_name, use_opt_parameter, use_parameter, use_parameters, use_parameters_in}
 use Rattle.py_scope_tree.specs.Owners.{Owner, Grove, Bare, Grown}
 use Rattle.py_scope_tree.specs.Entered.{told_at, told_owner}
@@ -33,7 +33,7 @@ pub check_yield_enters : {p : Bool} (at : SourceLocation) → Enters p Bare (che
 check_yield_enters at = record { ends = λ s h. refuse_if_ends _ refusal.YieldInTypeParams at s h }
 
 pub check_new_enters : {p : Bool} (earlier : List Name) (n : Name) (at : SourceLocation) → Enters p Bare (check_new earlier n at)
-check_new_enters earlier n at = record { ends = λ s h. refuse_if_ends (is_among s earlier n) (refusal.SameTypeParam (written s n)) at s h }
+check_new_enters earlier n at = record { ends = λ s h. refuse_if_ends (is_among s earlier n) (refusal.SameTypeParam (written_name s n)) at s h }
 
 super_enters : {p : Bool} (n : Name) (at : SourceLocation) → Enters p Bare (super_cell n at)
 super_enters {p = p} n at = record { ends = λ s h. go s h (same_name n (codes "super") && is_function (kind_here s.scopes)) }
@@ -97,5 +97,6 @@ pub plain_enters : {p : Bool} {os : Grove} {f : Step} (n : Name) (at : SourceLoc
 plain_enters n at a = then_leads (skipped_enters (enter scope.TypeParams (generic_name n) at)) (last_leads a (skipped_enters leave))
 
 -- with them it has
-pub generic_enters : {p : Bool} {os : Grove} {f : Step} (o : Owner) (n : Name) (at : SourceLocation) → told_owner o ≡ told_at scope.TypeParams (generic_name n) at → Enters p os f → Enters p (Grown o os Bare) (in_type_params true n at f)
+pub generic_enters : {p : Bool} {os : Grove} {f : Step} (o : Owner) (n : Name) (at : SourceLocation)
+    → told_owner o ≡ told_at scope.TypeParams (generic_name n) at → Enters p os f → Enters p (Grown o os Bare) (in_type_params true n at f)
 generic_enters o n at e a = record { ends = λ s h. (inside_enters o scope.TypeParams (generic_name n) at e a).ends s h }

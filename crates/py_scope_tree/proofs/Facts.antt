@@ -7,12 +7,12 @@ use Rattle.py_scope.specs.declared.flat.ScopeEntry.{ScopeEntry}
 use Rattle.py_scope.specs.declared.rows.Row.{Row}
 use Rattle.py_scope.specs.declared.table.SymbolTable.{SymbolTable}
 use Rattle.py_scope.specs.Laws.{SymbolsFollow, TableFollows}
-use Rattle.py_scope.specs.Resolved.{first_fault, resolved}
+use Rattle.py_scope.specs.Resolved.{first_fault, resolved_table}
 use Rattle.py_scope.proofs.Follows.{table_follows}
 use Rattle.py_symbol_tables.specs.Laws.{Stands}
 use Rattle.py_symbol_tables.specs.Tables as tables
 use Rattle.py_symbol_tables.proofs.Preorder.{IsOrderly}
-use Rattle.py_symbol_tables.proofs.EnteredScopeLemmas.{none_refused, program_orderly, stands, value_orderly}
+use Rattle.py_symbol_tables.proofs.EnteredScopeLemmas.{none_refused, program_orderly, entered_scope_stands, value_orderly}
 use Rattle.py_name_uses.specs.Steps.{State, Outcome, Done}
 use Rattle.py_scan.specs.Scan.{scan_program, scan_value}
 use Rattle.py_emission_parts.specs.Context.{symbols_in}
@@ -23,7 +23,7 @@ use Rattle.py_scope_tree.specs.Entered.{ScansTo, kind_in_table, kind_of_owner}
 use Rattle.py_scope_tree.specs.Owners.{Grove}
 use Rattle.py_scope_tree.specs.StmtOwners.{owners_of}
 use Rattle.py_scope_tree.proofs.EnteringPrograms.{parts_none, scan_came}
-use Rattle.py_scope_tree.proofs.ListedTables.{numbered, or_none, symbols_there}
+use Rattle.py_scope_tree.proofs.ListedTables.{listed_table_numbered, or_none, symbols_there}
 use Rattle.py_scope_tree.proofs.OwnerTables.{none_mapped, table_has_owners}
 
 -- the scopes are in order, and nothing in them is refused
@@ -31,17 +31,17 @@ record Clean (s : State) : Type 0 where
   pub orderly : IsOrderly s.scopes
   pub fine : first_fault s.scopes ≡ None
 
-unrefused : (o : Outcome) (s : State) → o ≡ Done s → map fault_as (tables.faults_of o) ≡ [] → first_fault s.scopes ≡ None
-unrefused o s e h = none_refused (first_fault s.scopes) (ap tables.faults_of (sym e) ∙ none_mapped fault_as (tables.faults_of o) h)
+fact_unrefused : (o : Outcome) (s : State) → o ≡ Done s → map fault_as (tables.faults_of o) ≡ [] → first_fault s.scopes ≡ None
+fact_unrefused o s e h = none_refused (first_fault s.scopes) (ap tables.faults_of (sym e) ∙ none_mapped fault_as (tables.faults_of o) h)
 
 clean : (t : tree.Mod) (s : State) → scan_faults t ≡ [] → ScansTo t s → Clean s
-clean (tree.Module stmts) s h e = record { orderly = program_orderly stmts s e; fine = unrefused (scan_program stmts) s e h }
-clean (tree.Interactive stmts) s h e = record { orderly = program_orderly stmts s e; fine = unrefused (scan_program stmts) s e h }
-clean (tree.Expression value) s h e = record { orderly = value_orderly value s e; fine = unrefused (scan_value value) s e h }
+clean (tree.Module stmts) s h e = record { orderly = program_orderly stmts s e; fine = fact_unrefused (scan_program stmts) s e h }
+clean (tree.Interactive stmts) s h e = record { orderly = program_orderly stmts s e; fine = fact_unrefused (scan_program stmts) s e h }
+clean (tree.Expression value) s h e = record { orderly = value_orderly value s e; fine = fact_unrefused (scan_value value) s e h }
 clean (tree.FunctionType argtypes returns) s h e = absurd e
 
 pub scopes_stand : ScopesStand
-scopes_stand t m level s h e = let c = clean t s (parts_none t m level h).1 e in stands s.scopes c.orderly c.fine
+scopes_stand t m level s h e = let c = clean t s (parts_none t m level h).1 e in entered_scope_stands s.scopes c.orderly c.fine
 
 -- a tree has its own scope at least
 pub some_owner : (t : tree.Mod) (m : Mode) → 0 < length (owners_of t m)
@@ -59,7 +59,7 @@ some_entry t m level h =
     omega (arith, a, b, c, d)
 
 -- the scopes to which the names of a tree resolve are those of the table of its scan
-scopes_are : (t : tree.Mod) (s : State) → ScansTo t s → scopes_of t ≡ entries_of (resolved s.scopes)
+scopes_are : (t : tree.Mod) (s : State) → ScansTo t s → scopes_of t ≡ entries_of (resolved_table s.scopes)
 scopes_are (tree.Module stmts) s e = ap (λ o. entries_of (tables.table_of o)) e
 scopes_are (tree.Interactive stmts) s e = ap (λ o. entries_of (tables.table_of o)) e
 scopes_are (tree.Expression value) s e = ap (λ o. entries_of (tables.table_of o)) e
@@ -72,7 +72,7 @@ some_table (Some table) l = (table, refl)
 pub tables_follow : TablesFollow
 tables_follow t m level s h e =
     let c = clean t s (parts_none t m level h).1 e in
-    let w = some_table (resolved s.scopes) (subst (λ es. 0 < length es) (scopes_are t s e) (some_entry t m level h)) in
+    let w = some_table (resolved_table s.scopes) (subst (λ es. 0 < length es) (scopes_are t s e) (some_entry t m level h)) in
     (w.0, w.1, table_follows s.scopes c.orderly.scanned c.fine w.0 w.1)
 
 -- the scopes stand, and the symbols of each say what its uses say
@@ -86,7 +86,7 @@ get_some [] k l = absurd (omega arith)
 get_some (x ∷ xs) zero l = (x, refl)
 get_some (x ∷ xs) (suc k) l = get_some xs k (omega arith)
 
-follow_there : (rows : List Row) (table : SymbolTable) (follows : TableFollows rows table) (k : ℕ) → k < length rows → SymbolsFollow rows k (numbered follows.symbols k)
+follow_there : (rows : List Row) (table : SymbolTable) (follows : TableFollows rows table) (k : ℕ) → k < length rows → SymbolsFollow rows k (listed_table_numbered follows.symbols k)
 follow_there rows table follows k l =
     let w = get_some follows.symbols k (let h = follows.whole in omega (arith, h, l)) in
     subst (SymbolsFollow rows k) (sym (ap or_none w.1)) (follows.each k w.0 w.1)

@@ -1,4 +1,4 @@
--- The table of scopes that were entered as a grove lists them by their numbers, with the kind and the symbols of each.
+-- The table of scopes that were entered as a scope forest lists them by their numbers, with the kind and the symbols of each.
 use Rattle.std.proofs.Common.{◌≡◌, refl, sym, ap, ◌∙◌, subst, ℕ, zero, suc, ◌+◌, Bool, true, false, List, [], ◌∷◌, ◌++◌, length, map, nat_eq, if◌then◌else◌, slice_get, option_map, Option, Some, None, arith}
 use Rattle.std.proofs.lemmas.List.{map-append, length-map}
 use Rattle.std.proofs.lemmas.Option.{slice_get-map}
@@ -17,27 +17,27 @@ use Rattle.py_emission_parts.specs.Context.{symbols_in}
 use Rattle.py_meaning.specs.Scanned.{entries_of}
 use Rattle.py_scope_tree.specs.Owners.{Grove, size}
 use Rattle.py_scope_tree.specs.StmtOwners.{in_whole}
-use Rattle.py_scope_tree.specs.Entered.{told, told_row}
+use Rattle.py_scope_tree.specs.Entered.{told_node, told_row}
 use Rattle.py_scope_tree.proofs.Groves.{arounds, parent_in, parents_grown}
 use Rattle.py_scope_tree.proofs.ScopeListLemmas.{gathered, labels, labels_shifted, spans, whole_spans}
 use Rattle.py_scope_tree.proofs.ScopeForestLemmas.{length_placed}
 
-abbrev Flat : Type 0
-Flat = ℕ → List ScopeEntry
+abbrev ListedTableFlat : Type 0
+ListedTableFlat = ℕ → List ScopeEntry
 
 -- the one at this place, or another where there is none
-abbrev at_place : {A : Type 0} → (other : A) → List A → ℕ → A
-at_place other [] k = other
-at_place other (x ∷ xs) zero = x
-at_place other (x ∷ xs) (suc k) = at_place other xs k
+abbrev listed_table_at_place : {A : Type 0} → (other : A) → List A → ℕ → A
+listed_table_at_place other [] k = other
+listed_table_at_place other (x ∷ xs) zero = x
+listed_table_at_place other (x ∷ xs) (suc k) = listed_table_at_place other xs k
 
-labels_all : {A : Type 0} (other : A) (xs : List A) → labels (at_place other xs) 0 (length xs) ≡ xs
+labels_all : {A : Type 0} (other : A) (xs : List A) → labels (listed_table_at_place other xs) 0 (length xs) ≡ xs
 labels_all other [] = refl
-labels_all other (x ∷ xs) = ap (λ ys. x ∷ ys) (labels_shifted (at_place other (x ∷ xs)) 0 (length xs) ∙ labels_all other xs)
+labels_all other (x ∷ xs) = ap (λ ys. x ∷ ys) (labels_shifted (listed_table_at_place other (x ∷ xs)) 0 (length xs) ∙ labels_all other xs)
 
 -- a table, with those that it holds in the list
-flat_of : (x : SymbolTable-F SymbolTable) (k : ℕ) → flat_table (roll-SymbolTable x) k ≡ flat_step (map-SymbolTable SymbolTable Flat flat_table x) k
-flat_of x k = ap (λ (f : Flat). f k) (fold-roll-SymbolTable Flat flat_step x)
+flat_of : (x : SymbolTable-F SymbolTable) (k : ℕ) → flat_table (roll-SymbolTable x) k ≡ flat_step (map-SymbolTable SymbolTable ListedTableFlat flat_table x) k
+flat_of x k = ap (λ (f : ListedTableFlat). f k) (fold-roll-SymbolTable ListedTableFlat flat_step x)
 
 -- what is kept of the kind and the symbols of a scope
 module _ {A : Type 0} (keep : SymbolTableType → List Symbol → A) where
@@ -63,45 +63,46 @@ module _ {A : Type 0} (keep : SymbolTableType → List Symbol → A) where
   AllAre (t ∷ ts) (xs ∷ xss) = ((k : ℕ) → map kept_in (flat_table t k) ≡ xs) × AllAre ts xss
 
   abbrev kept_of_all : List SymbolTable → ℕ → List A
-  kept_of_all ts k = map kept_in (all_flat (map {B = Flat} flat_table ts) k)
+  kept_of_all ts k = map kept_in (all_flat (map {B = ListedTableFlat} flat_table ts) k)
 
   -- that of the tables in scope j
-  children_are : (j : ℕ) (rs : List Row) (ts : List SymbolTable) (xss : List (List A)) → AllAre ts xss → (k : ℕ) → kept_of_all (children_of j rs ts) k ≡ gathered j (map parent_in rs) xss
-  children_are j [] ts xss a k = refl
-  children_are j (r ∷ rs) [] [] a k = refl
-  children_are j (r ∷ rs) [] (xs ∷ xss) a k = absurd a
-  children_are j (r ∷ rs) (t ∷ ts) [] a k = absurd a
-  children_are j (r ∷ rs) (t ∷ ts) (xs ∷ xss) a k = go (nat_eq r.parent j) (children_are j rs ts xss a.1)
+  listed_table_children_are : (j : ℕ) (rs : List Row) (ts : List SymbolTable) (xss : List (List A)) → AllAre ts xss → (k : ℕ) → kept_of_all (children_of j rs ts) k ≡ gathered j (map parent_in rs) xss
+  listed_table_children_are j [] ts xss a k = refl
+  listed_table_children_are j (r ∷ rs) [] [] a k = refl
+  listed_table_children_are j (r ∷ rs) [] (xs ∷ xss) a k = absurd a
+  listed_table_children_are j (r ∷ rs) (t ∷ ts) [] a k = absurd a
+  listed_table_children_are j (r ∷ rs) (t ∷ ts) (xs ∷ xss) a k = go (nat_eq r.parent j) (listed_table_children_are j rs ts xss a.1)
     where
       go : (b : Bool) → ((m : ℕ) → kept_of_all (children_of j rs ts) m ≡ gathered j (map parent_in rs) xss)
           → kept_of_all (if b then t ∷ children_of j rs ts else children_of j rs ts) k ≡ (if b then xs ++ gathered j (map parent_in rs) xss else gathered j (map parent_in rs) xss)
       go true rest =
-          map-append kept_in (flat_table t k) (all_flat (map {B = Flat} flat_table (children_of j rs ts)) (k + length (flat_table t k)))
+          map-append kept_in (flat_table t k) (all_flat (map {B = ListedTableFlat} flat_table (children_of j rs ts)) (k + length (flat_table t k)))
           ∙ (λ i. a.0 k i ++ rest (k + length (flat_table t k)) i)
       go false rest = rest k
 
   -- the tables of these scopes, where f tells what is kept of each
-  tables_are : (f : ℕ → A) (n : ℕ) (rs : List Row) (ss : List (List Symbol)) → length ss ≡ length rs → kept_rows rs ss ≡ labels f n (length rs) → AllAre (tables_from n rs ss) (spans f n (map parent_in rs))
-  tables_are f n [] ss l h = tt
-  tables_are f n (r ∷ rs) [] l h = absurd (omega (arith, l))
-  tables_are f n (r ∷ rs) (s ∷ ss) l h =
+  listed_table_tables_are : (f : ℕ → A) (n : ℕ) (rs : List Row) (ss : List (List Symbol)) → length ss ≡ length rs → kept_rows rs ss ≡ labels f n (length rs)
+      → AllAre (tables_from n rs ss) (spans f n (map parent_in rs))
+  listed_table_tables_are f n [] ss l h = tt
+  listed_table_tables_are f n (r ∷ rs) [] l h = absurd (omega (arith, l))
+  listed_table_tables_are f n (r ∷ rs) (s ∷ ss) l h =
       let first : keep r.kind s ≡ f n = cc in
       let others : kept_rows rs ss ≡ labels f (suc n) (length rs) = cc in
-      let rest = tables_are f (suc n) rs ss (omega (arith, l)) others in
+      let rest = listed_table_tables_are f (suc n) rs ss (omega (arith, l)) others in
       let children = children_of n rs (tables_from (suc n) rs ss) in
       let x : SymbolTable-F SymbolTable = record { name = r.head.name; typ = r.kind; line_number = r.head.line_number; is_nested = r.head.is_nested; symbols = s; sub_tables = children } in
-      ((λ k. ap (map kept_in) (flat_of x k) ∙ (λ i. first i ∷ children_are n rs (tables_from (suc n) rs ss) (spans f (suc n) (map parent_in rs)) rest (suc k) i)), rest)
+      ((λ k. ap (map kept_in) (flat_of x k) ∙ (λ i. first i ∷ listed_table_children_are n rs (tables_from (suc n) rs ss) (spans f (suc n) (map parent_in rs)) rest (suc k) i)), rest)
 
-  first_is : (ts : List SymbolTable) (xs : List A) (xss : List (List A)) → AllAre ts (xs ∷ xss) → map kept_in (entries_of (slice_get ts 0)) ≡ xs
-  first_is [] xs xss a = absurd a
-  first_is (t ∷ ts) xs xss a = a.0 0
+  listed_table_first_is : (ts : List SymbolTable) (xs : List A) (xss : List (List A)) → AllAre ts (xs ∷ xss) → map kept_in (entries_of (slice_get ts 0)) ≡ xs
+  listed_table_first_is [] xs xss a = absurd a
+  listed_table_first_is (t ∷ ts) xs xss a = a.0 0
 
-  -- the table of a whole tree with a grove in it
-  pub table_listed : (rows : List Row) (symbols : List (List Symbol)) (g : Grove) → map told_row rows ≡ map told (in_whole g) → length symbols ≡ length rows
+  -- the table of a whole tree with a scope forest in it
+  pub table_listed : (rows : List Row) (symbols : List (List Symbol)) (g : Grove) → map told_row rows ≡ map told_node (in_whole g) → length symbols ≡ length rows
       → map kept_in (entries_of (slice_get (tables_from 0 rows symbols) 0)) ≡ kept_rows rows symbols
   table_listed rows symbols g e l =
-      first_is (tables_from 0 rows symbols) (labels f 0 (suc (size g))) (spans f 1 (arounds 0 1 g))
-      (subst (AllAre (tables_from 0 rows symbols)) (ap (spans f 0) (parents_grown rows g e) ∙ whole_spans f g 0) (tables_are f 0 rows symbols l (sym (labels_all other kept) ∙ ap (labels f 0) same)))
+      listed_table_first_is (tables_from 0 rows symbols) (labels f 0 (suc (size g))) (spans f 1 (arounds 0 1 g))
+      (subst (AllAre (tables_from 0 rows symbols)) (ap (spans f 0) (parents_grown rows g e) ∙ whole_spans f g 0) (listed_table_tables_are f 0 rows symbols l (sym (labels_all other kept) ∙ ap (labels f 0) same)))
       ∙ ap (labels f 0) (sym (same ∙ whole))
       ∙ labels_all other kept
     where
@@ -112,13 +113,13 @@ module _ {A : Type 0} (keep : SymbolTableType → List Symbol → A) where
       kept = kept_rows rows symbols
 
       f : ℕ → A
-      f = at_place other kept
+      f = listed_table_at_place other kept
 
       same : length kept ≡ length rows
       same = length_kept rows symbols l
 
       whole : length rows ≡ suc (size g)
-      whole = sym (length-map rows told_row) ∙ ap length e ∙ length-map (in_whole g) told ∙ ap suc (length_placed 0 1 g)
+      whole = sym (length-map rows told_row) ∙ ap length e ∙ length-map (in_whole g) told_node ∙ ap suc (length_placed 0 1 g)
 
 -- the kinds of such scopes
 abbrev pub kind_alone : SymbolTableType → List Symbol → SymbolTableType
@@ -145,12 +146,12 @@ or_none None = []
 or_none (Some xs) = xs
 
 -- the list with this number
-abbrev pub numbered : {A : Type 0} → List (List A) → ℕ → List A
-numbered xss k = or_none (slice_get xss k)
+abbrev pub listed_table_numbered : {A : Type 0} → List (List A) → ℕ → List A
+listed_table_numbered xss k = or_none (slice_get xss k)
 
 -- the scope at a place has the symbols there
-pub symbols_there : (rows : List Row) (symbols : List (List Symbol)) (g : Grove) → map told_row rows ≡ map told (in_whole g) → length symbols ≡ length rows
-    → (o : Option SymbolTable) → slice_get (tables_from 0 rows symbols) 0 ≡ o → (k : ℕ) → symbols_in (entries_of o) k ≡ numbered symbols k
+pub symbols_there : (rows : List Row) (symbols : List (List Symbol)) (g : Grove) → map told_row rows ≡ map told_node (in_whole g) → length symbols ≡ length rows
+    → (o : Option SymbolTable) → slice_get (tables_from 0 rows symbols) 0 ≡ o → (k : ℕ) → symbols_in (entries_of o) k ≡ listed_table_numbered symbols k
 symbols_there rows symbols g e l o h k =
     of (slice_get (entries_of o) k)
     ∙ ap or_none (sym (slice_get-map (kept_in symbols_alone) (entries_of o) k) ∙ ap (λ xs. slice_get xs k) (ap (λ x. map (kept_in symbols_alone) (entries_of x)) (sym h) ∙ table_listed symbols_alone rows symbols g e l ∙ symbols_kept rows symbols l))

@@ -11,7 +11,7 @@ use Rattle.py_control.specs.Form.{Scope}
 use Rattle.py_emission_parts.specs.Context.{Context}
 use Rattle.py_meaning.specs.Faults.{faults}
 use Rattle.py_meaning.specs.Scanned.{scopes_of}
-use Rattle.py_scope_tree.specs.Entered.{ScansTo, told, told_row}
+use Rattle.py_scope_tree.specs.Entered.{ScansTo, told_node, told_row}
 use Rattle.py_scope_tree.specs.Own.{IsOwn, IsScopeOf, number_of}
 use Rattle.py_scope_tree.specs.Owners.{Owner, Whole, Placed}
 use Rattle.py_scope_tree.specs.StmtOwners.{owners_of}
@@ -30,7 +30,7 @@ whole_first (tree.Interactive stmts) m = refl
 whole_first (tree.Expression value) m = refl
 whole_first other m = refl
 
--- and a node that has a scope behind it
+-- and a node that has a scope after it
 behind_whole : (t : tree.Mod) (m : Mode) (c : Context) (s : Scope) (p : Placed) (k : ℕ) → slice_get (owners_of t m) k ≡ Some p → IsScopeOf c p.owner s → 0 < k
 behind_whole t m c s p zero e i = absurd (subst (λ o. IsScopeOf c o s) (ap owner_there (sym e) ∙ whole_first t m) i)
 behind_whole t m c s p (suc k) e i = omega arith
@@ -40,21 +40,22 @@ pub whole_there : (t : tree.Mod) (m : Mode) (level : ℕ) (s : State) → faults
 whole_there t m level s h e =
     let a = ap length (scan_enters_owners t m level s h e) in
     let b = length-map s.scopes.rows told_row in
-    let c = length-map (owners_of t m) told in
+    let c = length-map (owners_of t m) told_node in
     let d = some_owner t m in
     omega (arith, a, b, c, d)
 
--- where the scan has entered the scope of a node: behind the one around it
+-- where the scan has entered the scope of a node: after the one around it
 pub record Standing (rows : List Row) (here number : ℕ) : Type 0 where
   pub around : parents rows number ≡ here
   pub above : 0 < number
   pub there : number < length rows
 
-pub own_standing : (t : tree.Mod) (m : Mode) (level : ℕ) (s : State) → faults t m level ≡ [] → ScansTo t s → (here : ℕ) (x : Scope) → IsOwn (scopes_of t) (owners_of t m) here x → Standing s.scopes.rows here (number_of x)
+pub own_standing : (t : tree.Mod) (m : Mode) (level : ℕ) (s : State) → faults t m level ≡ [] → ScansTo t s → (here : ℕ) (x : Scope)
+    → IsOwn (scopes_of t) (owners_of t m) here x → Standing s.scopes.rows here (number_of x)
 own_standing t m level s h e here x own = record {
-  around = parent_told s.scopes.rows (map told (owners_of t m)) (told p) k entered (slice_get-map told (owners_of t m) k ∙ ap (option_map told) own.stands);
+  around = parent_told s.scopes.rows (map told_node (owners_of t m)) (told_node p) k entered (slice_get-map told_node (owners_of t m) k ∙ ap (option_map told_node) own.stands);
   above = behind_whole t m own.around x p k own.stands own.is;
-  there = subst (λ n. k < n) (sym (length-map (owners_of t m) told) ∙ ap length (sym entered) ∙ length-map s.scopes.rows told_row) (slice_get_within (owners_of t m) k p own.stands);
+  there = subst (λ n. k < n) (sym (length-map (owners_of t m) told_node) ∙ ap length (sym entered) ∙ length-map s.scopes.rows told_row) (slice_get_within (owners_of t m) k p own.stands);
 }
   where
     k : ℕ
@@ -63,5 +64,5 @@ own_standing t m level s h e here x own = record {
     p : Placed
     p = record { owner = own.owner; around = here }
 
-    entered : map told_row s.scopes.rows ≡ map told (owners_of t m)
+    entered : map told_row s.scopes.rows ≡ map told_node (owners_of t m)
     entered = scan_enters_owners t m level s h e

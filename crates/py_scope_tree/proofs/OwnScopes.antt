@@ -1,4 +1,4 @@
--- A scope is its node's own down to each level, where the node stands at the place of its number and each scope within is its own.
+-- A scope is its node's own down to each level, where the node stands at the place of its number and each nested scope is its own.
 use Rattle.std.proofs.Common.{◌≡◌, ℕ, zero, suc, List, [], ◌∷◌, Some}
 use Rattle.py_tree.specs.Tree as tree
 use Rattle.py_scope.specs.declared.flat.ScopeEntry.{ScopeEntry}
@@ -29,13 +29,19 @@ module _ (scopes : List ScopeEntry) (owners : List Placed) where
   own_down here s h k (suc n) = (h, all_as (OwnDown (number_of s)) (OwnUpTo scopes owners (number_of s) n) (λ t f. f n) (kids (form_of s)) k.all)
 
   -- of a lambda or a comprehension
-  pub value_own : (c : Context) (e : tree.Expr) (s : Scope) {within behind : Grove} → c.scopes ≡ scopes → Lies owners c.here (number_of s) (Grown (Value e) within behind) → value_scope c (number_of s) e ≡ Some s → Kept (OwnDown (number_of s)) (kids (form_of s)) → OwnIn c s
+  pub value_own : (c : Context) (e : tree.Expr) (s : Scope) {within behind : Grove} → c.scopes ≡ scopes
+      → Lies owners c.here (number_of s) (Grown (Value e) within behind) → value_scope c (number_of s) e ≡ Some s
+      → Kept (OwnDown (number_of s)) (kids (form_of s)) → OwnIn c s
   value_own c e s t h i k = own_down c.here s (record { owner = Value e; stands = head_stands h; around = c; told = t; is = i }) k
 
   -- of a function or a class
-  pub own_own : (c : Context) (path : List ℕ) (st : tree.Stmt) (s : Scope) {within behind : Grove} → c.scopes ≡ scopes → Lies owners c.here (number_of s) (Grown (Own st) within behind) → own_scope c path (number_of s) st ≡ Some s → Kept (OwnDown (number_of s)) (kids (form_of s)) → OwnIn c s
+  pub own_own : (c : Context) (path : List ℕ) (st : tree.Stmt) (s : Scope) {within behind : Grove} → c.scopes ≡ scopes
+      → Lies owners c.here (number_of s) (Grown (Own st) within behind) → own_scope c path (number_of s) st ≡ Some s
+      → Kept (OwnDown (number_of s)) (kids (form_of s)) → OwnIn c s
   own_own c path st s t h i k = own_down c.here s (record { owner = Own st; stands = head_stands h; around = c; told = t; is = (path, i) }) k
 
   -- of what stands around type parameters
-  pub hidden_own : (c : Context) (st : tree.Stmt) (s : Scope) {within behind : Grove} → c.scopes ≡ scopes → Lies owners c.here (number_of s) (Grown (Hidden st) within behind) → hidden_scope c (number_of s) st ≡ Some s → Kept (OwnDown (number_of s)) (kids (form_of s)) → OwnIn c s
+  pub hidden_own : (c : Context) (st : tree.Stmt) (s : Scope) {within behind : Grove} → c.scopes ≡ scopes
+      → Lies owners c.here (number_of s) (Grown (Hidden st) within behind) → hidden_scope c (number_of s) st ≡ Some s
+      → Kept (OwnDown (number_of s)) (kids (form_of s)) → OwnIn c s
   hidden_own c st s t h i k = own_down c.here s (record { owner = Hidden st; stands = head_stands h; around = c; told = t; is = i }) k

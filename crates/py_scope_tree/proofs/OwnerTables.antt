@@ -6,8 +6,8 @@ use Rattle.py_tree.specs.declared.modules.Mode.{Mode}
 use Rattle.py_scope.specs.declared.rows.Holds.{Holds}
 use Rattle.py_scope.specs.declared.rows.Row.{Row}
 use Rattle.py_scope.specs.declared.table_type.SymbolTableType.{SymbolTableType}
-use Rattle.py_scope.specs.Lifts.{Lift, Stays, Through, Holder, after_lift, lift_effect, lift_of, lifted, lifted_all, lifts, outward_from, stages}
-use Rattle.py_scope.specs.Marks.{after, looks, settled, touch_by}
+use Rattle.py_scope.specs.Lifts.{Lift, Stays, Through, Holder, after_lift, lift_effect, lift_of, lifted_holds, lifted_all, lifts, outward_from, stages}
+use Rattle.py_scope.specs.Marks.{after, looks, settled_row, touch_by}
 use Rattle.py_scope.specs.Names.{Name}
 use Rattle.py_scope.specs.Outward.{Touch, Leaves, Passes, Captures}
 use Rattle.py_scope.specs.Resolved.{each_row, lifted_rows, settled_rows}
@@ -21,12 +21,12 @@ use Rattle.py_meaning.specs.Faults.{faults, unsupported_tree}
 use Rattle.py_meaning.specs.Scanned.{entries_of, fault_as, scopes_of}
 use Rattle.py_scope_tree.specs.Owners.{Grove}
 use Rattle.py_scope_tree.specs.StmtOwners.{in_whole, owners_of}
-use Rattle.py_scope_tree.specs.Entered.{ScansTo, TableHasOwners, Told, kind_in_table, kind_of_owner, told, told_row}
+use Rattle.py_scope_tree.specs.Entered.{ScansTo, TableHasOwners, Told, kind_in_table, kind_of_owner, told_node, told_row}
 use Rattle.py_scope_tree.proofs.ScanEntryLemmas.{Came}
 use Rattle.py_scope_tree.proofs.EnteringPrograms.{parts_none, scan_came}
 use Rattle.py_scope_tree.proofs.ListedTables.{kind_alone, kinds_kept, table_listed}
 
--- lifts and looks leave a scope what it is, and the scope around it
+-- lifts and looks leave a scope what it is, and the enclosing scope
 lift_marks : (x : Lift) (h : Holds) (k : Name) (u : Row) → told_row (after_lift x h k u) ≡ told_row u
 lift_marks Stays h k u = refl
 lift_marks Through h k u = refl
@@ -39,9 +39,9 @@ look_marks Captures k u = refl
 
 lifts_mark : (base : List Row) (pairs : List (ℕ × Name)) (t : ℕ) (u : Row) → told_row (lifted_all base pairs t u) ≡ told_row u
 lifts_mark base [] t u = refl
-lifts_mark base (q ∷ qs) t u = lifts_mark base qs t (lift_effect base q t u) ∙ lift_marks (lift_of (stages base q.1) t (outward_from base q.0)) (lifted (stages base q.1) (outward_from base q.0)) q.1 u
+lifts_mark base (q ∷ qs) t u = lifts_mark base qs t (lift_effect base q t u) ∙ lift_marks (lift_of (stages base q.1) t (outward_from base q.0)) (lifted_holds (stages base q.1) (outward_from base q.0)) q.1 u
 
-looks_mark : (base : List Row) (pairs : List (ℕ × Name)) (t : ℕ) (u : Row) → told_row (settled base pairs t u) ≡ told_row u
+looks_mark : (base : List Row) (pairs : List (ℕ × Name)) (t : ℕ) (u : Row) → told_row (settled_row base pairs t u) ≡ told_row u
 looks_mark base [] t u = refl
 looks_mark base (q ∷ qs) t u = looks_mark base qs t (after (touch_by base q.0 q.1 t) q.1 u) ∙ look_marks (touch_by base q.0 q.1 t) q.1 u
 
@@ -52,15 +52,15 @@ each_mark f same j (r ∷ rs) = λ i. same j r i ∷ each_mark f same (suc j) rs
 resolved_marks : (rows : List Row) (order : List ℕ) → map told_row (settled_rows (lifted_rows rows order) order) ≡ map told_row rows
 resolved_marks rows order =
     let now = lifted_rows rows order in
-    each_mark (settled now (looks now order)) (looks_mark now (looks now order)) 0 now ∙ each_mark (lifted_all rows (lifts rows order)) (lifts_mark rows (lifts rows order)) 0 rows
+    each_mark (settled_row now (looks now order)) (looks_mark now (looks now order)) 0 now ∙ each_mark (lifted_all rows (lifts rows order)) (lifts_mark rows (lifts rows order)) 0 rows
 
--- the table of a whole tree with a grove in it
-table_kinds : (rows : List Row) (g : Grove) → map told_row rows ≡ map told (in_whole g) → map kind_in_table (entries_of (table_from rows)) ≡ map kind_of_owner (in_whole g)
+-- the table of a whole tree with a scope forest in it
+table_kinds : (rows : List Row) (g : Grove) → map told_row rows ≡ map told_node (in_whole g) → map kind_in_table (entries_of (table_from rows)) ≡ map kind_of_owner (in_whole g)
 table_kinds rows g e =
     let symbols = all_symbols rows 0 rows in
     let l = length-all_symbols rows 0 rows in
     let first = λ (t : Told × ℕ). t.0.kind in
-    table_listed kind_alone rows symbols g e l ∙ kinds_kept rows symbols l ∙ sym (map-map {C = SymbolTableType} first told_row rows) ∙ ap (map first) e ∙ map-map {C = SymbolTableType} first told (in_whole g)
+    table_listed kind_alone rows symbols g e l ∙ kinds_kept rows symbols l ∙ sym (map-map {C = SymbolTableType} first told_row rows) ∙ ap (map first) e ∙ map-map {C = SymbolTableType} first told_node (in_whole g)
 
 -- the scan is done where nothing is refused
 done_so : (o : Outcome) → tables.faults_of o ≡ [] → (s : State) × (o ≡ Done s)
@@ -94,7 +94,8 @@ table_so q os o s e c =
     order = order_of s.scopes
 
 -- of a tree whose scan ends so
-table_by : (t : tree.Mod) (m : Mode) (level : ℕ) (o : Outcome) (s : State) → faults t m level ≡ [] → o ≡ Done s → ScansTo t s → map kind_in_table (entries_of (tables.table_of o)) ≡ map kind_of_owner (owners_of t m)
+table_by : (t : tree.Mod) (m : Mode) (level : ℕ) (o : Outcome) (s : State) → faults t m level ≡ [] → o ≡ Done s → ScansTo t s
+    → map kind_in_table (entries_of (tables.table_of o)) ≡ map kind_of_owner (owners_of t m)
 table_by t m level o s h e z = let x = scan_came t m level s h z in table_so x.2.0 x.0 o s e x.2.1 ∙ ap (map kind_of_owner) (sym x.1)
 
 -- its scopes, where the scan is done so

@@ -7,11 +7,11 @@ use Rattle.py_scope.specs.declared.roles.Role.{Role}
 use Rattle.py_scope.specs.declared.rows.Row.{Row}
 use Rattle.py_scope.specs.declared.table_type.SymbolTableType.{SymbolTableType}
 use Rattle.py_scope.specs.Names.{Name}
-use Rattle.py_scope.specs.Scanned.{Scanned, changed, entered, entered_row, gone_out, inner, refused_here, used_in, with_use}
+use Rattle.py_scope.specs.Scanned.{Scanned, changed_at, entered_scan, entered_row, gone_out, inner, refused_here, used_in, with_use}
 use Rattle.py_scope.proofs.ScanCallLemmas.{length_push}
-use Rattle.py_name_uses.specs.Steps.{State, Outcome, Done, Refused, Step, ◌▸◌, go_on, in_class, inside, leave, nothing, noted, refuse, refuse_if, set_class, unless_postponed, unless_refused, use_name, when, with_scopes, written}
-use Rattle.py_scope_tree.specs.Owners.{Owner, Grove, Bare, Grown, ◌&◌, placed, size}
-use Rattle.py_scope_tree.specs.Entered.{Told, told, told_owner, told_row}
+use Rattle.py_name_uses.specs.Steps.{State, Outcome, Done, Refused, Step, ◌▸◌, go_on, in_class, inside, leave, nothing, noted_use, refuse, refuse_if, set_class, unless_postponed, unless_refused, use_name, when, with_scopes, written_name}
+use Rattle.py_scope_tree.specs.Owners.{Owner, Grove, Bare, Grown, ◌&◌, placed_owners, size}
+use Rattle.py_scope_tree.specs.Entered.{Told, told_node, told_owner, told_row}
 use Rattle.py_scope_tree.proofs.Groves.{parent_told}
 use Rattle.py_scope_tree.proofs.ScopeForestLemmas.{behind_others, beside_bare, length_placed, placed_beside}
 
@@ -19,11 +19,11 @@ use Rattle.py_scope_tree.proofs.ScopeForestLemmas.{behind_others, beside_bare, l
 abbrev pub told_in : State → List (Told × ℕ)
 told_in s = map told_row s.scopes.rows
 
--- what is told of a grove in the scope that is open, behind those that there are
+-- what is told of a scope forest in the scope that is open, after those that there are
 abbrev pub told_next : State → Grove → List (Told × ℕ)
-told_next s g = map told (placed s.scopes.current (length s.scopes.rows) g)
+told_next s g = map told_node (placed_owners s.scopes.current (length s.scopes.rows) g)
 
--- the scopes of these nodes came behind those that there were, in the open scope, which stays open, and annotations are postponed or not
+-- the scopes of these nodes came after those that there were, in the open scope, which stays open, and annotations are postponed or not
 pub record Came (q : Bool) (os : Grove) (s t : State) : Type 0 where
   pub rows : told_in t ≡ told_in s ++ told_next s os
   pub kept : t.postponed ≡ q
@@ -34,27 +34,27 @@ EndsEntering q os s (Done t) = Came q os s t
 EndsEntering q os s (Refused fault at) = Unit {0}
 
 -- a step that enters the scopes of these nodes, and before which and after which annotations are postponed or not
-pub record Leads (p q : Bool) (os : Grove) (f : Step) : Type 0 where
+pub record ScanEntryLeads (p q : Bool) (os : Grove) (f : Step) : Type 0 where
   pub ends : (s : State) → s.postponed ≡ p → EndsEntering q os s (f s)
 
 abbrev pub Enters : (p : Bool) → Grove → Step → Type 0
-Enters p os f = Leads p p os f
+Enters p os f = ScanEntryLeads p p os f
 
-pub leads_so : {p q : Bool} {os ps : Grove} {f : Step} → os ≡ ps → Leads p q os f → Leads p q ps f
-leads_so {p = p} {q = q} {f = f} e a = subst (λ xs. Leads p q xs f) e a
+pub leads_so : {p q : Bool} {os ps : Grove} {f : Step} → os ≡ ps → ScanEntryLeads p q os f → ScanEntryLeads p q ps f
+leads_so {p = p} {q = q} {f = f} e a = subst (λ xs. ScanEntryLeads p q xs f) e a
 
 -- how many scopes there are then
-longer : {q : Bool} {os : Grove} (s t : State) → Came q os s t → length t.scopes.rows ≡ length s.scopes.rows + size os
-longer {os = os} s t a =
-    let ps = placed s.scopes.current (length s.scopes.rows) os in
-    sym (length-map t.scopes.rows told_row) ∙ ap length a.rows ∙ length-append (told_in s) (map told ps)
-    ∙ (λ i. length-map s.scopes.rows told_row i + (length-map ps told ∙ length_placed s.scopes.current (length s.scopes.rows) os) i)
+scan_entry_longer : {q : Bool} {os : Grove} (s t : State) → Came q os s t → length t.scopes.rows ≡ length s.scopes.rows + size os
+scan_entry_longer {os = os} s t a =
+    let ps = placed_owners s.scopes.current (length s.scopes.rows) os in
+    sym (length-map t.scopes.rows told_row) ∙ ap length a.rows ∙ length-append (told_in s) (map told_node ps)
+    ∙ (λ i. length-map s.scopes.rows told_row i + (length-map ps told_node ∙ length_placed s.scopes.current (length s.scopes.rows) os) i)
 
 came_then : {q r : Bool} {os ps : Grove} (s t u : State) → Came q os s t → Came r ps t u → Came r (os & ps) s u
 came_then {os = os} {ps = ps} s t u a b = record {
   rows =
-      b.rows ∙ (λ i. a.rows i ++ map told (placed (a.current i) (longer s t a i) ps)) ∙ append_assoc (told_in s) (map told (placed c n os)) (map told (placed c (n + size os) ps))
-      ∙ ap (λ ts. told_in s ++ ts) (sym (ap (map told) (placed_beside c n os ps) ∙ map-append told (placed c n os) (placed c (n + size os) ps)));
+      b.rows ∙ (λ i. a.rows i ++ map told_node (placed_owners (a.current i) (scan_entry_longer s t a i) ps)) ∙ append_assoc (told_in s) (map told_node (placed_owners c n os)) (map told_node (placed_owners c (n + size os) ps))
+      ∙ ap (λ ts. told_in s ++ ts) (sym (ap (map told_node) (placed_beside c n os ps) ∙ map-append told_node (placed_owners c n os) (placed_owners c (n + size os) ps)));
   kept = b.kept;
   current = b.current ∙ a.current;
 }
@@ -66,7 +66,7 @@ came_then {os = os} {ps = ps} s t u a b = record {
     n = length s.scopes.rows
 
 -- one step and then another
-pub then_leads : {p q r : Bool} {os ps : Grove} {f g : Step} → Leads p q os f → Leads q r ps g → Leads p r (os & ps) (f ▸ g)
+pub then_leads : {p q r : Bool} {os ps : Grove} {f g : Step} → ScanEntryLeads p q os f → ScanEntryLeads q r ps g → ScanEntryLeads p r (os & ps) (f ▸ g)
 then_leads {q = q} {r = r} {os = os} {ps = ps} {f = f} {g = g} a b = record { ends = λ s h. go s (f s) (a.ends s h) }
   where
     next : (s t : State) → Came q os s t → (o : Outcome) → EndsEntering r ps t o → EndsEntering r (os & ps) s o
@@ -78,7 +78,7 @@ then_leads {q = q} {r = r} {os = os} {ps = ps} {f = f} {g = g} a b = record { en
     go s (Refused fault at) x = tt
 
 -- and then one that enters none
-pub last_leads : {p q r : Bool} {os : Grove} {f g : Step} → Leads p q os f → Leads q r Bare g → Leads p r os (f ▸ g)
+pub last_leads : {p q r : Bool} {os : Grove} {f g : Step} → ScanEntryLeads p q os f → ScanEntryLeads q r Bare g → ScanEntryLeads p r os (f ▸ g)
 last_leads {os = os} a b = leads_so (beside_bare os) (then_leads a b)
 
 -- the state has the same scopes, but for their entries
@@ -93,7 +93,7 @@ pub nothing_enters : {p : Bool} → Enters p Bare nothing
 nothing_enters = record { ends = λ s h. came_same s s refl h }
 
 -- what is refused enters whatever one says
-pub refuse_leads : {p q : Bool} {os : Grove} (r : Refusal) (at : SourceLocation) → Leads p q os (refuse r at)
+pub refuse_leads : {p q : Bool} {os : Grove} (r : Refusal) (at : SourceLocation) → ScanEntryLeads p q os (refuse r at)
 refuse_leads r at = record { ends = λ s h. tt }
 
 pub when_enters : {p : Bool} {f : Step} (b : Bool) → Enters p Bare f → Enters p Bare (when b f)
@@ -113,12 +113,12 @@ refuse_if_ends true r at s h = tt
 refuse_if_ends false r at s h = came_same s s refl h
 
 -- a use of a name changes the entries of a scope alone
-kept_changed : (n : Name) (r : Role) (k : ℕ) (rows : List Row) → map told_row (changed (used_in n r) k rows) ≡ map told_row rows
+kept_changed : (n : Name) (r : Role) (k : ℕ) (rows : List Row) → map told_row (changed_at (used_in n r) k rows) ≡ map told_row rows
 kept_changed n r k [] = refl
 kept_changed n r zero (x ∷ xs) = refl
 kept_changed n r (suc k) (x ∷ xs) = ap (λ ys. told_row x ∷ ys) (kept_changed n r k xs)
 
-noted_ends : {p : Bool} (r : Role) (n : Name) (at : SourceLocation) (s : State) → s.postponed ≡ p → EndsEntering p Bare s (noted r n at s)
+noted_ends : {p : Bool} (r : Role) (n : Name) (at : SourceLocation) (s : State) → s.postponed ≡ p → EndsEntering p Bare s (noted_use r n at s)
 noted_ends {p = p} r n at s h = go (refused_here s.scopes n r)
   where
     go : (o : Option Refusal) → EndsEntering p Bare s (go_on (unless_refused o at s) (λ t. Done (with_scopes (with_use t.scopes n r) t)))
@@ -126,7 +126,7 @@ noted_ends {p = p} r n at s h = go (refused_here s.scopes n r)
     go (Some x) = tt
 
 pub use_ends : {p : Bool} (r : Role) (n : Name) (at : SourceLocation) (s : State) → s.postponed ≡ p → EndsEntering p Bare s (use_name r n at s)
-use_ends r n at s h = noted_ends r (written s n) at s h
+use_ends r n at s h = noted_ends r (written_name s n) at s h
 
 pub use_enters : {p : Bool} (r : Role) (n : Name) (at : SourceLocation) → Enters p Bare (use_name r n at)
 use_enters r n at = record { ends = λ s h. use_ends r n at s h }
@@ -139,11 +139,11 @@ inside_enters {p = p} {os = os} {f = f} o kind n at e a = record { ends = λ s h
     row s = entered_row s.scopes.rows s.scopes.current kind n at.row
 
     within : State → State
-    within s = with_scopes (entered s.scopes kind n at.row) s
+    within s = with_scopes (entered_scan s.scopes kind n at.row) s
 
     left : (s t : State) → Came p os (within s) t → Came p (Grown o os Bare) s (with_scopes (gone_out t.scopes) t)
     left s t x = record {
-      rows = rows ∙ (λ i. told_in s ++ (sym e i, s.scopes.current) ∷ map told (placed number (length_push s.scopes.rows (row s) i) os)) ∙ ap (λ ps. told_in s ++ (told_owner o, s.scopes.current) ∷ map told ps) (sym (append-nil (placed number (suc number) os)));
+      rows = rows ∙ (λ i. told_in s ++ (sym e i, s.scopes.current) ∷ map told_node (placed_owners number (length_push s.scopes.rows (row s) i) os)) ∙ ap (λ ps. told_in s ++ (told_owner o, s.scopes.current) ∷ map told_node ps) (sym (append-nil (placed_owners number (suc number) os)));
       kept = x.kept;
       current =
           parent_told t.scopes.rows (told_in s ++ told_row (row s) ∷ more) (told_row (row s)) t.scopes.current rows
@@ -154,7 +154,7 @@ inside_enters {p = p} {os = os} {f = f} o kind n at e a = record { ends = λ s h
         number = length s.scopes.rows
 
         more : List (Told × ℕ)
-        more = map told (placed number (length (s.scopes.rows ++ row s ∷ [])) os)
+        more = map told_node (placed_owners number (length (s.scopes.rows ++ row s ∷ [])) os)
 
         rows : told_in t ≡ told_in s ++ told_row (row s) ∷ more
         rows = x.rows ∙ ap (λ ts. ts ++ more) (map-append told_row s.scopes.rows (row s ∷ [])) ∙ append_assoc (told_in s) (told_row (row s) ∷ []) more

@@ -1,4 +1,4 @@
--- No scope wants a cell that is not there: a name that a scope has from outside is a cell of the scope around it, or comes to that from outside in turn.
+-- No scope wants a cell that is not there: a free variable of a scope is a cell of the enclosing scope, or comes to that from outside in turn.
 use Rattle.std.specs.Prelude.{◌≡◌, ℕ, zero, suc, ◌<◌, Bool, true, List, [], ◌++◌, Some, length}
 use Rattle.std.specs.List.{list_any}
 use Rattle.py_tree.specs.Tree as tree
@@ -33,13 +33,13 @@ at_hand scopes k = cells_among (symbols_in scopes k) ++ frees_among (symbols_in 
 abbrev pub is_one_of : Name → List Name → Bool
 is_one_of x names = list_any (text_eq x) names
 
--- each name that a scope within a tree without faults has from outside is at hand in the scope around it, by the scopes that the scan has come to
+-- each name that a scope within a tree without faults has from outside is at hand in the enclosing scope, by the scopes that the scan has come to
 abbrev pub FreeNamesStand : Type 0
 FreeNamesStand =
     (t : tree.Mod) (m : Mode) (level : ℕ) (s : State) → faults t m level ≡ [] → ScansTo t s
     → (k : ℕ) → 0 < k → k < length s.scopes.rows → (x : Name) → is_one_of x (wanted_at (scopes_of t) k) ≡ true → is_one_of x (at_hand (scopes_of t) (parents s.scopes.rows k)) ≡ true
 
--- what a scope has from outside is at hand in the scope with this number, in which it stands, and so it is for those within it, down to n levels
+-- what is free in a scope is at hand in the scope with this number, in which it stands, and so it is for those within it, down to n levels
 abbrev pub StandUpTo : List ScopeEntry → (here n : ℕ) → Scope → Type 0
 StandUpTo scopes here zero s = Unit {0}
 StandUpTo scopes here (suc n) s = AllOf (λ x. is_one_of x (at_hand scopes here) ≡ true) (head_of s).free × AllOf (StandUpTo scopes (number_of s) n) (kids (form_of s))

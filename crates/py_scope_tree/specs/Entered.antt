@@ -22,7 +22,7 @@ pub record Told : Type 0 where
   pub name : Name
   pub line : ℕ
 
--- what a scan writes of a scope, and the number of the scope around it
+-- what a scan writes of a scope, and the number of the enclosing scope
 abbrev pub told_row : Row → Told × ℕ
 told_row r = (record { kind = r.kind; name = r.head.name; line = r.head.line_number }, r.parent)
 
@@ -64,8 +64,8 @@ told_owner (Own s) = told_own s
 told_owner (Hidden s) = told_hidden s
 
 -- and the number of the scope that the node stands in
-abbrev pub told : Placed → Told × ℕ
-told p = (told_owner p.owner, p.around)
+abbrev pub told_node : Placed → Told × ℕ
+told_node p = (told_owner p.owner, p.around)
 
 -- the scan of the tree is done in this state; the type of a function, which is no tree of a program, is not scanned
 abbrev pub ScansTo : tree.Mod → State → Type 0
@@ -80,7 +80,7 @@ FaultlessScansEnd = (t : tree.Mod) (m : Mode) (level : ℕ) → faults t m level
 
 -- a scan of a tree without faults enters the scopes of its nodes, in their order, each in the scope that its node stands in
 abbrev pub ScanEntersOwners : Type 0
-ScanEntersOwners = (t : tree.Mod) (m : Mode) (level : ℕ) (s : State) → faults t m level ≡ [] → ScansTo t s → map told_row s.scopes.rows ≡ map told (owners_of t m)
+ScanEntersOwners = (t : tree.Mod) (m : Mode) (level : ℕ) (s : State) → faults t m level ≡ [] → ScansTo t s → map told_row s.scopes.rows ≡ map told_node (owners_of t m)
 
 -- the kinds of scopes
 abbrev pub kind_in_table : ScopeEntry → SymbolTableType

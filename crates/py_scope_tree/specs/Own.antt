@@ -9,15 +9,15 @@ use Rattle.py_control.specs.Agree as scope
 use Rattle.py_control.specs.Form.{VConst, VForm, VMore, VNone, VSwap, SReturn, Scope, MkScope}
 use Rattle.py_bytecode.specs.Objects as const
 use Rattle.py_bytecode.specs.Values.{operation, Bare}
-use Rattle.py_emission_parts.specs.Within.{class_path, class_within, comprehension_inside, function_inside, handed, handed_parts, hidden_inside, lambda_inside}
+use Rattle.py_emission_parts.specs.Within.{class_path, class_within, comprehension_inside, function_inside, passed_defaults, handed_parts, hidden_inside, lambda_inside}
 use Rattle.py_emission_parts.specs.Context.{Context, head_of}
 use Rattle.py_emission.specs.Texts.{after_doc, doc_of}
 use Rattle.py_meaning.specs.Meaning.{body}
 use Rattle.py_meaning.specs.StmtParts.{class_value, function_value}
-use Rattle.py_emission.specs.Predicates.{annotated}
+use Rattle.py_emission.specs.Predicates.{any_annotates}
 use Rattle.py_meaning.specs.Table.{after, after_clauses, clause_forms, default_forms, expr_form}
 use Rattle.py_meaning.specs.TableParams.{after_hidden, own_number, params_form}
-use Rattle.py_meaning.specs.TableScopes.{class_form, default_flags, gathered, generated}
+use Rattle.py_meaning.specs.TableScopes.{class_form, default_flags, gather_form, generate_form}
 use Rattle.py_meaning.specs.TableStmts.{function_body, rest_form}
 use Rattle.py_scope_tree.specs.Owners.{Owner, Whole, Value, Own, Hidden, Placed}
 use Rattle.py_scope_tree.specs.StmtOwners.{owners_of}
@@ -26,31 +26,31 @@ use Rattle.py_scope_tree.specs.StmtOwners.{owners_of}
 abbrev pub number_of : Scope → ℕ
 number_of s = (scope.head_of s).number
 
--- the scope of a lambda or a comprehension, by what stands around it and by its number; no other expression has one
+-- the scope of a lambda or a comprehension, by its context and by its number; no other expression has one
 abbrev pub value_scope : Context → (number : ℕ) → tree.Expr → Option Scope
 value_scope c n (tree.Lambda at params e) = let i = lambda_inside c n in Some (MkScope (head_of i) (SReturn (expr_form i (suc n) e)))
 value_scope c n (tree.ListComp at elt gs) =
     let i = comprehension_inside c n in
-    Some (MkScope (head_of i) (gathered op.BuildList op.ListAppend (clause_forms i (suc n) gs) (VMore (expr_form i (after_clauses c (suc n) gs) elt) VNone)))
+    Some (MkScope (head_of i) (gather_form op.BuildList op.ListAppend (clause_forms i (suc n) gs) (VMore (expr_form i (after_clauses c (suc n) gs) elt) VNone)))
 value_scope c n (tree.SetComp at elt gs) =
     let i = comprehension_inside c n in
-    Some (MkScope (head_of i) (gathered op.BuildSet op.SetAdd (clause_forms i (suc n) gs) (VMore (expr_form i (after_clauses c (suc n) gs) elt) VNone)))
+    Some (MkScope (head_of i) (gather_form op.BuildSet op.SetAdd (clause_forms i (suc n) gs) (VMore (expr_form i (after_clauses c (suc n) gs) elt) VNone)))
 value_scope c n (tree.DictComp at key value gs) =
     let i = comprehension_inside c n in let m = after_clauses c (suc n) gs in
-    Some (MkScope (head_of i) (gathered op.BuildMap op.MapAdd (clause_forms i (suc n) gs) (VMore (expr_form i m key) (VMore (expr_form i (after c m key) value) VNone))))
+    Some (MkScope (head_of i) (gather_form op.BuildMap op.MapAdd (clause_forms i (suc n) gs) (VMore (expr_form i m key) (VMore (expr_form i (after c m key) value) VNone))))
 value_scope c n (tree.GeneratorExp at elt gs) =
     let i = comprehension_inside c n in
-    Some (MkScope (head_of i) (generated (clause_forms i (suc n) gs) (expr_form i (after_clauses c (suc n) gs) elt)))
+    Some (MkScope (head_of i) (generate_form (clause_forms i (suc n) gs) (expr_form i (after_clauses c (suc n) gs) elt)))
 value_scope c n other = None
 
--- the scope of a function, in which its statements are numbered from behind it
+-- the scope of a function, in which its statements are numbered from after it
 abbrev pub function_scope : Context → (number : ℕ) → (name : List ℕ) → tree.Stmts → Scope
 function_scope c n name body = let i = function_inside name c n in MkScope (head_of i) (function_body i (suc n) body)
 
 -- the scope of a class with this qualified name
 abbrev pub class_scope : Context → (path : List ℕ) → (number : ℕ) → (name : List ℕ) → tree.Stmts → Scope
 class_scope c path n name body =
-    let i = class_within path name c n in MkScope (head_of i) (class_form path (doc_of c.level body) (annotated (after_doc body)) (rest_form i (suc n) body))
+    let i = class_within path name c n in MkScope (head_of i) (class_form path (doc_of c.level body) (any_annotates (after_doc body)) (rest_form i (suc n) body))
 
 -- the scope of a function or a class; no other statement has one
 abbrev pub own_scope : Context → (path : List ℕ) → (number : ℕ) → tree.Stmt → Option Scope
@@ -58,15 +58,15 @@ own_scope c path n (tree.FunctionDef at name params body decorators returns gene
 own_scope c path n (tree.ClassDef at name bases ks body decorators generic) = Some (class_scope c path n name body)
 own_scope c path n other = None
 
--- a hidden scope returns what is made in it
+-- a type-parameter scope returns what is made in it
 abbrev pub hidden_scope_of : Context → (number : ℕ) → VForm → Scope
 hidden_scope_of c n f = MkScope (head_of (hidden_inside c n)) (SReturn f)
 
--- what a hidden scope returns: a function that gets its defaults from outside
+-- what a type-parameter scope returns: a function that gets its defaults from outside
 abbrev pub hidden_function : Context → (number : ℕ) → (name : List ℕ) → tree.Arguments → tree.Stmts → (returns : tree.OptExpr) → tree.TypeParams → VForm
 hidden_function c n name params body returns ts =
     let i = hidden_inside c n in let k = own_number c n ts in let d = default_forms c (after_hidden c n ts params body returns) params in
-    function_value i k (0x10 + default_flags d) (handed_parts (handed d.positional d.keyword) (VMore (params_form i (suc n) ts) VNone)) name params body returns (function_body (function_inside name i k) (suc k) body)
+    function_value i k (0x10 + default_flags d) (handed_parts (passed_defaults d.positional d.keyword) (VMore (params_form i (suc n) ts) VNone)) name params body returns (function_body (function_inside name i k) (suc k) body)
 
 -- or a class
 abbrev pub hidden_class : Context → (number : ℕ) → (name : List ℕ) → (bases : tree.Exprs) → tree.Keywords → tree.Stmts → tree.TypeParams → VForm

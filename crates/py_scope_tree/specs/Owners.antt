@@ -9,12 +9,12 @@ pub data Owner : Type 0 where
   Own : tree.Stmt → Owner
   Hidden : tree.Stmt → Owner
 
--- nodes that stand in one scope: the first, what stands within its own scope, and what comes behind it
+-- nodes that stand in one scope: the first, what stands within its own scope, and what comes after it
 pub data Grove : Type 0 where
   Bare : Grove
   Grown : Owner → (within behind : Grove) → Grove
 
--- one grove behind another
+-- one scope forest after another
 infixr 10 ◌&◌
 abbrev pub ◌&◌ : Grove → Grove → Grove
 Bare & h = h
@@ -30,12 +30,12 @@ pub record Placed : Type 0 where
   pub owner : Owner
   pub around : ℕ
 
--- they are listed in order: the grove stands in the scope with the number `here`, and `next` is the number of its first node
-abbrev pub placed : (here next : ℕ) → Grove → List Placed
-placed here n Bare = []
-placed here n (Grown o within behind) = record { owner = o; around = here } ∷ (placed n (suc n) within ++ placed here (suc n + size within) behind)
+-- they are listed in order: the scope forest stands in the scope with the number `here`, and `next` is the number of its first node
+abbrev pub placed_owners : (here next : ℕ) → Grove → List Placed
+placed_owners here n Bare = []
+placed_owners here n (Grown o within behind) = record { owner = o; around = here } ∷ (placed_owners n (suc n) within ++ placed_owners here (suc n + size within) behind)
 
--- groves one behind another
+-- scope forests one after another
 abbrev pub all_owners : List Grove → Grove
 all_owners [] = Bare
 all_owners (os ∷ rest) = os & all_owners rest

@@ -5,7 +5,7 @@ use Rattle.py_tree.specs.declared.modules.Mode.{Mode}
 use Rattle.py_tree.specs.declared.modules.Mode.TheVariants as mode
 use Rattle.py_emission.specs.Texts.{after_doc}
 use Rattle.py_emission.specs.Futures.{future_of, postpones}
-use Rattle.py_scope_tree.specs.Owners.{Owner, Whole, Own, Hidden, Grove, Bare, Grown, ◌&◌, Placed, placed, owners_in, owners_in_all, owners_in_annotation, owners_in_defaults, owners_in_keywords, owners_in_notes, owners_in_opt, owners_in_opt_arg, owners_in_returns}
+use Rattle.py_scope_tree.specs.Owners.{Owner, Whole, Own, Hidden, Grove, Bare, Grown, ◌&◌, Placed, placed_owners, owners_in, owners_in_all, owners_in_annotation, owners_in_defaults, owners_in_keywords, owners_in_notes, owners_in_opt, owners_in_opt_arg, owners_in_returns}
 
 -- the annotations of all parameters
 abbrev pub owners_in_all_notes : (postponed : Bool) → tree.Arguments → Grove
@@ -88,7 +88,7 @@ abbrev mutual
   owners_in_handlers p tree.no_handlers = Bare
   owners_in_handlers p (tree.more_handlers type name body rest) = owners_in_opt p type & (owners_in_stmts p body & owners_in_handlers p rest)
 
--- behind future imports, which postpone the annotations of what follows
+-- after future imports, which postpone the annotations of what follows
 abbrev pub owners_behind : (postponed : Bool) → tree.Stmts → Grove
 owners_behind p tree.no_stmts = Bare
 owners_behind p (tree.more_stmts s ss) = elim (future_of s) [
@@ -110,9 +110,9 @@ abbrev pub owners_entered : Mode → tree.Stmts → Grove
 owners_entered mode.Single ss = owners_at_prompt false ss
 owners_entered other ss = owners_behind false ss
 
--- the whole tree at place 0, as if it stood in itself, and behind it what stands in it
+-- the whole tree at place 0, as if it stood in itself, and after it what stands in it
 abbrev pub in_whole : Grove → List Placed
-in_whole g = record { owner = Whole; around = 0 } ∷ placed 0 1 g
+in_whole g = record { owner = Whole; around = 0 } ∷ placed_owners 0 1 g
 
 -- the nodes of a tree that have a scope
 abbrev pub owners_of : tree.Mod → Mode → List Placed

@@ -2,7 +2,7 @@
 ghost use Rattle.py_scope_tree.specs.Cells.{CellsStand, FreeNamesStand, ScopesStand, TablesFollow};
 
 /// No scope that the scan of a tree without faults enters wants a cell that is not there: each name that it has from outside
-/// is a cell of the scope around it, or comes to that scope from outside in turn.
+/// is a cell of the enclosing scope, or comes to that scope from outside in turn.
 pub fn free_names_stand()
     ensures { FreeNamesStand }
 {}

@@ -7,7 +7,7 @@ use Rattle.py_emission_parts.specs.Running.{Action, begin, on_done, run}
 use Rattle.py_emission.specs.ControlEmissions.{before_last, named_body, to_last}
 use Rattle.py_emission.specs.EmissionStmts.{emission_of_stmts}
 use Rattle.py_stmt_simple.specs.Parts.{emission_of_match}
-use Rattle.py_stmt_parts.specs.Parts.{handled}
+use Rattle.py_stmt_parts.specs.Parts.{handler_exit}
 
 -- one turn of a loop
 abbrev pub each_turn : (store body : Emission) → (start other end : ℕ) → Emission
@@ -18,16 +18,16 @@ abbrev pub each_ended : (orelse : Emission) → Emission
 each_ended orelse = emit op.PopBlock 0 ▸ orelse
 
 -- the body of a `try`, from which no exception comes
-abbrev pub guarded : (last : Bool) → (body : Emission) → (catch other end : ℕ) → Emission
-guarded last body catch other end = before_last last end ▸ jump op.SetupExcept catch ▸ body ▸ emit op.PopBlock 0 ▸ jump op.Jump other
+abbrev pub guarded_body : (last : Bool) → (body : Emission) → (catch other end : ℕ) → Emission
+guarded_body last body catch other end = before_last last end ▸ jump op.SetupExcept catch ▸ body ▸ emit op.PopBlock 0 ▸ jump op.Jump other
 
--- the else part, and the way into the last part
-abbrev pub unguarded : (last : Bool) → (orelse : Emission) → Emission
-unguarded last orelse = orelse ▸ to_last last
+-- the else part, and the way into the finally block
+abbrev pub unguarded_else : (last : Bool) → (orelse : Emission) → Emission
+unguarded_else last orelse = orelse ▸ to_last last
 
 -- one handler; the others follow in a block of their own
 abbrev pub one_handler : (last : Bool) → (end : ℕ) → (matches : (next : ℕ) → Emission) → (body : Emission) → Action
-one_handler last end matches body s = on_done (run (matches s.blocks ▸ body ▸ handled last end) (with_block s)) (begin s.blocks)
+one_handler last end matches body s = on_done (run (matches s.blocks ▸ body ▸ handler_exit last end) (with_block s)) (begin s.blocks)
 
 -- a handler without a type has no name
 abbrev pub emission_of_caught : (type : tree.OptExpr) → (name : Option (List ℕ)) → (body : Emission) → Emission

@@ -1,4 +1,4 @@
--- What is left to emit behind future imports.
+-- What is left to emit after future imports.
 use Rattle.std.specs.Prelude.{◌≡◌, ◌≢◌, ℕ, List, Bool, true, Result, Ok, Err, drop, if◌then◌else◌}
 use Rattle.py_base.specs.declared.location.LocatedError.{LocatedError}
 use Rattle.py_tree.specs.Tree as tree
@@ -19,12 +19,12 @@ use Rattle.py_stmt_parts.specs.declared.futures.Opening.{Opening}
 abbrev pub future : StmtImportFrom → Future
 future s = record { at = s.location; path = s.«module»; names = s.names; level = s.level }
 
--- what is done last behind statements: annotations are postponed or not, as they were before, where this has changed
+-- what is done last after statements: annotations are postponed or not, as they were before, where this has changed
 abbrev pub restored_state : (changed before : Bool) → State → State
 restored_state changed before t = if changed then with_postponed before t else t
 
-abbrev pub restored : (changed before : Bool) → Action
-restored changed before t = Done (restored_state changed before t)
+abbrev pub restore_postponed : (changed before : Bool) → Action
+restore_postponed changed before t = Done (restored_state changed before t)
 
 -- what may have changed else
 abbrev pub changed_rest : (changed : Bool) → Rest → Rest
@@ -46,13 +46,13 @@ pub record Entered (a : Emission) (postpones : Bool) (s r : State) (before after
 abbrev pub IsRefusing : LocatedError CodegenErrorType → Outcome → Type 0
 IsRefusing e o = e.error ≢ error.OutOfMemory → o ≡ Refused e.error e.location
 
--- what is emitted behind future imports goes on here, from the statements that are left
+-- what is emitted after future imports goes on here, from the statements that are left
 abbrev pub Leads : (before now : State) → List Stmt → (count : ℕ) → (postponed : Bool) → Type 0
-Leads s m all n c = (emission : tree.Stmts → Emission) → run (emission_behind emission (stmts stmt_tree all)) s ≡ on_done (run (emission_behind emission (stmts stmt_tree (drop n all))) m) (restored c s.around.context.postponed)
+Leads s m all n c = (emission : tree.Stmts → Emission) → run (emission_behind emission (stmts stmt_tree all)) s ≡ on_done (run (emission_behind emission (stmts stmt_tree (drop n all))) m) (restore_postponed c s.around.context.postponed)
 
 -- or it is refused
 abbrev pub Opens : Result Opening (LocatedError CodegenErrorType) → (before now : State) → List Stmt → Type 0
-Opens (Ok o) s m all = (emission : tree.Stmts → Emission) → run (emission_behind emission (stmts stmt_tree all)) s ≡ on_done (run (emission (stmts stmt_tree (drop o.count all))) m) (restored o.postponed s.around.context.postponed)
+Opens (Ok o) s m all = (emission : tree.Stmts → Emission) → run (emission_behind emission (stmts stmt_tree all)) s ≡ on_done (run (emission (stmts stmt_tree (drop o.count all))) m) (restore_postponed o.postponed s.around.context.postponed)
 Opens (Err x) s m all = (emission : tree.Stmts → Emission) → x.error ≢ error.OutOfMemory → run (emission_behind emission (stmts stmt_tree all)) s ≡ Refused x.error x.location
 
 -- no future import begins these statements

@@ -15,13 +15,13 @@ abbrev pub exit_called : Emission
 exit_called = emit op.WithCleanupStart 0 ▸ emit op.WithCleanupFinish 0
 
 -- the item that ends at a block is left
-abbrev pub left : SourceLocation → (end : ℕ) → Action
-left at end = run (before_exit at) ▹ begin end ▹ run exit_called
+abbrev pub item_exit : SourceLocation → (end : ℕ) → Action
+item_exit at end = run (before_exit at) ▹ begin end ▹ run exit_called
 
 -- the last item is left first
 abbrev pub left_all : SourceLocation → List BlockIdx → Action
 left_all at [] s = Done s
-left_all at (b ∷ bs) s = (left_all at bs ▹ left at b.0) s
+left_all at (b ∷ bs) s = (left_all at bs ▹ item_exit at b.0) s
 
 abbrev pub AreApart : ℕ → List BlockIdx → Type 0
 AreApart b [] = Unit {0}

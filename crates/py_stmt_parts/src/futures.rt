@@ -14,7 +14,7 @@ use py_emit::{Emitter, refuse};
 use py_name_uses::names::{is_future, names_annotations};
 use py_tree::{Alias, Stmt, StmtImportFrom};
 
-/// Where the statements begin that stand behind future imports, and whether one of these postpones annotations.
+/// Where the statements begin that stand after future imports, and whether one of these postpones annotations.
 #[derive(Clone, Copy)]
 pub struct Opening {
     /// How many statements stand before the others.
@@ -104,7 +104,7 @@ fn as_future(statement: &Stmt) -> Option<&StmtImportFrom>
 }
 
 /// Emits a future import, and answers whether it postpones the annotations of what follows.
-#[tactic(auto, using(crate::proofs::Steps::steps))]
+#[tactic(auto, using(crate::proofs::Steps::step_steps))]
 fn compile_future(em: &mut Emitter, s: &StmtImportFrom) -> Result<bool, CodegenError>
     ensures postpones { IfOk result (λ p. p ≡ names_annotations s.now.names) }
     ensures emits { Emits result (emission_of_future (future s.now)) em.old em.new }

@@ -22,6 +22,7 @@ params_there [] h = absurd (omega (arith, h))
 params_there (x ∷ xs) h = refl
 
 -- an alias with some
-pub alias_there : (name : List ℕ) (xs : List TypeParam) (e : tree.Expr) → 1 ≤ length xs → run (alias_value name (type_params xs) e) ≡ run (hidden_made 0 name (generic_alias name (emission_of_params (type_params xs)) (emission e)) ▸ emit_count op.CallFunctionPositional 0)
+pub alias_there : (name : List ℕ) (xs : List TypeParam) (e : tree.Expr) → 1 ≤ length xs
+    → run (alias_value name (type_params xs) e) ≡ run (hidden_made 0 name (generic_alias name (emission_of_params (type_params xs)) (emission e)) ▸ emit_count op.CallFunctionPositional 0)
 alias_there name [] e h = absurd (omega (arith, h))
 alias_there name (x ∷ xs) e h = refl

@@ -18,8 +18,8 @@ abbrev pub stored_at : tree.Expr → Emission
 stored_at t = move (tree.expr_location t) ▸ emission_of_store t
 
 -- an item is entered, and its value stored; a block is made for its end
-abbrev pub entered : SourceLocation → (item store : Emission) → Action
-entered at item store s = run (item ▸ move at ▸ jump op.SetupWith s.blocks ▸ store) (with_block s)
+abbrev pub item_entry : SourceLocation → (item store : Emission) → Action
+item_entry at item store s = run (item ▸ move at ▸ jump op.SetupWith s.blocks ▸ store) (with_block s)
 
 -- from one state to another the items are entered, which end at these blocks
 pub record AreEntered (at : SourceLocation) (items : tree.WithItems) (s r : State) (ends : List BlockIdx) : Type 0 where

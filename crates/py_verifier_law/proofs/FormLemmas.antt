@@ -4,17 +4,17 @@ use Rattle.std.specs.Prelude.{if◌then◌else◌, not, slice_get}
 use Rattle.std.specs.Option.{option_map}
 use Rattle.std.proofs.lemmas.Bool.{eq-eqb}
 use Rattle.py_bytecode.specs.Objects as obj
-use Rattle.py_bytecode.specs.Objects.{Const, Consts, Head, Object, code, head, listed}
+use Rattle.py_bytecode.specs.Objects.{Const, Consts, Head, Object, code, head, const_list}
 use Rattle.py_emission_parts.specs.Everywhere.{Everywhere}
 use Rattle.py_emission_proof.specs.Distinct.{AreApart, AreDistinct, HasDistinctNames}
 use Rattle.codegen.specs.Compiled.{IsLocated}
-use Rattle.py_verify.specs.Nested.{IsWithin, carried}
+use Rattle.py_verify.specs.Nested.{IsWithin, path_place}
 use Rattle.py_well_formed.specs.declared.fault.FormFault.{FormFault}
 use Rattle.py_well_formed.specs.declared.fault.FormFaultKind.{FormFaultKind}
 use Rattle.py_well_formed.specs.declared.fault.FormFaultKind.TheVariants as fault
 use Rattle.py_well_formed.specs.declared.fault.FormSpot.{FormSpot}
 use Rattle.py_well_formed.specs.declared.lines.Line.{Line}
-use Rattle.py_well_formed.specs.Conditions.{Condition, asked, at_unit, at_whole, cell_conditions, closure_conditions, first_of, first_unmet, free_count, function_conditions, line_conditions, line_fault, loaded, makes_function, own_fault, parameter_conditions, table_fault, unit_fault}
+use Rattle.py_well_formed.specs.Conditions.{Condition, condition, at_unit, at_whole, cell_conditions, closure_conditions, first_of, first_unmet, free_count, function_conditions, line_conditions, line_fault, loaded_const, makes_function, own_fault, parameter_conditions, table_fault, unit_fault}
 use Rattle.py_well_formed.specs.Lines.{before, lines_of}
 use Rattle.py_well_formed.specs.Tables.{repeats, shares}
 use Rattle.py_well_formed.specs.WellFormed.{at_path, fault_among, fault_in, first_fault, from}
@@ -51,7 +51,7 @@ abbrev IsOtherFault : Option FormFault → Type 0
 IsOtherFault found = IfSome found (λ f. IsOther f.kind)
 
 -- of parameters and locations
-by_parameters : (a b located : Bool) → located ≡ true → IfSome (first_unmet (asked a fault.PositionalOnly ∷ asked b fault.FewLocals ∷ asked located fault.Locations ∷ [])) IsOther
+by_parameters : (a b located : Bool) → located ≡ true → IfSome (first_unmet (condition a fault.PositionalOnly ∷ condition b fault.FewLocals ∷ condition located fault.Locations ∷ [])) IsOther
 by_parameters false b located e = refl
 by_parameters true false located e = refl
 by_parameters true true false e = absurd cc
@@ -59,7 +59,7 @@ by_parameters true true true e = tt
 
 -- of cells and free names
 by_cells : (a b cells free shared : Bool) → cells ≡ false → free ≡ false → shared ≡ false
-    → IfSome (first_unmet (asked a fault.CellEntries ∷ asked b fault.CellEntry ∷ asked (not cells) fault.RepeatedCell ∷ asked (not free) fault.RepeatedFree ∷ asked (not shared) fault.CellIsFree ∷ [])) IsOther
+    → IfSome (first_unmet (condition a fault.CellEntries ∷ condition b fault.CellEntry ∷ condition (not cells) fault.RepeatedCell ∷ condition (not free) fault.RepeatedFree ∷ condition (not shared) fault.CellIsFree ∷ [])) IsOther
 by_cells false b cells free shared e f g = refl
 by_cells true false cells free shared e f g = refl
 by_cells true true true free shared e f g = absurd cc
@@ -112,7 +112,7 @@ of_closure h lines i flags None = (refl, tt)
 of_closure h lines i flags (Some count) = (refl, (refl, tt))
 
 of_function : (makes : Bool) (h : Head) (cs : List Const) (lines : List Line) (i flags : ℕ) → AreOther (if makes then function_conditions h cs lines i flags else [])
-of_function true h cs lines i flags = (refl, of_closure h lines i flags (free_count (loaded cs (before lines i 2))))
+of_function true h cs lines i flags = (refl, of_closure h lines i flags (free_count (loaded_const cs (before lines i 2))))
 of_function false h cs lines i flags = tt
 
 by_lines : (h : Head) (cs : List Const) (lines : List Line) (i : ℕ) (rest : List Line) → IsOtherSpot (line_fault h cs lines i rest)
@@ -141,21 +141,21 @@ further : (path : List ℕ) (found : Option FormFault) → IsOtherFault found �
 further path None h = tt
 further path (Some found) h = h
 
-child : (h : Head) (cs : Consts) (i : ℕ) (d : Object) → PartsWithin (obj.object_of h cs) → slice_get (listed cs) i ≡ Some (code d) → PartsWithin d
-child h cs i d parts s c q = parts c (carried i ∷ q.0, (i, d, s, refl, q.1))
+child : (h : Head) (cs : Consts) (i : ℕ) (d : Object) → PartsWithin (obj.object_of h cs) → slice_get (const_list cs) i ≡ Some (code d) → PartsWithin d
+child h cs i d parts s c q = parts c (path_place i ∷ q.0, (i, d, s, refl, q.1))
 
 mutual
   by_object : (o : Object) → PartsWithin o → IsOtherFault (first_fault o)
   by_object (obj.object_of h cs) parts =
-      first_found (option_map (at_path []) (own_fault h (listed cs))) (fault_among 0 cs)
-      (along [] (own_fault h (listed cs)) (by_own (obj.object_of h cs) (listed cs) (parts (obj.object_of h cs) ([], refl))))
+      first_found (option_map (at_path []) (own_fault h (const_list cs))) (fault_among 0 cs)
+      (along [] (own_fault h (const_list cs)) (by_own (obj.object_of h cs) (const_list cs) (parts (obj.object_of h cs) ([], refl))))
       (by_constants 0 cs (λ i d s. child h cs i d parts s))
 
-  by_constants : (place : ℕ) (cs : Consts) → ((i : ℕ) (d : Object) → slice_get (listed cs) i ≡ Some (code d) → PartsWithin d) → IsOtherFault (fault_among place cs)
+  by_constants : (place : ℕ) (cs : Consts) → ((i : ℕ) (d : Object) → slice_get (const_list cs) i ≡ Some (code d) → PartsWithin d) → IsOtherFault (fault_among place cs)
   by_constants place obj.no_consts parts = tt
   by_constants place (obj.more_consts c cs) parts =
-      first_found (option_map (from (carried place ∷ [])) (fault_in c)) (fault_among (suc place) cs)
-      (further (carried place ∷ []) (fault_in c) (by_constant c (λ d e. parts zero d (ap Some e))))
+      first_found (option_map (from (path_place place ∷ [])) (fault_in c)) (fault_among (suc place) cs)
+      (further (path_place place ∷ []) (fault_in c) (by_constant c (λ d e. parts zero d (ap Some e))))
       (by_constants (suc place) cs (λ i d s. parts (suc i) d s))
 
   by_constant : (c : Const) → ((d : Object) → c ≡ code d → PartsWithin d) → IsOtherFault (fault_in c)

@@ -4,7 +4,7 @@ ghost use Rattle.py_verifier_law.specs.Formed.{CompiledIsFormedInPart};
 
 use py_verify::laws::flawless_is_sound;
 
-/// A code that a compile call answers has no flaw, so `verify` answers Yes, or that there is no memory.
+/// A code that a compile call answers has no verification error, so `verify` answers Yes, or that there is no memory.
 pub fn compiled_is_flawless()
     ensures { CompiledIsFlawless }
 {

@@ -1,4 +1,4 @@
-//! The law of the verifier: a code that a compile call answers has no flaw.
+//! The law of the verifier: a code that a compile call answers has no verification error.
 #![tactic(auto)]
 
 mod laws;

@@ -6,8 +6,8 @@ use Rattle.py_devices.specs.Memory.{Shelf}
 use Rattle.py_run.specs.declared.report.Status.{Status}
 use Rattle.py_run.specs.declared.report.Status.TheVariants as status
 use Rattle.py_run.specs.declared.report.Report.{Report}
-use Rattle.py_run.specs.Runs.{ErrGets, FitsForm, IsDue, IsOfForm, Line, OutGets, ReadCause, Reports, line_of, side, side_of, text_by, text_of, written, line_for}
-use Rattle.py_run.specs.Statuses.{Due, IsCodeOf, Misuse, answered, due, due_by, due_of}
+use Rattle.py_run.specs.Runs.{ErrGets, FitsForm, IsDue, IsOfForm, Line, OutGets, ReadCause, Reports, line_of, side, side_of, text_by, text_of, written_sides, line_for}
+use Rattle.py_run.specs.Statuses.{Due, IsCodeOf, Misuse, due_answer, due, due_by, due_of}
 use Rattle.py_run.specs.Words.{Command, Compile, Pack, Step, Unpack, Names, Sample, words_form}
 use Rattle.pyc_c.specs.Runs.{IsOffered, IsRun, Writes, empty_shelf, written_with}
 use Rattle.pyc_c.proofs.Written.{TextRoom, fits_words, long_writes, run_writes}
@@ -20,10 +20,11 @@ pub record Ran (words : List (List ℕ)) (rows : List ℕ) (r : Report) (old_out
   pub reported : Reports r.status (words_form words) r.code
   pub code : IfSome r.code (λ c. IfSome (due_of words (Some rows)) (λ d. IsCodeOf d c))
   pub kind : IfSome r.code (λ c. IsOfForm (words_form words) (object c))
-  pub out : OutGets (written words (Some rows) r) r.status (text_of words (Some rows) r.code) (Some old_out.held) (Some new_out.held)
-  pub err : ErrGets (written words (Some rows) r) r.status (line_of words (Some rows)) (Some old_err.held) (Some new_err.held)
-  pub room : TextRoom (written words (Some rows) r) r.status (text_of words (Some rows) r.code) old_out.room old_out.faults new_out.faults
-  pub line_room : written words (Some rows) r ≡ Line → IfSome (line_of words (Some rows)) (λ line. length line ≤ old_err.room → (r.status ≢ status.WriteFault) × (new_err.faults ≡ old_err.faults))
+  pub out : OutGets (written_sides words (Some rows) r) r.status (text_of words (Some rows) r.code) (Some old_out.held) (Some new_out.held)
+  pub err : ErrGets (written_sides words (Some rows) r) r.status (line_of words (Some rows)) (Some old_err.held) (Some new_err.held)
+  pub room : TextRoom (written_sides words (Some rows) r) r.status (text_of words (Some rows) r.code) old_out.room old_out.faults new_out.faults
+  pub line_room : written_sides words (Some rows) r ≡ Line
+      → IfSome (line_of words (Some rows)) (λ line. length line ≤ old_err.room → (r.status ≢ status.WriteFault) × (new_err.faults ≡ old_err.faults))
 
 -- something is due for all words over rows
 pub when_due : (P : Due → Type 0) (form : Option Command) (rows : List ℕ) → ((d : Due) → P d) → IfSome (due_by form (Some rows)) P
@@ -33,7 +34,7 @@ when_due P (Some (Pack c)) rows f = f (due (Pack c) rows)
 when_due P (Some Unpack) rows f = f (due Unpack rows)
 when_due P (Some Names) rows f = f (due Names rows)
 when_due P (Some (Step c script)) rows f = f (due (Step c script) rows)
-when_due P (Some (Sample count level)) rows f = f (answered (Sample count level) [])
+when_due P (Some (Sample count level)) rows f = f (due_answer (Sample count level) [])
 
 pub also_due : (P Q : Due → Type 0) (form : Option Command) (rows : List ℕ) → ((d : Due) → P d → Q d) → IfSome (due_by form (Some rows)) P → IfSome (due_by form (Some rows)) Q
 also_due P Q None rows f p = f Misuse p
@@ -42,7 +43,7 @@ also_due P Q (Some (Pack c)) rows f p = f (due (Pack c) rows) p
 also_due P Q (Some Unpack) rows f p = f (due Unpack rows) p
 also_due P Q (Some Names) rows f p = f (due Names rows) p
 also_due P Q (Some (Step c script)) rows f p = f (due (Step c script) rows) p
-also_due P Q (Some (Sample count level)) rows f p = f (answered (Sample count level) []) p
+also_due P Q (Some (Sample count level)) rows f p = f (due_answer (Sample count level) []) p
 
 -- what is written, of a run with this code
 writes_due :

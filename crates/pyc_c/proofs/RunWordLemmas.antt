@@ -20,12 +20,12 @@ same_words : (output : ℕ) (m l p m2 l2 p2 : List ℕ) → m ≡ m2 → l ≡ l
 same_words output m l p m2 l2 p2 first second third = rw (first, second, third) refl
 
 -- words that were made, or no memory for them
-pub made : {E : Type 0} (made_of : Result (List (List ℕ)) E) (m l p : List ℕ) (output mode level : ℕ) (path : List ℕ)
+pub run_word_made : {E : Type 0} (made_of : Result (List (List ℕ)) E) (m l p : List ℕ) (output mode level : ℕ) (path : List ℕ)
     → IfOk made_of (λ words. words ≡ asked_words output m l p) → m ≡ mode_word mode → l ≡ level_word level → p ≡ path → IsUtf8 path
     → IfOk made_of (λ words. words ≡ words_of output mode level path)
-made (Ok words) m l p output mode level path is first second third utf8 =
+run_word_made (Ok words) m l p output mode level path is first second third utf8 =
     is ∙ (same_words output m l p (mode_word mode) (level_word level) path first second third ∙ sym (with_text output mode level path utf8))
-made (Err e) m l p output mode level path is first second third utf8 = tt
+run_word_made (Err e) m l p output mode level path is first second third utf8 = tt
 
 asks_by : (c : Option Compilation) → IsOffered (option_map Compile c)
 asks_by (Some c) = tt

@@ -21,7 +21,7 @@ kind_number FlawKind.HeightOutside = 5
 kind_number FlawKind.UnevenHeights = 6
 kind_number FlawKind.BlockMismatch = 7
 
--- the flaw holds in the code or in one within it, and is one of a limit where there is any
+-- the verification error holds in the code or in one within it, and is one of a limit where there is any
 abbrev pub IsFlawOf : Object → Flaw → Type 0
 IsFlawOf o flaw = Holds o flaw.path flaw.unit flaw.kind × (is_limit flaw.kind ≡ false → WithinLimits o)
 
@@ -29,28 +29,28 @@ IsFlawOf o flaw = Holds o flaw.path flaw.unit flaw.kind × (is_limit flaw.kind �
 abbrev pub IsNoFile : (file : List ℕ) → (offset : ℕ) → Type 0
 IsNoFile file offset = (e : ReadCodeError) × (file_at file ≡ Err e) × (offset ≡ bad_at e) × ((o : Object) → ¬ Spells file o)
 
--- a flaw as C gets it: its path stands at the front of the places, and the rest is as it was
+-- a verification error as C gets it: its path stands at the front of the places, and the rest is as it was
 pub record Tells (flaw : Flaw) (count unit kind : ℕ) (before after : List ℕ) : Type 0 where
   pub counted : count ≡ length flaw.path
   pub put : after ≡ flaw.path ++ drop count before
   pub unit_is : unit ≡ flaw.unit
   pub kind_is : kind ≡ kind_number flaw.kind
 
--- C gets no flaw
+-- C gets no verification error
 pub record TellsNone (count unit kind : ℕ) (before after : List ℕ) : Type 0 where
   pub uncounted : count ≡ 0
   pub unit_is : unit ≡ 0
   pub kind_is : kind ≡ 0
   pub same : after ≡ before
 
--- the flaw is told, or its path is longer than the room
+-- the verification error is told, or its path is longer than the room
 abbrev pub IsTold : Flaw → Status → (count unit kind offset : ℕ) → (before after : List ℕ) → Type 0
 IsTold flaw status.Refused count unit kind offset before after = Tells flaw count unit kind before after × (offset ≡ 0)
 IsTold flaw status.WriteFault count unit kind offset before after =
     (length before < length flaw.path) × TellsNone count unit kind before after × (offset ≡ 0)
 IsTold flaw s count unit kind offset before after = ⊥
 
--- the verdict on a code: Done exactly where it has no flaw, else a flaw
+-- the verdict on a code: Done exactly where it has no verification error, else a verification error
 abbrev pub IsJudgedCode : Object → Status → (count unit kind offset : ℕ) → (before after : List ℕ) → Type 0
 IsJudgedCode o status.Done count unit kind offset before after =
     Flawless o × NeverWrong o × TellsNone count unit kind before after × (offset ≡ 0)

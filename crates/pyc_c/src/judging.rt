@@ -15,7 +15,7 @@ use std::alloc::Global;
 #[derive(Clone, Copy)]
 pub struct Judgement {
     pub status: Status,
-    /// How many places among constants lead to the code with the flaw.
+    /// How many places among constants lead to the code with the verification error.
     pub count: usize,
     pub unit: u32,
     pub kind: u32,
@@ -23,7 +23,7 @@ pub struct Judgement {
     pub offset: u64,
 }
 
-/// Whether the code that the bytes spell may be run. Where it has a flaw, the places that lead to it stand at the front
+/// Whether the code that the bytes spell may be run. Where it has a verification error, the places that lead to it stand at the front
 /// of `places`.
 pub fn judged(alloc: Global, file: &[u8], places: &mut [u32]) -> Judgement
     ensures is { IsJudged file.now result.status result.count result.unit result.kind result.offset places.old places.new }
@@ -47,7 +47,7 @@ fn judged_code(alloc: Global, code: &CodeObject, places: &mut [u32]) -> Judgemen
     }
 }
 
-/// A verdict that names no flaw.
+/// A verdict that names no verification error.
 fn ending(status: Status, offset: u64) -> Judgement
     ensures { result ≡ record { status = status; count = 0; unit = 0; kind = 0; offset = offset } }
 {
@@ -60,7 +60,7 @@ fn ending(status: Status, offset: u64) -> Judgement
     }
 }
 
-/// A flaw, or that its path has no room.
+/// A verification error, or that its path has no room.
 fn told(flaw: &Flaw, places: &mut [u32]) -> Judgement
     ensures is { IsTold flaw.now result.status result.count result.unit result.kind result.offset places.old places.new }
     ensures within { result.count ≤ length places.old }

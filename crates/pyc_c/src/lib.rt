@@ -48,10 +48,10 @@ pub extern "C" fn pyc_run(
     number_of(status_of(alloc, output, mode, level, path, input, text, count))
 }
 
-/// Says whether the code that a file holds may be run. The answer is the number of a status: 0 for yes, 1 for a flaw, 3
-/// where the bytes are no file of code, 5 where the path of the flaw has no room, 6 for want of memory.
+/// Says whether the code that a file holds may be run. The answer is the number of a status: 0 for yes, 1 for a verification error, 3
+/// where the bytes are no file of code, 5 where the path of the verification error has no room, 6 as memory runs out.
 ///
-/// With 1 the path, the places among constants that lead from the outermost code to the one with the flaw, stands at the
+/// With 1 the path, the places among constants that lead from the outermost code to the one with the verification error, stands at the
 /// front of `places`, and `count` is set to how many they are, `unit` to the unit, `kind` to the number of the kind. With
 /// 3 `offset` is set to where the first bad field begins, in bytes. What the answer says nothing of is set to 0.
 ///
@@ -80,7 +80,7 @@ pub extern "C" fn pyc_judge(
 
 /// Tells the run over a script of a code in a file line by line: the text is its lines, or the line that says why there are
 /// none. `count` is set to how many bytes that is. The answer is the number of a status: 0 for the lines, 2 where the bytes
-/// are no script, 3 for the line, 5 where the text has no room, 6 for want of memory. With 2, 5 and 6 nothing is written.
+/// are no script, 3 for the line, 5 where the text has no room, 6 as memory runs out. With 2, 5 and 6 nothing is written.
 ///
 /// The places, each among the constants of the code before, lead from the outermost code to the one that is run. The code
 /// need not verify.

@@ -3,8 +3,8 @@
 use py_base::{List, Text};
 use std::alloc::{AllocError, Global};
 
-/// The bytes that this input spells: the text behind `text`, or behind `hex` words of hexadecimal digits, with `*` and a
-/// number behind those that stand there so often. None where it is spelled otherwise.
+/// The bytes that this input spells: the text after `text`, or after `hex` words of hexadecimal digits, with `*` and a
+/// number after those that stand there so often. None where it is spelled otherwise.
 pub fn bytes_of(alloc: Global, input: &str) -> Result<Option<List<u8>>, AllocError> {
     match input.split_once(' ') {
         Some(("text", text)) => {

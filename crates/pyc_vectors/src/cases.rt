@@ -97,7 +97,7 @@ fn devices_of(words: &str) -> Option<Devices> {
     }
 }
 
-/// The pieces that two numbers tell, and what stands behind them.
+/// The pieces that two numbers tell, and what stands after them.
 fn piecewise(words: &str) -> Option<(Piecewise, &str)> {
     let (size, rest) = number(words)?;
     let (failing, rest) = number(rest)?;

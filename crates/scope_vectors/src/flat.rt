@@ -22,12 +22,12 @@ fn next_of<L: Ledger>(scopes: &FlatScopes, blank: Blank, i: usize) -> Option<usi
     }
 }
 
-/// The number behind a scope. None where the table does not have the scope.
+/// The number after a scope. None where the table does not have the scope.
 fn next_at(scopes: &FlatScopes, i: usize) -> Option<usize> {
     next_of::<Brand>(scopes, Blank::new(1), i)
 }
 
-/// The numbers behind the scopes of a table, and of one scope that it does not have.
+/// The numbers after the scopes of a table, and of one scope that it does not have.
 pub fn nexts(alloc: Global, table: SymbolTable) -> Result<String, AllocError> {
     let scopes = FlatScopes::from_table(alloc, table)?;
     let mut line = String::from_str(alloc, "next")?;

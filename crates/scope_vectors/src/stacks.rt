@@ -37,7 +37,7 @@ fn write_eight(stack: &mut StackStack<u32>)
 }
 
 /// What four calls over a stack answer which is lent with this value on top, each with the value that is taken back, and the
-/// stack behind them.
+/// stack after them.
 pub fn lent(alloc: Global, word: &str) -> Result<String, AllocError> {
     let Ok(value) = word.parse::<u32>() else {
         return String::from_str(alloc, "no number");

@@ -40,7 +40,7 @@ fn scope_of(table: &SymbolTable, name: &str) -> Option<SymbolScope> {
     }
 }
 
-/// What f and x are in the table, x in the scope within and in the one within that, and a copy of the first symbol.
+/// What f and x are in the table, x in the nested scope and in the one within that, and a copy of the first symbol.
 pub fn found(alloc: Global, table: &SymbolTable) -> Result<String, AllocError> {
     let Some(function) = table.sub_tables.get(0) else {
         return String::from_str(alloc, "no scope within");

@@ -15,17 +15,17 @@ use Rattle.py_bytecode.specs.Values.{Usage, Load, Store, Delete, Kind, Unsaid, F
 use Rattle.py_control.specs.Form.{Resolved}
 use Rattle.py_base.specs.declared.errors.CodegenErrorType.{CodegenErrorType}
 use Rattle.py_base.specs.declared.errors.CodegenErrorType.TheVariants as error
-use Rattle.py_emission_parts.specs.Accesses.{access_by, accessed, emission_of_deleted, emission_of_name, emission_of_stored}
+use Rattle.py_emission_parts.specs.Accesses.{access_by, name_access, emission_of_deleted, emission_of_name, emission_of_stored}
 use Rattle.py_emission_parts.specs.Children.{child, load_cell}
 use Rattle.py_emission_parts.specs.Running.{run}
-use Rattle.py_emission_parts.proofs.EmissionLawLemmas.{Holds}
+use Rattle.py_emission_parts.proofs.EmissionLawLemmas.{EmissionLawHolds}
 use Rattle.py_emission_parts.proofs.ConstantLawLemmas.{All, Asks, stays_good}
 use Rattle.py_emission_parts.specs.Within.{Shape}
-use Rattle.py_emission_parts.specs.Context.{Context, access_kind, cell_place, is_function, mangled}
-use Rattle.py_emission_parts.specs.Emitting.{State, Outcome, Emission, LoopBlocks, ◌▸◌, add_constant, add_varname, by_context, by_level, by_loops, emit, emit_constant, emit_count, emit_mangled, emit_name, emit_varname, generating, in_loop, jump, keep, move, one_block, pass_over, postponing, refuse, three_blocks, two_blocks}
+use Rattle.py_emission_parts.specs.Context.{Context, access_kind, cell_place, is_function, mangled_by}
+use Rattle.py_emission_parts.specs.Emitting.{State, Outcome, Emission, LoopBlocks, ◌▸◌, add_constant, add_varname, by_context, by_level, by_loops, emit, emit_constant, emit_count, emit_mangled, emit_name, emit_varname, generator_mark, in_loop, jump, keep, move, one_block, pass_over, postponed_part, refuse, three_blocks, two_blocks}
 use Rattle.py_emission_parts.specs.EmissionParts.{emission_of_comparison, emission_of_link, only_in_function, pass_scopes, unless_debug}
 use Rattle.py_emission_parts.specs.Refused.{no_assignment, no_deletion}
-use Rattle.py_emission_parts.specs.Sealed.{Head, sealed}
+use Rattle.py_emission_parts.specs.Sealed.{Head, assembled_object}
 use Rattle.py_emission_parts.specs.TableParts.{debug_constant, is_debug}
 
 -- each of them nests so deep at most
@@ -42,7 +42,7 @@ deepest k (c ∷ cs) h =
 
 -- nothing is asked where nothing is done
 abbrev pub DoneNests : ℕ → Outcome → Type 0
-DoneNests k = Holds (λ s. AllNest k s.constants)
+DoneNests k = EmissionLawHolds (λ s. AllNest k s.constants)
 
 -- the constants that it names nest so deep at most, and its code objects as those of scopes whose constants do
 pub record Nests (k : ℕ) (a : Emission) : Type 0 where
@@ -98,16 +98,16 @@ text_nests i x = constant_nests i (const.str x) (omega arith)
 pub none_nests : {k : ℕ} (i : Instruction) → Nests k (emit_constant i const.none)
 none_nests i = constant_nests i const.none (omega arith)
 
-pub varname_added : {k : ℕ} (x : List ℕ) → Nests k (add_varname x)
+pub nest_varname_added : {k : ℕ} (x : List ℕ) → Nests k (add_varname x)
 unfolding add_varname
-varname_added x = record { nests = tt }
+nest_varname_added x = record { nests = tt }
 
 pub none_added : {k : ℕ} → Nests k (add_constant const.none)
 unfolding add_constant
 none_added = record { nests = omega arith }
 
-pub generating_nests : {k : ℕ} → Nests k generating
-unfolding generating
+pub generating_nests : {k : ℕ} → Nests k generator_mark
+unfolding generator_mark
 generating_nests = record { nests = tt }
 
 pub move_nests : {k : ℕ} (at : SourceLocation) → Nests k (move at)
@@ -127,7 +127,8 @@ pub two_nest : {k : ℕ} {f g h : ℕ → ℕ → Emission} → ((b c : ℕ) →
 unfolding two_blocks
 two_nest x y z = record { nests = (λ n m. (x n m).nests, λ n m. (y n m).nests, λ n m. (z n m).nests) }
 
-pub three_nest : {k : ℕ} {f g h i : ℕ → ℕ → ℕ → Emission} → ((b c d : ℕ) → Nests k (f b c d)) → ((b c d : ℕ) → Nests k (g b c d)) → ((b c d : ℕ) → Nests k (h b c d)) → ((b c d : ℕ) → Nests k (i b c d)) → Nests k (three_blocks f g h i)
+pub three_nest : {k : ℕ} {f g h i : ℕ → ℕ → ℕ → Emission} → ((b c d : ℕ) → Nests k (f b c d)) → ((b c d : ℕ) → Nests k (g b c d))
+    → ((b c d : ℕ) → Nests k (h b c d)) → ((b c d : ℕ) → Nests k (i b c d)) → Nests k (three_blocks f g h i)
 unfolding three_blocks
 three_nest x y z w = record { nests = (λ n m l. (x n m l).nests, λ n m l. (y n m l).nests, λ n m l. (z n m l).nests, λ n m l. (w n m l).nests) }
 
@@ -148,8 +149,8 @@ pub loop_nests : {k : ℕ} {a : Emission} (x : LoopBlocks) → Nests k a → Nes
 unfolding in_loop
 loop_nests x y = record { nests = y.nests }
 
-pub postponing_nests : {k : ℕ} {a : Emission} → Nests k a → Nests k (postponing a)
-unfolding postponing
+pub postponing_nests : {k : ℕ} {a : Emission} → Nests k a → Nests k (postponed_part a)
+unfolding postponed_part
 postponing_nests y = record { nests = y.nests }
 
 pub scopes_nest : {k : ℕ} (count : (postponed : Bool) → ℕ) → Nests k (pass_scopes count)
@@ -183,9 +184,9 @@ access_nests Delete Global x n = name_nests op.DeleteGlobal x
 access_nests Delete Deref x n = emit_nests op.DeleteDeref n
 access_nests Delete ClassDeref x n = emit_nests op.DeleteDeref n
 
-pub accessed_nests : {k : ℕ} (u : Usage) (x : List ℕ) → Nests k (accessed u x)
-unfolding accessed
-accessed_nests u x = context_nests (λ c. let y = mangled c x in access_nests u (access_kind c u Resolved y) y (cell_place c y))
+pub accessed_nests : {k : ℕ} (u : Usage) (x : List ℕ) → Nests k (name_access u x)
+unfolding name_access
+accessed_nests u x = context_nests (λ c. let y = mangled_by c x in access_nests u (access_kind c u Resolved y) y (cell_place c y))
 
 pub stored_nests : {k : ℕ} (x : List ℕ) → Nests k (emission_of_stored x)
 stored_nests x = unless_debug_nests no_assignment x (accessed_nests Store x)
@@ -221,12 +222,13 @@ unfolding load_cell
 cell_nests x = context_nests (λ c. if_nests (list_any (text_eq x) (c.cells ++ c.frees)) (emit_nests op.LoadClosure (cell_place c x)) (refuse_nests error.MissingCell))
 
 -- a code object nests one deeper than its constants
-sealed_nests : (j level : ℕ) (h : Head) (s : State) → AllNest j s.constants → nesting (sealed level h s) ≤ j + 1
-unfolding sealed
+sealed_nests : (j level : ℕ) (h : Head) (s : State) → AllNest j s.constants → nesting (assembled_object level h s) ≤ j + 1
+unfolding assembled_object
 sealed_nests j level h s x = let d = deepest j s.constants x in omega (arith, d)
 
--- a scope within, whose constants nest so deep at most
-pub child_nests : {k : ℕ} {body : Emission} {follow : Object → Emission} (j : ℕ) (within : Context → ℕ → Context) (h : Shape) → Nests j body → ((o : Object) → nesting o ≤ j + 1 → Nests k (follow o)) → Nests k (child within h body follow)
+-- a nested scope, whose constants nest so deep at most
+pub child_nests : {k : ℕ} {body : Emission} {follow : Object → Emission} (j : ℕ) (within : Context → ℕ → Context) (h : Shape) → Nests j body
+    → ((o : Object) → nesting o ≤ j + 1 → Nests k (follow o)) → Nests k (child within h body follow)
 unfolding child
 child_nests j within h x y = record {
   nests = (j, x.nests, λ o l. (y o l).nests);

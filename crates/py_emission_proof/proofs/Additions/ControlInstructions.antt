@@ -1,4 +1,4 @@
--- The instructions of iterations, handlers, last parts, `with` items and raises that an emission adds.
+-- The instructions of iterations, handlers, finally blocks, `with` items and raises that an emission adds.
 use Rattle.std.proofs.Common.{ℕ, List, Some, None, refl}
 use Rattle.py_bytecode.specs.declared.instruction.Instruction.TheVariants as op
 use Rattle.py_bytecode.specs.Values.{Global, Load, operation, Bare, Number, match_exception}
@@ -14,7 +14,7 @@ iterator_adds = emit_adds op.GetIter 0 (Operate (operation op.GetIter Bare) 1 (S
 pub for_iter_adds : JumpAdds (jump op.ForIter) ForIter
 for_iter_adds b = jump_adds op.ForIter b (ForIter b) (refl, refl) refl (λ d t. refl)
 
--- what enters and leaves a body that has handlers or a last part
+-- what enters and leaves a body that has handlers or a finally block
 pub setup_except_adds : JumpAdds (jump op.SetupExcept) SetupExcept
 setup_except_adds b = jump_adds op.SetupExcept b (SetupExcept b) (refl, refl) refl (λ d t. refl)
 

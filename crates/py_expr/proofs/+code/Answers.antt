@@ -11,10 +11,10 @@ use Rattle.py_bytecode.specs.declared.instruction.Instruction.TheVariants as op
 use Rattle.py_base.specs.declared.operators.CmpOp.TheVariants as comparison
 use Rattle.py_base.specs.declared.errors.CodegenErrorType.TheVariants as error
 use Rattle.py_emission_parts.specs.Running.{Action, run}
-use Rattle.py_emission_parts.specs.TableParts.{deciding}
+use Rattle.py_emission_parts.specs.TableParts.{deciding_truth}
 use Rattle.py_tree.specs.View.{expr_tree, exprs, opt_exprs}
 use Rattle.py_emission_parts.specs.Elements.{Callee, Element}
-use Rattle.py_emission_parts.specs.Emitting.{Emission, emit, emit_count, located}
+use Rattle.py_emission_parts.specs.Emitting.{Emission, emit, emit_count, with_location}
 use Rattle.py_emission_parts.specs.EmissionParts.{Emissions, elements, in_turn, links, shorts, some_test, some_values, tests, values}
 use Rattle.py_emission.specs.Emission.{all_emissions, emission, emission_of_return, emission_of_test, emissions, opt_emissions}
 use Rattle.py_emit.specs.States.{state}
@@ -24,18 +24,18 @@ use Rattle.py_expr_parts.specs.Turns.{element_behind, group_count, group_rest, g
 use Rattle.py_expr.proofs.+code.Answers.CallSteps.{call_entered, named_goes, plain_goes, positional_plain, tuple_plain, type_taken}
 use Rattle.py_expr.proofs.+code.Answers.ClauseSteps.{clause_begins, clause_refused, clauses_go_on, condition_refused, conditions_go_on, end_is, end_waits, start_waits}
 use Rattle.py_expr.proofs.+code.Answers.ComprehensionSteps.{body_refused, clauses_closed, clauses_refused, clauses_wait, comprehension_awaits, comprehension_called, comprehension_goes, comprehension_inner, comprehension_left, comprehension_made, comprehension_refused, dict_goes, function_refused, generator_goes, iterable_refused, no_generator, turn_refused, unstarred_done, unstarred_refused}
-use Rattle.py_expr.proofs.+code.Answers.LambdaSteps.{defaults_refused, lambda_goes, lambda_inner, lambda_left, lambda_not_begun, lambda_refused, scope_refused}
+use Rattle.py_expr.proofs.+code.Answers.LambdaSteps.{defaults_refused, lambda_goes, lambda_inner, lambda_left, lambda_not_begun, lambda_refused, lambda_step_scope_refused}
 use Rattle.py_expr.proofs.+code.Answers.MapLoops.{keyword_refused, map_alone, map_refused, maps_begin, maps_go_on, maps_joined}
 use Rattle.py_expr.proofs.+code.Answers.StoreLoops.{attribute_stored, element_stored, store_refused, stores_go_on}
 use Rattle.py_expr.proofs.+code.Answers.PairLoops.{begin_refused, end_refused, entries_begin, entries_done, entries_go_on, value_refused}
 use Rattle.py_expr.proofs.Locations.{entering, entering_return}
 use Rattle.py_expr_parts.proofs.KeywordMaps.{values_at}
-use Rattle.py_expr_parts.proofs.Groups.{display_plain, elements_at, few_groups, groups_count, groups_rest, many_values, none_more}
+use Rattle.py_expr_parts.proofs.Groups.{display_plain, elements_at, few_groups, groups_count, groups_rest, many_values, group_none_more}
 use Rattle.py_expr_parts.proofs.Otherwise.{function_callee, plain_element, truth_test, value_return}
-use Rattle.py_expr_scopes.proofs.OpenBlocks.{apart, begin_opens, block_opens, jump_opens, opens}
+use Rattle.py_expr_scopes.proofs.OpenBlocks.{open_block_apart, begin_opens, block_opens, jump_opens, opens}
 use Rattle.py_expr_parts.proofs.InFunctions.{inside_function}
 use Rattle.py_expr_parts.proofs.Steps.{many_emissions}
-use Rattle.py_expr_parts.proofs.Turns.{a_chain, either_jump, even_dict, if_not, if_so, links_at, many_keys, no_operand, one_comparison, other_test, path_of, refused_shape, shorts_at, tests_at, uneven_dict, uneven_lists}
+use Rattle.py_expr_parts.proofs.Turns.{a_chain, either_jump, even_dict, if_not, turn_if_so, links_at, many_keys, no_operand, one_comparison, other_test, path_of, refused_shape, shorts_at, tests_at, uneven_dict, uneven_lists}
 use Rattle.py_expr.proofs.+code.Goals as goal
 
 pub expressions::compile_expression-returns : goal.expressions::compile_expression-returns
@@ -43,7 +43,7 @@ expressions::compile_expression-returns t c = record {
   goes =
       let e = expr_tree c.args.expr.now in
       let s = state c.args.em.now in
-      goes_as _ _ _ _ (entering e s ∙ ap (λ at. run (emission e) (located at s)) (sym c.location.ensures) ∙ ap (run (emission e)) (sym c.set_location.ensures.state)) c.compile_entered.ensures.goes;
+      goes_as _ _ _ _ (entering e s ∙ ap (λ at. run (emission e) (with_location at s)) (sym c.location.ensures) ∙ ap (run (emission e)) (sym c.set_location.ensures.state)) c.compile_entered.ensures.goes;
   same = search rules;
 }
 
@@ -52,14 +52,14 @@ returns::compile_return-returns t c = record {
   goes =
       let e = expr_tree c.args.expr.now in
       let s = state c.args.em.now in
-      goes_as _ _ _ _ (entering_return e s ∙ ap (λ at. run (emission_of_return e) (located at s)) (sym c.location.ensures) ∙ ap (run (emission_of_return e)) (sym c.set_location.ensures.state)) c.return_entered.ensures.goes;
+      goes_as _ _ _ _ (entering_return e s ∙ ap (λ at. run (emission_of_return e) (with_location at s)) (sym c.location.ensures) ∙ ap (run (emission_of_return e)) (sym c.set_location.ensures.state)) c.return_entered.ensures.goes;
   same = search rules;
 }
 
 pub conditions::compile_bool_value-returns-then-is_empty : goal.conditions::compile_bool_value-returns-then-is_empty
 conditions::compile_bool_value-returns-then-is_empty t c =
     let none = ap (λ n. nat_eq n 0) (many_emissions c.args.values.now) ∙ sym c.is_empty.ensures ∙ c.if-is_empty.true in
-    record { goes = λ n. ap (λ (f : Emission). run f (state c.args.em.now)) (if_so _ _ (some_values c.args.op (all_emissions (exprs expr_tree c.args.values.now))) none) ∙ refused_shape _ (state c.args.em.now) _ c.refuse-error.result c.refuse-error.ensures.told; same = path_of _ (state c.args.em.now) _ c.refuse-error.result c.refuse-error.ensures.told }
+    record { goes = λ n. ap (λ (f : Emission). run f (state c.args.em.now)) (turn_if_so _ _ (some_values c.args.op (all_emissions (exprs expr_tree c.args.values.now))) none) ∙ refused_shape _ (state c.args.em.now) _ c.refuse-error.result c.refuse-error.ensures.told; same = path_of _ (state c.args.em.now) _ c.refuse-error.result c.refuse-error.ensures.told }
 
 pub conditions::compile_bool_value-returns : goal.conditions::compile_bool_value-returns
 conditions::compile_bool_value-returns t c =
@@ -71,7 +71,7 @@ conditions::compile_bool_test-returns-then-is_empty t c =
     let xs = c.args.e.now.values in
     let es = all_emissions (exprs expr_tree xs) in
     let none = ap (λ n. nat_eq n 0) (many_emissions xs) ∙ ap (λ ys. nat_eq (length ys) 0) (sym c.as_slice-values.ensures) ∙ sym c.is_empty.ensures ∙ c.if-is_empty.true in
-    record { goes = λ n. ap (λ (f : Emission). run f (state c.args.em.now)) (if_so _ _ (some_test (deciding c.args.e.now.op) c.args.jump.now.truth es c.args.jump.now.block.0) none) ∙ refused_shape _ (state c.args.em.now) _ c.refuse-error.result c.refuse-error.ensures.told; same = path_of _ (state c.args.em.now) _ c.refuse-error.result c.refuse-error.ensures.told }
+    record { goes = λ n. ap (λ (f : Emission). run f (state c.args.em.now)) (turn_if_so _ _ (some_test (deciding_truth c.args.e.now.op) c.args.jump.now.truth es c.args.jump.now.block.0) none) ∙ refused_shape _ (state c.args.em.now) _ c.refuse-error.result c.refuse-error.ensures.told; same = path_of _ (state c.args.em.now) _ c.refuse-error.result c.refuse-error.ensures.told }
 
 pub conditions::compile_bool_test-returns : goal.conditions::compile_bool_test-returns
 conditions::compile_bool_test-returns t c =
@@ -80,7 +80,7 @@ conditions::compile_bool_test-returns t c =
     let some = ap (λ n. nat_eq n 0) (many_emissions xs) ∙ ap (λ ys. nat_eq (length ys) 0) (sym c.as_slice-values.ensures) ∙ sym c.is_empty.ensures ∙ c.if-is_empty.false in
     let same = ap (λ (d : Bool). some_test d c.args.jump.now.truth es c.args.jump.now.block.0) (sym c.deciding.ensures) in
     let seen = ap (λ ys. some_test c.deciding.result c.args.jump.now.truth (all_emissions (exprs expr_tree ys)) c.args.jump.now.block.0) (sym c.as_slice-values.ensures) in
-    record { goes = goes_as _ _ _ _ (ap (λ (f : Emission). run f (state c.args.em.now)) (if_not _ _ (some_test (deciding c.args.e.now.op) c.args.jump.now.truth es c.args.jump.now.block.0) some ∙ same ∙ seen)) c.compile_some_test.ensures.goes; same = c.compile_some_test.ensures.same }
+    record { goes = goes_as _ _ _ _ (ap (λ (f : Emission). run f (state c.args.em.now)) (if_not _ _ (some_test (deciding_truth c.args.e.now.op) c.args.jump.now.truth es c.args.jump.now.block.0) some ∙ same ∙ seen)) c.compile_some_test.ensures.goes; same = c.compile_some_test.ensures.same }
 
 pub conditions::compile_some_values-switch_to_block-requires : goal.conditions::compile_some_values-switch_to_block-requires
 conditions::compile_some_values-switch_to_block-requires t c =
@@ -103,7 +103,7 @@ comparisons::compile_chain-switch_to_block-requires t c =
 
 pub comparisons::compile_chain-switch_to_block-requires-2 : goal.comparisons::compile_chain-switch_to_block-requires-2
 comparisons::compile_chain-switch_to_block-requires-2 t c =
-    let other = apart _ _ _ c.in_ok-out.ensures.made c.in_ok-end.ensures.number in
+    let other = open_block_apart _ _ _ c.in_ok-out.ensures.made c.in_ok-end.ensures.number in
     let e = opens (emission (expr_tree c.deref.result.now)) _ _ _ c.in_ok-compile_expression.ensures.goes c.in_ok-end.ensures.made in
     let m = opens (links c.in_ok-out.out.0 c.as_slice.result.now (all_emissions (exprs expr_tree c.as_slice-2.result.now))) _ _ _ c.in_ok-compile_links.ensures.goes e in
     let j = jump_opens op.Jump c.in_ok-end.end.0 _ _ _ c.in_Continue-emit-emit.ensures.goes m in
@@ -121,7 +121,7 @@ expressions::compile_if_exp-switch_to_block-requires t c =
 pub expressions::compile_if_exp-switch_to_block-requires-2 : goal.expressions::compile_if_exp-switch_to_block-requires-2
 expressions::compile_if_exp-switch_to_block-requires-2 t c =
     let out = c.in_ok-other.other.0 in
-    let other = apart _ _ _ c.in_ok-other.ensures.made c.in_ok-end.ensures.number in
+    let other = open_block_apart _ _ _ c.in_ok-other.ensures.made c.in_ok-end.ensures.number in
     let e = opens (emission_of_test (expr_tree c.deref.result.now) false out) _ _ _ c.in_ok-compile_test.ensures.goes c.in_ok-end.ensures.made in
     let m = opens (emission (expr_tree c.deref-2.result.now)) _ _ _ c.in_ok-compile_expression.ensures.goes e in
     let j = jump_opens op.Jump c.in_ok-end.end.0 _ _ _ c.in_Continue-emit-emit.ensures.goes m in
@@ -283,7 +283,7 @@ texts::compile_parts-returns t c = record {
 pub elements::compile_groups-loop-elt-init : goal.elements::compile_groups-loop-elt-init
 elements::compile_groups-loop-elt-init t c =
     let es = elements (all_emissions (exprs expr_tree c.args.elts.now)) in
-    (refl, ap (λ (f : Action). f (state c.args.em.now)) (groups_rest [] es), groups_count [] es ∙ none_more (group_count 0 es), omega arith)
+    (refl, ap (λ (f : Action). f (state c.args.em.now)) (groups_rest [] es), groups_count [] es ∙ group_none_more (group_count 0 es), omega arith)
 
 pub elements::compile_groups-loop-elt-preserved : goal.elements::compile_groups-loop-elt-preserved
 elements::compile_groups-loop-elt-preserved t c =
@@ -431,7 +431,7 @@ pub functions::compile_lambda-returns-in_err-defaults : goal.functions::compile_
 functions::compile_lambda-returns-in_err-defaults = defaults_refused
 
 pub functions::compile_lambda-returns-in_err-code : goal.functions::compile_lambda-returns-in_err-code
-functions::compile_lambda-returns-in_err-code = scope_refused
+functions::compile_lambda-returns-in_err-code = lambda_step_scope_refused
 
 pub yields::yield_within-returns : goal.yields::yield_within-returns
 yields::yield_within-returns t c = record {

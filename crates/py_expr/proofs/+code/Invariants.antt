@@ -7,11 +7,11 @@ use Rattle.py_emission_parts.specs.Running.{◌▹◌, run}
 use Rattle.py_emission_parts.specs.Comprehensions.{clauses, conditions}
 use Rattle.py_emission_parts.specs.Elements.{bare, groups}
 use Rattle.py_emission_parts.specs.Emitting.{Emission}
-use Rattle.py_emission_parts.specs.EmissionParts.{map_of, values_in, built, elements, dict_value, in_turn, links, shorts, tests}
+use Rattle.py_emission_parts.specs.EmissionParts.{map_of, values_in, counted_build, elements, dict_value, in_turn, links, shorts, tests}
 use Rattle.py_emission.specs.Emission.{all_emissions, all_stores, clause_emissions, keyword_emissions, emission_of_exprs}
 use Rattle.py_emit.specs.States.{rest, state}
 use Rattle.py_expr_parts.specs.Calls.{map_rest}
-use Rattle.py_expr_scopes.specs.Clauses.{AllOpen, clauses_by, closed}
+use Rattle.py_expr_scopes.specs.Clauses.{AllOpen, clauses_by, closed_clauses}
 use Rattle.py_expr_parts.specs.Dicts.{dict_rest}
 use Rattle.py_expr_scopes.specs.Functions.{default_values}
 use Rattle.py_expr_parts.specs.Turns.{group_count, group_rest, pairs_of}
@@ -37,8 +37,8 @@ invariant-elements::compile_groups-loop-elt l =
     let all = elements (all_emissions (exprs expr_tree l.elts)) in
     let left = elements (all_emissions (exprs expr_tree (drop l.elt-index l.elts))) in
     (rest l.em ≡ rest l.initial.em)
-    × (run (in_turn (groups (built op.BuildTuple) [] all)) (state l.initial.em) ≡ run (group_rest l.run left) (state l.em))
-    × (length (groups (built op.BuildTuple) [] all) ≡ l.groups + group_count l.run left)
+    × (run (in_turn (groups (counted_build op.BuildTuple) [] all)) (state l.initial.em) ≡ run (group_rest l.run left) (state l.em))
+    × (length (groups (counted_build op.BuildTuple) [] all) ≡ l.groups + group_count l.run left)
     × (l.groups + l.run ≤ l.elt-index)
 
 abbrev pub invariant-displays::compile_entries-loop-i : goal.invariant-displays::compile_entries-loop-i
@@ -318,7 +318,7 @@ abbrev pub invariant-clauses::open_clauses-loop-clause : goal.invariant-clauses:
 invariant-clauses::open_clauses-loop-clause l =
     (rest l.em ≡ rest l.initial.em)
     × AllOpen l.blocks (state l.em)
-    × ((within : Emission) → run (clauses (clause_emissions (generators expr_tree l.generators)) within) (state l.initial.em) ≡ (run (clauses_by (none_open l.blocks) (clause_emissions (generators expr_tree (drop l.clause-index l.generators))) within) ▹ closed l.blocks) (state l.em))
+    × ((within : Emission) → run (clauses (clause_emissions (generators expr_tree l.generators)) within) (state l.initial.em) ≡ (run (clauses_by (none_open l.blocks) (clause_emissions (generators expr_tree (drop l.clause-index l.generators))) within) ▹ closed_clauses l.blocks) (state l.em))
 
 abbrev pub invariant-clauses::compile_conditions-loop-condition : goal.invariant-clauses::compile_conditions-loop-condition
 invariant-clauses::compile_conditions-loop-condition l = (rest l.em ≡ rest l.initial.em) × (run (conditions (all_emissions (exprs expr_tree l.ifs)) l.start.0) (state l.initial.em) ≡ run (conditions (all_emissions (exprs expr_tree (drop l.condition-index l.ifs))) l.start.0) (state l.em))

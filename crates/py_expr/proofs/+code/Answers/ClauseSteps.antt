@@ -8,9 +8,9 @@ use Rattle.py_emission_parts.specs.Emitting.{Done, Emission, Refused, State, wit
 use Rattle.py_emission.specs.Emission.{clause_emissions, emission}
 use Rattle.py_emit.specs.States.{rest, state}
 use Rattle.py_emit.proofs.Joined.{first_refuses, went}
-use Rattle.py_expr_scopes.specs.Clauses.{AllOpen, AreRefused, clause_of, clauses_by, closed, iterator_of}
-use Rattle.py_expr_scopes.proofs.OpenClauses.{clause_opens, clauses_at, conditions_at, end_opens, none_is, none_open, opened_more, opened_to, opens_push, some_open}
-use Rattle.py_expr_scopes.proofs.OpenBlocks.{apart, block_opens, opens}
+use Rattle.py_expr_scopes.specs.Clauses.{AllOpen, AreRefused, clause_of, clauses_by, closed_clauses, iterator_of}
+use Rattle.py_expr_scopes.proofs.OpenClauses.{clause_opens, clauses_at, conditions_at, end_opens, open_clause_none_is, none_open, opened_more, opened_to, opens_push, some_open}
+use Rattle.py_expr_scopes.proofs.OpenBlocks.{open_block_apart, block_opens, opens}
 use Rattle.py_expr.proofs.+code.Goals as goal
 
 pub clauses_go_on : goal.clauses::open_clauses-loop-clause-preserved
@@ -24,7 +24,7 @@ clauses_go_on t c =
     let now = state c.loop-clause.em in
     let after = state c.open_clause.new.em in
     let here = clauses_at c.args.generators.now c.loop-clause.clause-index _ x c.clause-item.is c.loop-clause-test.true in
-    let so = none_is bs first c.is_empty-first.ensures.0 c.is_empty-first.ensures.1 in
+    let so = open_clause_none_is bs first c.is_empty-first.ensures.0 c.is_empty-first.ensures.1 in
     let pushed = c.in_ok-keep_blocks.ensures.kept in
     let same : state c.keep_blocks.new.em ≡ after = ap state c.in_ok-keep_blocks.ensures.same in (
       ap rest c.in_ok-keep_blocks.ensures.same ∙ c.in_ok-next.ensures.emits.same ∙ c.loop-clause.invariant.0,
@@ -33,12 +33,12 @@ clauses_go_on t c =
           (opens_push bs next now after (λ b. clause_opens first x now after b c.in_ok-next.ensures.emits.goes) c.in_ok-next.ensures.end c.in_ok-next.ensures.open c.loop-clause.invariant.1)),
       λ within.
           c.loop-clause.invariant.2 within
-          ∙ ap (λ (f : Bool). (run (clauses_by f all within) ▹ closed bs) now) so
-          ∙ ap (λ ys. (run (clauses_by first ys within) ▹ closed bs) now) here
+          ∙ ap (λ (f : Bool). (run (clauses_by f all within) ▹ closed_clauses bs) now) so
+          ∙ ap (λ ys. (run (clauses_by first ys within) ▹ closed_clauses bs) now) here
           ∙ opened_more first (clause_of x) left within bs now next after c.in_ok-next.ensures.emits.goes c.in_ok-next.ensures.start c.in_ok-next.ensures.end
-          ∙ ap (λ (f : Bool). (run (clauses_by f left within) ▹ closed (bs ++ next ∷ [])) after) (sym (some_open bs next))
-          ∙ ap (λ ys. (run (clauses_by (none_open ys) left within) ▹ closed ys) after) (sym pushed)
-          ∙ ap (run (clauses_by (none_open c.keep_blocks.new.blocks) left within) ▹ closed c.keep_blocks.new.blocks) (sym same),
+          ∙ ap (λ (f : Bool). (run (clauses_by f left within) ▹ closed_clauses (bs ++ next ∷ [])) after) (sym (some_open bs next))
+          ∙ ap (λ ys. (run (clauses_by (none_open ys) left within) ▹ closed_clauses ys) after) (sym pushed)
+          ∙ ap (run (clauses_by (none_open c.keep_blocks.new.blocks) left within) ▹ closed_clauses c.keep_blocks.new.blocks) (sym same),
     )
 
 pub clause_refused : goal.clauses::open_clauses-returns-in_err-next-clause-refused
@@ -50,21 +50,21 @@ clause_refused t c =
     let first = c.is_empty-first.result in
     let now = state c.loop-clause.em in
     let here = clauses_at c.args.generators.now c.loop-clause.clause-index _ x c.clause-item.is c.loop-clause-test.true in
-    let so = none_is bs first c.is_empty-first.ensures.0 c.is_empty-first.ensures.1 in
+    let so = open_clause_none_is bs first c.is_empty-first.ensures.0 c.is_empty-first.ensures.1 in
     let e = c.in_err-next.field-0.0 in
     let r : c.from_residual.result ≡ Err e = grind arith in
     subst (λ y. IfErr y (λ z. AreRefused z (clause_emissions (generators expr_tree c.args.generators.now)) (state c.args.em.now))) (sym r) (record {
       goes = λ within n.
           c.loop-clause.invariant.2 within
-          ∙ ap (λ (f : Bool). (run (clauses_by f all within) ▹ closed bs) now) so
-          ∙ ap (λ ys. (run (clauses_by first ys within) ▹ closed bs) now) here
+          ∙ ap (λ (f : Bool). (run (clauses_by f all within) ▹ closed_clauses bs) now) so
+          ∙ ap (λ ys. (run (clauses_by first ys within) ▹ closed_clauses bs) now) here
           ∙ opened_to first (clause_of x) left within bs now (Refused e.error e.location) (c.in_err-next.ensures.emits.goes n);
     })
 
 pub end_waits : goal.clauses::open_clause-returns-clause-open
 end_waits t c =
     let start = c.in_ok-start.start.0 in
-    let other = apart _ _ _ c.in_ok-start.ensures.made c.in_ok-end.ensures.number in
+    let other = open_block_apart _ _ _ c.in_ok-start.ensures.made c.in_ok-end.ensures.number in
     record {
       start_below = c.in_ok-start.ensures.below;
       end_below = c.in_ok-end.ensures.below;

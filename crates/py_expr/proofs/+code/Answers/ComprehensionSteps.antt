@@ -9,23 +9,23 @@ use Rattle.py_tree.specs.View.{expr_tree, generators}
 use Rattle.py_tree.specs.declared.expressions.ComprehensionOf.{ComprehensionOf}
 use Rattle.py_tree.specs.declared.expressions.Expr.{Expr}
 use Rattle.py_emission_parts.specs.Running.{Action, ◌▹◌, run}
-use Rattle.py_emission_parts.specs.Children.{made}
-use Rattle.py_emission_parts.specs.Comprehensions.{as_element, called_at_once, comprehension, comprehension_shape, gathered, generated}
+use Rattle.py_emission_parts.specs.Children.{made_function}
+use Rattle.py_emission_parts.specs.Comprehensions.{as_element, called_at_once, comprehension, comprehension_shape, collection_scope, generator_body}
 use Rattle.py_emission_parts.specs.Refused.{retold}
 use Rattle.py_emission_parts.specs.Emitting.{Emission, Refused, ◌▸◌, keep}
 use Rattle.py_emission.specs.Awaits.{awaits, some_async}
 use Rattle.py_emission.specs.Emission.{clause_emissions, emission}
 use Rattle.py_emit.specs.States.{state}
 use Rattle.py_emit.proofs.Joined.{first_refuses, goes_as, refuses_as, went}
-use Rattle.py_emit.proofs.Within.{inner}
+use Rattle.py_emit.proofs.Within.{within_inner}
 use Rattle.py_emit.specs.declared.context.Naming.TheVariants as naming
-use Rattle.py_expr_scopes.specs.Clauses.{closed}
-use Rattle.py_expr_scopes.specs.Comprehensions.{added, element_of, first_iterable, name_of, scope_of, turn}
+use Rattle.py_expr_scopes.specs.Clauses.{closed_clauses}
+use Rattle.py_expr_scopes.specs.Comprehensions.{added_element, element_of, first_iterable, name_of, scope_of, turn}
 use Rattle.py_expr_scopes.proofs.OpenClauses.{all_stay, many_clauses}
-use Rattle.py_expr_scopes.proofs.ComprehensionScopes.{called_is, first_is, no_clause, scope_alike, scope_as, some_clause, told_done, told_refused, turn_opens}
+use Rattle.py_expr_scopes.proofs.ComprehensionScopes.{called_is, comprehension_scope_first_is, no_clause, scope_alike, comprehension_scope_as, some_clause, comprehension_scope_told_done, told_refused, turn_opens}
 use Rattle.py_expr_scopes.proofs.Scopes.{left_gives, left_keeps, refused_gives, same_path}
-use Rattle.py_expr_parts.proofs.Steps.{stays}
-use Rattle.py_expr_parts.proofs.Turns.{if_not, if_so, path_of, refused_by, refused_shape}
+use Rattle.py_expr_parts.proofs.Steps.{step_stays}
+use Rattle.py_expr_parts.proofs.Turns.{if_not, turn_if_so, path_of, refused_by, refused_shape}
 use Rattle.py_expr.proofs.+code.Goals as goal
 
 pub comprehension_left : goal.comprehensions::compile_comprehension_scope-returns
@@ -43,7 +43,7 @@ comprehension_left t c =
     }
 
 pub comprehension_inner : goal.comprehensions::compile_comprehension_scope-leave_scope-requires
-comprehension_inner t c = record { inner = inner kind.Comprehension naming.AsAround (comprehension_shape c.args.name) c.args.em.now c.enter_comprehension.new.em c.compile_turns.new.em c.in_ok-enter_comprehension.ensures.rest c.in_ok-compile_turns.ensures.same }
+comprehension_inner t c = record { inner = within_inner kind.Comprehension naming.AsAround (comprehension_shape c.args.name) c.args.em.now c.enter_comprehension.new.em c.compile_turns.new.em c.in_ok-enter_comprehension.ensures.rest c.in_ok-compile_turns.ensures.same }
 
 pub comprehension_refused : goal.comprehensions::compile_comprehension_scope-returns-in_err-compile_turns
 comprehension_refused t c =
@@ -64,7 +64,7 @@ comprehension_made t c = record {
       let e = c.args.element.now in
       let v = scope_of (clause_emissions (generators expr_tree c.args.generators.now)) e in
       goes_as _ _ _ _
-      (scope_as v (made 0 (name_of e)) c.in_ok-name.name (name_of e) c.args.em.now c.text.new.self (c.in_ok-name.ensures.data ∙ c.scope_name.ensures) c.in_ok-name.ensures.same ∙ c.in_ok-code.ensures.goes (made 0 (name_of e)))
+      (comprehension_scope_as v (made_function 0 (name_of e)) c.in_ok-name.name (name_of e) c.args.em.now c.text.new.self (c.in_ok-name.ensures.data ∙ c.scope_name.ensures) c.in_ok-name.ensures.same ∙ c.in_ok-code.ensures.goes (made_function 0 (name_of e)))
       c.make_named.ensures.goes;
   same = search rules;
 }
@@ -76,7 +76,7 @@ body_refused t c = record {
       let v = scope_of (clause_emissions (generators expr_tree c.args.generators.now)) e in
       let x = c.in_err-code.field-0.0 in
       let r : c.from_residual-in_err-code.result ≡ Err x = grind arith in
-      refuses_as _ x _ _ _ r (scope_as v (made 0 (name_of e)) c.in_ok-name.name (name_of e) c.args.em.now c.text.new.self (c.in_ok-name.ensures.data ∙ c.scope_name.ensures) c.in_ok-name.ensures.same) (λ n. c.in_err-code.ensures.goes (made 0 (name_of e)) n);
+      refuses_as _ x _ _ _ r (comprehension_scope_as v (made_function 0 (name_of e)) c.in_ok-name.name (name_of e) c.args.em.now c.text.new.self (c.in_ok-name.ensures.data ∙ c.scope_name.ensures) c.in_ok-name.ensures.same) (λ n. c.in_err-code.ensures.goes (made_function 0 (name_of e)) n);
   same = search rules;
 }
 
@@ -86,7 +86,7 @@ comprehension_called t c = record {
       let e = c.args.element.now in
       let cs = clause_emissions (generators expr_tree c.args.generators.now) in
       let d = c.index-generators-0.result in
-      let here = first_is c.args.generators.now d (get_or c.args.generators.now 0 d) refl c.requires ∙ ap (λ (y : Expr). emission (expr_tree y)) (sym c.deref.ensures) in
+      let here = comprehension_scope_first_is c.args.generators.now d (get_or c.args.generators.now 0 d) refl c.requires ∙ ap (λ (y : Expr). emission (expr_tree y)) (sym c.deref.ensures) in
       goes_as _ _ _ _
       (ap (λ (f : Action). f (state c.args.em.now)) (ap (λ (v : Emission). run (called_at_once (name_of e) (scope_of cs e) v)) here ∙ called_is (name_of e) (scope_of cs e) (emission (expr_tree c.deref.result.now)))
       ∙ went _ _ _ c.in_ok-make_comprehension.ensures.goes
@@ -111,7 +111,7 @@ iterable_refused t c = record {
       let e = c.args.element.now in
       let cs = clause_emissions (generators expr_tree c.args.generators.now) in
       let d = c.index-generators-0.result in
-      let here = first_is c.args.generators.now d (get_or c.args.generators.now 0 d) refl c.requires ∙ ap (λ (y : Expr). emission (expr_tree y)) (sym c.deref.ensures) in
+      let here = comprehension_scope_first_is c.args.generators.now d (get_or c.args.generators.now 0 d) refl c.requires ∙ ap (λ (y : Expr). emission (expr_tree y)) (sym c.deref.ensures) in
       let r : c.from_residual-in_err-compile_iterator.result ≡ Err c.in_err-compile_iterator.field-0.0 = grind arith in
       first_refuses _ _ _ _ _ _ r
       (ap (λ (f : Action). f (state c.args.em.now)) (ap (λ (v : Emission). run (called_at_once (name_of e) (scope_of cs e) v)) here ∙ called_is (name_of e) (scope_of cs e) (emission (expr_tree c.deref.result.now)))
@@ -129,7 +129,7 @@ pub comprehension_awaits : goal.comprehensions::compile_comprehension-returns-th
 comprehension_awaits t c = record {
   goes =
       let some = sym c.is_empty.ensures ∙ c.if-is_empty.false in
-      λ n. ap (λ (f : Emission). run f (state c.args.em.now)) (some_clause c.args.generators.now c.args.element.now some ∙ if_so _ _ _ (sym c.is_awaited.ensures ∙ c.if-is_awaited.true)) ∙ refused_by error.NotImplementedYet (state c.args.em.now) _ c.refuse-error-then-is_awaited.result c.refuse-error-then-is_awaited.ensures.told;
+      λ n. ap (λ (f : Emission). run f (state c.args.em.now)) (some_clause c.args.generators.now c.args.element.now some ∙ turn_if_so _ _ _ (sym c.is_awaited.ensures ∙ c.if-is_awaited.true)) ∙ refused_by error.NotImplementedYet (state c.args.em.now) _ c.refuse-error-then-is_awaited.result c.refuse-error-then-is_awaited.ensures.told;
   same = search rules;
 }
 
@@ -153,7 +153,7 @@ clauses_closed t c = record {
       let many = many_clauses xs in
       goes_as _ _ _ _
       (c.in_ok-blocks.ensures.opened.goes (turn cs e)
-      ∙ ap (λ n. (run (element_of e ▸ added e n) ▹ closed c.in_ok-blocks.blocks) (state c.open_clauses.new.em)) many
+      ∙ ap (λ n. (run (element_of e ▸ added_element e n) ▹ closed_clauses c.in_ok-blocks.blocks) (state c.open_clauses.new.em)) many
       ∙ went _ _ _ c.in_ok-compile_turn.ensures.goes)
       c.close_clauses.ensures.goes;
   same = search rules;
@@ -179,14 +179,14 @@ turn_refused t c = record {
       let r : c.from_residual-in_err-compile_turn.result ≡ Err c.in_err-compile_turn.field-0.0 = grind arith in
       first_refuses _ _ _ _ _ _ r
       (c.in_ok-blocks.ensures.opened.goes (turn cs e)
-      ∙ ap (λ n. (run (element_of e ▸ added e n) ▹ closed c.in_ok-blocks.blocks) (state c.open_clauses.new.em)) many)
+      ∙ ap (λ n. (run (element_of e ▸ added_element e n) ▹ closed_clauses c.in_ok-blocks.blocks) (state c.open_clauses.new.em)) many)
       c.in_err-compile_turn.ensures.goes;
   same = search rules;
 }
 
 pub unstarred_done : goal.comprehensions::compile_unstarred-returns-in-Ok
 unstarred_done t c = record {
-  goes = told_done (emission (expr_tree c.args.elt.now)) (state c.args.em.now) _ c.in-Ok.ensures.goes;
+  goes = comprehension_scope_told_done (emission (expr_tree c.args.elt.now)) (state c.args.em.now) _ c.in-Ok.ensures.goes;
   same = search rules;
 }
 
@@ -202,7 +202,7 @@ unstarred_refused t c = record {
 
 -- a dict comprehension, of a key and a value
 abbrev dict_value : (key value : tree.Expr) → tree.Generators → Emission
-dict_value key value gs = comprehension (some_async gs) (codes "<dictcomp>") (clause_emissions gs) (gathered op.BuildMap op.MapAdd (clause_emissions gs) (emission key ▸ emission value))
+dict_value key value gs = comprehension (some_async gs) (codes "<dictcomp>") (clause_emissions gs) (collection_scope op.BuildMap op.MapAdd (clause_emissions gs) (emission key ▸ emission value))
 
 pub dict_goes : goal.comprehensions::compile_dict_comp-returns
 dict_goes t c = record {
@@ -212,7 +212,7 @@ dict_goes t c = record {
       let now = state c.args.em.now in
       let v = dict_value (expr_tree e.key.value) (expr_tree e.value.value) gs in
       goes_as _ _ _ _
-      (went _ _ _ (stays e.location now c.requires.at)
+      (went _ _ _ (step_stays e.location now c.requires.at)
       ∙ ap (λ (y : Expr). run (dict_value (expr_tree y) (expr_tree e.value.value) gs) now) (sym c.deref.ensures)
       ∙ ap (λ (y : Expr). run (dict_value (expr_tree c.deref.result.now) (expr_tree y) gs) now) (sym c.deref-2.ensures)
       ∙ ap (λ (ys : List (ComprehensionOf Expr)). run (dict_value (expr_tree c.deref.result.now) (expr_tree c.deref-2.result.now) (generators expr_tree ys)) now) (sym c.as_slice.ensures))
@@ -222,7 +222,7 @@ dict_goes t c = record {
 
 -- a generator, whose scope begins with nothing
 abbrev generator_scope : tree.Expr → tree.Generators → Emission
-generator_scope elt gs = generated (clause_emissions gs) (as_element (emission elt))
+generator_scope elt gs = generator_body (clause_emissions gs) (as_element (emission elt))
 
 abbrev generator_value : (elt : tree.Expr) → tree.Generators → (scope : Emission) → Emission
 generator_value elt gs scope = comprehension (some_async gs || awaits elt) (codes "<genexpr>") (clause_emissions gs) scope
@@ -236,7 +236,7 @@ generator_goes t c = record {
       let now = state c.args.em.now in
       let v = generator_value elt gs (generator_scope elt gs) in
       goes_as _ _ _ _
-      (went _ _ _ (stays e.location now c.requires.at)
+      (went _ _ _ (step_stays e.location now c.requires.at)
       ∙ ap (λ (y : Expr). run (generator_value (expr_tree y) gs (generator_scope (expr_tree y) gs)) now) (sym c.deref.ensures)
       ∙ ap (λ (ys : List (ComprehensionOf Expr)). run (generator_value (expr_tree c.deref.result.now) (generators expr_tree ys) (generator_scope (expr_tree c.deref.result.now) (generators expr_tree ys))) now) (sym c.as_slice.ensures)
       ∙ scope_alike (some_async (generators expr_tree c.as_slice.result.now) || awaits (expr_tree c.deref.result.now)) (codes "<genexpr>") (clause_emissions (generators expr_tree c.as_slice.result.now)) (generator_scope (expr_tree c.deref.result.now) (generators expr_tree c.as_slice.result.now)) (keep ▸ generator_scope (expr_tree c.deref.result.now) (generators expr_tree c.as_slice.result.now)) now refl)

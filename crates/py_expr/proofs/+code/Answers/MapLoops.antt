@@ -12,13 +12,13 @@ use Rattle.py_emit.proofs.Joined.{first_refuses, goes_as, went}
 use Rattle.py_expr_parts.specs.Calls.{keyword_emission, map_rest}
 use Rattle.py_expr_parts.specs.Turns.{group_count}
 use Rattle.py_expr_parts.proofs.Groups.{few_groups}
-use Rattle.py_expr_parts.proofs.KeywordMaps.{few_maps, joined_as, keywords_at, many_maps, maps_count, maps_rest, none_more}
+use Rattle.py_expr_parts.proofs.KeywordMaps.{few_maps, joined_as, keywords_at, many_maps, maps_count, maps_rest, keyword_map_none_more}
 use Rattle.py_expr.proofs.+code.Goals as goal
 
 pub maps_begin : goal.keywords::compile_maps-loop-keyword-init
 maps_begin t c =
     let es = keyword_emissions (keywords expr_tree c.args.keywords.now) in
-    (refl, ap (λ (f : Action). f (state c.args.em.now)) (maps_rest [] es), maps_count [] es ∙ none_more (group_count 0 es), omega arith)
+    (refl, ap (λ (f : Action). f (state c.args.em.now)) (maps_rest [] es), maps_count [] es ∙ keyword_map_none_more (group_count 0 es), omega arith)
 
 pub maps_go_on : goal.keywords::compile_maps-loop-keyword-preserved
 maps_go_on t c =

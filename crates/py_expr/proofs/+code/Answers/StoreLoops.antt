@@ -11,20 +11,20 @@ use Rattle.py_emission.specs.Emission.{emission_of_store}
 use Rattle.py_emit.specs.States.{state}
 use Rattle.py_emit.proofs.Joined.{first_refuses, goes_as, went}
 use Rattle.py_expr_parts.specs.Targets.{bare_of}
-use Rattle.py_expr_parts.proofs.Stores.{plain_target, stored_at}
+use Rattle.py_expr_parts.proofs.Stores.{plain_target, store_stored_at}
 use Rattle.py_expr.proofs.+code.Goals as goal
 
 pub stores_go_on : goal.targets::compile_stores-loop-elt-preserved
 stores_go_on t c = (
   c.in_ok-compile_element_store.ensures.same ∙ c.loop-elt.invariant.0,
-  c.loop-elt.invariant.1 ∙ ap (λ (f : Emission). run f (state c.loop-elt.em)) (stored_at c.args.elts.now c.loop-elt.elt-index _ c.elt-item.result c.elt-item.is c.loop-elt-test.true) ∙ went _ _ _ c.in_ok-compile_element_store.ensures.goes,
+  c.loop-elt.invariant.1 ∙ ap (λ (f : Emission). run f (state c.loop-elt.em)) (store_stored_at c.args.elts.now c.loop-elt.elt-index _ c.elt-item.result c.elt-item.is c.loop-elt-test.true) ∙ went _ _ _ c.in_ok-compile_element_store.ensures.goes,
 )
 
 pub store_refused : goal.targets::compile_stores-returns-in_err-compile_element_store
 store_refused t c = record {
   goes =
       let r : c.from_residual.result ≡ Err c.in_err-compile_element_store.field-0.0 = grind arith in
-      first_refuses _ _ _ _ _ _ r (c.loop-elt.invariant.1 ∙ ap (λ (f : Emission). run f (state c.loop-elt.em)) (stored_at c.args.elts.now c.loop-elt.elt-index _ c.elt-item.result c.elt-item.is c.loop-elt-test.true)) c.in_err-compile_element_store.ensures.goes;
+      first_refuses _ _ _ _ _ _ r (c.loop-elt.invariant.1 ∙ ap (λ (f : Emission). run f (state c.loop-elt.em)) (store_stored_at c.args.elts.now c.loop-elt.elt-index _ c.elt-item.result c.elt-item.is c.loop-elt-test.true)) c.in_err-compile_element_store.ensures.goes;
   same = search rules;
 }
 

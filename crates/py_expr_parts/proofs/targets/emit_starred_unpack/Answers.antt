@@ -8,24 +8,24 @@ use Rattle.py_base.specs.declared.errors.CodegenErrorType.TheVariants as error
 use Rattle.py_bytecode.specs.declared.instruction.Instruction.TheVariants as op
 use Rattle.py_emit.specs.States.{state}
 use Rattle.py_expr_parts.proofs.Steps.{move_goes}
-use Rattle.py_expr_parts.proofs.Stores.{around, many_after, many_before, one_star, two_stars}
+use Rattle.py_expr_parts.proofs.Stores.{store_around, many_after, many_before, one_star, two_stars}
 use Rattle.py_emit.proofs.Joined.{goes_as, went}
 use Rattle.py_expr_parts.proofs.Turns.{refused_by}
 use Rattle.py_expr_parts.proofs.targets.emit_starred_unpack.Goals as goal
 use Rattle.py_expr_parts.proofs.targets.emit_starred_unpack.Goals.{then-before-gt-MOST_ASIDE-via-then-before-gt-MOST_ASIDE, then-before-gt-MOST_ASIDE-via-else-before-gt-MOST_ASIDE+then-after-gt-MOST_ASIDE}
 
 pub overflow_sub-after : goal.overflow_sub-after
-overflow_sub-after c = let e = around c.args.elts.now c.args.starred c.before_star-before.result c.requires.some c.requires.counted c.before_star-before.ensures in omega (arith, e)
+overflow_sub-after c = let e = store_around c.args.elts.now c.args.starred c.before_star-before.result c.requires.some c.requires.counted c.before_star-before.ensures in omega (arith, e)
 
 pub overflow_sub-after-2 : goal.overflow_sub-after-2
-overflow_sub-after-2 c = let e = around c.args.elts.now c.args.starred c.before_star-before.result c.requires.some c.requires.counted c.before_star-before.ensures in omega (arith, e)
+overflow_sub-after-2 c = let e = store_around c.args.elts.now c.args.starred c.before_star-before.result c.requires.some c.requires.counted c.before_star-before.ensures in omega (arith, e)
 
 pub returns-then-before-gt-MOST_ASIDE : goal.returns-then-before-gt-MOST_ASIDE
 returns-then-before-gt-MOST_ASIDE c = record {
   goes =
       λ n.
       let es = all_stores (exprs expr_tree c.args.elts.now) in
-      let e = around c.args.elts.now c.args.starred c.before_star-before.result c.requires.some c.requires.counted c.before_star-before.ensures in
+      let e = store_around c.args.elts.now c.args.starred c.before_star-before.result c.requires.some c.requires.counted c.before_star-before.ensures in
       let b = c.before_star-before.ensures in
       let many : unpack_starred c.args.location es ≡ move c.args.location ▸ refuse error.TooManyStarUnpack = elim c.then-before-gt-MOST_ASIDE.branch [
         | then-before-gt-MOST_ASIDE-via-then-before-gt-MOST_ASIDE w ↦ many_before c.args.location es (let h = w.if-before-gt-MOST_ASIDE.true in omega (arith, h, b))
@@ -40,7 +40,7 @@ returns-then-starred-gt1 c = record {
   goes =
       λ n.
       let es = all_stores (exprs expr_tree c.args.elts.now) in
-      let e = around c.args.elts.now c.args.starred c.before_star-before.result c.requires.some c.requires.counted c.before_star-before.ensures in
+      let e = store_around c.args.elts.now c.args.starred c.before_star-before.result c.requires.some c.requires.counted c.before_star-before.ensures in
       let b = c.before_star-before.ensures in
       let low = c.if-before-gt-MOST_ASIDE.false in
       let few = c.if-after-gt-MOST_ASIDE.false in
@@ -54,7 +54,7 @@ pub returns : goal.returns
 returns c = record {
   goes =
       let es = all_stores (exprs expr_tree c.args.elts.now) in
-      let e = around c.args.elts.now c.args.starred c.before_star-before.result c.requires.some c.requires.counted c.before_star-before.ensures in
+      let e = store_around c.args.elts.now c.args.starred c.before_star-before.result c.requires.some c.requires.counted c.before_star-before.ensures in
       let b = c.before_star-before.ensures in
       let low = c.if-before-gt-MOST_ASIDE.false in
       let few = c.if-after-gt-MOST_ASIDE.false in

@@ -12,8 +12,8 @@ use Rattle.py_emission.specs.ControlEmissions.{for_each}
 use Rattle.py_emission.specs.EmissionStmts.{emission_of_stmt, emission_of_stmts}
 use Rattle.py_emit.specs.States.{state}
 use Rattle.py_emit.proofs.Joined.{first_refuses, goes_as, went}
-use Rattle.py_expr_scopes.proofs.OpenBlocks.{apart, begin_opens, block_opens, opens}
-use Rattle.py_expr_parts.proofs.Steps.{stays}
+use Rattle.py_expr_scopes.proofs.OpenBlocks.{open_block_apart, begin_opens, block_opens, opens}
+use Rattle.py_expr_parts.proofs.Steps.{step_stays}
 use Rattle.py_stmt_simple.specs.Parts.{each_begun}
 use Rattle.py_stmt.specs.Parts.{each_ended, each_turn}
 use Rattle.py_stmt.proofs.Parts.{three_made}
@@ -31,7 +31,7 @@ for_goes t c = record {
       let is = ap stmt_tree c.in-For.is ∙ tree_For x in
       goes_as _ _ _ _
       (ap (λ (y : tree.Stmt). run (emission_of_stmt y) s) is
-      ∙ went _ (run (for_each iter store body orelse)) _ (stays x.location s (c.requires.at ∙ ap tree.stmt_location is)))
+      ∙ went _ (run (for_each iter store body orelse)) _ (step_stays x.location s (c.requires.at ∙ ap tree.stmt_location is)))
       c.compile_for.ensures.goes;
   same = search rules;
 }
@@ -47,7 +47,7 @@ other_begins t c =
     let start = c.in_ok-start.start.0 in
     let other = c.in_ok-other.other.0 in
     let end = c.in_ok-end.end.0 in
-    let first = apart _ _ _ c.in_ok-start.ensures.made c.in_ok-other.ensures.number in
+    let first = open_block_apart _ _ _ c.in_ok-start.ensures.made c.in_ok-other.ensures.number in
     let a = block_opens _ _ _ c.in_ok-end.ensures.ok c.in_ok-other.ensures.made in
     let e = opens (each_begun (emission (expr_tree c.deref.result.now))) _ _ _ c.in_ok-begin_each.ensures.goes a in
     let g = begin_opens _ _ _ start (λ e. first (sym e)) c.switch_to_block.ensures.state e in
@@ -59,8 +59,8 @@ end_begins t c =
     let other = c.in_ok-other.other.0 in
     let end = c.in_ok-end.end.0 in
     let a = block_opens _ _ _ c.in_ok-other.ensures.ok c.in_ok-start.ensures.made in
-    let first = apart _ _ _ a c.in_ok-end.ensures.number in
-    let second = apart _ _ _ c.in_ok-other.ensures.made c.in_ok-end.ensures.number in
+    let first = open_block_apart _ _ _ a c.in_ok-end.ensures.number in
+    let second = open_block_apart _ _ _ c.in_ok-other.ensures.made c.in_ok-end.ensures.number in
     let e = opens (each_begun (emission (expr_tree c.deref.result.now))) _ _ _ c.in_ok-begin_each.ensures.goes c.in_ok-end.ensures.made in
     let g = begin_opens _ _ _ start (λ e. first (sym e)) c.switch_to_block.ensures.state e in
     let j = opens (each_turn (emission_of_store (expr_tree c.args.s.now.target.value)) (emission_of_stmts (stmts stmt_tree c.args.s.now.body)) start other end) _ _ _ c.in_ok-compile_turn.ensures.goes g in

@@ -9,7 +9,7 @@ use Rattle.py_emission_parts.specs.Running.{run}
 use Rattle.py_emission.specs.EmissionStmts.{emission_of_items, emission_of_stmts}
 use Rattle.py_emit.specs.States.{state}
 use Rattle.py_emit.proofs.Joined.{goes_as}
-use Rattle.py_expr_parts.proofs.Turns.{if_not, if_so, refused_as}
+use Rattle.py_expr_parts.proofs.Turns.{if_not, turn_if_so, refused_as}
 use Rattle.py_stmt.specs.Managing.{full_body}
 use Rattle.py_stmt_simple.proofs.WithEntryLemmas.{all_opens}
 use Rattle.py_expr_scopes.proofs.OpenBlocks.{opens}
@@ -20,7 +20,7 @@ pub no_items : goal.withs::compile_with-returns-then-is_empty
 no_items t c = record {
   goes =
       let none = itemless_is c.args.s.now.items c.is_empty.result c.is_empty.ensures.0 c.is_empty.ensures.1 ∙ c.if-is_empty.true in
-      λ n. ap (λ (v : Emission). run v (state c.args.em.now)) (if_so _ _ (emission_of_items c.args.s.now.location (with_items c.args.s.now.items) (full_body (stmts stmt_tree c.args.s.now.body))) none)
+      λ n. ap (λ (v : Emission). run v (state c.args.em.now)) (turn_if_so _ _ (emission_of_items c.args.s.now.location (with_items c.args.s.now.items) (full_body (stmts stmt_tree c.args.s.now.body))) none)
       ∙ refused_as error.EmptyWithItems (state c.args.em.now) c.refuse-error.result (ap (λ (x : LocatedError CodegenErrorType). x.error) c.refuse-error.ensures.told) (ap (λ (x : LocatedError CodegenErrorType). x.location) c.refuse-error.ensures.told);
   same = search rules;
 }
@@ -37,7 +37,7 @@ pub no_body : goal.withs::compile_body-returns-then-is_empty
 no_body t c = record {
   goes =
       let none = none_stmts c.args.body.now ∙ sym c.is_empty.ensures ∙ c.if-is_empty.true in
-      λ n. ap (λ (v : Emission). run v (state c.args.em.now)) (if_so _ _ (emission_of_stmts (stmts stmt_tree c.args.body.now)) none)
+      λ n. ap (λ (v : Emission). run v (state c.args.em.now)) (turn_if_so _ _ (emission_of_stmts (stmts stmt_tree c.args.body.now)) none)
       ∙ refused_as error.EmptyWithBody (state c.args.em.now) c.refuse-error.result (ap (λ (x : LocatedError CodegenErrorType). x.error) c.refuse-error.ensures.told) (ap (λ (x : LocatedError CodegenErrorType). x.location) c.refuse-error.ensures.told);
   same = search rules;
 }

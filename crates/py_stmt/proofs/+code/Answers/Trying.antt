@@ -10,13 +10,13 @@ use Rattle.py_emission.specs.EmissionStmts.{emission_of_handlers, emission_of_la
 use Rattle.py_emission.specs.Predicates.{none}
 use Rattle.py_emit.specs.States.{state}
 use Rattle.py_emit.proofs.Joined.{first_refuses, goes_as, went}
-use Rattle.py_expr_scopes.proofs.OpenBlocks.{apart, begin_opens, block_opens, jump_opens, opens}
-use Rattle.py_expr_parts.proofs.Steps.{stays}
-use Rattle.py_stmt_parts.specs.Parts.{handled}
+use Rattle.py_expr_scopes.proofs.OpenBlocks.{open_block_apart, begin_opens, block_opens, jump_opens, opens}
+use Rattle.py_expr_parts.proofs.Steps.{step_stays}
+use Rattle.py_stmt_parts.specs.Parts.{handler_exit}
 use Rattle.py_stmt_simple.specs.Parts.{emission_of_match}
-use Rattle.py_stmt.specs.Parts.{emission_of_caught, guarded, unguarded}
+use Rattle.py_stmt.specs.Parts.{emission_of_caught, guarded_body, unguarded_else}
 use Rattle.py_stmt.proofs.Parts.{handlers_at, last_some}
-use Rattle.py_stmt_parts.proofs.Steps.{none_is}
+use Rattle.py_stmt_parts.proofs.Steps.{step_none_is}
 use Rattle.py_stmt.proofs.+code.Goals as goal
 
 pub try_goes : goal.tries::compile_try-returns
@@ -27,9 +27,9 @@ try_goes t c = record {
       let orelse = emission_of_stmts (stmts stmt_tree c.args.s.now.orelse) in
       let final = stmts stmt_tree c.args.s.now.finalbody in
       let last = emission_of_last final (emission_of_stmts final) in
-      let here = none_is c.args.s.now.finalbody c.is_empty.result c.is_empty.ensures.0 c.is_empty.ensures.1 in
+      let here = step_none_is c.args.s.now.finalbody c.is_empty.result c.is_empty.ensures.0 c.is_empty.ensures.1 in
       goes_as _ _ _ _
-      (went _ (run (try_body (not (none final)) body (emission_of_handlers catches (not (none final))) orelse last)) _ (stays c.args.s.now.location (state c.args.em.now) c.requires.at)
+      (went _ (run (try_body (not (none final)) body (emission_of_handlers catches (not (none final))) orelse last)) _ (step_stays c.args.s.now.location (state c.args.em.now) c.requires.at)
       ∙ ap (λ b. run (try_body (not b) body (emission_of_handlers catches (not b)) orelse last) (state c.args.em.now)) here)
       c.compile_parts.ensures.goes;
   same = search rules;
@@ -41,16 +41,16 @@ catch_begins t c =
     let end = c.in_ok-end.end.0 in
     let a = block_opens _ _ _ c.in_ok-other.ensures.ok c.in_ok-catch.ensures.made in
     let e = block_opens _ _ _ c.in_ok-end.ensures.ok a in
-    record { made = opens (guarded c.args.last (emission_of_stmts (stmts stmt_tree c.as_slice.result.now)) c.in_ok-catch.catch.0 other end) _ _ _ c.in_ok-compile_guarded.ensures.goes e; below = c.in_ok-catch.ensures.below }
+    record { made = opens (guarded_body c.args.last (emission_of_stmts (stmts stmt_tree c.as_slice.result.now)) c.in_ok-catch.catch.0 other end) _ _ _ c.in_ok-compile_guarded.ensures.goes e; below = c.in_ok-catch.ensures.below }
 
 pub else_begins : goal.tries::compile_parts-switch_to_block-requires-2
 else_begins t c =
     let catch = c.in_ok-catch.catch.0 in
     let other = c.in_ok-other.other.0 in
     let end = c.in_ok-end.end.0 in
-    let first = apart _ _ _ c.in_ok-catch.ensures.made c.in_ok-other.ensures.number in
+    let first = open_block_apart _ _ _ c.in_ok-catch.ensures.made c.in_ok-other.ensures.number in
     let a = block_opens _ _ _ c.in_ok-end.ensures.ok c.in_ok-other.ensures.made in
-    let e = opens (guarded c.args.last (emission_of_stmts (stmts stmt_tree c.as_slice.result.now)) catch other end) _ _ _ c.in_ok-compile_guarded.ensures.goes a in
+    let e = opens (guarded_body c.args.last (emission_of_stmts (stmts stmt_tree c.as_slice.result.now)) catch other end) _ _ _ c.in_ok-compile_guarded.ensures.goes a in
     let g = begin_opens _ _ _ catch (λ e. first (sym e)) c.switch_to_block.ensures.state e in
     record { made = opens (emission_of_handlers (handlers stmt_tree c.as_slice-2.result.now) c.args.last end) _ _ _ c.in_ok-compile_handlers.ensures.goes g; below = c.in_ok-other.ensures.below }
 
@@ -60,20 +60,20 @@ last_begins t c =
     let other = c.in_ok-other.other.0 in
     let end = c.in_ok-end.end.0 in
     let a = block_opens _ _ _ c.in_ok-other.ensures.ok c.in_ok-catch.ensures.made in
-    let first = apart _ _ _ a c.in_ok-end.ensures.number in
-    let second = apart _ _ _ c.in_ok-other.ensures.made c.in_ok-end.ensures.number in
-    let e = opens (guarded c.args.last (emission_of_stmts (stmts stmt_tree c.as_slice.result.now)) catch other end) _ _ _ c.in_ok-compile_guarded.ensures.goes c.in_ok-end.ensures.made in
+    let first = open_block_apart _ _ _ a c.in_ok-end.ensures.number in
+    let second = open_block_apart _ _ _ c.in_ok-other.ensures.made c.in_ok-end.ensures.number in
+    let e = opens (guarded_body c.args.last (emission_of_stmts (stmts stmt_tree c.as_slice.result.now)) catch other end) _ _ _ c.in_ok-compile_guarded.ensures.goes c.in_ok-end.ensures.made in
     let g = begin_opens _ _ _ catch (λ e. first (sym e)) c.switch_to_block.ensures.state e in
     let j = opens (emission_of_handlers (handlers stmt_tree c.as_slice-2.result.now) c.args.last end) _ _ _ c.in_ok-compile_handlers.ensures.goes g in
     let m = begin_opens _ _ _ other (λ e. second (sym e)) c.switch_to_block-2.ensures.state j in
-    record { made = opens (unguarded c.args.last (emission_of_stmts (stmts stmt_tree c.as_slice-3.result.now))) _ _ _ c.in_ok-compile_unguarded.ensures.goes m; below = c.in_ok-end.ensures.below }
+    record { made = opens (unguarded_else c.args.last (emission_of_stmts (stmts stmt_tree c.as_slice-3.result.now))) _ _ _ c.in_ok-compile_unguarded.ensures.goes m; below = c.in_ok-end.ensures.below }
 
 pub next_begins : goal.tries::compile_handler-switch_to_block-requires
 next_begins t c =
     let v = opt_box expr_tree c.args.handler.now.type_ in
     let e = opens (emission_of_match v c.args.handler.now.name c.in_ok-next.next.0) _ _ _ c.in_ok-compile_match.ensures.goes c.in_ok-next.ensures.made in
     let g = opens (emission_of_caught v c.args.handler.now.name (emission_of_stmts (stmts stmt_tree c.args.handler.now.body))) _ _ _ c.in_ok-compile_caught.ensures.goes e in
-    record { made = opens (handled c.args.last c.args.end.0) _ _ _ c.in_ok-leave_handler.ensures.goes g; below = c.in_ok-next.ensures.below }
+    record { made = opens (handler_exit c.args.last c.args.end.0) _ _ _ c.in_ok-leave_handler.ensures.goes g; below = c.in_ok-next.ensures.below }
 
 pub forgetting_begins : goal.tries::compile_forgetting-switch_to_block-requires
 forgetting_begins t c =

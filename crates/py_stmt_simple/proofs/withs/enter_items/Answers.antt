@@ -7,7 +7,7 @@ use Rattle.py_emission.specs.EmissionStmts.{emission_of_item, emission_of_items}
 use Rattle.py_emit.specs.States.{rest, state}
 use Rattle.py_stmt_parts.specs.Managing.{AllOpen, left_all}
 use Rattle.py_stmt_simple.specs.Managing.{IsRefusing}
-use Rattle.py_stmt_simple.proofs.WithEntryLemmas.{entered_more, entered_opens, entered_refused, items_at, opens_push}
+use Rattle.py_stmt_simple.proofs.WithEntryLemmas.{entered_more, entered_opens, entered_refused, with_entry_items_at, opens_push}
 use Rattle.py_emission_parts.specs.Running.{◌▹◌, run}
 use Rattle.py_stmt_simple.proofs.withs.enter_items.Goals as goal
 
@@ -19,7 +19,7 @@ returns-in_err-end-clause-refused c =
     let v = opt_box expr_tree item.optional_vars in
     let ts = with_items (drop (c.loop-item.item-index + 1) c.args.items.now) in
     let x = c.in_err-end.field-0.0 in
-    let here = items_at c.args.items.now c.loop-item.item-index _ item c.item-item.is c.loop-item-test.true in
+    let here = with_entry_items_at c.args.items.now c.loop-item.item-index _ item c.item-item.is c.loop-item-test.true in
     let r : c.from_residual.result ≡ Err x = grind arith in
     subst (λ y. IfErr y (λ z. IsRefusing z at (with_items c.args.items.now) (state c.args.em.now))) (sym r) (record {
       goes = λ body n.
@@ -37,7 +37,7 @@ loop-item-preserved c =
     let ts = with_items (drop (c.loop-item.item-index + 1) c.args.items.now) in
     let end = c.in_ok-end.end in
     let now = state c.loop-item.em in
-    let here = items_at c.args.items.now c.loop-item.item-index _ item c.item-item.is c.loop-item-test.true in
+    let here = with_entry_items_at c.args.items.now c.loop-item.item-index _ item c.item-item.is c.loop-item-test.true in
     let pushed = c.in_ok-keep_end.ensures.kept in
     let next : state c.keep_end.new.em ≡ state c.enter_item.new.em = ap state c.in_ok-keep_end.ensures.same in (
       ap rest c.in_ok-keep_end.ensures.same ∙ c.in_ok-end.ensures.emits.same ∙ c.loop-item.invariant.0,
