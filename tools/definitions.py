@@ -320,9 +320,8 @@ def contract_text(project: antt.Project, what: str) -> List[str]:
     return ["```rust", "\n".join(source.lines[first:end]), "```", ""]
 
 
-def headline_page(project: antt.Project) -> str:
+def headline_page(project: antt.Project, closure: Closure) -> str:
     """The page of the headline."""
-    closure = headline_closure(project)
     parts = headline_sections(closure)
     place, _, name = HEADLINE.rpartition(":")
     lines = ["# What the compiler promises", ""]
@@ -382,10 +381,10 @@ def trait_roots(project: antt.Project, place: str) -> List[antt.Name]:
     return roots
 
 
-def trusted_page(project: antt.Project) -> str:
+def trusted_page(project: antt.Project, of_headline: Closure) -> str:
     """The page of all that `run` cites."""
     closure = Closure(project).add(roots_of(project, RUN))
-    headline = set(headline_closure(project).found)
+    headline = set(of_headline.found)
     lines = ["# What is trusted", ""]
     lines += ["The theorem of `run` (`crates/py_run/src/engine.rt`) is about these definitions, and says what is meant only where they do: those that its contract cites, those that these cite, and so on. Names are read by their scope, and no proof and no code is among them. `python3 tools/definitions.py --write` writes the list; `DEFINITIONS.md` says in plain words what they say, and `tools/definitions_index.py NAME` prints all of a crate's.", ""]
     lines += ["Whoever wants to believe the headline alone needs %s of them: `HEADLINE.md` has their text." % "{:,}".format(len(headline & set(closure.found))), ""]
@@ -429,7 +428,8 @@ def devices(project: antt.Project) -> List[str]:
 
 def pages(project: antt.Project) -> Dict[str, str]:
     """The pages, by their paths."""
-    return {HEADLINE_PAGE: headline_page(project), TRUSTED_PAGE: trusted_page(project)}
+    closure = headline_closure(project)
+    return {HEADLINE_PAGE: headline_page(project, closure), TRUSTED_PAGE: trusted_page(project, closure)}
 
 
 def compare(project: antt.Project, write: bool) -> int:
