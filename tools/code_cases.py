@@ -92,7 +92,7 @@ def cases() -> Iterator[Case]:
 
 
 def main() -> int:
-    parser = argparse.ArgumentParser(prog="code_cases.py", description="writes the cases of crates/code_vectors")
+    parser = argparse.ArgumentParser(prog="code_cases.py", description="Writes the cases of crates/code_vectors.")
     parser.add_argument("--check", action="store_true", help="compare them alone")
     check = parser.parse_args().check
     if sys.version_info < (3, 12):

@@ -273,6 +273,11 @@ def counted(size: Size) -> str:
     return "{:,} definitions of {:,} {}, {:,} lines".format(size.definitions, size.files, "file" if size.files == 1 else "files", size.lines)
 
 
+def headline_closure(project: antt.Project) -> Closure:
+    """The definitions of the headline."""
+    return Closure(project).add(roots_of(project, HEADLINE))
+
+
 def headline_sections(closure: Closure) -> List[Tuple[Section, List[Found]]]:
     """The definitions of each section. The contract's own come first, and are what no other section needs."""
     project = closure.project
@@ -313,9 +318,8 @@ def contract_text(project: antt.Project, what: str) -> List[str]:
     return ["```rust", "\n".join(source.lines[first:end]), "```", ""]
 
 
-def headline_page(project: antt.Project) -> str:
+def headline_page(project: antt.Project, closure: Closure) -> str:
     """The page of the headline."""
-    closure = Closure(project).add(roots_of(project, HEADLINE))
     parts = headline_sections(closure)
     place, _, name = HEADLINE.rpartition(":")
     lines = ["# What the compiler promises", ""]
@@ -369,10 +373,10 @@ def trait_roots(project: antt.Project, place: str) -> List[antt.Name]:
     return roots
 
 
-def trusted_page(project: antt.Project) -> str:
+def trusted_page(project: antt.Project, of_headline: Closure) -> str:
     """The page of all that `run` cites."""
     closure = Closure(project).add(roots_of(project, RUN))
-    headline = set(Closure(project).add(roots_of(project, HEADLINE)).found)
+    headline = set(of_headline.found)
     lines = ["# What is trusted", ""]
     lines += ["The theorem of `run` (`crates/py_run/src/engine.rt`) is about these definitions, and says what is meant only where they do: those that its contract cites, those that these cite, and so on. Names are read by their scope, and no proof and no code is among them. `python3 tools/definitions.py --write` writes the list; `DEFINITIONS.md` says in plain words what they say, and `tools/definitions_index.py NAME` prints all of a crate's.", ""]
     lines += ["Whoever wants to believe the headline alone needs %s of them: `HEADLINE.md` has their text." % "{:,}".format(len(headline & set(closure.found))), ""]
@@ -416,7 +420,8 @@ def devices(project: antt.Project) -> List[str]:
 
 def pages(project: antt.Project) -> Dict[str, str]:
     """The pages, by their paths."""
-    return {HEADLINE_PAGE: headline_page(project), TRUSTED_PAGE: trusted_page(project)}
+    closure = headline_closure(project)
+    return {HEADLINE_PAGE: headline_page(project, closure), TRUSTED_PAGE: trusted_page(project, closure)}
 
 
 def compare(project: antt.Project, write: bool) -> int:

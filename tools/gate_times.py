@@ -274,7 +274,7 @@ def table(head: Dict[str, object], taken: Sequence[Taken], uses: Dict[str, List[
 
 
 def main() -> int:
-    parser = argparse.ArgumentParser(description="measures what a run of rt ci takes, crate by crate")
+    parser = argparse.ArgumentParser(description="Measures what a run of rt ci takes, crate by crate.")
     parser.add_argument("record", type=pathlib.Path)
     parser.add_argument("--watch", action="store_true", help="write the record of the run that goes on")
     parser.add_argument("--at", type=pathlib.Path, default=ROOT, help="the checkout of that run")

@@ -33,10 +33,10 @@ class Processes(unittest.TestCase):
         words = ["/kit/bin/rattle", "build", "--crate-name", "low", "src/lib.rt", "-o"]
         for more, folder, kind in [
             (["/a/crates/low/out/rlib/low.rlib"], "/a/crates/low", PROOF),
-            (["/tmp/rt-proved-1-x/checked"], "/a/crates/low", PROOF),
+            (["/a/rt-proved-1-x/checked"], "/a/crates/low", PROOF),
             (["out/low_tests.o"], "/a/crates/low", TESTS),
-            (["out/low.o", "--crate-checked", "/tmp/rt-proved-1-x/checked"], "/a/crates/low", CODE),
-            (["x"], "/tmp/rt-edit-1-abc", EDITS),
+            (["out/low.o", "--crate-checked", "/a/rt-proved-1-x/checked"], "/a/crates/low", CODE),
+            (["x"], "/a/rt-edit-1-abc", EDITS),
         ]:
             with self.subTest(more):
                 self.assertEqual(gate_times.kind_of(words + more, folder), ("low", kind))
@@ -68,7 +68,7 @@ class Processes(unittest.TestCase):
             build = ["/kit/rattle", "build", "--crate-name"]
             add(20, 1, ["python3", "/usr/bin/rt", "ci"], "/a")
             add(21, 20, build + ["low", "x"], "/a/crates/low")
-            add(22, 20, build + ["low", "x"], "/tmp/rt-edit-20-abc")
+            add(22, 20, build + ["low", "x"], "/a/rt-edit-20-abc")
             add(23, 1, build + ["low", "x"], "/a/crates/low")
             add(24, 20, ["sh", "-c", "read _; kill -9 0"], "/a")
             (proc / "meminfo").write_text("", encoding="ascii")
