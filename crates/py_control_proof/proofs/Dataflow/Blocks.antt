@@ -8,13 +8,13 @@ use Rattle.py_dataflow.specs.Walks.{seen_instr}
 use Rattle.py_control.specs.Code.{labels, body_code}
 use Rattle.py_control.specs.Agree.{exactly, form_of}
 use Rattle.py_control_proof.proofs.BlockMachine.{block_ground, spot_in, stands_in_blocks}
-use Rattle.py_control_sound.specs.Blocks.{BlocksAreSound, LaidIsSound}
+use Rattle.py_control_proof.specs.SoundBlocks.{BlocksAreSound, LaidIsSound}
 use Rattle.py_control_proof.specs.Blocks.{Ends}
 use Rattle.py_control_proof.proofs.LaidCodeLemmas.{end_settles}
 use Rattle.py_control_proof.proofs.LaidOut.{body_lies}
-use Rattle.py_control_sound.proofs.MachineFlowLemmas.{stands_seen}
-use Rattle.py_control_sound.proofs.Refusals.{refusal_sound}
-use Rattle.py_control_sound.proofs.CodesAreSound.{laid_out}
+use Rattle.py_control_proof.proofs.Dataflow.MachineFlowLemmas.{stands_seen}
+use Rattle.py_control_proof.proofs.Dataflow.Refusals.{refusal_sound}
+use Rattle.py_control_proof.proofs.Dataflow.CodesAreSound.{laid_out}
 
 end_has_nothing : (t : Tables) (bs : List Block) (q : Place) → Ends bs q → fetch_block t bs (settled_place bs q) ≡ Nothing
 end_has_nothing t bs (Of b k) e =

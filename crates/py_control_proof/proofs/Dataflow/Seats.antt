@@ -10,9 +10,9 @@ use Rattle.py_control_proof.specs.Walks.{Shape, shape, Then, Falls, Never, after
 use Rattle.py_control_proof.proofs.Assembly.{occurs}
 use Rattle.py_control_proof.proofs.CodesWalk.{from_label, state_after, after_append}
 use Rattle.py_control_proof.proofs.Heights.{Bounded}
-use Rattle.py_control_sound.specs.Sound.{Sees}
-use Rattle.py_control_sound.proofs.Like.{Like, join_like}
-use Rattle.py_control_sound.proofs.Moves.{Low}
+use Rattle.py_control_proof.specs.Sound.{Sees}
+use Rattle.py_control_proof.proofs.Dataflow.Like.{Like, join_like}
+use Rattle.py_control_proof.proofs.Dataflow.Moves.{Low}
 
 pub walks_after : {K : Type 0} (at : ℕ → Option Shape) (a b : List (Item K)) (t u : Then) → Walks at (a ++ b) t u → Walks at b (state_after at a t) u
 walks_after at [] b t u h = h

@@ -5,7 +5,7 @@ use Rattle.py_bytecode.specs.Machine as M
 use Rattle.py_bytecode.specs.Machine.{Instr, at_places}
 use Rattle.py_dataflow.specs.Flow as flow
 use Rattle.py_control_proof.specs.Walks.{Shape, Then, Falls, Never, after, IsFine, rise}
-use Rattle.py_control_sound.proofs.Moves.{Low}
+use Rattle.py_control_proof.proofs.Dataflow.Moves.{Low}
 
 abbrev pub height_then : Then → ℕ
 height_then (Falls v) = v.height

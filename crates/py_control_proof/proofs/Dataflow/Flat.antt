@@ -18,11 +18,11 @@ use Rattle.py_control_proof.proofs.Reach.{Ground}
 use Rattle.py_control_proof.proofs.Assembly.{simulated, simulated_at, fuel_covers}
 use Rattle.py_control_proof.proofs.Labels.{label_once}
 use Rattle.py_control_proof.proofs.DecodeAt.{option_at, decode_at}
-use Rattle.py_control_sound.proofs.MachineFlowLemmas.{flow_at_places}
-use Rattle.py_control_sound.specs.Sound.{seen_as, Sees}
-use Rattle.py_control_sound.specs.Flat.{Lies, FlatRuns, FlatIsSound}
-use Rattle.py_control_sound.proofs.Refusals.{refusal_sound}
-use Rattle.py_control_sound.proofs.CodesAreSound.{laid_out}
+use Rattle.py_control_proof.proofs.Dataflow.MachineFlowLemmas.{flow_at_places}
+use Rattle.py_control_proof.specs.Sound.{seen_as, Sees}
+use Rattle.py_control_proof.specs.Flat.{Lies, FlatRuns, FlatIsSound}
+use Rattle.py_control_proof.proofs.Dataflow.Refusals.{refusal_sound}
+use Rattle.py_control_proof.proofs.Dataflow.CodesAreSound.{laid_out}
 
 module _ (t : Tables) (starts : List ℕ) (list : List InstructionInfo) where
   -- the instruction that the entry is, at places

@@ -13,7 +13,7 @@ use Rattle.py_dataflow.specs.declared.flow.Flow.{Flow}
 use Rattle.py_dataflow.specs.Flow as flow
 use Rattle.py_dataflow.specs.Walks as walks
 use Rattle.py_control_proof.specs.Walks.{LoopSort, ExceptSort, FinallySort, ExitSort, HandlerSort, LastSort, CleanupSort, OpenSort, Sort, Mark, mark, Shape, shape, floor, loop_at, cut_height, rest_of, BreaksTo, ContinuesTo, Joins, Then, Falls, Never, after, IsFine}
-use Rattle.py_control_sound.proofs.Like.{kind_of, Flags, LikeMarks, Like, like_floor, like_rest, entered_on_top, handler_on_top, last_on_top, finally_on_top, with_on_top, loop_like, some_top, cut_like, join_like}
+use Rattle.py_control_proof.proofs.Dataflow.Like.{kind_of, Flags, LikeMarks, Like, like_floor, like_rest, entered_on_top, handler_on_top, last_on_top, finally_on_top, with_on_top, loop_like, some_top, cut_like, join_like}
 
 -- the stack is no lower than the innermost block
 abbrev pub Low : Shape → Type 0

@@ -11,9 +11,9 @@ use Rattle.py_control_proof.proofs.Labels.{placed_once}
 use Rattle.py_control_proof.proofs.LabelShapes.{shapes, len}
 use Rattle.py_control_proof.proofs.CodesWalk.{shape_at, known_within, body_walks}
 use Rattle.py_control_proof.proofs.Heights.{Bounded, body_high}
-use Rattle.py_control_sound.specs.Sound.{Sees, CodesAreSound}
-use Rattle.py_control_sound.proofs.Seats.{Laid}
-use Rattle.py_control_sound.proofs.Refusals.{refusal_sound}
+use Rattle.py_control_proof.specs.Sound.{Sees, CodesAreSound}
+use Rattle.py_control_proof.proofs.Dataflow.Seats.{Laid}
+use Rattle.py_control_proof.proofs.Dataflow.Refusals.{refusal_sound}
 
 codes_are_sound_one_of : (top : ℕ) (us : List Shape) (k : ℕ) (u : Shape) → AllOf (Bounded top) us → slice_get us k ≡ Some u → Bounded top u
 codes_are_sound_one_of top [] k u h e = absurd cc

@@ -6,7 +6,7 @@ use Rattle.py_dataflow.specs.Walks.{seen_instr}
 use Rattle.py_control.specs.Code.{Item, Do, Label}
 use Rattle.py_control_proof.proofs.Moves.{MoveStands}
 use Rattle.py_control_proof.proofs.Reach.{Ground}
-use Rattle.py_control_sound.specs.Sound.{Sees}
+use Rattle.py_control_proof.specs.Sound.{Sees}
 
 -- the flow of an instruction has no places
 pub flow_at_places : {K P Q : Type 0} (f : P → Q) (i : Instr K P) → flow_of (at_places f i) ≡ flow_of i

@@ -10,11 +10,11 @@ use Rattle.py_control_proof.specs.Walks.{Shape, shape, Then, Falls, Never, after
 use Rattle.py_control_proof.proofs.CodesWalk.{from_label, state_after, after_append}
 use Rattle.py_control_proof.proofs.Heights.{rises-append}
 use Rattle.py_control_proof.proofs.Moves.{size-append}
-use Rattle.py_control_sound.specs.Sound.{seen_as, Sees}
-use Rattle.py_control_sound.proofs.Like.{Like, like_alike, no_clash}
-use Rattle.py_control_sound.proofs.Moves.{Moves, moves, Falling, Jumping}
-use Rattle.py_control_sound.proofs.Steady.{height_then, rise_after, LowThen, low_after, place_of, target_at}
-use Rattle.py_control_sound.proofs.Seats.{walks_after, sees_after, Placed, placed_at, Laid, Seat, SeatReady, seat_ready, begin}
+use Rattle.py_control_proof.specs.Sound.{seen_as, Sees}
+use Rattle.py_control_proof.proofs.Dataflow.Like.{Like, like_alike, no_clash}
+use Rattle.py_control_proof.proofs.Dataflow.Moves.{Moves, moves, Falling, Jumping}
+use Rattle.py_control_proof.proofs.Dataflow.Steady.{height_then, rise_after, LowThen, low_after, place_of, target_at}
+use Rattle.py_control_proof.proofs.Dataflow.Seats.{walks_after, sees_after, Placed, placed_at, Laid, Seat, SeatReady, seat_ready, begin}
 
 -- two rests that stand at one place are one
 same_size : {K P : Type 0} (look : P → Option (Seen P)) (spot : ℕ → P) (xs ys : List (Item K)) (p q : P) → look q ≡ None → Sees look spot xs p q → Sees look spot ys p q → size xs ≡ size ys
@@ -195,10 +195,10 @@ module _ {K P : Type 0} (look : P → Option (Seen P)) (spot : ℕ → P) (at : 
           let a = refusal_reached e.one_reached.0 p e.one e.one_reached.1 in
           let b = refusal_reached e.other_reached.0 p e.other e.other_reached.1 in
           let same = same_shape p e.one e.other a b in
-          let g = subst (λ (u : Shape). Rattle.py_control_sound.proofs.Like.LikeMarks u.marks e.other.shape) (sym same) b.seat.like.marks in
+          let g = subst (λ (u : Shape). Rattle.py_control_proof.proofs.Dataflow.Like.LikeMarks u.marks e.other.shape) (sym same) b.seat.like.marks in
           go a.seat.shape.marks a.seat.like.marks g e.differ
         where
-          go : (ms : List Rattle.py_control_proof.specs.Walks.Mark) → Rattle.py_control_sound.proofs.Like.LikeMarks ms e.one.shape
-              → Rattle.py_control_sound.proofs.Like.LikeMarks ms e.other.shape → walks.Differ e.one.shape e.other.shape → ⊥
+          go : (ms : List Rattle.py_control_proof.specs.Walks.Mark) → Rattle.py_control_proof.proofs.Dataflow.Like.LikeMarks ms e.one.shape
+              → Rattle.py_control_proof.proofs.Dataflow.Like.LikeMarks ms e.other.shape → walks.Differ e.one.shape e.other.shape → ⊥
           go ms h g (inl d) = d (like_alike ms e.one.shape e.other.shape h g)
           go ms h g (inr d) = no_clash ms e.one.shape e.other.shape h g d
