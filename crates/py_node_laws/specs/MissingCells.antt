@@ -17,7 +17,7 @@ use Rattle.py_emission.specs.Emission.{emission, emission_of_delete, emission_of
 use Rattle.py_emission.specs.EmissionStmts.{emission_of_stmt, emission_of_stmts}
 use Rattle.py_meaning.specs.Table.{expr_form, target_form}
 use Rattle.py_meaning.specs.TableStmts.{stmt_form, stmts_form}
-use Rattle.py_scope_tree.specs.Cells.{StandUpTo}
+use Rattle.py_scope_proof.specs.Cells.{StandUpTo}
 use Rattle.py_emission_outcomes.specs.Fitting.{HasShortTables}
 use Rattle.py_expr_scopes.specs.Comprehensions.{comprehension_of}
 use Rattle.py_expr_scopes.specs.declared.comprehensions.ComprehensionElement.{ComprehensionElement}

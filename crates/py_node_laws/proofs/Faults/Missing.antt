@@ -20,7 +20,7 @@ use Rattle.py_emission.specs.EmissionStmts.{emission_of_stmt}
 use Rattle.py_meaning.specs.Table.{expr_form}
 use Rattle.py_meaning.specs.StmtCounts.{scopes_in_stmt}
 use Rattle.py_meaning.specs.TableStmts.{stmt_form}
-use Rattle.py_scope_tree.specs.Cells.{StandUpTo}
+use Rattle.py_scope_proof.specs.Cells.{StandUpTo}
 use Rattle.py_emission_outcomes.specs.Fitting.{HasShortTables}
 use Rattle.py_emission_outcomes.proofs.Capacity.Fits.{FitsIn, IsOfTree, FitStands, fit_taken}
 use Rattle.py_emission_outcomes.proofs.Capacity.Accesses.{AccessReady}
