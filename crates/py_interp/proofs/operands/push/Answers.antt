@@ -1,8 +1,8 @@
 use Rattle.std.proofs.Common.{[], ◌∷◌, ap, ◌∙◌}
 use Rattle.py_answers.specs.Told.{values_of}
-use Rattle.py_interp_values.proofs.Lengths.{length_behind}
-use Rattle.py_interp_values.proofs.operands.push.Goals as goal
-use Rattle.py_interp_values.proofs.operands.push.Goals.{in-Ok, in-Err}
+use Rattle.py_interp.proofs.Lengths.{length_behind}
+use Rattle.py_interp.proofs.operands.push.Goals as goal
+use Rattle.py_interp.proofs.operands.push.Goals.{in-Ok, in-Err}
 
 pub returns-clause-ok : goal.returns-clause-ok
 returns-clause-ok c =
