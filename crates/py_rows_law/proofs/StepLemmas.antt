@@ -44,7 +44,7 @@ use Rattle.py_rows_format.specs.Making.{all_names, are_new, deepest, fits_in, na
 use Rattle.py_rows_format.specs.Rows as law
 use Rattle.py_rows_format.specs.Table as table
 use Rattle.py_rows_slots.specs.Nodes.{Nodes}
-use Rattle.py_rows_nodes.specs.Making.{make}
+use Rattle.py_rows.specs.Making.{make}
 use Rattle.py_rows.specs.Rows.{add_row, is_item, is_with, item_count, row_read, whole_depth}
 use Rattle.py_rows_format_proof.proofs.CheckLemmas.{AreAlike, deepest_alike, kinds_alike, later_alike, node_fits, number_of, numbers_in}
 use Rattle.py_rows_format_proof.proofs.FieldLemmas.{Filled, Says, all_filled}

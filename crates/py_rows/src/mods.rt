@@ -2,7 +2,7 @@
 ghost use Rattle.serde_json.specs.View.{items_view};
 ghost use Rattle.py_tree.specs.View.{mod_tree};
 ghost use Rattle.py_rows_fields.specs.Gives.{Gives};
-ghost use Rattle.py_rows_nodes.specs.Mods.{mod_node};
+ghost use Rattle.py_rows.specs.Mods.{mod_node};
 ghost use Rattle.py_rows_slots.specs.Nodes.{nodes_view};
 
 use crate::programs::{expression_node, function_type_node, interactive_node, module_node};

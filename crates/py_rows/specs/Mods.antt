@@ -6,7 +6,7 @@ use Rattle.py_rows_fields.specs.declared.kinds.ModKind.{ModKind}
 use Rattle.py_rows_fields.specs.declared.kinds.ModKind.TheVariants as kind
 use Rattle.py_rows_slots.specs.Nodes.{Nodes}
 use Rattle.py_rows_slots.specs.Slots.{Made}
-use Rattle.py_rows_nodes.specs.Programs.{expression_node, function_type_node, interactive_node, module_node}
+use Rattle.py_rows.specs.Programs.{expression_node, function_type_node, interactive_node, module_node}
 
 abbrev pub mod_node : ℕ → ModKind → Items → Nodes → Made tree.Mod
 mod_node n kind.Module fields nodes = module_node n fields nodes

@@ -9,7 +9,7 @@ use Rattle.py_rows_slots.specs.Nodes.{Nodes}
 use Rattle.py_rows_slots.specs.Slots.{Made, set_program}
 use Rattle.py_rows_exprs.specs.Making.{make_arg, make_arguments, make_comprehension, make_constant, make_default, make_expr, make_keyword}
 use Rattle.py_rows_stmts.specs.Making.{make_alias, make_case, make_handler, make_item, make_stmt, make_type_param}
-use Rattle.py_rows_nodes.specs.Mods.{mod_node}
+use Rattle.py_rows.specs.Mods.{mod_node}
 
 abbrev pub make_program : ℕ → ModKind → Items → Nodes → Made ℕ
 make_program n k fields nodes = mod_node n k fields nodes >>= λ (node, nodes). set_program node nodes

@@ -2,7 +2,7 @@
 ghost use Rattle.serde_json.specs.View.{items_view};
 ghost use Rattle.py_tree.specs.View.{mod_tree};
 ghost use Rattle.py_rows_fields.specs.Gives.{Gives};
-ghost use Rattle.py_rows_nodes.specs.Programs.{expression_node, function_type_node, interactive_node, module_node};
+ghost use Rattle.py_rows.specs.Programs.{expression_node, function_type_node, interactive_node, module_node};
 ghost use Rattle.py_rows_slots.specs.Nodes.{nodes_view};
 
 use py_rows_fields::{RowsError, one, two};

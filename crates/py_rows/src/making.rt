@@ -1,7 +1,7 @@
 //! The node that a row makes.
 ghost use Rattle.serde_json.specs.View.{items_view};
 ghost use Rattle.py_rows_fields.specs.Gives.{Gives};
-ghost use Rattle.py_rows_nodes.specs.Making.{make, make_program};
+ghost use Rattle.py_rows.specs.Making.{make, make_program};
 ghost use Rattle.py_rows_slots.specs.Nodes.{nodes_view};
 
 use crate::mods::mod_node;
@@ -36,7 +36,7 @@ fn make_program(
 /// `WrongRow` where the fields are not those of the kind, `WideInteger` where an integer is outside the 128 bits of an
 /// `i128`, `LaterRow` where one names no earlier row, `NamedTwice` where an earlier row has taken a node that one names,
 /// `OutOfMemory`.
-pub fn make(
+pub(crate) fn make(
     alloc: Global,
     kind: Kind,
     fields: &[Value],
