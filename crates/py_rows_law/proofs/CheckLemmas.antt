@@ -11,8 +11,8 @@ use Rattle.py_rows_fields.specs.Sorts.{sort_number}
 use Rattle.py_rows_format.specs.Fields.{◌>>=◌, Content, Contents, Entry, Field, FieldValue, Letter, Node, Sort, optional, several, one, maybe, many, keys, text, truth, small, integer, bytes, operator, node}
 use Rattle.py_rows_format.specs.Making.{Made, all_of, deepest, depth_at, field_value, keys_of, made_of, names_as, names_by, names_in, names_or_none, node_as, node_at, one_or_none}
 use Rattle.py_rows_format.specs.Table.{Of}
-use Rattle.py_rows_format_proof.proofs.FormLemmas.{part, parts_as, parts_in, parts_of, parts_or_none}
-use Rattle.py_rows_format_proof.proofs.TableLemmas.{sort_as}
+use Rattle.py_rows_law.proofs.FormLemmas.{part, parts_as, parts_in, parts_of, parts_or_none}
+use Rattle.py_rows_law.proofs.TableLemmas.{sort_as}
 
 -- ---- rows that are alike: each has its sort and its nesting
 

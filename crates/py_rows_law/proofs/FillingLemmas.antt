@@ -20,9 +20,9 @@ use Rattle.py_rows_format.specs.Table.{Of}
 use Rattle.py_rows_slots.specs.Nodes.{Nodes}
 use Rattle.py_rows_slots.specs.Slots.{Made}
 use Rattle.py_rows_slots.specs.Taking as list
-use Rattle.py_rows_format_proof.proofs.FormLemmas.{is_part}
-use Rattle.py_rows_format_proof.proofs.TakingLemmas.{EachPair, Gives, GivesMaybe, Reads, ReadsMaybe}
-use Rattle.py_rows_format_proof.proofs.TieLemmas.{Same, Tied, Ties, among_behind, behind, list_of, list_with, number, other_list, other_row, part_number, rows_with, same_sort, tied_other, with_list, within}
+use Rattle.py_rows_law.proofs.FormLemmas.{is_part}
+use Rattle.py_rows_law.proofs.TakingLemmas.{EachPair, Gives, GivesMaybe, Reads, ReadsMaybe}
+use Rattle.py_rows_law.proofs.TieLemmas.{Same, Tied, Ties, among_behind, behind, list_of, list_with, number, other_list, other_row, part_number, rows_with, same_sort, tied_other, with_list, within}
 
 -- ---- a field, and then the rest
 

@@ -13,7 +13,7 @@ use Rattle.py_rows_fields.specs.Operators.{bool_operator_of, comparison_of, conv
 use Rattle.py_rows_fields.specs.Plain.{each_comparison, each_text, readable}
 use Rattle.py_rows_format.specs.Fields.Operators.{Joining, Binary, Unary, Comparing, Converting}
 use Rattle.py_rows_format.specs.Fields.{◌>>=◌ as ◌>>>◌, Content, Contents, Entry, Field, Letter, look_up, operators, Sort, each_of, contents_of, or_null, entry_of, content_of, one, maybe, many, keys, text, truth, small, operator, node}
-use Rattle.py_rows_format_proof.proofs.TableLemmas.{field_as, sort_as}
+use Rattle.py_rows_law.proofs.TableLemmas.{field_as, sort_as}
 
 abbrev pub part : Sort → ℕ → Part
 part s k = record { sort = sort_as s; number = k }

@@ -10,9 +10,9 @@ use Rattle.py_rows_format.specs.Fields.{◌>>=◌, Node, Sort}
 use Rattle.py_rows_format.specs.Making.{Made, are_new, is_among, node_as, node_at}
 use Rattle.py_rows_slots.specs.Nodes.{Nodes}
 use Rattle.py_rows_slots.specs.Taking.{emptied_nodes}
-use Rattle.py_rows_format_proof.proofs.CheckLemmas.{Alike, AreAlike, fits_as}
-use Rattle.py_rows_format_proof.proofs.FormLemmas.{is_part}
-use Rattle.py_rows_format_proof.proofs.TableLemmas.{sort_as}
+use Rattle.py_rows_law.proofs.CheckLemmas.{Alike, AreAlike, fits_as}
+use Rattle.py_rows_law.proofs.FormLemmas.{is_part}
+use Rattle.py_rows_law.proofs.TableLemmas.{sort_as}
 
 -- ---- the list of the nodes of a sort; programs have none
 

@@ -14,10 +14,10 @@ use Rattle.py_rows_format.specs.Fields.{◌>>=◌, Node, Sort}
 use Rattle.py_rows_format.specs.Making.{Made, all_names, is_among, node_as, node_at}
 use Rattle.py_rows_format.specs.Rows.{program_of}
 use Rattle.py_rows_slots.specs.Nodes.{Nodes}
-use Rattle.py_rows_format_proof.proofs.CheckLemmas.{Alike, AreAlike}
-use Rattle.py_rows_format_proof.proofs.FormLemmas.{is_part}
-use Rattle.py_rows_format_proof.proofs.TieLemmas.{Same, Tied, Ties, among_behind, behind, list_of, number, other_list, same_sort, sort_found, with_list}
-use Rattle.py_rows_format_proof.proofs.TableLemmas.{sort_as}
+use Rattle.py_rows_law.proofs.CheckLemmas.{Alike, AreAlike}
+use Rattle.py_rows_law.proofs.FormLemmas.{is_part}
+use Rattle.py_rows_law.proofs.TieLemmas.{Same, Tied, Ties, among_behind, behind, list_of, number, other_list, same_sort, sort_found, with_list}
+use Rattle.py_rows_law.proofs.TableLemmas.{sort_as}
 
 -- ---- one more element
 

@@ -14,10 +14,10 @@ use Rattle.py_rows_format.specs.Making as format
 use Rattle.py_rows_format.specs.Table.{Of}
 use Rattle.py_rows_slots.specs.Nodes.{Nodes}
 use Rattle.py_rows_slots.specs.Slots.{Made}
-use Rattle.py_rows_format_proof.proofs.FormLemmas.{is_part, is_read, are_read, both_true}
-use Rattle.py_rows_format_proof.proofs.FillingLemmas.{AreOf, Datas, and_then_as, are_of_each, are_of_each_maybe, are_of_maybe, bind_some, comparisons_as, filled, map_some, optional_text_as, small_as, texts_as, ties_with, with_field}
-use Rattle.py_rows_format_proof.proofs.TakingLemmas.{GivesMaybe, ReadsMaybe, Took, each_gives, each_reads, gives, gives_maybe, reads, reads_maybe, took_each, took_each_maybe, took_maybe, took_one}
-use Rattle.py_rows_format_proof.proofs.TieLemmas.{Ties, are_new-append, behind, behind-append, list_of, rows_with, with_list}
+use Rattle.py_rows_law.proofs.FormLemmas.{is_part, is_read, are_read, both_true}
+use Rattle.py_rows_law.proofs.FillingLemmas.{AreOf, Datas, and_then_as, are_of_each, are_of_each_maybe, are_of_maybe, bind_some, comparisons_as, filled, map_some, optional_text_as, small_as, texts_as, ties_with, with_field}
+use Rattle.py_rows_law.proofs.TakingLemmas.{GivesMaybe, ReadsMaybe, Took, each_gives, each_reads, gives, gives_maybe, reads, reads_maybe, took_each, took_each_maybe, took_maybe, took_one}
+use Rattle.py_rows_law.proofs.TieLemmas.{Ties, are_new-append, behind, behind-append, list_of, rows_with, with_list}
 
 none_named : (l : Letter) → ((x : Entry l) → names_as l x ≡ []) → (xs : List (Entry l)) → flat_map (names_as l) xs ≡ []
 none_named l e [] = refl

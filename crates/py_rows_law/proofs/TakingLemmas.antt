@@ -10,9 +10,9 @@ use Rattle.py_rows_fields.specs.Gives.{◌>>=◌}
 use Rattle.py_rows_format.specs.Fields.{◌>>=◌ as ◌>>>◌, Node, Sort, each_of, entry_of, or_null, node}
 use Rattle.py_rows_format.specs.Making.{Made, all_of, are_new, is_among, names_as, names_or_none, node_at, one_or_none}
 use Rattle.py_rows_slots.specs.Taking as list
-use Rattle.py_rows_format_proof.proofs.FormLemmas.{is_part}
-use Rattle.py_rows_format_proof.proofs.TieLemmas.{Same, Tied, are_new-append, behind, behind-append, row_at, tied_without}
-use Rattle.py_rows_format_proof.proofs.TableLemmas.{sort_as}
+use Rattle.py_rows_law.proofs.FormLemmas.{is_part}
+use Rattle.py_rows_law.proofs.TieLemmas.{Same, Tied, are_new-append, behind, behind-append, row_at, tied_without}
+use Rattle.py_rows_law.proofs.TableLemmas.{sort_as}
 
 -- ---- what each item says, and what each number stands for
 
