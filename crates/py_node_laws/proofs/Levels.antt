@@ -1,6 +1,6 @@
-mod LevelExprs
-mod LevelParts
-mod LevelStmts
+pub mod LevelExprs
+pub mod LevelParts
+pub mod LevelStmts
 pub mod LevelTrees
-mod Alike
-mod LevelSamples
+pub mod Alike
+pub mod LevelSamples

@@ -1,5 +1,5 @@
-mod EventLemmas
+pub mod EventLemmas
 pub mod Events
 pub mod CellPathLemmas
 pub mod CaptureLemmas
-mod ChainSamples
+pub mod ChainSamples

@@ -1,11 +1,11 @@
-mod Used
-mod UsedNames
-mod UsedParams
-mod UsedExprs
-mod UsedDefs
-mod UsedStmts
+pub mod Used
+pub mod UsedNames
+pub mod UsedParams
+pub mod UsedExprs
+pub mod UsedDefs
+pub mod UsedStmts
 pub mod Whole
-mod Needed
+pub mod Needed
 pub mod SharedUseLemmas
 pub mod Distinct
 pub mod CellLoadLemmas

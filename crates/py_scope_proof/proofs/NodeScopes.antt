@@ -1,36 +1,36 @@
-mod ScopeForestLemmas
-mod Groves
+pub mod ScopeForestLemmas
+pub mod Groves
 pub mod ScanEntryLemmas
-mod EnteringNames
-mod EnteringParts
-mod EnteringExprs
-mod FutureFree
-mod EnteringDefs
-mod EnteringStatements
+pub mod EnteringNames
+pub mod EnteringParts
+pub mod EnteringExprs
+pub mod FutureFree
+pub mod EnteringDefs
+pub mod EnteringStatements
 pub mod EnteringPrograms
-mod ScopeListLemmas
+pub mod ScopeListLemmas
 pub mod ListedTables
 pub mod OwnerTables
-mod OwnerSamples
-mod Lengths
-mod StmtLengths
-mod Ownerless
-mod Kept
-mod KeptForms
-mod KeptScopes
-mod KeptStmts
+pub mod OwnerSamples
+pub mod Lengths
+pub mod StmtLengths
+pub mod Ownerless
+pub mod Kept
+pub mod KeptForms
+pub mod KeptScopes
+pub mod KeptStmts
 pub mod OwnScopes
-mod OwnExprs
-mod OwnNotes
-mod OwnParts
-mod OwnDefs
-mod OwnStmts
+pub mod OwnExprs
+pub mod OwnNotes
+pub mod OwnParts
+pub mod OwnDefs
+pub mod OwnStmts
 pub mod EachOwn
-mod OwnSamples
+pub mod OwnSamples
 pub mod Wanted
 pub mod Facts
 pub mod FreeNames
 pub mod NodeScopeLemmas
 pub mod CellsOfScopes
 pub mod Heads
-mod CellSamples
+pub mod CellSamples
