@@ -62,7 +62,7 @@ module _ (rows mode level : List ℕ) (c : Compilation) (text line : List ℕ) (
   misread why e status.Done code h = absurd h.is_due
   misread why e status.Refused code h = absurd h.is_due
   misread why e status.Usage code h = absurd (let e = h.fits in cc)
-  misread why e status.Input code h = (why, e, h.err)
+  misread why e status.Input code h = (c.mode, c.level, is_mode, is_level, (why, e, h.err))
   misread why e status.ReadFault code h = absurd (omega (arith, h.read))
   misread why e status.WriteFault code h = tt
   misread why e status.Memory code h = tt

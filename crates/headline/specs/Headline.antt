@@ -63,10 +63,14 @@ CompilesTo rows mode level path text = (m : Mode) × (l : ℕ) × (mode_of mode 
 abbrev pub IsRefusedWith : (rows mode level line : List ℕ) → Type 0
 IsRefusedWith rows mode level line = (m : Mode) × (l : ℕ) × (mode_of mode ≡ Some m) × (level_of level ≡ Some l) × Refuses rows m l line
 
+-- the words say a mode and a level, and the line tells what is wrong with the rows
+abbrev pub IsMisreadWith : (rows mode level line : List ℕ) → Type 0
+IsMisreadWith rows mode level line = (m : Mode) × (l : ℕ) × (mode_of mode ≡ Some m) × (level_of level ≡ Some l) × Misreads rows line
+
 -- what each answer says of the rows and the words; that there was no memory says nothing
 abbrev pub Owed : (rows mode level path : List ℕ) → Answer → Type 0
 Owed rows mode level path (answer.Done text) = CompilesTo rows mode level path (string_bytes text)
 Owed rows mode level path (answer.Refused line) = IsRefusedWith rows mode level (string_bytes line)
-Owed rows mode level path (answer.Input line) = Misreads rows (string_bytes line)
+Owed rows mode level path (answer.Input line) = IsMisreadWith rows mode level (string_bytes line)
 Owed rows mode level path answer.Usage = IsMisuse mode level
 Owed rows mode level path answer.Memory = Unit {0}

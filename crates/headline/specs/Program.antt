@@ -4,14 +4,14 @@ use Rattle.std.specs.Str.{bytes_eq}
 use Rattle.py_run.specs.Statuses.{usage_line}
 use Rattle.py_run.specs.declared.report.Status.{Status}
 use Rattle.py_run.specs.declared.report.Status.TheVariants as status
-use Rattle.headline.specs.Headline.{CompilesTo, IsMisuse, IsRefusedWith, Misreads}
+use Rattle.headline.specs.Headline.{CompilesTo, IsMisreadWith, IsMisuse, IsRefusedWith}
 
 -- what it owes where it ends with a status and has written a text and a line. No read of rows in memory fails; a write fails where there is no room
 abbrev pub RunOwes : (rows mode level path : List ℕ) → Status → (text line : List ℕ) → Type 0
 RunOwes rows mode level path status.Done text line = CompilesTo rows mode level path text
 RunOwes rows mode level path status.Refused text line = IsRefusedWith rows mode level line
 RunOwes rows mode level path status.Usage text line = IsMisuse mode level × (line ≡ usage_line)
-RunOwes rows mode level path status.Input text line = Misreads rows line
+RunOwes rows mode level path status.Input text line = IsMisreadWith rows mode level line
 RunOwes rows mode level path status.ReadFault text line = ⊥
 RunOwes rows mode level path status.WriteFault text line = Unit {0}
 RunOwes rows mode level path status.Memory text line = Unit {0}
