@@ -11,6 +11,7 @@ ghost use Rattle.py_interp.specs.Statements.{annotate, augment_walk, declare_wal
 ghost use Rattle.py_interp.specs.Walks.{walk_expr, walk_target};
 ghost use Rattle.py_interp_simple.specs.Ends.{Ends, flow_of, goes_on};
 
+use crate::dropped::walk_dropped;
 use crate::flow::Flow;
 use crate::notes::walk_note;
 use py_answers::{Halt, Log, Operand, Operation, StepValue};
@@ -35,7 +36,7 @@ use py_tree::{
 pub fn walk_expr_statement(log: &mut Log<'_>, around: Around, value: &Expr) -> Result<Flow, Halt>
     ensures { Ends flow_of result (world_of log.new) (into (walk_expr around (expr_tree value.now)) drop_it (world_of log.old)) }
 {
-    let _value = walk_expression(log, around, value)?;
+    walk_dropped(log, around, value)?;
     Ok(Flow::Normal)
 }
 

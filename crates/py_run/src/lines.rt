@@ -1,9 +1,8 @@
-//! The lines of files, of wrong words and of reports.
+//! The lines of files and of wrong words.
 ghost use Rattle.std.specs.Prelude.{◌≡◌, IfOk, string_bytes};
 ghost use Rattle.py_lines.specs.Lines.{input_line};
-ghost use Rattle.py_run.specs.Statuses.{bad_at, file_text, flaw_text, lines_text};
+ghost use Rattle.py_run.specs.Statuses.{bad_at, file_text, flaw_text};
 
-use py_base::Text;
 use py_codefile::ReadCodeError;
 use std::alloc::{AllocError, Global};
 
@@ -45,19 +44,4 @@ pub fn flaw_line(alloc: Global) -> Result<String, AllocError>
     ensures { IfOk result (λ s. string_bytes s ≡ input_line flaw_text) }
 {
     String::from_str(alloc, "input: code does not verify\n")
-}
-
-/// Each line with its end.
-///
-/// # Errors
-/// There is no memory for the line.
-pub fn lines_text(alloc: Global, lines: &[Text]) -> Result<String, AllocError>
-    ensures { IfOk result (λ s. string_bytes s ≡ lines_text lines.now) }
-{
-    let mut out = String::new(alloc);
-    for line in lines {
-        out.push_str(line.as_str())?;
-        out.push_str("\n")?;
-    }
-    Ok(out)
 }

@@ -6,10 +6,9 @@ ghost use Rattle.py_run.specs.Prepared.{Readies};
 ghost use Rattle.py_run.specs.Statuses.{by_rows, due_report};
 ghost use Rattle.py_run.specs.Words.{Names};
 
-use crate::lines::lines_text;
 use crate::preparing::{Prepared, refused, tree_of};
 use py_base::{CodegenErrorType, Text};
-use py_names::report_lines;
+use py_names::report_text;
 use py_tree::Mod;
 use std::alloc::Global;
 use symboltable::into_codegen_error;
@@ -32,11 +31,8 @@ pub fn reported(alloc: Global, bytes: &[u8]) -> Prepared
 fn report_on(alloc: Global, tree: &Mod) -> Prepared
     ensures { Readies Names result (due_report (mod_tree tree.now)) }
 {
-    match report_lines(alloc, tree) {
-        Ok(lines) => match lines_text(alloc, lines.as_slice()) {
-            Ok(text) => Prepared::Report(text),
-            Err(_) => Prepared::Memory,
-        },
+    match report_text(alloc, tree) {
+        Ok(text) => Prepared::Report(text),
         Err(error) => {
             let e = into_codegen_error(error, Text::from_string(String::new(alloc)));
             match e.error {
