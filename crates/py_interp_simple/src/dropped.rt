@@ -12,8 +12,8 @@ ghost use Rattle.py_interp_simple.specs.Ends.{Ends, goes_on};
 
 use py_answers::{Halt, Log, StepValue};
 use py_interp::Around;
+use py_interp::operations::truth;
 use py_interp_exprs::{walk_expression, walk_test};
-use py_interp_values::operations::truth;
 use py_tree::{BoolOp, Expr, ExprIfExp};
 
 /// Does what an expression does, and drops its value.
