@@ -214,12 +214,13 @@ def cases() -> Iterator[Case]:
 
 
 def main() -> int:
-    parser = argparse.ArgumentParser(prog="emit_cases.py", description="writes the cases of crates/emit_vectors")
+    parser = argparse.ArgumentParser(prog="emit_cases.py", description="Writes the cases of crates/emit_vectors.")
     parser.add_argument("--check", action="store_true", help="compare them alone")
+    args = parser.parse_args()
     made = list(cases())
     print("emit_vectors: %d cases" % sum(not line.startswith("#") for line, _ in made))
     texts = {"stdin": "".join(line + "\n" for line, _ in made), "stdout": "".join(said + "\n" for _, said in made)}
-    if parser.parse_args().check:
+    if args.check:
         return int(any((CRATE / name).read_text(encoding="utf-8") != text for name, text in texts.items()))
     for name, text in texts.items():
         (CRATE / name).write_text(text, encoding="utf-8")

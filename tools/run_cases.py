@@ -360,7 +360,7 @@ def cases(python: str) -> Iterator[Case]:
 
 
 def main() -> int:
-    parser = argparse.ArgumentParser(prog="run_cases.py", description="writes the cases of crates/pyc_vectors")
+    parser = argparse.ArgumentParser(prog="run_cases.py", description="Writes the cases of crates/pyc_vectors.")
     parser.add_argument("--python", metavar="PYTHON", default="python3.12", help="a Python of 3.12 or later, for type parameters (%(default)s)")
     parser.add_argument("--check", action="store_true", help="compare them alone")
     args = parser.parse_args()
