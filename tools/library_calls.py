@@ -1,8 +1,7 @@
 """What the calls of the library for C have to answer over files of code and the names of rows.
 
 `static_library.py` tries them. What is wanted comes from the examples, from the model in tools/model, from the reader of
-files in `pyc.codefile`, from the table of codes and their flaws in crates/py_verify_vectors, and from the runs of the suite
-in conformance/.
+files in `pyc.codefile`, from the verdicts on codes in crates/code_vectors, and from the runs of the suite in conformance/.
 """
 import ctypes
 import dataclasses
@@ -11,7 +10,7 @@ import re
 import sys
 
 TOOLS = pathlib.Path(__file__).resolve().parent
-TABLE = TOOLS.parent / "crates" / "py_verify_vectors" / "src" / "table.rt"
+VECTORS = TOOLS.parent / "crates" / "code_vectors"
 
 sys.path[:0] = [str(TOOLS), str(TOOLS.parent / "bindings"), str(TOOLS / "model"), str(TOOLS.parent / "python")]
 import code_files
@@ -23,7 +22,10 @@ from pyc import codefile
 from pyc.opcodes import NAMES
 
 DONE, REFUSED, USAGE, INPUT, NO_ROOM = 0, 1, 2, 3, 5
-LINE = re.compile(r"^    (\d+(?: \d+){5} \S* ?\S+)\\n\\$", re.MULTILINE)
+# a question about the verdict on a file, with the flaws of which one is told where there are more, and a verdict
+ASKED = re.compile(r"(?:verify|flaw-among (?P<flaws>\S+)) (?P<file>[0-9a-f]+)")
+VERDICT = re.compile(r"Yes|No\(.*\)|one of them")
+FLAW = re.compile(r"No\(Flaw \{ path: \[\], unit: (?P<unit>\d+), kind: (?P<kind>\w+) \}\)")
 SOUND = code_files.ONE
 FILES_END = 2 ** 26
 # the rows of `a`
@@ -42,20 +44,24 @@ def report_on(rows):
     return "".join(line + "\n" for line in names.report(rows_reader.read_rows(rows))).encode("utf-8")
 
 
+def flaws_of(asked, verdict):
+    """The flaws that a verdict says, or of which it is one, each a kind and a unit."""
+    if asked:
+        return {(kind, int(unit)) for kind, unit in (flaw.split(":") for flaw in asked.split(","))}
+    flaw = FLAW.fullmatch(verdict)
+    return {(flaw["kind"], int(flaw["unit"]))} if flaw else set()
+
+
 def table():
-    """Each code of the table, and its flaws, each a kind and a unit: none where it may be run."""
-    for line in LINE.findall(TABLE.read_text(encoding="utf-8")):
-        *numbers, units, verdict = line.split(" ")
-        depth, *counts = map(int, numbers)
-        units = [(NAMES[int(units[at:at + 2], 16)], int(units[at + 2:at + 4], 16)) for at in range(0, len(units), 4)]
-        constants, *texts = counts
-        tables = (tuple("n%d" % number for number in range(count)) for count in texts)
-        code = dataclasses.replace(
-            SOUND, max_stackdepth=depth, instructions=tuple(units), locations=((1, 1),) * len(units), constants=(0,) * constants,
-            **dict(zip(("names", "varnames", "cellvars", "freevars"), tables)),
-        )
-        flaws = [] if verdict == "Yes" else [tuple(flaw.split(":")) for flaw in verdict.split(",")]
-        yield code, {(kind, int(unit)) for kind, unit in flaws}
+    """Each code on which there is a verdict, and its flaws, none where it may be run; but not those that nest."""
+    asked, said = ((VECTORS / name).read_text(encoding="utf-8").splitlines() for name in ("stdin", "stdout"))
+    questions = [line for line in asked if line.startswith(("verify ", "flaw-among "))]
+    verdicts = [line for line in said if VERDICT.fullmatch(line)]
+    assert len(questions) == len(verdicts)
+    for line, verdict in zip(questions, verdicts):
+        found = ASKED.fullmatch(line)
+        if found and "path: [2" not in verdict:
+            yield codefile.read(bytes.fromhex(found["file"])), flaws_of(found["flaws"], verdict)
 
 
 def changed(data):
